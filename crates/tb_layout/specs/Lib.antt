@@ -1,0 +1,5 @@
+pub mod Bytes
+pub mod Flags
+pub mod Account
+pub mod AccountCode
+pub mod Failure

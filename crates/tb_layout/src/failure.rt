@@ -1,0 +1,37 @@
+//! The failed events of a packet.
+
+use crate::number::{read_u32, write_u32};
+
+/// A failed event: its index in its packet, counted from 0, and the number of its result.
+#[derive(Clone, Copy, Debug, PartialEq, Eq)]
+pub struct Failure {
+    pub index: u32,
+    pub code: u32,
+}
+
+ghost use Rattle.std.specs.Prelude.{◌≡◌, ℕ, List};
+ghost use Rattle.tb_layout.specs.Failure.{failure_of, failure_bytes};
+ghost use Rattle.tb_layout.specs.Bytes.{IsBytes};
+
+/// The failure in 8 bytes: the index, then the code (requests reference of TigerBeetle, results).
+pub fn read_failure(bytes: &[u8; 8]) -> Failure
+    ensures { result ≡ failure_of bytes.now }
+{
+    Failure {
+        index: read_u32(bytes, 0),
+        code: read_u32(bytes, 4),
+    }
+}
+
+/// The 8 bytes of a failure.
+pub fn write_failure(failure: &Failure) -> [u8; 8]
+    ensures value { result ≡ failure_bytes failure.now }
+    ensures read_back { failure_of result ≡ failure.now }
+    ensures reads_only_so { (bytes : List ℕ) → IsBytes 8 bytes → failure_of bytes ≡ failure.now → bytes ≡ result }
+{
+    let failure = *failure;
+    let mut bytes = [0; 8];
+    write_u32(&mut bytes, 0, failure.index);
+    write_u32(&mut bytes, 4, failure.code);
+    bytes
+}

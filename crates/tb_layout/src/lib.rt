@@ -1,0 +1,16 @@
+//! The records of the state machine as they lie in bytes, and the numbers of their results.
+//!
+//! Every number is little-endian. Nothing here takes memory or refuses anything: a record is read
+//! from just as many bytes as it has, and writing it gives those bytes back.
+#![tactic(auto)]
+
+mod account;
+mod account_code;
+mod failure;
+mod no_memory;
+mod number;
+
+pub use account::{Account, read_account, write_account};
+pub use account_code::AccountCode;
+pub use failure::{Failure, read_failure, write_failure};
+pub use no_memory::NoMemory;

@@ -1,0 +1,21 @@
+//! Want of memory.
+
+use std::alloc::{AllocError, AllocFailed};
+
+/// Memory that a call asked for was refused.
+///
+/// It is answered only where a growth was really refused, and it is the same refusal in each crate.
+#[derive(Clone, Copy, Debug, PartialEq, Eq)]
+pub struct NoMemory;
+
+impl From<AllocError> for NoMemory {
+    fn from(_refused: AllocError) -> NoMemory {
+        NoMemory
+    }
+}
+
+impl<T: Drop> From<AllocFailed<T>> for NoMemory {
+    fn from(_refused: AllocFailed<T>) -> NoMemory {
+        NoMemory
+    }
+}

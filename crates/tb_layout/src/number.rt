@@ -1,0 +1,71 @@
+//! Numbers in bytes, the least significant first.
+
+ghost use Rattle.std.specs.Prelude.{◌≡◌, ◌+◌, ◌^◌, ◌<◌, ◌≤◌, ◌++◌, length, take};
+ghost use Rattle.tb_layout.specs.Bytes.{number_at, bytes_of};
+
+use byteorder::{ByteOrder, LittleEndian};
+
+pub fn read_u128(bytes: &[u8], offset: usize) -> u128
+    requires { offset + 16 ≤ length bytes.now }
+    ensures { result ≡ number_at bytes.now offset 16 }
+{
+    LittleEndian::read_u128(&bytes[offset..offset + 16])
+}
+
+pub fn read_u64(bytes: &[u8], offset: usize) -> u64
+    requires { offset + 8 ≤ length bytes.now }
+    ensures { result ≡ number_at bytes.now offset 8 }
+{
+    LittleEndian::read_u64(&bytes[offset..offset + 8])
+}
+
+pub fn read_u32(bytes: &[u8], offset: usize) -> u32
+    requires { offset + 4 ≤ length bytes.now }
+    ensures { result ≡ number_at bytes.now offset 4 }
+{
+    LittleEndian::read_u32(&bytes[offset..offset + 4])
+}
+
+pub fn read_u16(bytes: &[u8], offset: usize) -> u16
+    requires { offset + 2 ≤ length bytes.now }
+    ensures { result ≡ number_at bytes.now offset 2 }
+{
+    LittleEndian::read_u16(&bytes[offset..offset + 2])
+}
+
+/// What the lower half of a number of 128 bits stays below.
+const HALF: u128 = 1 << 64;
+
+/// Two halves, since writing all 16 bytes at once is several times slower.
+pub fn write_u128(bytes: &mut [u8], offset: usize, number: u128)
+    requires { offset + 16 ≤ length bytes.old }
+    ensures front { take (offset + 16) bytes.new ≡ take offset bytes.old ++ bytes_of 16 number }
+    ensures fits { number < 256 ^ 16 }
+{
+    write_u64(bytes, offset, (number % HALF) as u64);
+    write_u64(bytes, offset + 8, (number / HALF) as u64);
+}
+
+pub fn write_u64(bytes: &mut [u8], offset: usize, number: u64)
+    requires { offset + 8 ≤ length bytes.old }
+    ensures front { take (offset + 8) bytes.new ≡ take offset bytes.old ++ bytes_of 8 number }
+    ensures fits { number < 256 ^ 8 }
+{
+    LittleEndian::write_u64(&mut bytes[offset..offset + 8], number);
+}
+
+pub fn write_u32(bytes: &mut [u8], offset: usize, number: u32)
+    requires { offset + 4 ≤ length bytes.old }
+    ensures front { take (offset + 4) bytes.new ≡ take offset bytes.old ++ bytes_of 4 number }
+    ensures fits { number < 256 ^ 4 }
+{
+    LittleEndian::write_u32(&mut bytes[offset..offset + 4], number);
+}
+
+pub fn write_u16(bytes: &mut [u8], offset: usize, number: u16)
+    requires { offset + 2 ≤ length bytes.old }
+    ensures front { take (offset + 2) bytes.new ≡ take offset bytes.old ++ bytes_of 2 number }
+    ensures fits { number < 256 ^ 2 }
+{
+    LittleEndian::write_u16(&mut bytes[offset..offset + 2], number);
+}
