@@ -1,14 +1,14 @@
 -- Numbers in bytes: what is written is read back, and what is read is written back.
-use Rattle.std.proofs.Common.{◌≡◌, ℕ, zero, suc, ◌+◌, ◌-◌, ◌*◌, ◌/◌, ◌%◌, ◌^◌, ◌<◌, ◌≤◌, List, [], ◌∷◌, ◌++◌, length, take, drop, refl, sym, ap, ◌∙◌, arith, append_assoc, append-nil, length-append, length-take-le, length-drop}
+use Rattle.std.proofs.Common.{◌≡◌, ℕ, zero, suc, ◌+◌, ◌-◌, ◌*◌, ◌/◌, ◌%◌, ◌^◌, ◌<◌, ◌≤◌, List, [], ◌∷◌, ◌++◌, length, take, drop, refl, sym, ap, ◌∙◌, arith, append_assoc, append-nil, length-take-le, length-drop}
 use Rattle.std.specs.Prelude.{All}
 use Rattle.std.proofs.lemmas.List.Elements.{All-take, All-drop}
 use Rattle.std.proofs.Math.Nat.{div-div-eq-div-mul, div-one, pow-suc}
 use Rattle.std.proofs.Math.Seq.{drop-append-add}
-use Rattle.std.proofs.lemmas.List.{take_at, take_all, drop-drop, take-append-drop, drop_all}
+use Rattle.std.proofs.lemmas.List.{take_at, drop-drop, take-append-drop, drop_all}
 use Rattle.std.proofs.lemmas.Slice.{take-put_mid}
 use Rattle.std.specs.Int.{byte_at, bytes_low_first}
 use borrow.Rule.Slice.PartMut.{put_mid}
-use Rattle.tb_layout.specs.Bytes.{little_endian, number_at, bytes_of, laid, IsBytes}
+use Rattle.tb_layout.specs.Bytes.{little_endian, number_at, bytes_of, laid}
 
 pub length-bytes_of : (size number : ℕ) → length (bytes_of size number) ≡ size
 unfolding bytes_of

@@ -1,10 +1,10 @@
 -- Records as rows of numbers.
-use Rattle.std.proofs.Common.{◌≡◌, ℕ, ◌+◌, ◌^◌, ◌<◌, List, [], ◌∷◌, ◌++◌, length, take, drop, sym, ap, ◌∙◌}
+use Rattle.std.proofs.Common.{◌≡◌, ℕ, ◌^◌, ◌<◌, List, [], ◌∷◌, take, drop, sym}
 use Rattle.tb_layout.specs.declared.account.Account.{Account}
 use Rattle.tb_layout.specs.declared.failure.Failure.{Failure}
 use Rattle.tb_layout.specs.Account.{account_of, account_bytes}
 use Rattle.tb_layout.specs.Failure.{failure_of, failure_bytes}
-use Rattle.tb_layout.specs.Bytes.{number_at, laid, IsBytes}
+use Rattle.tb_layout.specs.Bytes.{IsBytes}
 use Rattle.tb_layout.proofs.Numbers.{number_at-laid, laid-fields_from}
 
 abbrev account_fields : Account → List (ℕ × ℕ)

@@ -3,3 +3,4 @@ pub mod Flags
 pub mod Account
 pub mod AccountCode
 pub mod Failure
+pub mod Events

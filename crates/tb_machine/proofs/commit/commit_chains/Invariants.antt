@@ -1,0 +1,19 @@
+use Rattle.std.proofs.Common.{◌≡◌, ◌-◌, ◌≤◌, length, drop, map, vec_len}
+use Rattle.std.specs.Prelude.{vec_capacity}
+use Rattle.tb_tables.specs.History.{Extends}
+use Rattle.tb_machine.specs.Clock.{clock_max}
+use Rattle.tb_machine.proofs.FirstChain.{IsLeft}
+use Rattle.tb_machine.proofs.commit.commit_chains.Given as goal
+
+abbrev pub invariant-loop-start : goal.invariant-loop-start
+invariant-loop-start g l = record {
+  within : l.start ≤ length l.rows;
+  clock : l.clock ≤ clock_max;
+  extends : Extends l.fn.tables l.tables;
+  len : vec_len l.out ≤ l.start;
+  capacity : vec_capacity l.out ≡ vec_capacity l.fn.out;
+  left : IsLeft g.E.Event.operation l.fn.clock l.fn.tables.now (map g.E.Event.event_of l.rows) l.clock l.tables.now l.start (map g.E.Event.event_of (drop l.start l.rows)) l.out.items
+}
+
+abbrev pub decreases-loop-start : goal.decreases-loop-start
+decreases-loop-start g l = length l.rows - l.start

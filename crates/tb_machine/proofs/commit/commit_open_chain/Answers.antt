@@ -1,0 +1,14 @@
+use Rattle.std.proofs.Common.{append_assoc, map}
+use Rattle.std.proofs.lemmas.List.{length-map}
+use Rattle.tb_machine.proofs.Faults.{fault-below}
+use Rattle.tb_machine.proofs.Failures.{failures_from-open}
+use Rattle.tb_machine.proofs.commit.commit_open_chain.Goals as goal
+
+pub report_failed-requires-clause-below : goal.report_failed-requires-clause-below
+report_failed-requires-clause-below g c =
+    rw c.in_ok-fault.ensures.fault (fault-below g.E.Event.operation g.E.Event.event_of c.args.clock c.args.tables.now.now c.args.front.now)
+
+pub returns-clause-failures : goal.returns-clause-failures
+returns-clause-failures g c =
+    let below = fault-below g.E.Event.operation g.E.Event.event_of c.args.clock c.args.tables.now.now c.args.front.now in
+    rw (length-map c.args.front.now g.E.Event.event_of, failures_from-open c.args.index _ _ below, c.push_reserved.ensures.items, c.report_failed.ensures.items, c.in_ok-fault.ensures.fault) (simp append_assoc)

@@ -1,0 +1,55 @@
+-- The verdict on an event that asks for an account, and the account that is stored where it is ok.
+use Rattle.std.specs.Prelude.{ℕ, not, ◌&&◌, ◌==◌, [], ◌∷◌, Option, Some, None}
+use Rattle.tb_layout.specs.declared.account.Account.{Account}
+use Rattle.tb_layout.specs.declared.account_code.AccountCode.{AccountCode}
+use Rattle.tb_layout.specs.declared.account_code.AccountCode.TheVariants.{TimestampMustBeZero, ReservedField, ReservedFlag, IdMustNotBeZero, IdMustNotBeIntMax, ExistsWithDifferentFlags, ExistsWithDifferentUserData128, ExistsWithDifferentUserData64, ExistsWithDifferentUserData32, ExistsWithDifferentLedger, ExistsWithDifferentCode, FlagsAreMutuallyExclusive, DebitsPendingMustBeZero, DebitsPostedMustBeZero, CreditsPendingMustBeZero, CreditsPostedMustBeZero, LedgerMustNotBeZero, CodeMustNotBeZero, Exists, Ok}
+use Rattle.tb_layout.specs.Account.{debits_must_not_exceed_credits, credits_must_not_exceed_debits}
+use Rattle.tb_layout.specs.Flags.{has_reserved_flag}
+use Rattle.tb_tables.specs.Facts.{Facts, account_with}
+use Rattle.tb_machine.specs.Table.{first_row}
+
+-- the greatest number of 128 bits
+abbrev pub u128_max : ℕ
+u128_max = 340282366920938463463374607431768211455
+
+-- an event whose id is that of an account
+abbrev pub against_existing : Account → Account → AccountCode
+against_existing existing event =
+    first_row (
+        (not (event.flags == existing.flags), ExistsWithDifferentFlags) ∷
+        (not (event.user_data_128 == existing.user_data_128), ExistsWithDifferentUserData128) ∷
+        (not (event.user_data_64 == existing.user_data_64), ExistsWithDifferentUserData64) ∷
+        (not (event.user_data_32 == existing.user_data_32), ExistsWithDifferentUserData32) ∷
+        (not (event.ledger == existing.ledger), ExistsWithDifferentLedger) ∷
+        (not (event.code == existing.code), ExistsWithDifferentCode) ∷
+        []
+    ) Exists
+
+-- an event with a new id
+abbrev pub of_new : Account → AccountCode
+of_new event =
+    first_row (
+        (debits_must_not_exceed_credits event && credits_must_not_exceed_debits event, FlagsAreMutuallyExclusive) ∷
+        (not (event.debits_pending == 0), DebitsPendingMustBeZero) ∷
+        (not (event.debits_posted == 0), DebitsPostedMustBeZero) ∷
+        (not (event.credits_pending == 0), CreditsPendingMustBeZero) ∷
+        (not (event.credits_posted == 0), CreditsPostedMustBeZero) ∷
+        (event.ledger == 0, LedgerMustNotBeZero) ∷
+        (event.code == 0, CodeMustNotBeZero) ∷
+        []
+    ) Ok
+
+abbrev pub against : Option Account → Account → AccountCode
+against (Some existing) event = against_existing existing event
+against None event = of_new event
+
+abbrev pub account_verdict : Facts → Account → AccountCode
+account_verdict facts event =
+    first_row (
+        (not (event.timestamp == 0), TimestampMustBeZero) ∷
+        (not (event.reserved == 0), ReservedField) ∷
+        (has_reserved_flag event.flags, ReservedFlag) ∷
+        (event.id == 0, IdMustNotBeZero) ∷
+        (event.id == u128_max, IdMustNotBeIntMax) ∷
+        []
+    ) (against (account_with facts event.id) event)

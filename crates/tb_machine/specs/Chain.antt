@@ -1,0 +1,108 @@
+-- Chains of linked events: where they end, and what becomes of one.
+use Rattle.std.specs.Prelude.{ℕ, ◌+◌, ◌-◌, ◌==◌, Bool, false, List, [], ◌∷◌, ◌++◌, length, replicate, Option, Some, None, if◌then◌else◌}
+use Rattle.tb_tables.specs.Facts.{Facts}
+use Rattle.tb_machine.specs.declared.fault.Fault.{Fault}
+use Rattle.tb_machine.specs.Clock.{next_timestamp, clock_after}
+
+abbrev pub linked_event_failed : ℕ
+linked_event_failed = 1
+
+abbrev pub linked_event_chain_open : ℕ
+linked_event_chain_open = 2
+
+abbrev pub clock_exhausted : ℕ
+clock_exhausted = 201
+
+-- what an operation makes of its events: which are linked, the number of the verdict on one at a timestamp, the
+-- facts once it is stored, and the facts that its failing with a code leaves behind
+pub record Operation (Event : Type 0) : Type 0 where
+  pub is_linked : Event → Bool
+  pub verdict : Facts → ℕ → Event → ℕ
+  pub stored : Facts → ℕ → Event → Facts
+  pub remembered : Facts → ℕ → Event → Facts
+
+-- the events cut after each one that is not linked, and at their end
+abbrev pub before_chains : {Event : Type 0} → Event → List (List Event) → List (List Event)
+before_chains event [] = (event ∷ []) ∷ []
+before_chains event (chain ∷ chains) = (event ∷ chain) ∷ chains
+
+abbrev pub chains_of : {Event : Type 0} → (Event → Bool) → List Event → List (List Event)
+chains_of is_linked [] = []
+chains_of is_linked (event ∷ events) =
+    if is_linked event then before_chains event (chains_of is_linked events) else (event ∷ []) ∷ chains_of is_linked events
+
+-- whether the last event is linked
+abbrev pub is_open : {Event : Type 0} → (Event → Bool) → List Event → Bool
+is_open is_linked [] = false
+is_open is_linked (event ∷ []) = is_linked event
+is_open is_linked (event ∷ next ∷ events) = is_open is_linked (next ∷ events)
+
+abbrev pub all_but_last : {Event : Type 0} → List Event → List Event
+all_but_last [] = []
+all_but_last (event ∷ []) = []
+all_but_last (event ∷ next ∷ events) = event ∷ all_but_last (next ∷ events)
+
+-- an event that is examined, with its timestamp if it has one
+abbrev pub examined : {Event : Type 0} → Operation Event → Facts → Option ℕ → Event → ℕ
+examined operation facts (Some timestamp) event = operation.verdict facts timestamp event
+examined operation facts None event = clock_exhausted
+
+abbrev pub stored_at : {Event : Type 0} → Operation Event → Facts → Option ℕ → Event → Facts
+stored_at operation facts (Some timestamp) event = operation.stored facts timestamp event
+stored_at operation facts None event = facts
+
+-- the facts once all of the events are stored
+abbrev pub stored_all : {Event : Type 0} → Operation Event → ℕ → Facts → List Event → Facts
+stored_all operation clock facts [] = facts
+stored_all operation clock facts (event ∷ events) =
+    stored_all operation (clock_after clock 1) (stored_at operation facts (next_timestamp clock) event) events
+
+-- the first event whose verdict, on the facts with those before it stored, is a fault; the first event has this index
+abbrev pub first_fault : {Event : Type 0} → Operation Event → ℕ → ℕ → Facts → List Event → Option (Fault Event)
+first_fault operation index clock facts [] = None
+first_fault operation index clock facts (event ∷ events) =
+    let code = examined operation facts (next_timestamp clock) event in
+    if code == 0 then first_fault operation (index + 1) (clock_after clock 1) (stored_at operation facts (next_timestamp clock) event) events
+    else Some (record { index = index; event = event; code = code })
+
+-- the results of so many events that fail together: the first fault has its own code
+abbrev pub failed_results : {Event : Type 0} → ℕ → Option (Fault Event) → List ℕ
+failed_results count None = replicate count linked_event_failed
+failed_results count (Some fault) = replicate fault.index linked_event_failed ++ fault.code ∷ replicate (count - fault.index - 1) linked_event_failed
+
+-- what a failed chain leaves behind
+abbrev pub left_behind : {Event : Type 0} → Operation Event → Facts → Option (Fault Event) → Facts
+left_behind operation facts None = facts
+left_behind operation facts (Some fault) = operation.remembered facts fault.code fault.event
+
+-- the results of events, one for each, and the facts after them
+pub record Outcome : Type 0 where
+  pub results : List ℕ
+  pub facts : Facts
+
+-- a chain that is not open succeeds where it has no fault
+abbrev pub closed_outcome : {Event : Type 0} → Operation Event → ℕ → Facts → List Event → Option (Fault Event) → Outcome
+closed_outcome operation clock facts chain None = record { results = replicate (length chain) 0; facts = stored_all operation clock facts chain }
+closed_outcome operation clock facts chain (Some fault) =
+    record { results = failed_results (length chain) (Some fault); facts = left_behind operation facts (Some fault) }
+
+-- an open chain fails, and its last event is not examined
+abbrev pub open_outcome : {Event : Type 0} → Operation Event → Facts → List Event → Option (Fault Event) → Outcome
+open_outcome operation facts front fault =
+    record { results = failed_results (length front) fault ++ linked_event_chain_open ∷ []; facts = left_behind operation facts fault }
+
+abbrev pub chain_outcome : {Event : Type 0} → Operation Event → ℕ → Facts → List Event → Outcome
+chain_outcome operation clock facts chain =
+    if is_open operation.is_linked chain
+    then open_outcome operation facts (all_but_last chain) (first_fault operation 0 clock facts (all_but_last chain))
+    else closed_outcome operation clock facts chain (first_fault operation 0 clock facts chain)
+
+abbrev pub then_outcome : Outcome → Outcome → Outcome
+then_outcome first next = record { results = first.results ++ next.results; facts = next.facts }
+
+-- chain by chain, each on the facts and at the clock that the one before left
+abbrev pub chains_outcome : {Event : Type 0} → Operation Event → ℕ → Facts → List (List Event) → Outcome
+chains_outcome operation clock facts [] = record { results = []; facts = facts }
+chains_outcome operation clock facts (chain ∷ chains) =
+    let first = chain_outcome operation clock facts chain in
+    then_outcome first (chains_outcome operation (clock_after clock (length chain)) first.facts chains)

@@ -1,0 +1,13 @@
+-- Words of the functions that take a packet's chains one by one.
+use Rattle.std.specs.Prelude.{◌≢◌, ◌<◌, ℕ, suc, Bool, List, [], ◌∷◌, Option, Some, None, if◌then◌else◌}
+use Rattle.tb_machine.specs.declared.fault.Fault.{Fault}
+
+-- how many events the first chain has
+abbrev pub first_chain_length : {Event : Type 0} → (Event → Bool) → List Event → ℕ
+first_chain_length is_linked [] = 0
+first_chain_length is_linked (event ∷ events) = if is_linked event then suc (first_chain_length is_linked events) else 1
+
+-- a fault, if there is one, lies below an index and has a code
+abbrev pub LiesBelow : {Event : Type 0} → ℕ → Option (Fault Event) → Type 0
+LiesBelow end None = Unit {0}
+LiesBelow end (Some fault) = (fault.index < end) × (fault.code ≢ 0)

@@ -1,0 +1,82 @@
+//! The checks of an event that asks for an account, in their order.
+
+ghost use Rattle.std.specs.Prelude.{◌≡◌};
+ghost use Rattle.tb_machine.specs.AccountVerdict as spec;
+
+use tb_layout::{Account, AccountCode};
+use tb_tables::Tables;
+
+fn against_existing(existing: &Account, event: &Account) -> AccountCode
+    ensures { result ≡ spec.against_existing existing.now event.now }
+{
+    if event.flags != existing.flags {
+        return AccountCode::ExistsWithDifferentFlags;
+    }
+    if event.user_data_128 != existing.user_data_128 {
+        return AccountCode::ExistsWithDifferentUserData128;
+    }
+    if event.user_data_64 != existing.user_data_64 {
+        return AccountCode::ExistsWithDifferentUserData64;
+    }
+    if event.user_data_32 != existing.user_data_32 {
+        return AccountCode::ExistsWithDifferentUserData32;
+    }
+    if event.ledger != existing.ledger {
+        return AccountCode::ExistsWithDifferentLedger;
+    }
+    if event.code != existing.code {
+        return AccountCode::ExistsWithDifferentCode;
+    }
+    AccountCode::Exists
+}
+
+fn of_new(event: &Account) -> AccountCode
+    ensures { result ≡ spec.of_new event.now }
+{
+    if event.debits_must_not_exceed_credits() && event.credits_must_not_exceed_debits() {
+        return AccountCode::FlagsAreMutuallyExclusive;
+    }
+    if event.debits_pending != 0 {
+        return AccountCode::DebitsPendingMustBeZero;
+    }
+    if event.debits_posted != 0 {
+        return AccountCode::DebitsPostedMustBeZero;
+    }
+    if event.credits_pending != 0 {
+        return AccountCode::CreditsPendingMustBeZero;
+    }
+    if event.credits_posted != 0 {
+        return AccountCode::CreditsPostedMustBeZero;
+    }
+    if event.ledger == 0 {
+        return AccountCode::LedgerMustNotBeZero;
+    }
+    if event.code == 0 {
+        return AccountCode::CodeMustNotBeZero;
+    }
+    AccountCode::Ok
+}
+
+pub fn account_verdict(tables: &Tables, event: &Account) -> AccountCode
+    ensures { result ≡ spec.account_verdict tables.now.now event.now }
+{
+    if event.timestamp != 0 {
+        return AccountCode::TimestampMustBeZero;
+    }
+    if event.reserved != 0 {
+        return AccountCode::ReservedField;
+    }
+    if event.flags > 15 {
+        return AccountCode::ReservedFlag;
+    }
+    if event.id == 0 {
+        return AccountCode::IdMustNotBeZero;
+    }
+    if event.id == u128::MAX {
+        return AccountCode::IdMustNotBeIntMax;
+    }
+    match tables.account(event.id) {
+        Some(existing) => against_existing(&existing, event),
+        None => of_new(event),
+    }
+}

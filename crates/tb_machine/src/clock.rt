@@ -1,0 +1,27 @@
+//! The clock, in nanoseconds.
+
+ghost use Rattle.std.specs.Prelude.{◌≡◌, ◌≤◌};
+ghost use Rattle.tb_machine.specs.Clock as spec;
+
+const CLOCK_MAX: u64 = 0x7fff_ffff_ffff_ffff;
+
+/// The timestamp of the next event, if the clock can be raised for it.
+pub fn next_timestamp(clock: u64) -> Option<u64>
+    requires { clock ≤ spec.clock_max }
+    ensures { result ≡ spec.next_timestamp clock }
+{
+    if clock < CLOCK_MAX { Some(clock + 1) } else { None }
+}
+
+/// The clock after so many events.
+pub fn clock_after(clock: u64, count: usize) -> u64
+    requires { clock ≤ spec.clock_max }
+    ensures value { result ≡ spec.clock_after clock count }
+    ensures bound { result ≤ spec.clock_max }
+{
+    if (count as u64) < CLOCK_MAX - clock {
+        clock + count as u64
+    } else {
+        CLOCK_MAX
+    }
+}

@@ -1,0 +1,173 @@
+//! A packet's chains, one by one.
+
+ghost use Rattle.std.specs.Prelude.{◌≡◌, ◌+◌, ◌^◌, ◌<◌, ◌≤◌, ◌++◌, [], length, map, vec_len, vec_capacity, Ok, None, IfOk, OnOk};
+ghost use Rattle.tb_tables.specs.History.{mark_of, undone, Extends};
+ghost use Rattle.tb_machine.specs.Clock as time;
+ghost use Rattle.tb_machine.specs.Chain.{examined, stored_at, stored_all, first_fault, left_behind, open_outcome, closed_outcome, chain_outcome};
+ghost use Rattle.tb_machine.specs.Packet.{events_outcome, failures_from};
+
+use crate::chain::first_chain_length;
+use crate::clock::{clock_after, next_timestamp};
+use crate::event::Event;
+use crate::fault::Fault;
+use crate::report::report_failed;
+use tb_layout::{Failure, NoMemory};
+use tb_tables::{Mark, Tables};
+
+const LINKED_EVENT_CHAIN_OPEN: u32 = 2;
+const CLOCK_EXHAUSTED: u32 = 201;
+
+/// Stores the event where its checks find nothing, and answers the number of its result.
+fn examine_at<E: Event>(clock: u64, tables: &mut Tables, event: &E) -> Result<u32, NoMemory>
+    requires { clock ≤ time.clock_max }
+    ensures extends { Extends tables.old tables.new }
+    ensures code { IfOk result (λ code. code ≡ examined E.operation tables.old.now (time.next_timestamp clock) event.now) }
+    ensures stored { result ≡ Ok 0 → tables.new.now ≡ stored_at E.operation tables.old.now (time.next_timestamp clock) event.now }
+{
+    match next_timestamp(clock) {
+        Some(timestamp) => event.examine(tables, timestamp),
+        None => Ok(CLOCK_EXHAUSTED),
+    }
+}
+
+/// Stores the events in order up to the first fault, which is the answer.
+fn examine_all<E: Event>(clock: u64, tables: &mut Tables, rows: &[[u8; 128]]) -> Result<Option<Fault<E>>, NoMemory>
+    requires { clock ≤ time.clock_max }
+    ensures extends { Extends tables.old tables.new }
+    ensures fault { IfOk result (λ fault. fault ≡ first_fault E.operation 0 clock tables.old.now (map E.event_of rows.now)) }
+    ensures stored { result ≡ Ok None → tables.new.now ≡ stored_all E.operation clock tables.old.now (map E.event_of rows.now) }
+{
+    let mut clock = clock;
+    for (index, row) in rows.iter().enumerate() {
+        let event = E::read(row);
+        let code = examine_at(clock, tables, &event)?;
+        if code != 0 {
+            return Ok(Some(Fault { index, event, code }));
+        }
+        clock = clock_after(clock, 1);
+    }
+    Ok(None)
+}
+
+/// Takes a failed chain back, but for what its fault leaves behind.
+fn take_back<E: Event>(tables: &mut Tables, mark: Mark, fault: Option<Fault<E>>) -> Result<(), NoMemory>
+    requires { mark ≤ mark_of tables.old }
+    ensures extends { Extends (undone mark tables.old) tables.new }
+    ensures facts { OnOk result (tables.new.now ≡ left_behind E.operation (undone mark tables.old).now fault) }
+{
+    tables.undo_to(mark);
+    match fault {
+        Some(fault) => fault.event.remember(tables, fault.code),
+        None => Ok(()),
+    }
+}
+
+fn commit_closed_chain<E: Event>(
+    clock: u64,
+    tables: &mut Tables,
+    chain: &[[u8; 128]],
+    index: usize,
+    out: &mut Vec<Failure>,
+) -> Result<(), NoMemory>
+    requires clock { clock ≤ time.clock_max }
+    requires room { vec_len out.old + length chain.now ≤ vec_capacity out.old }
+    requires fits { index + length chain.now < 2 ^ 32 }
+    ensures extends { Extends tables.old tables.new }
+    ensures facts { let outcome = closed_outcome E.operation clock tables.old.now (map E.event_of chain.now) (first_fault E.operation 0 clock tables.old.now (map E.event_of chain.now)) in
+        OnOk result (tables.new.now ≡ outcome.facts) }
+    ensures failures { let outcome = closed_outcome E.operation clock tables.old.now (map E.event_of chain.now) (first_fault E.operation 0 clock tables.old.now (map E.event_of chain.now)) in
+        OnOk result (out.new.items ≡ out.old.items ++ failures_from index outcome.results) }
+    ensures len { vec_len out.new ≤ vec_len out.old + length chain.now }
+    ensures capacity { vec_capacity out.new ≡ vec_capacity out.old }
+{
+    let mark = tables.mark();
+    let fault = examine_all::<E>(clock, tables, chain)?;
+    if fault.is_some() {
+        take_back(tables, mark, fault)?;
+        report_failed(out, index, chain.len(), fault);
+    }
+    Ok(())
+}
+
+fn commit_open_chain<E: Event>(
+    clock: u64,
+    tables: &mut Tables,
+    front: &[[u8; 128]],
+    index: usize,
+    out: &mut Vec<Failure>,
+) -> Result<(), NoMemory>
+    requires clock { clock ≤ time.clock_max }
+    requires room { vec_len out.old + length front.now < vec_capacity out.old }
+    requires fits { index + length front.now + 1 < 2 ^ 32 }
+    ensures extends { Extends tables.old tables.new }
+    ensures facts { let outcome = open_outcome E.operation tables.old.now (map E.event_of front.now) (first_fault E.operation 0 clock tables.old.now (map E.event_of front.now)) in
+        OnOk result (tables.new.now ≡ outcome.facts) }
+    ensures failures { let outcome = open_outcome E.operation tables.old.now (map E.event_of front.now) (first_fault E.operation 0 clock tables.old.now (map E.event_of front.now)) in
+        OnOk result (out.new.items ≡ out.old.items ++ failures_from index outcome.results) }
+    ensures len { vec_len out.new ≤ vec_len out.old + length front.now + 1 }
+    ensures capacity { vec_capacity out.new ≡ vec_capacity out.old }
+{
+    let mark = tables.mark();
+    let fault = examine_all::<E>(clock, tables, front)?;
+    take_back(tables, mark, fault)?;
+    report_failed(out, index, front.len(), fault);
+    out.push_reserved(Failure {
+        index: (index + front.len()) as u32,
+        code: LINKED_EVENT_CHAIN_OPEN,
+    });
+    Ok(())
+}
+
+fn commit_chain<E: Event>(
+    clock: u64,
+    tables: &mut Tables,
+    chain: &[[u8; 128]],
+    index: usize,
+    out: &mut Vec<Failure>,
+) -> Result<(), NoMemory>
+    requires some { 0 < length chain.now }
+    requires clock { clock ≤ time.clock_max }
+    requires room { vec_len out.old + length chain.now ≤ vec_capacity out.old }
+    requires fits { index + length chain.now < 2 ^ 32 }
+    ensures extends { Extends tables.old tables.new }
+    ensures facts { OnOk result (tables.new.now ≡ (chain_outcome E.operation clock tables.old.now (map E.event_of chain.now)).facts) }
+    ensures failures { OnOk result (out.new.items ≡ out.old.items ++ failures_from index (chain_outcome E.operation clock tables.old.now (map E.event_of chain.now)).results) }
+    ensures len { vec_len out.new ≤ vec_len out.old + length chain.now }
+    ensures capacity { vec_capacity out.new ≡ vec_capacity out.old }
+{
+    let last = chain.len() - 1;
+    if E::read(&chain[last]).is_linked() {
+        commit_open_chain::<E>(clock, tables, &chain[..last], index, out)
+    } else {
+        commit_closed_chain::<E>(clock, tables, chain, index, out)
+    }
+}
+
+/// Takes the chains of a packet in order, and reports the events that failed. On an error, part of
+/// the changes may have been made.
+pub fn commit_chains<E: Event>(
+    clock: u64,
+    tables: &mut Tables,
+    rows: &[[u8; 128]],
+    out: &mut Vec<Failure>,
+) -> Result<(), NoMemory>
+    requires clock { clock ≤ time.clock_max }
+    requires empty { out.old.items ≡ [] }
+    requires room { length rows.now ≤ vec_capacity out.old }
+    requires fits { length rows.now < 2 ^ 32 }
+    ensures extends { Extends tables.old tables.new }
+    ensures facts { OnOk result (tables.new.now ≡ (events_outcome E.operation clock tables.old.now (map E.event_of rows.now)).facts) }
+    ensures failures { OnOk result (out.new.items ≡ failures_from 0 (events_outcome E.operation clock tables.old.now (map E.event_of rows.now)).results) }
+    ensures capacity { vec_capacity out.new ≡ vec_capacity out.old }
+{
+    let mut clock = clock;
+    let mut start = 0;
+    while start < rows.len() {
+        let rest = &rows[start..];
+        let count = first_chain_length::<E>(rest);
+        commit_chain::<E>(clock, tables, &rest[..count], start, out)?;
+        clock = clock_after(clock, count);
+        start += count;
+    }
+    Ok(())
+}

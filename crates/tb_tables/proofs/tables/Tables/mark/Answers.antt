@@ -1,0 +1,8 @@
+use Rattle.std.proofs.Common.{ap, length}
+use Rattle.tb_tables.proofs.Histories.{length-past_of}
+use Rattle.tb_tables.proofs.tables.Tables.mark.Goals as goal
+
+pub returns : goal.returns
+returns c =
+    let inside = c.self.inside in
+    rw (← c.self.view_is, length-past_of inside.changes.items (record { accounts = inside.accounts.items }), c.new.ensures) (ap length c.as_slice.ensures.value)

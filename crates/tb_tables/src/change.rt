@@ -1,0 +1,5 @@
+/// What a change added.
+#[derive(Clone, Copy, Debug, PartialEq, Eq)]
+pub enum Change {
+    Account,
+}

@@ -1,0 +1,33 @@
+//! A moment to which the tables can go back.
+
+ghost use Rattle.std.specs.Prelude.{◌≡◌, ℕ};
+
+use std::marker::Model;
+
+/// How many changes could be taken back when the mark was set.
+#[derive(Clone, Copy, Debug)]
+pub struct Mark {
+    changes: usize,
+}
+
+impl Model for Mark {
+    ghost Value = { ℕ };
+
+    ghost view = { λ mark. mark.changes };
+
+    ghost inverse = { λ changes. record { changes = changes } };
+}
+
+impl Mark {
+    pub(crate) fn new(changes: usize) -> Mark
+        ensures { result ≡ changes }
+    {
+        Mark { changes }
+    }
+
+    pub(crate) fn changes(self) -> usize
+        ensures { result ≡ self }
+    {
+        self.changes
+    }
+}
