@@ -1,7 +1,7 @@
 //! The machine.
 
-ghost use Rattle.std.specs.Prelude.{◌≡◌, ◌*◌, ◌%◌, ◌≤◌, [], length, slice_get, vec_capacity, OnOk, OnErr};
-ghost use Rattle.tb_layout.specs.Events.{events_of, count_of};
+ghost use Rattle.std.specs.Prelude.{◌≡◌, ◌/◌, ◌%◌, ◌≤◌, [], length, slice_get, vec_capacity, OnOk, OnErr};
+ghost use Rattle.tb_layout.specs.Events.{events_of};
 ghost use Rattle.tb_tables.specs.Facts.{account_with};
 ghost use Rattle.tb_machine.specs.Clock.{clock_max};
 
@@ -51,9 +51,9 @@ impl Machine {
     pub fn commit(&mut self, operation: u8, body: &[u8], out: &mut Vec<Failure>) -> Result<(), NoMemory>
         requires operation { operation ≡ 129 }
         requires whole { length body.now % 128 ≡ 0 }
-        requires limit { count_of (events_of body.now) ≤ 8190 }
+        requires limit { length body.now / 128 ≤ 8190 }
         requires empty { out.old.items ≡ [] }
-        requires room { count_of (events_of body.now) ≤ vec_capacity out.old }
+        requires room { length body.now / 128 ≤ vec_capacity out.old }
         ensures state { OnOk result (self.new ≡ after_packet self.old (events_of body.now)) }
         ensures failures { OnOk result (out.new.items ≡ failures_of self.old (events_of body.now)) }
         ensures unchanged { OnErr result (self.new ≡ self.old) }

@@ -1,0 +1,21 @@
+-- What the definition of a script promises, in the words of its format.
+use Rattle.std.specs.Prelude.{◌≡◌, ℕ, ◌+◌, List, [], ◌∷◌, ◌++◌, length, Ok, Err, IsOk}
+use Rattle.tb_program.specs.declared.fault.Fault.{Fault}
+use Rattle.tb_program.specs.Script.{Said, after_line, after_lines}
+
+-- where some lines have no fault and the next has one, that fault decides, whatever follows, with the number of its line
+abbrev pub FirstFaultDecides : Type 0
+FirstFaultDecides =
+    (number : ℕ) (said next : Said) (lines others : List (List ℕ)) (line : List ℕ) (fault : Fault) →
+    after_lines number said lines ≡ Ok next → after_line next line ≡ Err fault →
+    after_lines number said (lines ++ line ∷ others) ≡ Err (number + length lines, fault)
+
+-- each line that stands behind lines without fault has none
+abbrev pub NoLineIsFaulty : ℕ → Said → List (List ℕ) → Type 0
+NoLineIsFaulty number said lines =
+    (front back : List (List ℕ)) (line : List ℕ) (next : Said) →
+    lines ≡ front ++ line ∷ back → after_lines number said front ≡ Ok next → IsOk (after_line next line)
+
+-- where no line is faulty, the lines have no fault
+abbrev pub FaultlessLinesAreSaid : Type 0
+FaultlessLinesAreSaid = (number : ℕ) (said : Said) (lines : List (List ℕ)) → NoLineIsFaulty number said lines → IsOk (after_lines number said lines)

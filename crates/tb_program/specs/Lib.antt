@@ -1,0 +1,11 @@
+pub mod Steps
+pub mod Text
+pub mod Number
+pub mod Keyword
+pub mod Event
+pub mod Script
+pub mod Parsing
+pub mod Admission
+pub mod Plan
+pub mod Output
+pub mod Laws

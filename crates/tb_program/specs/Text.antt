@@ -1,0 +1,12 @@
+-- Lines and words of bytes.
+use Rattle.std.specs.Prelude.{ℕ, ◌==◌, List, [], ◌∷◌, length, filter, if◌then◌else◌, nat_lt}
+use Rattle.std.specs.List.{onto_first, slice_split}
+
+-- the lines: each ends before a byte 10, and the last may lack it
+unfoldable pub lines_of : List ℕ → List (List ℕ)
+lines_of [] = []
+lines_of (byte ∷ bytes) = if byte == 10 then [] ∷ lines_of bytes else onto_first byte (lines_of bytes)
+
+-- the words of a line: what stands between spaces, where something does
+unfoldable pub words_of : List ℕ → List (List ℕ)
+words_of line = filter (λ word. nat_lt 0 (length word)) (slice_split (λ byte. byte == 32) line)

@@ -1,0 +1,42 @@
+//! Bytes that grow.
+
+ghost use Rattle.std.specs.Prelude.{◌≡◌, ℕ, List, [], ◌++◌, OnOk};
+
+use std::alloc::Global;
+use std::marker::Model;
+use tb_layout::NoMemory;
+
+/// Bytes, seen as their list.
+#[derive(Drop)]
+pub struct Bytes {
+    bytes: Vec<u8>,
+}
+
+impl Model for Bytes {
+    ghost Value = { List ℕ };
+
+    ghost view = { λ bytes. bytes.bytes.items };
+}
+
+impl Bytes {
+    pub fn new(alloc: Global) -> Bytes
+        ensures { result ≡ [] }
+    {
+        Bytes {
+            bytes: Vec::new(alloc),
+        }
+    }
+
+    pub fn extend_from_slice(&mut self, more: &[u8]) -> Result<(), NoMemory>
+        ensures { OnOk result (self.new ≡ self.old ++ more.now) }
+    {
+        self.bytes.extend_from_slice(more)?;
+        Ok(())
+    }
+
+    pub fn as_slice(&self) -> &[u8]
+        ensures { result.now ≡ self.now }
+    {
+        self.bytes.as_slice()
+    }
+}

@@ -1,0 +1,22 @@
+//! What a script says.
+
+use crate::bytes::Bytes;
+use crate::submitter_number::SubmitterNumber;
+
+/// The settings that the script gives.
+#[derive(Clone, Copy, Debug, PartialEq, Eq)]
+pub struct Settings {
+    pub clock: Option<u64>,
+    pub limit: Option<u32>,
+    pub capacity: Option<u32>,
+    pub credit: Option<u32>,
+    pub submitters: Option<u32>,
+}
+
+/// A packet, as its submitter hands it in.
+#[derive(Drop)]
+pub struct Submission {
+    pub submitter: SubmitterNumber,
+    pub operation: u8,
+    pub bytes: Bytes,
+}

@@ -1,0 +1,104 @@
+//! The lines of the output.
+
+ghost use Rattle.std.specs.Prelude.{◌≡◌, ◌++◌, OnOk, string_bytes};
+ghost use Rattle.std.specs.List.{flat_map};
+ghost use Rattle.tb_program.specs.Output.{fault_text, fault_line, refused_line, failure_text, committed_front, committed_line, clock_line, account_front, balances_text, account_line};
+
+use crate::admission::Refusal;
+use crate::fault::Fault;
+use std::alloc::AllocError;
+use tb_layout::{Account, Failure};
+
+impl Fault {
+    pub fn text(self) -> &'static str
+        ensures { result.now ≡ fault_text self }
+    {
+        match self {
+            Fault::LineTooLong => "line too long",
+            Fault::BadByte => "bad byte",
+            Fault::UnknownWord => "unknown word",
+            Fault::OutOfPlace => "out of place",
+            Fault::WrongNumberOfWords => "wrong number of words",
+            Fault::BadField => "bad field",
+            Fault::BadNumber => "bad number",
+            Fault::BadHex => "bad hex",
+        }
+    }
+}
+
+pub fn put_fault(out: &mut String, line: usize, text: &str) -> Result<(), AllocError>
+    ensures { OnOk result (string_bytes out.new ≡ string_bytes out.old ++ fault_line line text.now) }
+{
+    write!(out, "fault {line} {text}\n")
+}
+
+#[tactic(auto, unfolding(crate::specs::Output::refused_line))]
+pub fn put_refused(out: &mut String, submitter: u32, refusal: Refusal) -> Result<(), AllocError>
+    ensures { OnOk result (string_bytes out.new ≡ string_bytes out.old ++ refused_line submitter refusal) }
+{
+    let number = refusal.number();
+    let name = refusal.name();
+    write!(out, "packet {submitter} refused {number} {name}\n")
+}
+
+fn put_failures(out: &mut String, failures: &[Failure]) -> Result<(), AllocError>
+    ensures { OnOk result (string_bytes out.new ≡ string_bytes out.old ++ flat_map failure_text failures.now) }
+{
+    for failure in failures {
+        let Failure { index, code } = *failure;
+        write!(out, " {index}:{code}")?;
+    }
+    Ok(())
+}
+
+#[tactic(auto, unfolding(crate::specs::Output::committed_front))]
+fn put_committed_front(out: &mut String, submitter: u32, number: u64, place: u64) -> Result<(), AllocError>
+    ensures { OnOk result (string_bytes out.new ≡ string_bytes out.old ++ committed_front submitter number place) }
+{
+    write!(out, "packet {submitter} {number} committed {place}")
+}
+
+pub fn put_committed(
+    out: &mut String,
+    submitter: u32,
+    number: u64,
+    place: u64,
+    failures: &[Failure],
+) -> Result<(), AllocError>
+    ensures { OnOk result (string_bytes out.new ≡ string_bytes out.old ++ committed_line submitter number place failures.now) }
+{
+    put_committed_front(out, submitter, number, place)?;
+    put_failures(out, failures)?;
+    out.push_str("\n")
+}
+
+pub fn put_clock(out: &mut String, clock: u64) -> Result<(), AllocError>
+    ensures { OnOk result (string_bytes out.new ≡ string_bytes out.old ++ clock_line clock) }
+{
+    write!(out, "clock {clock}\n")
+}
+
+#[tactic(auto, unfolding(crate::specs::Output::account_front))]
+fn put_account_front(out: &mut String, id: u128, timestamp: u64) -> Result<(), AllocError>
+    ensures { OnOk result (string_bytes out.new ≡ string_bytes out.old ++ account_front id timestamp) }
+{
+    write!(out, "account {id} {timestamp}")
+}
+
+#[tactic(auto, unfolding(crate::specs::Output::balances_text))]
+fn put_balances(out: &mut String, account: &Account) -> Result<(), AllocError>
+    ensures { OnOk result (string_bytes out.new ≡ string_bytes out.old ++ balances_text account.now) }
+{
+    let debits_pending = account.debits_pending;
+    let debits_posted = account.debits_posted;
+    let credits_pending = account.credits_pending;
+    let credits_posted = account.credits_posted;
+    write!(out, " {debits_pending} {debits_posted} {credits_pending} {credits_posted}\n")
+}
+
+pub fn put_account(out: &mut String, account: &Account) -> Result<(), AllocError>
+    ensures { OnOk result (string_bytes out.new ≡ string_bytes out.old ++ account_line account.now) }
+{
+    put_account_front(out, account.id, account.timestamp)?;
+    put_balances(out, account)
+}

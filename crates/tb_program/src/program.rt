@@ -1,0 +1,85 @@
+//! `tbpipe list`.
+
+ghost use Rattle.std.specs.Prelude.{◌≡◌, IfOk, IfSome, IsErrOf, string_bytes};
+ghost use Rattle.std.specs.Io.KnownBytes.{Appends, Keeps};
+ghost use Rattle.tb_program.specs.Script.{script_of};
+ghost use Rattle.tb_program.specs.Output.{listing, printed, is_ok_script, out, is_faultless};
+
+use crate::listing::put_listing;
+use crate::output::put_fault;
+use crate::parse::{ScriptError, parse};
+use crate::planning::plan_all;
+use crate::program_fault::ProgramFault;
+use crate::read::read_script;
+use crate::script::Script;
+use std::alloc::Global;
+use std::io::{Read, Write};
+use tb_layout::NoMemory;
+
+/// The output for a script that has no fault.
+fn listed(alloc: Global, script: Script) -> Result<String, NoMemory>
+    ensures { IfOk result (λ text. string_bytes text ≡ listing script) }
+{
+    let (settings, items) = script.finish()?;
+    let plan = plan_all(alloc, settings.limit.unwrap_or(8190), items)?;
+    let mut out = String::new(alloc);
+    put_listing(alloc, &mut out, settings.clock.unwrap_or(0), plan.as_slice())?;
+    Ok(out)
+}
+
+/// The output for the text of a script, and whether the script has no fault.
+fn output(alloc: Global, text: &[u8]) -> Result<(String, bool), NoMemory>
+    ensures { IfOk result (λ both. (string_bytes both.0 ≡ printed (script_of text.now)) × (both.1 ≡ is_ok_script (script_of text.now))) }
+{
+    match parse(alloc, text) {
+        Ok(script) => Ok((listed(alloc, script)?, true)),
+        Err(ScriptError::NoMemory) => Err(NoMemory),
+        Err(ScriptError::Faulty(line, fault)) => {
+            let mut out = String::new(alloc);
+            put_fault(&mut out, line, fault.text())?;
+            Ok((out, false))
+        }
+    }
+}
+
+/// The output for all that a reader has.
+fn output_of<R: Read>(alloc: Global, reader: &mut R) -> Result<(String, bool), ProgramFault>
+    ensures { IfOk result (λ both. IfSome (R.remaining reader.old) (λ bytes. (string_bytes both.0 ≡ out bytes) × (both.1 ≡ is_faultless bytes))) }
+{
+    match read_script(alloc, reader)? {
+        Some(text) => Ok(output(alloc, &text)?),
+        None => {
+            let mut out = String::new(alloc);
+            put_fault(&mut out, 0, "script too long")?;
+            Ok((out, false))
+        }
+    }
+}
+
+/// Reads a script to its end, runs its packets and prints what became of each, with the clock and
+/// the accounts behind them. Answers whether the script has no fault; a fault is printed alone. All
+/// output is made before its first byte is written. It takes memory in proportion to the script and
+/// to what its packets make.
+pub fn run_script<R: Read, W: Write>(
+    alloc: Global,
+    reader: &mut R,
+    writer: &mut W,
+) -> Result<bool, ProgramFault>
+    // Where the reader tells its bytes and the writer its own, the output for the bytes is written, and nothing else.
+    ensures written {
+        IfOk result (λ faultless. IfSome (R.remaining reader.old) (λ bytes.
+            Appends (W.contents writer.old) (W.contents writer.new) (out bytes) × (faultless ≡ is_faultless bytes)))
+    }
+    // Nothing is written where the reader failed or memory ran out.
+    ensures read { IsErrOf result ProgramFault.Read → Keeps (W.contents writer.old) (W.contents writer.new) }
+    ensures memory { IsErrOf result ProgramFault.NoMemory → Keeps (W.contents writer.old) (W.contents writer.new) }
+{
+    let (text, faultless) = output_of(alloc, reader)?;
+    if writer.write_all(text.as_bytes()).is_err() {
+        return Err(ProgramFault::Write);
+    }
+    if writer.flush().is_err() {
+        return Err(ProgramFault::Write);
+    }
+    Ok(faultless)
+}

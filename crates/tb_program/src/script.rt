@@ -1,0 +1,215 @@
+//! A script, line after line.
+
+ghost use Rattle.std.specs.Prelude.{◌≡◌, ◌++◌, List, IfOk, OnOk};
+ghost use Rattle.tb_program.specs.Text.{words_of};
+ghost use Rattle.tb_program.specs.Steps.{Gives, Tells, Leaves};
+ghost use Rattle.tb_program.specs.Keyword.{one_word, two_words};
+ghost use Rattle.tb_program.specs.Script.{Said, nothing_said, items_of, has_begun, is_in_place, with_packet, with_bytes, set_to, with_line, with_keyword, with_words, is_text, after_line, InBounds};
+
+use crate::bytes::Bytes;
+use crate::event::{Layout, event_of, hex_bytes};
+use crate::fault::{Fault, LineError};
+use crate::item::{Settings, Submission};
+use crate::keyword::{Keyword, keyword_of};
+use crate::number::number_within;
+use crate::submitter_number::SubmitterNumber;
+use crate::text::Words;
+use std::alloc::Global;
+use std::marker::Model;
+use tb_layout::NoMemory;
+
+const CLOCK_MAX: u128 = 0x7fff_ffff_ffff_ffff;
+const LONGEST_LINE: usize = 65_536;
+const MOST_EVENTS: u128 = 8190;
+const MOST_PLACES: u128 = 65_536;
+const MOST_SUBMITTERS: u128 = 16;
+
+/// What the lines so far say.
+#[derive(Drop)]
+pub struct Script {
+    settings: Settings,
+    items: Vec<Submission>,
+    packet: Option<Submission>,
+}
+
+impl Model for Script {
+    ghost Value = { Said };
+
+    ghost view = { λ script. record { settings = script.settings; items = script.items.items; packet = script.packet } };
+
+    ghost invariant = { λ script. InBounds script.settings };
+}
+
+fn one_word(words: Words) -> Result<&[u8], Fault>
+    ensures { Tells (λ word. word.now) result (one_word (words_of words.entry.rest.now)) }
+{
+    let mut words = words;
+    match (words.next(), words.next()) {
+        (Some(word), None) => Ok(word),
+        _ => Err(Fault::WrongNumberOfWords),
+    }
+}
+
+fn two_words(words: Words) -> Result<(&[u8], &[u8]), Fault>
+    ensures { Tells (λ both. (both.0.now, both.1.now)) result (two_words (words_of words.entry.rest.now)) }
+{
+    let mut words = words;
+    match (words.next(), words.next(), words.next()) {
+        (Some(word), Some(more), None) => Ok((word, more)),
+        _ => Err(Fault::WrongNumberOfWords),
+    }
+}
+
+fn is_text(line: &[u8]) -> bool
+    ensures { result ≡ is_text line.now }
+{
+    line.iter().all(|b| 32 <= *b && *b <= 126)
+}
+
+impl Script {
+    pub fn new(alloc: Global) -> Script
+        ensures { result ≡ nothing_said }
+    {
+        Script {
+            settings: Settings {
+                clock: None,
+                limit: None,
+                capacity: None,
+                credit: None,
+                submitters: None,
+            },
+            items: Vec::new(alloc),
+            packet: None,
+        }
+    }
+
+    fn has_begun(&self) -> bool
+        ensures { result ≡ has_begun self.now }
+    {
+        !self.items.is_empty() || self.packet.is_some()
+    }
+
+    fn is_in_place(&self, keyword: Keyword) -> bool
+        ensures { result ≡ is_in_place self.now keyword }
+    {
+        match keyword {
+            Keyword::Clock => !self.has_begun() && self.settings.clock.is_none(),
+            Keyword::Limit => !self.has_begun() && self.settings.limit.is_none(),
+            Keyword::Capacity => !self.has_begun() && self.settings.capacity.is_none(),
+            Keyword::Credit => !self.has_begun() && self.settings.credit.is_none(),
+            Keyword::Submitters => !self.has_begun() && self.settings.submitters.is_none(),
+            Keyword::Packet => true,
+            Keyword::Account | Keyword::Hex => self.packet.is_some(),
+        }
+    }
+
+    /// Puts the packet to which lines still add behind the items.
+    fn end_packet(&mut self) -> Result<(), NoMemory>
+        ensures { OnOk result (self.new ≡ record self.old { items = items_of self.old; packet = None }) }
+    {
+        if let Some(packet) = self.packet.take() {
+            self.items.push(packet)?;
+        }
+        Ok(())
+    }
+
+    fn begin_packet(&mut self, alloc: Global, submitter: SubmitterNumber, operation: u8) -> Result<(), NoMemory>
+        ensures { OnOk result (self.new ≡ with_packet self.old submitter operation) }
+    {
+        self.end_packet()?;
+        self.packet = Some(Submission {
+            submitter,
+            operation,
+            bytes: Bytes::new(alloc),
+        });
+        Ok(())
+    }
+
+    fn add_bytes(&mut self, bytes: &[u8]) -> Result<(), NoMemory>
+        ensures { OnOk result (self.new ≡ with_bytes self.old bytes.now) }
+    {
+        if let Some(packet) = &mut self.packet {
+            packet.bytes.extend_from_slice(bytes)?;
+        }
+        Ok(())
+    }
+
+    /// A line in its place, with the words behind its first.
+    #[tactic(auto, unfolding(crate::specs::Script::with_line))]
+    fn take_line(&mut self, alloc: Global, keyword: Keyword, words: Words) -> Result<(), LineError>
+        ensures { Leaves result self.new (with_line self.old keyword (words_of words.entry.rest.now)) }
+    {
+        match keyword {
+            Keyword::Clock => {
+                let n = number_within(one_word(words)?, 0, CLOCK_MAX)?;
+                self.settings.clock = Some(n as u64);
+            }
+            Keyword::Limit => {
+                let n = number_within(one_word(words)?, 1, MOST_EVENTS)?;
+                self.settings.limit = Some(n as u32);
+            }
+            Keyword::Capacity => {
+                let n = number_within(one_word(words)?, 1, MOST_PLACES)?;
+                self.settings.capacity = Some(n as u32);
+            }
+            Keyword::Credit => {
+                let n = number_within(one_word(words)?, 1, MOST_PLACES)?;
+                self.settings.credit = Some(n as u32);
+            }
+            Keyword::Submitters => {
+                let n = number_within(one_word(words)?, 1, MOST_SUBMITTERS)?;
+                self.settings.submitters = Some(n as u32);
+            }
+            Keyword::Packet => {
+                let (submitter, operation) = two_words(words)?;
+                let submitters = self.settings.submitters.unwrap_or(2);
+                let submitter = number_within(submitter, 0, u128::from(submitters.saturating_sub(1)))?;
+                let operation = number_within(operation, 0, 255)?;
+                self.begin_packet(alloc, SubmitterNumber::new(submitter as u32), operation as u8)?;
+            }
+            Keyword::Account => self.add_bytes(&event_of(Layout::Account, words)?)?,
+            Keyword::Hex => {
+                let bytes = hex_bytes(alloc, one_word(words)?)?;
+                self.add_bytes(&bytes)?;
+            }
+        }
+        Ok(())
+    }
+
+    /// A line behind those so far. After an error the script isn't to be used.
+    #[tactic(auto, unfolding(crate::specs::Script::after_line))]
+    pub fn line(&mut self, alloc: Global, line: &[u8]) -> Result<(), LineError>
+        ensures { Leaves result self.new (after_line self.old line.now) }
+    {
+        if line.len() > LONGEST_LINE {
+            return Err(LineError::Fault(Fault::LineTooLong));
+        }
+        if !is_text(line) {
+            return Err(LineError::Fault(Fault::BadByte));
+        }
+        let mut words = Words { rest: line };
+        let Some(word) = words.next() else {
+            return Ok(());
+        };
+        if word.starts_with(b"#") {
+            return Ok(());
+        }
+        let Some(keyword) = keyword_of(word) else {
+            return Err(LineError::Fault(Fault::UnknownWord));
+        };
+        if !self.is_in_place(keyword) {
+            return Err(LineError::Fault(Fault::OutOfPlace));
+        }
+        self.take_line(alloc, keyword, words)
+    }
+
+    /// The settings and all items.
+    pub fn finish(self) -> Result<(Settings, Vec<Submission>), NoMemory>
+        ensures all { IfOk result (λ both. (both.0 ≡ self.settings) × (both.1.items ≡ items_of self)) }
+        ensures bounds { IfOk result (λ both. InBounds both.0) }
+    {
+        let mut script = self;
+        script.end_packet()?;
+        Ok((script.settings, script.items))
+    }
+}

@@ -1,0 +1,37 @@
+//! A submitter's number.
+
+ghost use Rattle.std.specs.Prelude.{◌≡◌, ◌<◌, ℕ};
+
+use std::marker::Model;
+
+/// A submitter's number, which is below 16.
+#[derive(Clone, Copy, Debug)]
+pub struct SubmitterNumber {
+    number: u32,
+}
+
+impl Model for SubmitterNumber {
+    ghost Value = { ℕ };
+
+    ghost view = { λ submitter. submitter.number };
+
+    ghost inverse = { λ number. record { number = number } };
+
+    ghost invariant = { λ submitter. submitter.number < 16 };
+}
+
+impl SubmitterNumber {
+    pub fn new(number: u32) -> SubmitterNumber
+        requires { number < 16 }
+        ensures { result ≡ number }
+    {
+        SubmitterNumber { number }
+    }
+
+    pub fn get(self) -> u32
+        ensures value { result ≡ self }
+        ensures bound { result < 16 }
+    {
+        self.number
+    }
+}
