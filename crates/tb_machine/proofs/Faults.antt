@@ -1,12 +1,12 @@
 -- The first fault of events, and how many results a chain has.
-use Rattle.std.proofs.Common.{refl, sym, ap, ◌∙◌, arith, ◌≡◌, ◌≢◌, ℕ, suc, ◌+◌, ◌-◌, ◌<◌, ◌≤◌, Bool, true, false, List, [], ◌∷◌, ◌++◌, length, replicate, eqb, Option, Some, None, map, length-append, ⊎_elim}
+use Rattle.std.proofs.Common.{refl, ◌∙◌, arith, ◌≡◌, ◌≢◌, ℕ, suc, ◌+◌, ◌-◌, ◌<◌, ◌≤◌, Bool, true, false, List, [], ◌∷◌, length, replicate, eqb, Option, Some, None, map, length-append, ⊎_elim}
 use Rattle.std.specs.Prelude.{if◌then◌else◌, ◌==◌}
 use Rattle.std.proofs.lemmas.List.{length-map, length-replicate}
 use Rattle.std.proofs.lemmas.Bool.Decides.{eqb_tells}
 use Rattle.tb_tables.specs.Facts.{Facts}
 use Rattle.tb_machine.specs.declared.fault.Fault.{Fault}
 use Rattle.tb_machine.specs.Clock.{next_timestamp, clock_after}
-use Rattle.tb_machine.specs.Chain.{Operation, Outcome, examined, stored_at, first_fault, failed_results, open_outcome, closed_outcome, chain_outcome, is_open, all_but_last}
+use Rattle.tb_machine.specs.Chain.{Operation, Outcome, examined, stored_at, first_fault, failed_results, closed_outcome, chain_outcome, is_open, all_but_last}
 use Rattle.tb_machine.specs.Examining.{LiesBelow}
 
 pub eqb-false : (a b : ℕ) → a ≢ b → (a == b) ≡ false
@@ -26,7 +26,7 @@ first_fault-below operation index clock facts [] end h = tt
 first_fault-below operation index clock facts (event ∷ events) end h =
     let code = examined operation facts (next_timestamp clock) event in
     chosen (code == 0) code index end event _ refl (omega arith)
-        (first_fault-below operation (index + 1) (clock_after clock 1) (stored_at operation facts (next_timestamp clock) event) events end (omega arith))
+    (first_fault-below operation (index + 1) (clock_after clock 1) (stored_at operation facts (next_timestamp clock) event) events end (omega arith))
 
 -- the same for events that rows of bytes hold
 pub fault-below : {Row Event : Type 0} (operation : Operation Event) (f : Row → Event) (clock : ℕ) (facts : Facts) (rows : List Row) → LiesBelow (length rows) (first_fault operation 0 clock facts (map f rows))
@@ -59,5 +59,5 @@ length-chain_outcome operation clock facts chain =
     let front = all_but_last chain in
     let fault = first_fault operation 0 clock facts front in
     length-chosen (is_open operation.is_linked chain) _ _ (length chain)
-        (λ open_one. omega (arith, length-append (failed_results (length front) fault) (2 ∷ []), length-failed_results (length front) fault (first_fault-below operation 0 clock facts front (length front) (omega arith)), length-all_but_last operation.is_linked chain open_one))
-        (λ _. length-closed operation clock facts chain (first_fault operation 0 clock facts chain) (first_fault-below operation 0 clock facts chain (length chain) (omega arith)))
+    (λ open_one. omega (arith, length-append (failed_results (length front) fault) (2 ∷ []), length-failed_results (length front) fault (first_fault-below operation 0 clock facts front (length front) (omega arith)), length-all_but_last operation.is_linked chain open_one))
+    (λ _. length-closed operation clock facts chain (first_fault operation 0 clock facts chain) (first_fault-below operation 0 clock facts chain (length chain) (omega arith)))

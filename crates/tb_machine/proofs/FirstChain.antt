@@ -1,5 +1,5 @@
 -- The first chain of some events, and the rest.
-use Rattle.std.proofs.Common.{refl, sym, ap, ◌∙◌, arith, ◌≡◌, ℕ, suc, zero, ◌+◌, ◌-◌, ◌<◌, ◌≤◌, Bool, true, false, List, [], ◌∷◌, ◌++◌, length, take, drop, get_or, map, append_assoc, append-nil, length-take-le, length-drop}
+use Rattle.std.proofs.Common.{refl, sym, ap, ◌∙◌, arith, ◌≡◌, ℕ, suc, ◌+◌, ◌-◌, ◌<◌, ◌≤◌, Bool, true, false, List, [], ◌∷◌, ◌++◌, length, take, drop, get_or, map, append_assoc, append-nil, length-take-le, length-drop}
 use Rattle.std.specs.Prelude.{if◌then◌else◌}
 use Rattle.std.proofs.lemmas.List.{length-map, take-map, get_or-map, take_rest, drop-map, drop-drop}
 use Rattle.tb_layout.specs.declared.failure.Failure.{Failure}
@@ -105,7 +105,7 @@ pub record IsLeft {Event : Type 0} (operation : Operation Event) (clock : ℕ) (
 pub left_none : {Event : Type 0} (operation : Operation Event) (clock : ℕ) (old : Facts) (events : List Event) (out : List Failure) → out ≡ [] → IsLeft operation clock old events clock old 0 events out
 left_none operation clock old events out empty = record {
   facts_after = refl;
-  failures = ap (λ fs. fs ++ failures_from 0 (events_outcome operation clock old events).results) (sym empty)
+  failures = ap (λ fs. fs ++ failures_from 0 (events_outcome operation clock old events).results) (sym empty);
 }
 
 left_more : {Event : Type 0} (operation : Operation Event) (clock : ℕ) (old : Facts) (events : List Event) (now n index : ℕ) (facts next : Facts) (rest : List Event) (out more : List Failure) →
@@ -118,23 +118,24 @@ left_more operation clock old events now n index facts next rest out more some i
     let later = events_outcome operation (clock_after now n) next (drop n rest) in
     let fits : n ≤ length rest = omega (arith, is, first_chain_length-le operation.is_linked rest) in
     let whole : events_outcome operation now facts rest ≡ then_outcome first later =
-        events_outcome-first operation now facts rest n some is ∙ ap (λ f. then_outcome first (events_outcome operation (clock_after now n) f (drop n rest))) (sym next_is) in
+    events_outcome-first operation now facts rest n some is ∙ ap (λ f. then_outcome first (events_outcome operation (clock_after now n) f (drop n rest))) (sym next_is) in
     let size : length first.results ≡ n = length-chain_outcome operation now facts (take n rest) ∙ length-take-le n rest fits in
     record {
       facts_after = left.facts_after ∙ ap (λ (o : Outcome). o.facts) whole;
       failures =
-        left.failures ∙ ap (λ (o : Outcome). out ++ failures_from index o.results) whole
-        ∙ ap (λ fs. out ++ fs) (failures_from-append index first.results later.results)
-        ∙ sym (append_assoc out (failures_from index first.results) (failures_from (index + length first.results) later.results))
-        ∙ ap (λ fs. fs ++ failures_from (index + length first.results) later.results) (sym more_is)
-        ∙ ap (λ k. more ++ failures_from (index + k) later.results) size
+          left.failures ∙ ap (λ (o : Outcome). out ++ failures_from index o.results) whole
+          ∙ ap (λ fs. out ++ fs) (failures_from-append index first.results later.results)
+          ∙ sym (append_assoc out (failures_from index first.results) (failures_from (index + length first.results) later.results))
+          ∙ ap (λ fs. fs ++ failures_from (index + length first.results) later.results) (sym more_is)
+          ∙ ap (λ k. more ++ failures_from (index + k) later.results) size;
     }
 
 pub left_all : {Event : Type 0} (operation : Operation Event) (clock : ℕ) (old : Facts) (events : List Event) (now : ℕ) (facts : Facts) (index : ℕ) (rest : List Event) (out : List Failure) → rest ≡ [] →
     IsLeft operation clock old events now facts index rest out → (facts ≡ (events_outcome operation clock old events).facts) × (out ≡ failures_from 0 (events_outcome operation clock old events).results)
-left_all operation clock old events now facts index rest out none left =
-    (sym (left.facts_after ∙ ap (λ es. (events_outcome operation now facts es).facts) none),
-     sym (left.failures ∙ ap (λ es. out ++ failures_from index (events_outcome operation now facts es).results) none ∙ append-nil out))
+left_all operation clock old events now facts index rest out none left = (
+  sym (left.facts_after ∙ ap (λ es. (events_outcome operation now facts es).facts) none),
+  sym (left.failures ∙ ap (λ es. out ++ failures_from index (events_outcome operation now facts es).results) none ∙ append-nil out),
+)
 
 -- the same for events that rows of bytes hold, where what is left of the rows has a name
 pub left_more_rows : {Row Event : Type 0} (operation : Operation Event) (f : Row → Event) (clock : ℕ) (old : Facts) (rows rest : List Row) (now after n index : ℕ) (facts next : Facts) (out more : List Failure) →
@@ -148,5 +149,5 @@ left_more_rows {Row} operation f clock old rows rest now after n index facts nex
     let some : 0 < length (map f (drop index rows)) = omega (arith, length-map (drop index rows) f, length-drop index rows) in
     let dropped : drop n (map f (drop index rows)) ≡ map f (drop (index + n) rows) = drop-map f n (drop index rows) ∙ ap (map f) (drop-drop n index rows) in
     rw (after_is, ← dropped)
-        (left_more operation clock old (map f rows) now n index facts next (map f (drop index rows)) out more some (is ∙ ap (λ rs. first_chain_length operation.is_linked (map f rs)) same)
-            (next_is ∙ ap (λ es. (chain_outcome operation now facts es).facts) first) (more_is ∙ ap (λ es. out ++ failures_from index (chain_outcome operation now facts es).results) first) left)
+    (left_more operation clock old (map f rows) now n index facts next (map f (drop index rows)) out more some (is ∙ ap (λ rs. first_chain_length operation.is_linked (map f rs)) same)
+    (next_is ∙ ap (λ es. (chain_outcome operation now facts es).facts) first) (more_is ∙ ap (λ es. out ++ failures_from index (chain_outcome operation now facts es).results) first) left)

@@ -16,27 +16,27 @@ u128_max = 340282366920938463463374607431768211455
 abbrev pub against_existing : Account → Account → AccountCode
 against_existing existing event =
     first_row (
-        (not (event.flags == existing.flags), ExistsWithDifferentFlags) ∷
-        (not (event.user_data_128 == existing.user_data_128), ExistsWithDifferentUserData128) ∷
-        (not (event.user_data_64 == existing.user_data_64), ExistsWithDifferentUserData64) ∷
-        (not (event.user_data_32 == existing.user_data_32), ExistsWithDifferentUserData32) ∷
-        (not (event.ledger == existing.ledger), ExistsWithDifferentLedger) ∷
-        (not (event.code == existing.code), ExistsWithDifferentCode) ∷
-        []
+    (not (event.flags == existing.flags), ExistsWithDifferentFlags) ∷
+    (not (event.user_data_128 == existing.user_data_128), ExistsWithDifferentUserData128) ∷
+    (not (event.user_data_64 == existing.user_data_64), ExistsWithDifferentUserData64) ∷
+    (not (event.user_data_32 == existing.user_data_32), ExistsWithDifferentUserData32) ∷
+    (not (event.ledger == existing.ledger), ExistsWithDifferentLedger) ∷
+    (not (event.code == existing.code), ExistsWithDifferentCode) ∷
+    []
     ) Exists
 
 -- an event with a new id
 abbrev pub of_new : Account → AccountCode
 of_new event =
     first_row (
-        (debits_must_not_exceed_credits event && credits_must_not_exceed_debits event, FlagsAreMutuallyExclusive) ∷
-        (not (event.debits_pending == 0), DebitsPendingMustBeZero) ∷
-        (not (event.debits_posted == 0), DebitsPostedMustBeZero) ∷
-        (not (event.credits_pending == 0), CreditsPendingMustBeZero) ∷
-        (not (event.credits_posted == 0), CreditsPostedMustBeZero) ∷
-        (event.ledger == 0, LedgerMustNotBeZero) ∷
-        (event.code == 0, CodeMustNotBeZero) ∷
-        []
+    (debits_must_not_exceed_credits event && credits_must_not_exceed_debits event, FlagsAreMutuallyExclusive) ∷
+    (not (event.debits_pending == 0), DebitsPendingMustBeZero) ∷
+    (not (event.debits_posted == 0), DebitsPostedMustBeZero) ∷
+    (not (event.credits_pending == 0), CreditsPendingMustBeZero) ∷
+    (not (event.credits_posted == 0), CreditsPostedMustBeZero) ∷
+    (event.ledger == 0, LedgerMustNotBeZero) ∷
+    (event.code == 0, CodeMustNotBeZero) ∷
+    []
     ) Ok
 
 abbrev pub against : Option Account → Account → AccountCode
@@ -46,10 +46,10 @@ against None event = of_new event
 abbrev pub account_verdict : Facts → Account → AccountCode
 account_verdict facts event =
     first_row (
-        (not (event.timestamp == 0), TimestampMustBeZero) ∷
-        (not (event.reserved == 0), ReservedField) ∷
-        (has_reserved_flag event.flags, ReservedFlag) ∷
-        (event.id == 0, IdMustNotBeZero) ∷
-        (event.id == u128_max, IdMustNotBeIntMax) ∷
-        []
+    (not (event.timestamp == 0), TimestampMustBeZero) ∷
+    (not (event.reserved == 0), ReservedField) ∷
+    (has_reserved_flag event.flags, ReservedFlag) ∷
+    (event.id == 0, IdMustNotBeZero) ∷
+    (event.id == u128_max, IdMustNotBeIntMax) ∷
+    []
     ) (against (account_with facts event.id) event)

@@ -1,5 +1,5 @@
 -- The state machine over packets.
-use Rattle.std.specs.Prelude.{ℕ, List, fold, length}
+use Rattle.std.specs.Prelude.{ℕ, List, fold}
 use Rattle.tb_layout.specs.declared.account.Account.{Account}
 use Rattle.tb_layout.specs.declared.failure.Failure.{Failure}
 use Rattle.tb_layout.specs.AccountCode.{number_of}
@@ -17,7 +17,7 @@ create_accounts = record {
   is_linked = is_linked;
   verdict = λ facts timestamp event. number_of (account_verdict facts event);
   stored = λ facts timestamp event. add_account facts (record event { timestamp = timestamp });
-  remembered = λ facts code event. facts
+  remembered = λ facts code event. facts;
 }
 
 pub record State : Type 0 where

@@ -10,7 +10,11 @@ pub fn next_timestamp(clock: u64) -> Option<u64>
     requires { clock ≤ spec.clock_max }
     ensures { result ≡ spec.next_timestamp clock }
 {
-    if clock < CLOCK_MAX { Some(clock + 1) } else { None }
+    if clock < CLOCK_MAX {
+        Some(clock + 1)
+    } else {
+        None
+    }
 }
 
 /// The clock after so many events.

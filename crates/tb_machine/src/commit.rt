@@ -15,6 +15,7 @@ use tb_layout::{Failure, NoMemory};
 use tb_tables::{Mark, Tables};
 
 const LINKED_EVENT_CHAIN_OPEN: u32 = 2;
+
 const CLOCK_EXHAUSTED: u32 = 201;
 
 /// Stores the event where its checks find nothing, and answers the number of its result.
@@ -31,7 +32,11 @@ fn examine_at<E: Event>(clock: u64, tables: &mut Tables, event: &E) -> Result<u3
 }
 
 /// Stores the events in order up to the first fault, which is the answer.
-fn examine_all<E: Event>(clock: u64, tables: &mut Tables, rows: &[[u8; 128]]) -> Result<Option<Fault<E>>, NoMemory>
+fn examine_all<E: Event>(
+    clock: u64,
+    tables: &mut Tables,
+    rows: &[[u8; 128]],
+) -> Result<Option<Fault<E>>, NoMemory>
     requires { clock ≤ time.clock_max }
     ensures extends { Extends tables.old tables.new }
     ensures fault { IfOk result (λ fault. fault ≡ first_fault E.operation 0 clock tables.old.now (map E.event_of rows.now)) }
@@ -50,7 +55,11 @@ fn examine_all<E: Event>(clock: u64, tables: &mut Tables, rows: &[[u8; 128]]) ->
 }
 
 /// Takes a failed chain back, but for what its fault leaves behind.
-fn take_back<E: Event>(tables: &mut Tables, mark: Mark, fault: Option<Fault<E>>) -> Result<(), NoMemory>
+fn take_back<E: Event>(
+    tables: &mut Tables,
+    mark: Mark,
+    fault: Option<Fault<E>>,
+) -> Result<(), NoMemory>
     requires { mark ≤ mark_of tables.old }
     ensures extends { Extends (undone mark tables.old) tables.new }
     ensures facts { OnOk result (tables.new.now ≡ left_behind E.operation (undone mark tables.old).now fault) }

@@ -14,6 +14,7 @@ use tb_tables::Tables;
 /// An event of an operation.
 pub trait Event: Copy {
     ghost event_of: { List ℕ → Self };
+
     ghost operation: { Operation Self };
 
     /// The event in the 128 bytes of its row.
@@ -38,6 +39,7 @@ pub trait Event: Copy {
 
 impl Event for Account {
     ghost event_of = { account_of };
+
     ghost operation = { create_accounts };
 
     fn read(row: &[u8; 128]) -> Account {

@@ -48,7 +48,12 @@ impl Machine {
 
     /// Takes the events of a packet, whose data is `body`, and reports those that failed. It costs
     /// what the events cost, and takes memory for the facts that they make.
-    pub fn commit(&mut self, operation: u8, body: &[u8], out: &mut Vec<Failure>) -> Result<(), NoMemory>
+    pub fn commit(
+        &mut self,
+        operation: u8,
+        body: &[u8],
+        out: &mut Vec<Failure>,
+    ) -> Result<(), NoMemory>
         requires operation { operation ≡ 129 }
         requires whole { length body.now % 128 ≡ 0 }
         requires limit { length body.now / 128 ≤ 8190 }

@@ -27,7 +27,12 @@ fn report_linked(out: &mut Vec<Failure>, index: usize, count: usize)
 }
 
 /// Reports events that failed together.
-pub fn report_failed<E: Copy>(out: &mut Vec<Failure>, index: usize, count: usize, fault: Option<Fault<E>>)
+pub fn report_failed<E: Copy>(
+    out: &mut Vec<Failure>,
+    index: usize,
+    count: usize,
+    fault: Option<Fault<E>>,
+)
     requires room { vec_len out.old + count ≤ vec_capacity out.old }
     requires fits { index + count < 2 ^ 32 }
     requires below { LiesBelow count fault }

@@ -2,3 +2,4 @@ pub mod Texts
 pub mod Numbers
 pub mod Scripts
 pub mod Lines
+pub mod Spelled

@@ -1,10 +1,10 @@
 -- Lines without fault, and the first faulty one.
-use Rattle.std.proofs.Common.{◌≡◌, ℕ, ◌+◌, suc, List, [], ◌∷◌, ◌++◌, length, Result, Ok, Err, refl, sym, ap, ◌∙◌, arith, subst}
+use Rattle.std.proofs.Common.{◌≡◌, ℕ, ◌+◌, List, [], ◌∷◌, ◌++◌, Result, Ok, Err, refl, sym, ap, ◌∙◌, arith}
 use Rattle.std.specs.Prelude.{IsOk}
 use Rattle.tb_program.specs.declared.fault.Fault.{Fault}
 use Rattle.tb_program.specs.Script.{Said, after_line, after_lines, at_line}
 use Rattle.tb_program.specs.Steps.{◌>>=◌}
-use Rattle.tb_program.specs.Laws.{FirstFaultDecides, NoLineIsFaulty, FaultlessLinesAreSaid}
+use Rattle.tb_program.specs.Laws.{FirstFaultDecides, FaultlessLinesAreSaid}
 
 one_fault : (number : ℕ) (said : Said) (line : List ℕ) (others : List (List ℕ)) (fault : Fault) → after_line said line ≡ Err fault →
     after_lines number said (line ∷ others) ≡ Err (number, fault)
@@ -51,4 +51,4 @@ unfolding after_lines
 faultless number said [] h = refl
 faultless number said (line ∷ lines) h =
     faultless_step number said line lines (after_line said line) refl (h [] lines line said refl refl)
-        (λ next e. faultless (number + 1) next lines (λ front back later before is fine. h (line ∷ front) back later before (ap (λ ls. line ∷ ls) is) (more number said next line front e ∙ fine)))
+    (λ next e. faultless (number + 1) next lines (λ front back later before is fine. h (line ∷ front) back later before (ap (λ ls. line ∷ ls) is) (more number said next line front e ∙ fine)))

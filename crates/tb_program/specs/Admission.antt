@@ -13,8 +13,8 @@ pub record IsAdmitted (bytes : List ℕ) : Type 0 where
 abbrev pub refusal_of : ℕ → ℕ → List ℕ → Option Refusal
 refusal_of limit operation bytes =
     first_row (
-        (not (operation == 129), Some InvalidOperation) ∷
-        (not (length bytes % 128 == 0), Some InvalidDataSize) ∷
-        (nat_lt limit (length bytes / 128), Some TooMuchData) ∷
-        []
+    (not (operation == 129), Some InvalidOperation) ∷
+    (not (length bytes % 128 == 0), Some InvalidDataSize) ∷
+    (nat_lt limit (length bytes / 128), Some TooMuchData) ∷
+    []
     ) None

@@ -58,7 +58,7 @@ new_field draft (Some field) = if slice_index_or draft.given field.place false t
 abbrev pub written : Draft → Field → ℕ → Draft
 written draft field number = record {
   bytes = take field.offset draft.bytes ++ take field.size (to_le_bytes w128 number) ++ drop (field.offset + field.size) draft.bytes;
-  given = set draft.given field.place true
+  given = set draft.given field.place true;
 }
 
 -- the greatest number of so many bytes

@@ -1,7 +1,11 @@
 -- What the definition of a script promises, in the words of its format.
-use Rattle.std.specs.Prelude.{◌≡◌, ℕ, ◌+◌, List, [], ◌∷◌, ◌++◌, length, Ok, Err, IsOk}
+use Rattle.std.specs.Prelude.{◌≡◌, ℕ, ◌+◌, List, ◌∷◌, ◌++◌, length, Ok, Err, IsOk, unwrap_or}
 use Rattle.tb_program.specs.declared.fault.Fault.{Fault}
-use Rattle.tb_program.specs.Script.{Said, after_line, after_lines}
+use Rattle.std.specs.List.{AllByRecursion}
+use Rattle.tb_program.specs.declared.item.Settings.{Settings}
+use Rattle.tb_program.specs.declared.item.Submission.{Submission}
+use Rattle.tb_program.specs.Script.{Said, after_line, after_lines, items_of, script_of}
+use Rattle.tb_program.specs.Spelling.{spelled, CanBeSet, CanBeSubmitted}
 
 -- where some lines have no fault and the next has one, that fault decides, whatever follows, with the number of its line
 abbrev pub FirstFaultDecides : Type 0
@@ -19,3 +23,12 @@ NoLineIsFaulty number said lines =
 -- where no line is faulty, the lines have no fault
 abbrev pub FaultlessLinesAreSaid : Type 0
 FaultlessLinesAreSaid = (number : ℕ) (said : Said) (lines : List (List ℕ)) → NoLineIsFaulty number said lines → IsOk (after_lines number said lines)
+
+-- a script spelled from settings and packets is read as these
+abbrev pub IsReadAsSpelled : Settings → List Submission → Type 0
+IsReadAsSpelled settings packets = (said : Said) × (script_of (spelled settings packets) ≡ Ok said) × (said.settings ≡ settings) × (items_of said ≡ packets)
+
+abbrev pub SpelledScriptsAreRead : Type 0
+SpelledScriptsAreRead =
+    (settings : Settings) (packets : List Submission) → CanBeSet settings → AllByRecursion (CanBeSubmitted (unwrap_or settings.submitters 2)) packets →
+    IsReadAsSpelled settings packets

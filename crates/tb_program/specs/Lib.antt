@@ -8,4 +8,5 @@ pub mod Parsing
 pub mod Admission
 pub mod Plan
 pub mod Output
+pub mod Spelling
 pub mod Laws

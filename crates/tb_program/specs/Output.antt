@@ -9,7 +9,6 @@ use Rattle.tb_program.specs.declared.fault.Fault.{Fault}
 use Rattle.tb_program.specs.declared.fault.Fault.TheVariants.{LineTooLong, BadByte, UnknownWord, OutOfPlace, WrongNumberOfWords, BadField, BadNumber, BadHex}
 use Rattle.tb_program.specs.declared.admission.Refusal.{Refusal}
 use Rattle.tb_program.specs.declared.admission.Refusal.TheVariants.{InvalidOperation, InvalidDataSize, TooMuchData}
-use Rattle.tb_program.specs.declared.plan.Queued.{Queued}
 use Rattle.tb_program.specs.declared.plan.Planned.{Planned}
 use Rattle.tb_program.specs.declared.plan.Planned.TheVariants as plan
 use Rattle.tb_program.specs.Script.{Said, items_of, clock_of, limit_of, script_of}

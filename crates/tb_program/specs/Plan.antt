@@ -2,7 +2,6 @@
 use Rattle.std.specs.Prelude.{ℕ, ◌==◌, Bool, List, [], ◌∷◌, ◌++◌, count_by, false, Option, Some, None}
 use Rattle.tb_program.specs.declared.item.Submission.{Submission}
 use Rattle.tb_program.specs.declared.admission.Refusal.{Refusal}
-use Rattle.tb_program.specs.declared.plan.Queued.{Queued}
 use Rattle.tb_program.specs.declared.plan.Planned.{Planned}
 use Rattle.tb_program.specs.declared.plan.Planned.TheVariants as plan
 use Rattle.tb_program.specs.Admission.{refusal_of}

@@ -24,7 +24,8 @@ pub record Said : Type 0 where
 abbrev pub nothing_said : Said
 nothing_said = record {
   settings = record { clock = None; limit = None; capacity = None; credit = None; submitters = None };
-  items = []; packet = None
+  items = [];
+  packet = None;
 }
 
 abbrev pub packet_items : Option Submission → List Submission
@@ -59,7 +60,7 @@ set_to said settings = record said { settings = settings }
 abbrev pub with_packet : Said → ℕ → ℕ → Said
 with_packet said submitter operation = record said {
   items = items_of said;
-  packet = Some (record { submitter = submitter; operation = operation; bytes = [] })
+  packet = Some (record { submitter = submitter; operation = operation; bytes = [] });
 }
 
 abbrev pub more_bytes : Option Submission → List ℕ → Option Submission

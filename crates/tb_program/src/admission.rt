@@ -35,6 +35,7 @@ impl Refusal {
 }
 
 const CREATE_ACCOUNTS: u8 = 129;
+
 const EVENT_SIZE: usize = 128;
 
 /// Why a packet of this operation with these bytes is refused, if it is. Costs the same for any packet.

@@ -35,7 +35,11 @@ pub struct Draft {
 fn lying_at(place: usize, offset: usize, size: usize) -> Field
     ensures { result ≡ field_at place offset size }
 {
-    Field { place, offset, size }
+    Field {
+        place,
+        offset,
+        size,
+    }
 }
 
 fn account_field(name: &[u8]) -> Option<Field>

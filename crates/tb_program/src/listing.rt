@@ -16,6 +16,7 @@ use tb_layout::{Failure, NoMemory};
 use tb_machine::Machine;
 
 const CREATE_ACCOUNTS: u8 = 129;
+
 const EVENT_SIZE: usize = 128;
 
 /// Commits a packet, and gives its failures.
@@ -29,7 +30,13 @@ fn commit(alloc: Global, machine: &mut Machine, body: &Body) -> Result<Vec<Failu
     Ok(failures)
 }
 
-fn put_queued(alloc: Global, out: &mut String, machine: &mut Machine, place: u64, queued: &Queued) -> Result<(), NoMemory>
+fn put_queued(
+    alloc: Global,
+    out: &mut String,
+    machine: &mut Machine,
+    place: u64,
+    queued: &Queued,
+) -> Result<(), NoMemory>
     ensures state { OnOk result (machine.new ≡ after_packet machine.old (events_of queued.now.body)) }
     ensures line { OnOk result (string_bytes out.new ≡ string_bytes out.old ++ committed_line queued.now.submitter queued.now.number place (failures_of machine.old (events_of queued.now.body))) }
 {
@@ -40,12 +47,16 @@ fn put_queued(alloc: Global, out: &mut String, machine: &mut Machine, place: u64
 
 /// The line of one item.
 #[tactic(auto, unfolding(crate::specs::Output::plan_text, crate::specs::Output::state_after))]
-fn put_planned(alloc: Global, out: &mut String, machine: &mut Machine, place: u64, planned: &Planned) -> Result<u64, NoMemory>
+fn put_planned(
+    alloc: Global,
+    out: &mut String,
+    machine: &mut Machine,
+    place: u64,
+    planned: &Planned,
+) -> Result<u64, NoMemory>
     requires { place < 2 ^ 63 }
-    ensures lines {
-        IfOk result (λ next. (others : List PlannedValue) →
-            string_bytes out.old ++ plan_text machine.old place (planned.now ∷ others) ≡ string_bytes out.new ++ plan_text machine.new next others)
-    }
+    ensures lines { IfOk result (λ next. (others : List PlannedValue) →
+        string_bytes out.old ++ plan_text machine.old place (planned.now ∷ others) ≡ string_bytes out.new ++ plan_text machine.new next others) }
     ensures states { OnOk result ((others : List PlannedValue) → state_after machine.old (planned.now ∷ others) ≡ state_after machine.new others) }
     ensures bound { IfOk result (λ next. next ≤ place + 1) }
 {
@@ -63,7 +74,12 @@ fn put_planned(alloc: Global, out: &mut String, machine: &mut Machine, place: u6
 
 /// The lines of a plan, and the state that its packets leave.
 #[tactic(auto, unfolding(crate::specs::Output::plan_text, crate::specs::Output::state_after))]
-fn put_plan(alloc: Global, out: &mut String, machine: &mut Machine, plan: &[Planned]) -> Result<(), NoMemory>
+fn put_plan(
+    alloc: Global,
+    out: &mut String,
+    machine: &mut Machine,
+    plan: &[Planned],
+) -> Result<(), NoMemory>
     ensures lines { OnOk result (string_bytes out.new ≡ string_bytes out.old ++ plan_text machine.old 0 plan.now) }
     ensures state { OnOk result (machine.new ≡ state_after machine.old plan.now) }
 {
@@ -85,7 +101,12 @@ fn put_accounts(out: &mut String, machine: &Machine) -> Result<(), NoMemory>
 }
 
 /// All lines for a plan: those of its items, the clock after them and the accounts.
-pub fn put_listing(alloc: Global, out: &mut String, clock: u64, plan: &[Planned]) -> Result<(), NoMemory>
+pub fn put_listing(
+    alloc: Global,
+    out: &mut String,
+    clock: u64,
+    plan: &[Planned],
+) -> Result<(), NoMemory>
     requires { clock ≤ clock_max }
     ensures { OnOk result (string_bytes out.new ≡ string_bytes out.old ++ plan_text (opening clock) 0 plan.now ++ state_text (state_after (opening clock) plan.now)) }
 {

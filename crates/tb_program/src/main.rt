@@ -24,18 +24,16 @@ mod program_fault;
 mod read;
 mod script;
 mod submitter_number;
-mod text;
-
 #[cfg(test)]
 mod tests;
+mod text;
 
 use crate::program::run_script;
 use crate::program_fault::ProgramFault;
 use std::alloc::Global;
-use std::env;
-use std::io;
 use std::process::ExitCode;
 use std::rt::Env;
+use std::{env, io};
 
 /// Whether the arguments are exactly `list`.
 fn asks_to_list(rt: &(impl Env + Alloc<A = Global>)) -> io::Result<bool> {

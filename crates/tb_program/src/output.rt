@@ -52,7 +52,12 @@ fn put_failures(out: &mut String, failures: &[Failure]) -> Result<(), AllocError
 }
 
 #[tactic(auto, unfolding(crate::specs::Output::committed_front))]
-fn put_committed_front(out: &mut String, submitter: u32, number: u64, place: u64) -> Result<(), AllocError>
+fn put_committed_front(
+    out: &mut String,
+    submitter: u32,
+    number: u64,
+    place: u64,
+) -> Result<(), AllocError>
     ensures { OnOk result (string_bytes out.new ≡ string_bytes out.old ++ committed_front submitter number place) }
 {
     write!(out, "packet {submitter} {number} committed {place}")
@@ -93,7 +98,10 @@ fn put_balances(out: &mut String, account: &Account) -> Result<(), AllocError>
     let debits_posted = account.debits_posted;
     let credits_pending = account.credits_pending;
     let credits_posted = account.credits_posted;
-    write!(out, " {debits_pending} {debits_posted} {credits_pending} {credits_posted}\n")
+    write!(
+        out,
+        " {debits_pending} {debits_posted} {credits_pending} {credits_posted}\n"
+    )
 }
 
 pub fn put_account(out: &mut String, account: &Account) -> Result<(), AllocError>

@@ -8,8 +8,8 @@ ghost use Rattle.tb_program.specs.declared.plan.Planned.TheVariants.{Queued as Q
 use crate::admission::{Refusal, refusal_of};
 use crate::body::Body;
 use crate::item::Submission;
-use crate::submitter_number::SubmitterNumber;
 use crate::plan::{Planned, Queued};
+use crate::submitter_number::SubmitterNumber;
 use std::alloc::Global;
 use std::marker::Model;
 use tb_layout::NoMemory;

@@ -23,7 +23,12 @@ fn listed(alloc: Global, script: Script) -> Result<String, NoMemory>
     let (settings, items) = script.finish()?;
     let plan = plan_all(alloc, settings.limit.unwrap_or(8190), items)?;
     let mut out = String::new(alloc);
-    put_listing(alloc, &mut out, settings.clock.unwrap_or(0), plan.as_slice())?;
+    put_listing(
+        alloc,
+        &mut out,
+        settings.clock.unwrap_or(0),
+        plan.as_slice(),
+    )?;
     Ok(out)
 }
 
@@ -66,10 +71,8 @@ pub fn run_script<R: Read, W: Write>(
     writer: &mut W,
 ) -> Result<bool, ProgramFault>
     // Where the reader tells its bytes and the writer its own, the output for the bytes is written, and nothing else.
-    ensures written {
-        IfOk result (λ faultless. IfSome (R.remaining reader.old) (λ bytes.
-            Appends (W.contents writer.old) (W.contents writer.new) (out bytes) × (faultless ≡ is_faultless bytes)))
-    }
+    ensures written { IfOk result (λ faultless. IfSome (R.remaining reader.old) (λ bytes.
+        Appends (W.contents writer.old) (W.contents writer.new) (out bytes) × (faultless ≡ is_faultless bytes))) }
     // Nothing is written where the reader failed or memory ran out.
     ensures read { IsErrOf result ProgramFault.Read → Keeps (W.contents writer.old) (W.contents writer.new) }
     ensures memory { IsErrOf result ProgramFault.NoMemory → Keeps (W.contents writer.old) (W.contents writer.new) }

@@ -8,6 +8,7 @@ use std::alloc::Global;
 use std::io::Read;
 
 const MOST_BYTES: usize = 16_777_216;
+
 const MOST_READS: u32 = 16_777_217;
 
 /// All bytes of a reader, or None where there are more than a script may have.

@@ -19,9 +19,13 @@ use std::marker::Model;
 use tb_layout::NoMemory;
 
 const CLOCK_MAX: u128 = 0x7fff_ffff_ffff_ffff;
+
 const LONGEST_LINE: usize = 65_536;
+
 const MOST_EVENTS: u128 = 8190;
+
 const MOST_PLACES: u128 = 65_536;
+
 const MOST_SUBMITTERS: u128 = 16;
 
 /// What the lines so far say.
@@ -113,7 +117,12 @@ impl Script {
         Ok(())
     }
 
-    fn begin_packet(&mut self, alloc: Global, submitter: SubmitterNumber, operation: u8) -> Result<(), NoMemory>
+    fn begin_packet(
+        &mut self,
+        alloc: Global,
+        submitter: SubmitterNumber,
+        operation: u8,
+    ) -> Result<(), NoMemory>
         ensures { OnOk result (self.new ≡ with_packet self.old submitter operation) }
     {
         self.end_packet()?;
@@ -163,9 +172,17 @@ impl Script {
             Keyword::Packet => {
                 let (submitter, operation) = two_words(words)?;
                 let submitters = self.settings.submitters.unwrap_or(2);
-                let submitter = number_within(submitter, 0, u128::from(submitters.saturating_sub(1)))?;
+                let submitter = number_within(
+                    submitter,
+                    0,
+                    u128::from(submitters.saturating_sub(1)),
+                )?;
                 let operation = number_within(operation, 0, 255)?;
-                self.begin_packet(alloc, SubmitterNumber::new(submitter as u32), operation as u8)?;
+                self.begin_packet(
+                    alloc,
+                    SubmitterNumber::new(submitter as u32),
+                    operation as u8,
+                )?;
             }
             Keyword::Account => self.add_bytes(&event_of(Layout::Account, words)?)?,
             Keyword::Hex => {

@@ -1,4 +1,4 @@
-use Rattle.std.proofs.Common.{rules, arith, refl}
+use Rattle.std.proofs.Common.{rules, refl}
 use Rattle.tb_machine.proofs.FirstChain.{left_more_rows}
 use Rattle.tb_machine.proofs.commit.commit_chains.Goals as goal
 
@@ -12,6 +12,6 @@ loop-start-preserved g c =
       len = search rules;
       capacity = search rules;
       left =
-        left_more_rows g.E.Event.operation g.E.Event.event_of _ _ _ _ _ _ _ _ _ _ _ _ refl c.clock_after-clock.ensures.value c.loop-start-test.true c.first_chain_length-count.ensures.value
-            c.in_ok-commit_chain.ensures.facts c.in_ok-commit_chain.ensures.failures c.loop-start.invariant.left
+          left_more_rows g.E.Event.operation g.E.Event.event_of _ _ _ _ _ _ _ _ _ _ _ _ refl c.clock_after-clock.ensures.value c.loop-start-test.true c.first_chain_length-count.ensures.value
+          c.in_ok-commit_chain.ensures.facts c.in_ok-commit_chain.ensures.failures c.loop-start.invariant.left;
     }

@@ -1,4 +1,4 @@
-use Rattle.std.proofs.Common.{append_assoc, map}
+use Rattle.std.proofs.Common.{append_assoc}
 use Rattle.std.proofs.lemmas.List.{length-map}
 use Rattle.tb_machine.proofs.Faults.{fault-below}
 use Rattle.tb_machine.proofs.Failures.{failures_from-open}

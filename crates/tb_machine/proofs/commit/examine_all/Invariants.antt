@@ -9,7 +9,7 @@ invariant-loop-index g l = record {
   clock : l.clock ≤ clock_max;
   extends : Extends l.fn.tables l.tables;
   fault : first_fault g.E.Event.operation 0 l.fn.clock l.fn.tables.now (map g.E.Event.event_of l.rows)
-    ≡ first_fault g.E.Event.operation l.index l.clock l.tables.now (map g.E.Event.event_of (drop l.index l.rows));
+      ≡ first_fault g.E.Event.operation l.index l.clock l.tables.now (map g.E.Event.event_of (drop l.index l.rows));
   stored : stored_all g.E.Event.operation l.fn.clock l.fn.tables.now (map g.E.Event.event_of l.rows)
-    ≡ stored_all g.E.Event.operation l.clock l.tables.now (map g.E.Event.event_of (drop l.index l.rows))
+      ≡ stored_all g.E.Event.operation l.clock l.tables.now (map g.E.Event.event_of (drop l.index l.rows));
 }

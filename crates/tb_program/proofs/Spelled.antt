@@ -1,0 +1,311 @@
+-- What is spelled is read.
+use Rattle.std.proofs.Common.{◌≡◌, ℕ, suc, ◌+◌, ◌-◌, ◌*◌, ◌/◌, ◌%◌, ◌^◌, ◌<◌, ◌≤◌, Bool, true, false, not, List, [], ◌∷◌, ◌++◌, length, map, get_or, refl, sym, ap, ◌∙◌, arith, rules, Some, None, Option, Ok, Err, Result, length-append, subst, append_assoc, lt-ltb, le-ltb, zero, eqb, append-nil}
+use Rattle.std.specs.Prelude.{◌==◌, ◌&&◌, nat_le, nat_lt, filter, codes, decimal, slice_index, if◌then◌else◌, All, IfSome, unwrap_or, is_some, is_none}
+use Rattle.std.specs.List.{list_all, slice_split, flat_map, AllByRecursion}
+use Rattle.std.specs.Char.{is_ascii_digit}
+use Rattle.std.specs.Str.Parse.{digits_value}
+use Rattle.std.proofs.lemmas.List.Folds.{list_all-append}
+use Rattle.std.proofs.lemmas.List.Elements.{All-nil, All-cons, All-head, All-tail}
+use Rattle.std.proofs.lemmas.List.Sums.{AllPass-from_list_all}
+use Rattle.std.proofs.lemmas.List.Splits.{slice_split_at, slice_split_none}
+use Rattle.std.proofs.lemmas.Bool.{and_parts, cases_lt}
+use Rattle.std.proofs.lemmas.Bool.Decides.{nat_tests}
+use Rattle.std.proofs.lemmas.Fmt.{digits_decimal, digits_value-decimal, decimal_nonempty, length-decimal-le}
+use Rattle.hex.specs.Hex.{IsBytes, encode_lower, encode_with, lower_digits}
+use Rattle.hex.proofs.HexLemmas.{decode_of-encode_lower}
+use Rattle.tb_program.specs.declared.keyword.Keyword.{Keyword}
+use Rattle.tb_program.specs.declared.keyword.Keyword.TheVariants as word
+use Rattle.tb_program.specs.declared.item.Settings.{Settings}
+use Rattle.tb_program.specs.declared.item.Submission.{Submission}
+use Rattle.tb_program.specs.declared.fault.Fault.{Fault}
+use Rattle.tb_program.specs.Text.{lines_of, words_of}
+use Rattle.tb_program.specs.Number.{number_of, number_within}
+use Rattle.tb_program.specs.Steps.{◌>>=◌}
+use Rattle.tb_program.specs.Keyword.{keyword_of}
+use Rattle.tb_program.specs.Event.{hex_bytes}
+use Rattle.tb_program.specs.Script.{Said, nothing_said, items_of, is_in_place, is_text, with_words, with_keyword, with_line, with_packet, with_bytes, after_line, after_lines, at_line, script_of}
+use Rattle.tb_program.specs.Spelling.{spaced, ended, setting_lines, settings_lines, byte_line, packet_lines, spelled, CanBeSet, CanBeSubmitted}
+use Rattle.tb_program.specs.Laws.{IsReadAsSpelled, SpelledScriptsAreRead}
+use Rattle.tb_program.proofs.Numbers.{own}
+use Rattle.tb_program.proofs.Texts.{kept}
+
+-- ---- words
+
+abbrev is_word_byte : ℕ → Bool
+is_word_byte byte = nat_le 33 byte && nat_le byte 126
+
+abbrev is_word : List ℕ → Bool
+is_word word = nat_lt 0 (length word) && list_all is_word_byte word
+
+list_all-implied : (p q : ℕ → Bool) (xs : List ℕ) → ((x : ℕ) → p x ≡ true → q x ≡ true) → list_all p xs ≡ true → list_all q xs ≡ true
+list_all-implied p q [] h all = refl
+list_all-implied p q (x ∷ xs) h all =
+    let parts = and_parts (p x) (list_all p xs) all in
+    rw (h x parts.0, list_all-implied p q xs h parts.1) refl
+
+all-implied : (p : ℕ → Bool) (P : ℕ → Type 0) (xs : List ℕ) → ((x : ℕ) → p x ≡ true → P x) → list_all p xs ≡ true → All P xs
+all-implied p P [] h all = All-nil P
+all-implied p P (x ∷ xs) h all =
+    let parts = and_parts (p x) (list_all p xs) all in
+    All-cons P x xs (h x parts.0) (all-implied p P xs h parts.1)
+
+word_is_text : (x : ℕ) → is_word_byte x ≡ true → (nat_le 32 x && nat_le x 126) ≡ true
+word_is_text x h = grind (arith, nat_tests)
+
+no_space : (x : ℕ) → is_word_byte x ≡ true → (x == 32) ≡ false
+no_space x h = grind (arith, nat_tests)
+
+text_no_end : (x : ℕ) → (nat_le 32 x && nat_le x 126) ≡ true → (x == 10) ≡ false
+text_no_end x h = grind (arith, nat_tests)
+
+digit_is_word : (x : ℕ) → is_ascii_digit x ≡ true → is_word_byte x ≡ true
+digit_is_word x h = grind (arith, nat_tests)
+
+words_of-spaced : (words : List (List ℕ)) → list_all is_word words ≡ true → words_of (spaced words) ≡ words
+unfolding words_of
+words_of-spaced [] h = refl
+words_of-spaced (word ∷ []) h =
+    let parts = and_parts (nat_lt 0 (length word)) (list_all is_word_byte word) (and_parts (is_word word) true h).0 in
+    ap (filter (λ w. nat_lt 0 (length w))) (slice_split_none (λ b. b == 32) word (all-implied is_word_byte (λ x. (x == 32) ≡ false) word no_space parts.1))
+    ∙ rw parts.0 refl
+words_of-spaced (word ∷ next ∷ words) h =
+    let both = and_parts (is_word word) (list_all is_word (next ∷ words)) h in
+    let parts = and_parts (nat_lt 0 (length word)) (list_all is_word_byte word) both.0 in
+    ap (filter (λ w. nat_lt 0 (length w))) (slice_split_at (λ b. b == 32) word 32 (spaced (next ∷ words)) (all-implied is_word_byte (λ x. (x == 32) ≡ false) word no_space parts.1) refl)
+    ∙ rw parts.0 (ap (λ ws. word ∷ ws) (words_of-spaced (next ∷ words) both.1))
+
+is_text-spaced : (words : List (List ℕ)) → list_all is_word words ≡ true → is_text (spaced words) ≡ true
+is_text-spaced [] h = refl
+is_text-spaced (word ∷ []) h =
+    list_all-implied is_word_byte (λ b. nat_le 32 b && nat_le b 126) word word_is_text (and_parts (nat_lt 0 (length word)) (list_all is_word_byte word) (and_parts (is_word word) true h).0).1
+is_text-spaced (word ∷ next ∷ words) h =
+    let both = and_parts (is_word word) (list_all is_word (next ∷ words)) h in
+    let front = list_all-implied is_word_byte (λ b. nat_le 32 b && nat_le b 126) word word_is_text (and_parts (nat_lt 0 (length word)) (list_all is_word_byte word) both.0).1 in
+    list_all-append (λ b. nat_le 32 b && nat_le b 126) word (32 ∷ spaced (next ∷ words)) ∙ rw (front, is_text-spaced (next ∷ words) both.1) refl
+
+-- ---- lines
+
+lines_of-ended_one : (line rest : List ℕ) → is_text line ≡ true → lines_of (line ++ 10 ∷ rest) ≡ line ∷ lines_of rest
+unfolding lines_of
+lines_of-ended_one [] rest h = refl
+lines_of-ended_one (b ∷ line) rest h =
+    let parts = and_parts (nat_le 32 b && nat_le b 126) (is_text line) h in
+    rw (text_no_end b parts.0, lines_of-ended_one line rest parts.1) refl
+
+lines_of-ended : (lines : List (List ℕ)) → list_all is_text lines ≡ true → lines_of (ended lines) ≡ lines
+unfolding lines_of
+lines_of-ended [] h = refl
+lines_of-ended (line ∷ lines) h =
+    let parts = and_parts (is_text line) (list_all is_text lines) h in
+    lines_of-ended_one line (ended lines) parts.0 ∙ ap (λ ls. line ∷ ls) (lines_of-ended lines parts.1)
+
+-- lines that say what leads from one state to another, wherever they stand
+record Says (said : Said) (lines : List (List ℕ)) (next : Said) : Type 0 where
+  text : list_all is_text lines ≡ true
+  read : (number : ℕ) → after_lines number said lines ≡ Ok next
+
+says_nothing : (said : Said) → Says said [] said
+unfolding after_lines
+says_nothing said = record { text = refl; read = λ number. refl }
+
+says_more : (said between next : Said) (line : List ℕ) (lines : List (List ℕ)) → is_text line ≡ true → after_line said line ≡ Ok between → Says between lines next → Says said (line ∷ lines) next
+unfolding after_lines
+says_more said between next line lines text first rest = record {
+  text = rw (text, rest.text) refl;
+  read = λ number. rw first (rest.read (number + 1));
+}
+
+first_step : (number : ℕ) (r : Result Said Fault) (lines : List (List ℕ)) (next : Said) → (at_line number r >>= λ s. after_lines (number + 1) s lines) ≡ Ok next →
+    (s : Said) × (r ≡ Ok s) × (after_lines (number + 1) s lines ≡ Ok next)
+first_step number (Ok s) lines next h = (s, refl, h)
+first_step number (Err fault) lines next h = cc
+
+after_lines-append : (number : ℕ) (said next : Said) (front back : List (List ℕ)) → after_lines number said front ≡ Ok next → after_lines number said (front ++ back) ≡ after_lines (number + length front) next back
+unfolding after_lines
+after_lines-append number said next [] back h =
+    let same : said ≡ next = cc in
+    let count : number + 0 ≡ number = omega arith in
+    rw (same, count) refl
+after_lines-append number said next (line ∷ front) back h =
+    let step = first_step number (after_line said line) front next h in
+    let count : number + 1 + length front ≡ number + suc (length front) = omega arith in
+    rw step.1 (after_lines-append (number + 1) step.0 next front back step.2 ∙ ap (λ n. after_lines n next back) count)
+
+says_both : (said between next : Said) (front back : List (List ℕ)) → Says said front between → Says between back next → Says said (front ++ back) next
+says_both said between next front back first second = record {
+  text = list_all-append is_text front back ∙ rw (first.text, second.text) refl;
+  read = λ number. after_lines-append number said between front back (first.read number) ∙ second.read (number + length front);
+}
+
+-- a line that begins with a keyword in its place
+keyword_line : (said : Said) (keyword : Keyword) (name : List ℕ) (words : List (List ℕ)) → list_all is_word (name ∷ words) ≡ true → length (spaced (name ∷ words)) ≤ 65536 →
+    (slice_index name 0 == 35) ≡ false → keyword_of name ≡ Some keyword → is_in_place said keyword ≡ true → after_line said (spaced (name ∷ words)) ≡ with_line said keyword words
+unfolding after_line
+keyword_line said keyword name words good short mark is place =
+    rw (le-ltb 65536 (length (spaced (name ∷ words))) short, is_text-spaced (name ∷ words) good)
+    (ap (with_words said) (words_of-spaced (name ∷ words) good) ∙ rw (mark, is, place) refl)
+
+-- ---- numbers
+
+decimal_is_word : (n : ℕ) → n < 2 ^ 64 → is_word (decimal n) ≡ true
+decimal_is_word n h =
+    rw (lt-ltb 0 (length (decimal n)) (decimal_nonempty n h)) (list_all-implied is_ascii_digit is_word_byte (decimal n) digit_is_word (digits_decimal own n h))
+
+length-decimal : (n : ℕ) → n < 2 ^ 64 → length (decimal n) ≤ 20
+length-decimal n h = length-decimal-le 20 n (omega arith) (omega arith) h
+
+number_within-decimal : (low high n : ℕ) → low ≤ n → n ≤ high → n < 2 ^ 64 → number_within low high (decimal n) ≡ Ok n
+unfolding number_of
+number_within-decimal low high n above below h =
+    rw (lt-ltb 0 (length (decimal n)) (decimal_nonempty n h), lt-ltb (length (decimal n)) 40 (omega (arith, length-decimal n h)), digits_decimal own n h, digits_value-decimal own n h)
+    (grind (arith, nat_tests))
+
+-- ---- settings
+
+says_setting : (said next : Said) (keyword : Keyword) (name : List ℕ) (n : ℕ) → is_word name ≡ true → length name ≤ 16 → (slice_index name 0 == 35) ≡ false →
+    keyword_of name ≡ Some keyword → is_in_place said keyword ≡ true → n < 2 ^ 64 → with_line said keyword (decimal n ∷ []) ≡ Ok next → Says said (setting_lines name (Some n)) next
+says_setting said next keyword name n good short mark is place small line =
+    let words : list_all is_word (name ∷ decimal n ∷ []) ≡ true = rw (good, decimal_is_word n small) refl in
+    let count : length (spaced (name ∷ decimal n ∷ [])) ≤ 65536 = omega (arith, length-append name (32 ∷ decimal n), length-decimal n small) in
+    says_more said next next _ [] (is_text-spaced (name ∷ decimal n ∷ []) words) (keyword_line said keyword name (decimal n ∷ []) words count mark is place ∙ line) (says_nothing next)
+
+abbrev given : Option ℕ → Option ℕ → Option ℕ → Option ℕ → Option ℕ → Said
+given clock limit capacity credit submitters = record {
+  settings = record { clock = clock; limit = limit; capacity = capacity; credit = credit; submitters = submitters };
+  items = [];
+  packet = None;
+}
+
+says_clock : (clock : Option ℕ) → IfSome clock (λ n. n < 2 ^ 63) → Says nothing_said (setting_lines (codes "clock") clock) (given clock None None None None)
+unfolding with_line keyword_of
+says_clock None h = says_nothing nothing_said
+says_clock (Some n) h = says_setting nothing_said _ word.Clock (codes "clock") n refl (omega arith) refl refl refl (omega arith) (rw (number_within-decimal 0 (2 ^ 63 - 1) n (omega arith) (omega arith) (omega arith)) refl)
+
+says_limit : (clock limit : Option ℕ) → IfSome limit (λ n. (1 ≤ n) × (n ≤ 8190)) → Says (given clock None None None None) (setting_lines (codes "limit") limit) (given clock limit None None None)
+unfolding with_line keyword_of
+says_limit clock None h = says_nothing _
+says_limit clock (Some n) h = says_setting _ _ word.Limit (codes "limit") n refl (omega arith) refl refl refl (omega (arith, h.1)) (rw (number_within-decimal 1 8190 n h.0 h.1 (omega (arith, h.1))) refl)
+
+says_capacity : (clock limit capacity : Option ℕ) → IfSome capacity (λ n. (1 ≤ n) × (n ≤ 65536)) → Says (given clock limit None None None) (setting_lines (codes "capacity") capacity) (given clock limit capacity None None)
+unfolding with_line keyword_of
+says_capacity clock limit None h = says_nothing _
+says_capacity clock limit (Some n) h = says_setting _ _ word.Capacity (codes "capacity") n refl (omega arith) refl refl refl (omega (arith, h.1)) (rw (number_within-decimal 1 65536 n h.0 h.1 (omega (arith, h.1))) refl)
+
+says_credit : (clock limit capacity credit : Option ℕ) → IfSome credit (λ n. (1 ≤ n) × (n ≤ 65536)) → Says (given clock limit capacity None None) (setting_lines (codes "credit") credit) (given clock limit capacity credit None)
+unfolding with_line keyword_of
+says_credit clock limit capacity None h = says_nothing _
+says_credit clock limit capacity (Some n) h = says_setting _ _ word.Credit (codes "credit") n refl (omega arith) refl refl refl (omega (arith, h.1)) (rw (number_within-decimal 1 65536 n h.0 h.1 (omega (arith, h.1))) refl)
+
+says_submitters : (clock limit capacity credit submitters : Option ℕ) → IfSome submitters (λ n. (1 ≤ n) × (n ≤ 16)) → Says (given clock limit capacity credit None) (setting_lines (codes "submitters") submitters) (given clock limit capacity credit submitters)
+unfolding with_line keyword_of
+says_submitters clock limit capacity credit None h = says_nothing _
+says_submitters clock limit capacity credit (Some n) h = says_setting _ _ word.Submitters (codes "submitters") n refl (omega arith) refl refl refl (omega (arith, h.1)) (rw (number_within-decimal 1 16 n h.0 h.1 (omega (arith, h.1))) refl)
+
+says_settings : (s : Settings) → CanBeSet s → Says nothing_said (settings_lines s) (given s.clock s.limit s.capacity s.credit s.submitters)
+says_settings s h =
+    says_both _ _ _ _ _ (says_clock s.clock h.clock)
+    (says_both _ _ _ _ _ (says_limit s.clock s.limit h.limit)
+    (says_both _ _ _ _ _ (says_capacity s.clock s.limit s.capacity h.capacity)
+    (says_both _ _ _ _ _ (says_credit s.clock s.limit s.capacity s.credit h.credit)
+    (says_submitters s.clock s.limit s.capacity s.credit s.submitters h.submitters))))
+
+-- ---- packets
+
+digit_byte_is_word : (d : ℕ) → d < 16 → is_word_byte (slice_index lower_digits d) ≡ true
+digit_byte_is_word d h = AllPass-from_list_all is_word_byte lower_digits refl d 0 h
+
+encoded_is_word : (byte : ℕ) → byte < 256 → is_word (encode_lower (byte ∷ [])) ≡ true
+unfolding encode_with
+encoded_is_word byte h =
+    let high : byte / 16 < 16 = omega arith in
+    let low : byte % 16 < 16 = omega arith in
+    rw (digit_byte_is_word (byte / 16) high, digit_byte_is_word (byte % 16) low) refl
+
+length-encoded : (byte : ℕ) → length (encode_lower (byte ∷ [])) ≡ 2
+unfolding encode_with
+length-encoded byte = refl
+
+one_is_bytes : (byte : ℕ) → byte < 256 → IsBytes (byte ∷ [])
+one_is_bytes byte h zero = h
+one_is_bytes byte h (suc i) = omega arith
+
+one_byte : (byte : ℕ) → byte < 256 → hex_bytes (encode_lower (byte ∷ [])) ≡ Ok (byte ∷ [])
+unfolding hex_bytes
+one_byte byte h = rw (decode_of-encode_lower (byte ∷ []) (one_is_bytes byte h)) refl
+
+abbrev adding : Settings → List Submission → Submission → Said
+adding settings items packet = record { settings = settings; items = items; packet = Some packet }
+
+says_byte : (settings : Settings) (items : List Submission) (packet : Submission) (byte : ℕ) → byte < 256 →
+    after_line (adding settings items packet) (byte_line byte) ≡ Ok (adding settings items (record packet { bytes = packet.bytes ++ byte ∷ [] }))
+unfolding with_line keyword_of
+says_byte settings items packet byte h =
+    keyword_line (adding settings items packet) word.Hex (codes "hex") (encode_lower (byte ∷ []) ∷ []) (rw (encoded_is_word byte h) refl) (omega (arith, length-encoded byte)) refl refl refl
+    ∙ rw (one_byte byte h) refl
+
+byte_line_is_text : (byte : ℕ) → byte < 256 → is_text (byte_line byte) ≡ true
+byte_line_is_text byte h = is_text-spaced (codes "hex" ∷ encode_lower (byte ∷ []) ∷ []) (rw (encoded_is_word byte h) refl)
+
+says_bytes : (settings : Settings) (items : List Submission) (packet : Submission) (bytes : List ℕ) → All (λ byte. byte < 256) bytes →
+    Says (adding settings items packet) (map byte_line bytes) (adding settings items (record packet { bytes = packet.bytes ++ bytes }))
+says_bytes settings items packet [] h = subst (λ bs. Says (adding settings items packet) [] (adding settings items (record packet { bytes = bs }))) (sym (append-nil packet.bytes)) (says_nothing _)
+says_bytes settings items packet (byte ∷ bytes) h =
+    let small = All-head (λ b. b < 256) byte bytes h in
+    let more = record packet { bytes = packet.bytes ++ byte ∷ [] } in
+    says_more _ (adding settings items more) _ _ _ (byte_line_is_text byte small) (says_byte settings items packet byte small)
+    (subst (λ bs. Says (adding settings items more) (map byte_line bytes) (adding settings items (record packet { bytes = bs }))) (append_assoc packet.bytes (byte ∷ []) bytes)
+    (says_bytes settings items more bytes (All-tail (λ b. b < 256) byte bytes h)))
+
+abbrev packet_words : Submission → List (List ℕ)
+packet_words packet = codes "packet" ∷ decimal packet.submitter ∷ decimal packet.operation ∷ []
+
+packet_words_are_words : (packet : Submission) (submitters : ℕ) → submitters ≤ 16 → CanBeSubmitted submitters packet → list_all is_word (packet_words packet) ≡ true
+packet_words_are_words packet submitters few h =
+    rw (decimal_is_word packet.submitter (omega (arith, h.submitter)), decimal_is_word packet.operation (omega (arith, h.operation))) refl
+
+says_packet_line : (said : Said) (packet : Submission) → unwrap_or said.settings.submitters 2 ≤ 16 → CanBeSubmitted (unwrap_or said.settings.submitters 2) packet →
+    after_line said (spaced (packet_words packet)) ≡ Ok (with_packet said packet.submitter packet.operation)
+unfolding with_line keyword_of
+says_packet_line said packet few h =
+    let submitter : packet.submitter < 2 ^ 64 = omega (arith, h.submitter) in
+    let operation : packet.operation < 2 ^ 64 = omega (arith, h.operation) in
+    let words = packet_words_are_words packet (unwrap_or said.settings.submitters 2) few h in
+    let short : length (spaced (packet_words packet)) ≤ 65536 =
+    omega (arith, length-append (decimal packet.submitter) (32 ∷ decimal packet.operation), length-decimal packet.submitter submitter, length-decimal packet.operation operation) in
+    keyword_line said word.Packet (codes "packet") (decimal packet.submitter ∷ decimal packet.operation ∷ []) words short refl refl refl
+    ∙ rw (number_within-decimal 0 (unwrap_or said.settings.submitters 2 - 1) packet.submitter (omega arith) (omega (arith, h.submitter)) submitter, number_within-decimal 0 255 packet.operation (omega arith) (omega (arith, h.operation)) operation) refl
+
+-- the items behind those that were said
+record SaysItems (said : Said) (packets : List Submission) : Type 0 where
+  next : Said
+  says : Says said (flat_map packet_lines packets) next
+  settings : next.settings ≡ said.settings
+  items : items_of next ≡ items_of said ++ packets
+
+says_items : (said : Said) (packets : List Submission) → unwrap_or said.settings.submitters 2 ≤ 16 → AllByRecursion (CanBeSubmitted (unwrap_or said.settings.submitters 2)) packets → SaysItems said packets
+says_items said [] few all = record { next = said; says = says_nothing said; settings = refl; items = sym (append-nil (items_of said)) }
+says_items said (packet ∷ packets) few all =
+    let h = all.0 in
+    let started = adding said.settings (items_of said) (record packet { bytes = [] }) in
+    let whole = adding said.settings (items_of said) packet in
+    let later = says_items whole packets few all.1 in
+    let words = packet_words_are_words packet (unwrap_or said.settings.submitters 2) few h in
+    record {
+      next = later.next;
+      says = says_both said whole later.next (packet_lines packet) (flat_map packet_lines packets)
+          (says_more said started whole _ (map byte_line packet.bytes) (is_text-spaced (packet_words packet) words) (says_packet_line said packet few h) (says_bytes said.settings (items_of said) (record packet { bytes = [] }) packet.bytes h.bytes))
+          later.says;
+      settings = later.settings;
+      items = later.items ∙ append_assoc (items_of said) (packet ∷ []) packets;
+    }
+
+few_submitters : (submitters : Option ℕ) → IfSome submitters (λ n. (1 ≤ n) × (n ≤ 16)) → unwrap_or submitters 2 ≤ 16
+few_submitters None h = omega arith
+few_submitters (Some n) h = h.1
+
+pub read_as_spelled : SpelledScriptsAreRead
+read_as_spelled settings packets can all =
+    let start = given settings.clock settings.limit settings.capacity settings.credit settings.submitters in
+    let later = says_items start packets (few_submitters settings.submitters can.submitters) all in
+    let whole = says_both nothing_said start later.next (settings_lines settings) (flat_map packet_lines packets) (says_settings settings can) later.says in
+    (later.next, ap (after_lines 1 nothing_said) (lines_of-ended (settings_lines settings ++ flat_map packet_lines packets) whole.text) ∙ whole.read 1, later.settings, later.items)

@@ -1,0 +1,53 @@
+-- A script spelled from settings and packets.
+use Rattle.std.specs.Prelude.{ℕ, ◌<◌, ◌≤◌, ◌^◌, List, [], ◌∷◌, ◌++◌, map, All, Option, Some, None, codes, decimal, unwrap_or, IfSome}
+use Rattle.std.specs.List.{flat_map}
+use Rattle.hex.specs.Hex.{encode_lower}
+use Rattle.tb_program.specs.declared.item.Settings.{Settings}
+use Rattle.tb_program.specs.declared.item.Submission.{Submission}
+
+-- words with a space between them
+abbrev pub spaced : List (List ℕ) → List ℕ
+spaced [] = []
+spaced (word ∷ []) = word
+spaced (word ∷ next ∷ words) = word ++ 32 ∷ spaced (next ∷ words)
+
+-- lines, each with the byte that ends it
+abbrev pub ended : List (List ℕ) → List ℕ
+ended [] = []
+ended (line ∷ lines) = line ++ 10 ∷ ended lines
+
+abbrev pub setting_lines : List ℕ → Option ℕ → List (List ℕ)
+setting_lines keyword None = []
+setting_lines keyword (Some n) = spaced (keyword ∷ decimal n ∷ []) ∷ []
+
+abbrev pub settings_lines : Settings → List (List ℕ)
+settings_lines settings =
+    setting_lines (codes "clock") settings.clock
+    ++ (setting_lines (codes "limit") settings.limit
+    ++ (setting_lines (codes "capacity") settings.capacity
+    ++ (setting_lines (codes "credit") settings.credit
+    ++ setting_lines (codes "submitters") settings.submitters)))
+
+abbrev pub byte_line : ℕ → List ℕ
+byte_line byte = spaced (codes "hex" ∷ encode_lower (byte ∷ []) ∷ [])
+
+-- a packet's line, and one for each byte of its data
+abbrev pub packet_lines : Submission → List (List ℕ)
+packet_lines packet = spaced (codes "packet" ∷ decimal packet.submitter ∷ decimal packet.operation ∷ []) ∷ map byte_line packet.bytes
+
+abbrev pub spelled : Settings → List Submission → List ℕ
+spelled settings packets = ended (settings_lines settings ++ flat_map packet_lines packets)
+
+-- a script can say these settings
+pub record CanBeSet (settings : Settings) : Type 0 where
+  pub clock : IfSome settings.clock (λ n. n < 2 ^ 63)
+  pub limit : IfSome settings.limit (λ n. (1 ≤ n) × (n ≤ 8190))
+  pub capacity : IfSome settings.capacity (λ n. (1 ≤ n) × (n ≤ 65536))
+  pub credit : IfSome settings.credit (λ n. (1 ≤ n) × (n ≤ 65536))
+  pub submitters : IfSome settings.submitters (λ n. (1 ≤ n) × (n ≤ 16))
+
+-- and a packet of one of so many submitters
+pub record CanBeSubmitted (submitters : ℕ) (packet : Submission) : Type 0 where
+  pub submitter : packet.submitter < submitters
+  pub operation : packet.operation < 256
+  pub bytes : All (λ byte. byte < 256) packet.bytes
