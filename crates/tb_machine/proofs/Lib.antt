@@ -1,3 +1,4 @@
 pub mod Faults
 pub mod Failures
 pub mod FirstChain
+mod Examples

@@ -1,0 +1,19 @@
+//! What no clause says: worked examples by name, faults by their lines, readers and writers that fail.
+
+use crate::program::run_script;
+use crate::program_fault::ProgramFault;
+use std::io;
+use std::io::{Read, Write};
+use std::test::Fail;
+
+mod examples;
+mod faults;
+mod streams;
+
+/// What `list` writes for a script.
+fn listed(rt: &HostRuntime, script: &str) -> Result<String, Fail> {
+    let mut reader = script.as_bytes();
+    let mut out = Vec::new(rt.alloc());
+    let _ = run_script(rt.alloc(), &mut reader, &mut out)?;
+    Ok(String::from_utf8(out).ok().ok_or("no text")?)
+}
