@@ -8,8 +8,19 @@ use Rattle.tb_machine.specs.Replay.{replay, failures_of}
 
 abbrev account : ℕ → Account
 account id = record {
-  id = id; debits_pending = 0; debits_posted = 0; credits_pending = 0; credits_posted = 0; user_data_128 = 0; user_data_64 = 0;
-  user_data_32 = 0; reserved = 0; ledger = 1; code = 1; flags = 0; timestamp = 0
+  id = id;
+  debits_pending = 0;
+  debits_posted = 0;
+  credits_pending = 0;
+  credits_posted = 0;
+  user_data_128 = 0;
+  user_data_64 = 0;
+  user_data_32 = 0;
+  reserved = 0;
+  ledger = 1;
+  code = 1;
+  flags = 0;
+  timestamp = 0;
 }
 
 abbrev linked : ℕ → Account
