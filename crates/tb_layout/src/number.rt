@@ -5,6 +5,7 @@ ghost use Rattle.tb_layout.specs.Bytes.{number_at, bytes_of};
 
 use byteorder::{ByteOrder, LittleEndian};
 
+/// The number in the 16 bytes at an offset.
 pub fn read_u128(bytes: &[u8], offset: usize) -> u128
     requires { offset + 16 ≤ length bytes.now }
     ensures { result ≡ number_at bytes.now offset 16 }
@@ -12,6 +13,7 @@ pub fn read_u128(bytes: &[u8], offset: usize) -> u128
     LittleEndian::read_u128(&bytes[offset..offset + 16])
 }
 
+/// The number in the 8 bytes at an offset.
 pub fn read_u64(bytes: &[u8], offset: usize) -> u64
     requires { offset + 8 ≤ length bytes.now }
     ensures { result ≡ number_at bytes.now offset 8 }
@@ -19,6 +21,7 @@ pub fn read_u64(bytes: &[u8], offset: usize) -> u64
     LittleEndian::read_u64(&bytes[offset..offset + 8])
 }
 
+/// The number in the 4 bytes at an offset.
 pub fn read_u32(bytes: &[u8], offset: usize) -> u32
     requires { offset + 4 ≤ length bytes.now }
     ensures { result ≡ number_at bytes.now offset 4 }
@@ -26,6 +29,7 @@ pub fn read_u32(bytes: &[u8], offset: usize) -> u32
     LittleEndian::read_u32(&bytes[offset..offset + 4])
 }
 
+/// The number in the 2 bytes at an offset.
 pub fn read_u16(bytes: &[u8], offset: usize) -> u16
     requires { offset + 2 ≤ length bytes.now }
     ensures { result ≡ number_at bytes.now offset 2 }
@@ -36,7 +40,8 @@ pub fn read_u16(bytes: &[u8], offset: usize) -> u16
 /// What the lower half of a number of 128 bits stays below.
 const HALF: u128 = 1 << 64;
 
-/// Two halves, since writing all 16 bytes at once is several times slower.
+/// Writes the number into the 16 bytes at an offset, in two halves: writing all at once is several
+/// times slower.
 pub fn write_u128(bytes: &mut [u8], offset: usize, number: u128)
     requires { offset + 16 ≤ length bytes.old }
     ensures front { take (offset + 16) bytes.new ≡ take offset bytes.old ++ bytes_of 16 number }
@@ -46,6 +51,7 @@ pub fn write_u128(bytes: &mut [u8], offset: usize, number: u128)
     write_u64(bytes, offset + 8, (number / HALF) as u64);
 }
 
+/// Writes the number into the 8 bytes at an offset.
 pub fn write_u64(bytes: &mut [u8], offset: usize, number: u64)
     requires { offset + 8 ≤ length bytes.old }
     ensures front { take (offset + 8) bytes.new ≡ take offset bytes.old ++ bytes_of 8 number }
@@ -54,6 +60,7 @@ pub fn write_u64(bytes: &mut [u8], offset: usize, number: u64)
     LittleEndian::write_u64(&mut bytes[offset..offset + 8], number);
 }
 
+/// Writes the number into the 4 bytes at an offset.
 pub fn write_u32(bytes: &mut [u8], offset: usize, number: u32)
     requires { offset + 4 ≤ length bytes.old }
     ensures front { take (offset + 4) bytes.new ≡ take offset bytes.old ++ bytes_of 4 number }
@@ -62,6 +69,7 @@ pub fn write_u32(bytes: &mut [u8], offset: usize, number: u32)
     LittleEndian::write_u32(&mut bytes[offset..offset + 4], number);
 }
 
+/// Writes the number into the 2 bytes at an offset.
 pub fn write_u16(bytes: &mut [u8], offset: usize, number: u16)
     requires { offset + 2 ≤ length bytes.old }
     ensures front { take (offset + 2) bytes.new ≡ take offset bytes.old ++ bytes_of 2 number }

@@ -57,6 +57,7 @@ fn of_new(event: &Account) -> AccountCode
     AccountCode::Ok
 }
 
+/// The first check that the event fails, or Ok.
 pub fn account_verdict(tables: &Tables, event: &Account) -> AccountCode
     ensures { result ≡ spec.account_verdict tables.now.now event.now }
 {

@@ -13,6 +13,7 @@ pub enum Refusal {
 }
 
 impl Refusal {
+    /// The number that is printed (tb_client's packet statuses have their own).
     pub fn number(self) -> u32
         ensures { result ≡ refusal_number self }
     {
@@ -23,6 +24,7 @@ impl Refusal {
         }
     }
 
+    /// The name that is printed.
     pub fn name(self) -> &'static str
         ensures { result.now ≡ refusal_name self }
     {

@@ -21,6 +21,7 @@ impl Model for Body {
 }
 
 impl Body {
+    /// The data of a packet that was found to be admitted.
     pub fn new(bytes: Bytes) -> Body
         requires { IsAdmitted bytes }
         ensures { result ≡ bytes }
@@ -28,6 +29,7 @@ impl Body {
         Body { bytes }
     }
 
+    /// The bytes, and what is known of them.
     pub fn as_slice(&self) -> &[u8]
         ensures bytes { result.now ≡ self.now }
         ensures admitted { IsAdmitted self.now }

@@ -19,6 +19,7 @@ impl Model for Bytes {
 }
 
 impl Bytes {
+    /// No bytes. Takes no memory.
     pub fn new(alloc: Global) -> Bytes
         ensures { result ≡ [] }
     {
@@ -27,6 +28,7 @@ impl Bytes {
         }
     }
 
+    /// Puts bytes behind those that are there.
     pub fn extend_from_slice(&mut self, more: &[u8]) -> Result<(), NoMemory>
         ensures { OnOk result (self.new ≡ self.old ++ more.now) }
     {
@@ -34,6 +36,7 @@ impl Bytes {
         Ok(())
     }
 
+    /// All bytes.
     pub fn as_slice(&self) -> &[u8]
         ensures { result.now ≡ self.now }
     {

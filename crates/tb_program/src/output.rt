@@ -10,6 +10,7 @@ use std::alloc::AllocError;
 use tb_layout::{Account, Failure};
 
 impl Fault {
+    /// What is printed of the fault, behind the number of its line.
     pub fn text(self) -> &'static str
         ensures { result.now ≡ fault_text self }
     {
@@ -26,12 +27,14 @@ impl Fault {
     }
 }
 
+/// The line of a fault.
 pub fn put_fault(out: &mut String, line: usize, text: &str) -> Result<(), AllocError>
     ensures { OnOk result (string_bytes out.new ≡ string_bytes out.old ++ fault_line line text.now) }
 {
     write!(out, "fault {line} {text}\n")
 }
 
+/// The line of a packet that was not admitted.
 #[tactic(auto, unfolding(crate::specs::Output::refused_line))]
 pub fn put_refused(out: &mut String, submitter: u32, refusal: Refusal) -> Result<(), AllocError>
     ensures { OnOk result (string_bytes out.new ≡ string_bytes out.old ++ refused_line submitter refusal) }
@@ -63,6 +66,7 @@ fn put_committed_front(
     write!(out, "packet {submitter} {number} committed {place}")
 }
 
+/// The line of a packet that was committed.
 pub fn put_committed(
     out: &mut String,
     submitter: u32,
@@ -77,6 +81,7 @@ pub fn put_committed(
     out.push_str("\n")
 }
 
+/// The line of the clock.
 pub fn put_clock(out: &mut String, clock: u64) -> Result<(), AllocError>
     ensures { OnOk result (string_bytes out.new ≡ string_bytes out.old ++ clock_line clock) }
 {
@@ -104,6 +109,7 @@ fn put_balances(out: &mut String, account: &Account) -> Result<(), AllocError>
     )
 }
 
+/// The line of an account, with its balances.
 pub fn put_account(out: &mut String, account: &Account) -> Result<(), AllocError>
     ensures { OnOk result (string_bytes out.new ≡ string_bytes out.old ++ account_line account.now) }
 {

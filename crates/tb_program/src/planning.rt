@@ -78,6 +78,7 @@ impl Plan {
         }
     }
 
+    /// The plan, item by item.
     pub fn as_slice(&self) -> &[Planned]
         ensures { result.now ≡ self.now }
     {

@@ -71,6 +71,7 @@ fn is_text(line: &[u8]) -> bool
 }
 
 impl Script {
+    /// A script of which no line was taken.
     pub fn new(alloc: Global) -> Script
         ensures { result ≡ nothing_said }
     {
@@ -143,54 +144,94 @@ impl Script {
         Ok(())
     }
 
-    /// A line in its place, with the words behind its first.
     #[tactic(auto, unfolding(crate::specs::Script::with_line))]
+    fn set_clock(&mut self, words: Words) -> Result<(), LineError>
+        ensures { Leaves result self.new (with_line self.old Keyword.Clock (words_of words.entry.rest.now)) }
+    {
+        let n = number_within(one_word(words)?, 0, CLOCK_MAX)?;
+        self.settings.clock = Some(n as u64);
+        Ok(())
+    }
+
+    #[tactic(auto, unfolding(crate::specs::Script::with_line))]
+    fn set_limit(&mut self, words: Words) -> Result<(), LineError>
+        ensures { Leaves result self.new (with_line self.old Keyword.Limit (words_of words.entry.rest.now)) }
+    {
+        let n = number_within(one_word(words)?, 1, MOST_EVENTS)?;
+        self.settings.limit = Some(n as u32);
+        Ok(())
+    }
+
+    #[tactic(auto, unfolding(crate::specs::Script::with_line))]
+    fn set_capacity(&mut self, words: Words) -> Result<(), LineError>
+        ensures { Leaves result self.new (with_line self.old Keyword.Capacity (words_of words.entry.rest.now)) }
+    {
+        let n = number_within(one_word(words)?, 1, MOST_PLACES)?;
+        self.settings.capacity = Some(n as u32);
+        Ok(())
+    }
+
+    #[tactic(auto, unfolding(crate::specs::Script::with_line))]
+    fn set_credit(&mut self, words: Words) -> Result<(), LineError>
+        ensures { Leaves result self.new (with_line self.old Keyword.Credit (words_of words.entry.rest.now)) }
+    {
+        let n = number_within(one_word(words)?, 1, MOST_PLACES)?;
+        self.settings.credit = Some(n as u32);
+        Ok(())
+    }
+
+    #[tactic(auto, unfolding(crate::specs::Script::with_line))]
+    fn set_submitters(&mut self, words: Words) -> Result<(), LineError>
+        ensures { Leaves result self.new (with_line self.old Keyword.Submitters (words_of words.entry.rest.now)) }
+    {
+        let n = number_within(one_word(words)?, 1, MOST_SUBMITTERS)?;
+        self.settings.submitters = Some(n as u32);
+        Ok(())
+    }
+
+    #[tactic(auto, unfolding(crate::specs::Script::with_line))]
+    fn take_packet(&mut self, alloc: Global, words: Words) -> Result<(), LineError>
+        ensures { Leaves result self.new (with_line self.old Keyword.Packet (words_of words.entry.rest.now)) }
+    {
+        let (submitter, operation) = two_words(words)?;
+        let submitters = self.settings.submitters.unwrap_or(2);
+        let submitter = number_within(submitter, 0, u128::from(submitters.saturating_sub(1)))?;
+        let operation = number_within(operation, 0, 255)?;
+        self.begin_packet(alloc, SubmitterNumber::new(submitter as u32), operation as u8)?;
+        Ok(())
+    }
+
+    #[tactic(auto, unfolding(crate::specs::Script::with_line))]
+    fn take_account(&mut self, words: Words) -> Result<(), LineError>
+        ensures { Leaves result self.new (with_line self.old Keyword.Account (words_of words.entry.rest.now)) }
+    {
+        self.add_bytes(&event_of(Layout::Account, words)?)?;
+        Ok(())
+    }
+
+    #[tactic(auto, unfolding(crate::specs::Script::with_line))]
+    fn take_hex(&mut self, alloc: Global, words: Words) -> Result<(), LineError>
+        ensures { Leaves result self.new (with_line self.old Keyword.Hex (words_of words.entry.rest.now)) }
+    {
+        let bytes = hex_bytes(alloc, one_word(words)?)?;
+        self.add_bytes(&bytes)?;
+        Ok(())
+    }
+
+    /// A line in its place, with the words behind its first.
     fn take_line(&mut self, alloc: Global, keyword: Keyword, words: Words) -> Result<(), LineError>
         ensures { Leaves result self.new (with_line self.old keyword (words_of words.entry.rest.now)) }
     {
         match keyword {
-            Keyword::Clock => {
-                let n = number_within(one_word(words)?, 0, CLOCK_MAX)?;
-                self.settings.clock = Some(n as u64);
-            }
-            Keyword::Limit => {
-                let n = number_within(one_word(words)?, 1, MOST_EVENTS)?;
-                self.settings.limit = Some(n as u32);
-            }
-            Keyword::Capacity => {
-                let n = number_within(one_word(words)?, 1, MOST_PLACES)?;
-                self.settings.capacity = Some(n as u32);
-            }
-            Keyword::Credit => {
-                let n = number_within(one_word(words)?, 1, MOST_PLACES)?;
-                self.settings.credit = Some(n as u32);
-            }
-            Keyword::Submitters => {
-                let n = number_within(one_word(words)?, 1, MOST_SUBMITTERS)?;
-                self.settings.submitters = Some(n as u32);
-            }
-            Keyword::Packet => {
-                let (submitter, operation) = two_words(words)?;
-                let submitters = self.settings.submitters.unwrap_or(2);
-                let submitter = number_within(
-                    submitter,
-                    0,
-                    u128::from(submitters.saturating_sub(1)),
-                )?;
-                let operation = number_within(operation, 0, 255)?;
-                self.begin_packet(
-                    alloc,
-                    SubmitterNumber::new(submitter as u32),
-                    operation as u8,
-                )?;
-            }
-            Keyword::Account => self.add_bytes(&event_of(Layout::Account, words)?)?,
-            Keyword::Hex => {
-                let bytes = hex_bytes(alloc, one_word(words)?)?;
-                self.add_bytes(&bytes)?;
-            }
+            Keyword::Clock => self.set_clock(words),
+            Keyword::Limit => self.set_limit(words),
+            Keyword::Capacity => self.set_capacity(words),
+            Keyword::Credit => self.set_credit(words),
+            Keyword::Submitters => self.set_submitters(words),
+            Keyword::Packet => self.take_packet(alloc, words),
+            Keyword::Account => self.take_account(words),
+            Keyword::Hex => self.take_hex(alloc, words),
         }
-        Ok(())
     }
 
     /// A line behind those so far. After an error the script isn't to be used.

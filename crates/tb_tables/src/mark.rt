@@ -19,12 +19,14 @@ impl Model for Mark {
 }
 
 impl Mark {
+    /// A mark behind so many changes.
     pub(crate) fn new(changes: usize) -> Mark
         ensures { result ≡ changes }
     {
         Mark { changes }
     }
 
+    /// How many changes lie before it.
     pub(crate) fn changes(self) -> usize
         ensures { result ≡ self }
     {
