@@ -7,10 +7,16 @@
 mod account;
 mod account_code;
 mod failure;
+mod id;
 mod no_memory;
 mod number;
+mod transfer;
+mod transfer_code;
 
 pub use account::{Account, read_account, write_account};
 pub use account_code::AccountCode;
 pub use failure::{Failure, read_failure, write_failure};
+pub use id::read_id;
 pub use no_memory::NoMemory;
+pub use transfer::{Transfer, read_transfer, write_transfer};
+pub use transfer_code::TransferCode;

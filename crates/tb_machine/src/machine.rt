@@ -1,7 +1,7 @@
 //! The machine.
 
 ghost use Rattle.std.specs.Prelude.{◌≡◌, ◌/◌, ◌%◌, ◌≤◌, [], length, slice_get, vec_capacity, OnOk, OnErr};
-ghost use Rattle.tb_layout.specs.Events.{events_of};
+ghost use Rattle.tb_layout.specs.Events.{accounts_of};
 ghost use Rattle.tb_tables.specs.Facts.{account_with};
 ghost use Rattle.tb_machine.specs.Clock.{clock_max};
 
@@ -59,8 +59,8 @@ impl Machine {
         requires limit { length body.now / 128 ≤ 8190 }
         requires empty { out.old.items ≡ [] }
         requires room { length body.now / 128 ≤ vec_capacity out.old }
-        ensures state { OnOk result (self.new ≡ after_packet self.old (events_of body.now)) }
-        ensures failures { OnOk result (out.new.items ≡ failures_of self.old (events_of body.now)) }
+        ensures state { OnOk result (self.new ≡ after_packet self.old (accounts_of body.now)) }
+        ensures failures { OnOk result (out.new.items ≡ failures_of self.old (accounts_of body.now)) }
         ensures unchanged { OnErr result (self.new ≡ self.old) }
         ensures none { OnErr result (out.new.items ≡ []) }
         ensures capacity { vec_capacity out.new ≡ vec_capacity out.old }

@@ -1,14 +1,13 @@
 -- What is spelled is read.
-use Rattle.std.proofs.Common.{◌≡◌, ℕ, suc, ◌+◌, ◌-◌, ◌*◌, ◌/◌, ◌%◌, ◌^◌, ◌<◌, ◌≤◌, Bool, true, false, not, List, [], ◌∷◌, ◌++◌, length, map, get_or, refl, sym, ap, ◌∙◌, arith, rules, Some, None, Option, Ok, Err, Result, length-append, subst, append_assoc, lt-ltb, le-ltb, zero, eqb, append-nil}
-use Rattle.std.specs.Prelude.{◌==◌, ◌&&◌, nat_le, nat_lt, filter, codes, decimal, slice_index, if◌then◌else◌, All, IfSome, unwrap_or, is_some, is_none}
-use Rattle.std.specs.List.{list_all, slice_split, flat_map, AllByRecursion}
+use Rattle.std.proofs.Common.{◌≡◌, ℕ, suc, ◌+◌, ◌-◌, ◌/◌, ◌%◌, ◌^◌, ◌<◌, ◌≤◌, Bool, true, false, List, [], ◌∷◌, ◌++◌, length, map, refl, sym, ap, ◌∙◌, arith, Some, None, Option, Ok, Err, Result, length-append, subst, append_assoc, lt-ltb, le-ltb, zero, append-nil}
+use Rattle.std.specs.Prelude.{◌==◌, ◌&&◌, nat_le, nat_lt, filter, codes, decimal, slice_index, All, IfSome, unwrap_or}
+use Rattle.std.specs.List.{list_all, flat_map, AllByRecursion}
 use Rattle.std.specs.Char.{is_ascii_digit}
-use Rattle.std.specs.Str.Parse.{digits_value}
 use Rattle.std.proofs.lemmas.List.Folds.{list_all-append}
 use Rattle.std.proofs.lemmas.List.Elements.{All-nil, All-cons, All-head, All-tail}
 use Rattle.std.proofs.lemmas.List.Sums.{AllPass-from_list_all}
 use Rattle.std.proofs.lemmas.List.Splits.{slice_split_at, slice_split_none}
-use Rattle.std.proofs.lemmas.Bool.{and_parts, cases_lt}
+use Rattle.std.proofs.lemmas.Bool.{and_parts}
 use Rattle.std.proofs.lemmas.Bool.Decides.{nat_tests}
 use Rattle.std.proofs.lemmas.Fmt.{digits_decimal, digits_value-decimal, decimal_nonempty, length-decimal-le}
 use Rattle.hex.specs.Hex.{IsBytes, encode_lower, encode_with, lower_digits}
@@ -23,11 +22,10 @@ use Rattle.tb_program.specs.Number.{number_of, number_within}
 use Rattle.tb_program.specs.Steps.{◌>>=◌}
 use Rattle.tb_program.specs.Keyword.{keyword_of}
 use Rattle.tb_program.specs.Event.{hex_bytes}
-use Rattle.tb_program.specs.Script.{Said, nothing_said, items_of, is_in_place, is_text, with_words, with_keyword, with_line, with_packet, with_bytes, after_line, after_lines, at_line, script_of}
-use Rattle.tb_program.specs.Spelling.{spaced, ended, setting_lines, settings_lines, byte_line, packet_lines, spelled, CanBeSet, CanBeSubmitted}
-use Rattle.tb_program.specs.Laws.{IsReadAsSpelled, SpelledScriptsAreRead}
+use Rattle.tb_program.specs.Script.{Said, nothing_said, items_of, is_in_place, is_text, with_words, with_line, with_packet, after_line, after_lines, at_line}
+use Rattle.tb_program.specs.Spelling.{spaced, ended, setting_lines, settings_lines, byte_line, packet_lines, CanBeSet, CanBeSubmitted}
+use Rattle.tb_program.specs.Laws.{SpelledScriptsAreRead}
 use Rattle.tb_program.proofs.Numbers.{own}
-use Rattle.tb_program.proofs.Texts.{kept}
 
 -- ---- words
 

@@ -3,7 +3,7 @@ use Rattle.std.specs.Prelude.{◌≡◌, ◌<◌, ◌≤◌, ◌+◌, ℕ, Bool,
 use Rattle.std.specs.declared.alloc.Global.{Global}
 use Rattle.tb_layout.specs.declared.account.Account.{Account}
 use Rattle.tb_layout.specs.declared.failure.Failure.{Failure}
-use Rattle.tb_layout.specs.Events.{events_of}
+use Rattle.tb_layout.specs.Events.{accounts_of}
 use Rattle.tb_machine.specs.Replay.{State, opening, failures_of, after_packet}
 use Rattle.tb_program.specs.declared.fault.Fault.{Fault}
 use Rattle.tb_program.specs.declared.fault.Fault.TheVariants.{LineTooLong, BadByte, UnknownWord, OutOfPlace, WrongNumberOfWords, BadField, BadNumber, BadHex}
@@ -70,14 +70,14 @@ account_line account = account_front account.id account.timestamp ++ balances_te
 unfoldable pub plan_text : State → ℕ → List Planned → List ℕ
 plan_text state place [] = []
 plan_text state place (plan.Queued queued ∷ others) =
-    committed_line queued.submitter queued.number place (failures_of state (events_of queued.body))
-    ++ plan_text (after_packet state (events_of queued.body)) (place + 1) others
+    committed_line queued.submitter queued.number place (failures_of state (accounts_of queued.body))
+    ++ plan_text (after_packet state (accounts_of queued.body)) (place + 1) others
 plan_text state place (plan.Refused submitter refusal ∷ others) = refused_line submitter refusal ++ plan_text state place others
 
 -- the state after the packets of a plan
 unfoldable pub state_after : State → List Planned → State
 state_after state [] = state
-state_after state (plan.Queued queued ∷ others) = state_after (after_packet state (events_of queued.body)) others
+state_after state (plan.Queued queued ∷ others) = state_after (after_packet state (accounts_of queued.body)) others
 state_after state (plan.Refused submitter refusal ∷ others) = state_after state others
 
 -- the clock, and the accounts in order of making

@@ -2,7 +2,7 @@
 
 ghost use Rattle.std.specs.Prelude.{◌≡◌, ◌≤◌, ◌<◌, ◌^◌, ◌++◌, ◌∷◌, ◌+◌, List, IfOk, OnOk, string_bytes};
 ghost use Rattle.std.specs.List.{flat_map};
-ghost use Rattle.tb_layout.specs.Events.{events_of};
+ghost use Rattle.tb_layout.specs.Events.{accounts_of};
 ghost use Rattle.tb_machine.specs.Replay.{opening, failures_of, after_packet};
 ghost use Rattle.tb_machine.specs.Clock.{clock_max};
 ghost use Rattle.tb_program.specs.declared.plan.Planned.{Planned as PlannedValue};
@@ -21,8 +21,8 @@ const EVENT_SIZE: usize = 128;
 
 /// Commits a packet, and gives its failures.
 fn commit(alloc: Global, machine: &mut Machine, body: &Body) -> Result<Vec<Failure>, NoMemory>
-    ensures state { OnOk result (machine.new ≡ after_packet machine.old (events_of body.now)) }
-    ensures failures { IfOk result (λ failures. failures.items ≡ failures_of machine.old (events_of body.now)) }
+    ensures state { OnOk result (machine.new ≡ after_packet machine.old (accounts_of body.now)) }
+    ensures failures { IfOk result (λ failures. failures.items ≡ failures_of machine.old (accounts_of body.now)) }
 {
     let bytes = body.as_slice();
     let mut failures = Vec::with_capacity(alloc, bytes.len() / EVENT_SIZE)?;
@@ -37,8 +37,8 @@ fn put_queued(
     place: u64,
     queued: &Queued,
 ) -> Result<(), NoMemory>
-    ensures state { OnOk result (machine.new ≡ after_packet machine.old (events_of queued.now.body)) }
-    ensures line { OnOk result (string_bytes out.new ≡ string_bytes out.old ++ committed_line queued.now.submitter queued.now.number place (failures_of machine.old (events_of queued.now.body))) }
+    ensures state { OnOk result (machine.new ≡ after_packet machine.old (accounts_of queued.now.body)) }
+    ensures line { OnOk result (string_bytes out.new ≡ string_bytes out.old ++ committed_line queued.now.submitter queued.now.number place (failures_of machine.old (accounts_of queued.now.body))) }
 {
     let failures = commit(alloc, machine, &queued.body)?;
     put_committed(out, queued.submitter.get(), queued.number, place, &failures)?;

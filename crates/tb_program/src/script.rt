@@ -197,7 +197,11 @@ impl Script {
         let submitters = self.settings.submitters.unwrap_or(2);
         let submitter = number_within(submitter, 0, u128::from(submitters.saturating_sub(1)))?;
         let operation = number_within(operation, 0, 255)?;
-        self.begin_packet(alloc, SubmitterNumber::new(submitter as u32), operation as u8)?;
+        self.begin_packet(
+            alloc,
+            SubmitterNumber::new(submitter as u32),
+            operation as u8,
+        )?;
         Ok(())
     }
 
