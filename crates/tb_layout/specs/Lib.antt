@@ -6,3 +6,4 @@ pub mod Transfer
 pub mod TransferCode
 pub mod Failure
 pub mod Events
+pub mod Failures

@@ -1,0 +1,28 @@
+-- Which packets are admitted.
+use Rattle.std.specs.Prelude.{ℕ, ◌/◌, ◌%◌, ◌==◌, not, List, length, Option, Some, None, Result, Ok, Err, nat_lt, if◌then◌else◌}
+use Rattle.tb_work.specs.declared.packet.Packet.{Packet}
+use Rattle.tb_work.specs.declared.refusal.Refusal.{Refusal}
+use Rattle.tb_work.specs.declared.refusal.Refusal.TheVariants.{InvalidOperation, InvalidDataSize, TooMuchData}
+
+-- the bytes of one event of an operation; a lookup's events are ids
+abbrev pub event_size : ℕ → Option ℕ
+event_size operation = if operation == 129 then Some 128 else if operation == 130 then Some 128 else if operation == 131 then Some 16 else None
+
+abbrev pub admitted_of_size : ℕ → List ℕ → Option ℕ → Result ℕ Refusal
+admitted_of_size limit bytes None = Err InvalidOperation
+admitted_of_size limit bytes (Some size) =
+    if not (length bytes % size == 0) then Err InvalidDataSize
+    else if nat_lt limit (length bytes / size) then Err TooMuchData
+    else Ok (length bytes / size)
+
+-- the number of its events, or why a packet is not admitted
+abbrev pub admitted : ℕ → Packet → Result ℕ Refusal
+admitted limit packet = admitted_of_size limit packet.bytes (event_size packet.operation)
+
+-- how many events a packet has
+abbrev pub count_of_size : List ℕ → Option ℕ → ℕ
+count_of_size bytes None = 0
+count_of_size bytes (Some size) = length bytes / size
+
+abbrev pub count_of : Packet → ℕ
+count_of packet = count_of_size packet.bytes (event_size packet.operation)

@@ -1,0 +1,20 @@
+-- What may be answered to a packet.
+use Rattle.std.specs.Prelude.{◌≡◌, ◌≤◌, true, length}
+use Rattle.tb_layout.specs.Failures.{RiseWithin}
+use Rattle.tb_work.specs.declared.packet.Packet.{Packet}
+use Rattle.tb_work.specs.declared.answer.Answer.{Answer}
+use Rattle.tb_work.specs.declared.answer.Answer.TheVariants.{Failures, Accounts}
+use Rattle.tb_work.specs.declared.answer.Outcome.{Outcome}
+use Rattle.tb_work.specs.declared.answer.Outcome.TheVariants.{Committed, Shutdown, Stopped}
+use Rattle.tb_work.specs.Admission.{count_of}
+use Rattle.tb_work.specs.Job.{is_lookup}
+
+-- failures rise below the packet's count; accounts answer a lookup, and are no more than its ids
+abbrev pub IsAnswerTo : Packet → Answer → Type 0
+IsAnswerTo packet (Failures failures) = RiseWithin 0 (count_of packet) failures
+IsAnswerTo packet (Accounts accounts) = (is_lookup packet ≡ true) × (length accounts ≤ count_of packet)
+
+abbrev pub IsOutcomeOf : Packet → Outcome → Type 0
+IsOutcomeOf packet (Committed place answer) = IsAnswerTo packet answer
+IsOutcomeOf packet Shutdown = Unit {0}
+IsOutcomeOf packet Stopped = Unit {0}

@@ -1,0 +1,43 @@
+-- A packet that was admitted, with its number.
+use Rattle.std.specs.Prelude.{ℕ, ◌≡◌, ◌≤◌, ◌==◌, Bool, false, List, [], Vec, Ok, vec_capacity, if◌then◌else◌}
+use Rattle.std.specs.declared.alloc.Global.{Global}
+use Rattle.tb_layout.specs.declared.failure.Failure.{Failure}
+use Rattle.tb_layout.specs.Events.{Events, events_of, is_open as is_open_events}
+use Rattle.tb_layout.specs.Account.{account_of, is_linked as is_linked_account}
+use Rattle.tb_layout.specs.Transfer.{transfer_of, is_linked as is_linked_transfer}
+use Rattle.tb_work.specs.declared.packet.Packet.{Packet}
+use Rattle.tb_work.specs.declared.stub.Stub.{Stub}
+use Rattle.tb_work.specs.Admission.{admitted, count_of}
+
+-- a packet with its submitter, and its number among that submitter's queued packets
+pub record Numbered : Type 0 where
+  pub submitter : ℕ
+  pub number : ℕ
+  pub packet : Packet
+
+abbrev pub stub_of : Numbered → Stub
+stub_of job = record { submitter = job.submitter; number = job.number; count = count_of job.packet }
+
+abbrev pub events_in : Packet → Events
+events_in packet = events_of packet.operation packet.bytes
+
+-- whether its last event is linked
+abbrev pub is_open : Packet → Bool
+is_open packet = is_open_events (events_in packet)
+
+abbrev pub is_lookup : Packet → Bool
+is_lookup packet = packet.operation == 131
+
+abbrev pub numbered : ℕ → ℕ → Packet → Numbered
+numbered submitter number packet = record { submitter = submitter; number = number; packet = packet }
+
+-- whether a row of a packet's data is a linked event
+abbrev pub is_row_linked : ℕ → List ℕ → Bool
+is_row_linked operation row =
+    if operation == 129 then is_linked_account (account_of row) else if operation == 130 then is_linked_transfer (transfer_of row) else false
+
+-- it is admitted, and so many failures have room
+pub record IsJob (packet : Packet) (count : ℕ) (room : Vec Failure Global) : Type 0 where
+  pub admitted : admitted 8190 packet ≡ Ok count
+  pub empty : room.items ≡ []
+  pub fits : is_lookup packet ≡ false → count ≤ vec_capacity room

@@ -1,0 +1,7 @@
+pub mod Refusal
+pub mod Admission
+pub mod Job
+pub mod Answer
+pub mod Reply
+pub mod Work
+pub mod Queue

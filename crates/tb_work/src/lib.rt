@@ -1,0 +1,29 @@
+//! Packets on their way: what submitters hand in, what the queue carries, and what comes back.
+//!
+//! A `Job` is a packet that was admitted, with room for its failures, so that no call between
+//! `Job::new` and its reply takes memory. A `Reply` carries the packet back as it was handed in. What
+//! a type promises (an admitted packet, failures that rise below the packet's count, a moment in
+//! range) is kept by the type.
+#![tactic(auto)]
+
+mod admission;
+mod answer;
+mod bytes;
+mod item;
+mod job;
+mod moment;
+mod packet;
+mod refusal;
+mod reply;
+mod stub;
+
+pub use admission::admit;
+pub use answer::{Accounts, Answer, Failures, Outcome};
+pub use bytes::Bytes;
+pub use item::{Item, Ticket};
+pub use job::Job;
+pub use moment::Moment;
+pub use packet::Packet;
+pub use refusal::Refusal;
+pub use reply::Reply;
+pub use stub::Stub;

@@ -1,0 +1,96 @@
+//! Replies.
+
+ghost use Rattle.std.specs.Prelude.{◌≡◌, ◌+◌, ◌<◌, ◌≤◌, ◌++◌, ◌^◌, [], false, map, length, vec_capacity};
+ghost use Rattle.tb_layout.specs.Failures.{RiseWithin, rebased};
+ghost use Rattle.tb_work.specs.Admission.{count_of};
+ghost use Rattle.tb_work.specs.Answer.{IsOutcomeOf};
+ghost use Rattle.tb_work.specs.Job.{is_lookup};
+ghost use Rattle.tb_work.specs.declared.answer.Answer.TheVariants.{Failures as FailuresOf};
+ghost use Rattle.tb_work.specs.declared.answer.Outcome.TheVariants.{Committed as CommittedAt};
+
+use crate::answer::{Answer, Failures, Outcome};
+use crate::job::Job;
+use crate::packet::Packet;
+use std::marker::Model;
+use tb_layout::Failure;
+
+/// A packet as it was handed in, with what became of it.
+#[derive(Drop)]
+pub struct Reply {
+    pub submitter: u32,
+    pub number: u64,
+    pub packet: Packet,
+    pub outcome: Outcome,
+}
+
+impl Model for Reply {
+    ghost use Rattle.tb_work.specs.Reply.{Replied};
+    ghost use Rattle.tb_work.specs.Answer.{IsOutcomeOf};
+
+    ghost Value = { Replied };
+
+    ghost view = { λ reply. record { submitter = reply.submitter; number = reply.number; packet = reply.packet; outcome = reply.outcome } };
+
+    ghost invariant = { λ reply. IsOutcomeOf reply.packet reply.outcome };
+}
+
+/// Puts failures behind those that are there, with indices counted from an offset.
+fn rebase_into(room: &mut Vec<Failure>, failures: &[Failure], offset: u32, count: u32)
+    requires empty { room.old.items ≡ [] }
+    requires rise { RiseWithin offset (offset + count) failures.now }
+    requires fits { count ≤ vec_capacity room.old }
+    ensures { room.new.items ≡ map (rebased offset) failures.now }
+{
+    for failure in failures {
+        let Failure { index, code } = *failure;
+        room.push_reserved(Failure {
+            index: index - offset,
+            code,
+        });
+    }
+}
+
+impl Reply {
+    ghost use Rattle.tb_work.specs.Reply.{reply_with};
+
+    /// The reply to a job's packet, with this outcome. Takes no memory; the job's room is freed.
+    pub fn of(job: Job, outcome: Outcome) -> Reply
+        requires { IsOutcomeOf job.packet outcome }
+        ensures { result ≡ reply_with outcome job }
+    {
+        Reply {
+            submitter: job.submitter,
+            number: job.number,
+            packet: job.packet,
+            outcome,
+        }
+    }
+
+    /// The reply to a packet that was committed at a place, with its failures out of a batch's, whose
+    /// indices are counted from the packet's offset there. The failures go into the job's own room, so
+    /// that no memory is taken (Demuxer of TigerBeetle's state machine).
+    pub fn committed(job: Job, place: u64, failures: &[Failure], offset: u32) -> Reply
+        requires no_lookup { is_lookup job.packet ≡ false }
+        requires rise { RiseWithin offset (offset + count_of job.packet) failures.now }
+        ensures { result ≡ reply_with (CommittedAt place (FailuresOf (map (rebased offset) failures.now))) job }
+    {
+        let count = job.stub().count;
+        let Job {
+            submitter,
+            number,
+            count: _,
+            packet,
+            mut room,
+        } = job;
+        rebase_into(&mut room, failures, offset, count);
+        Reply {
+            submitter,
+            number,
+            packet,
+            outcome: Outcome::Committed {
+                place,
+                answer: Answer::Failures(Failures::from_vec(room)),
+            },
+        }
+    }
+}
