@@ -1,0 +1,118 @@
+-- One packet more in a group.
+use Rattle.std.proofs.Common.{refl, sym, ap, ◌∙◌, arith, ◌≡◌, ◌==◌, ℕ, zero, suc, ◌+◌, ◌<◌, ◌≤◌, Bool, true, false, not, nat_le, List, [], ◌∷◌, ◌++◌, ◌&&◌, length, map, append_assoc, append-nil, length-append, le-ltb, Vec}
+use Rattle.std.specs.Prelude.{vec_capacity, Result, Ok, Err, OnOk, OnErr}
+use Rattle.std.specs.Result.{is_err}
+use Rattle.std.specs.List.{list_all, flat_map}
+use Rattle.std.specs.declared.alloc.Global.{Global}
+use Rattle.std.proofs.lemmas.Bool.{and_parts, eqb-true}
+use Rattle.std.proofs.lemmas.Bool.Decides.{nat_tests}
+use Rattle.std.proofs.lemmas.List.{map-append}
+use Rattle.std.proofs.lemmas.List.Folds.{list_all-append}
+use Rattle.std.proofs.lemmas.Grind.{flat_map-append}
+use Rattle.tb_layout.specs.declared.account.Account.{Account}
+use Rattle.tb_layout.specs.declared.failure.Failure.{Failure}
+use Rattle.tb_work.specs.Admission.{count_of}
+use Rattle.tb_work.specs.Job.{Numbered, stub_of}
+use Rattle.tb_batch.specs.declared.parts.Parts.{Parts}
+use Rattle.tb_batch.specs.Grouping.{events_in, can_share, are_of, joins, is_taken, join_in_turn, IsGroup}
+use Rattle.tb_batch.specs.Held.{IsHeld}
+use Rattle.tb_batch.specs.Batch.{IsLawful, HasRoom, AreParts, IsBatch, body_of}
+
+events_in-push : (jobs : List Numbered) (job : Numbered) → events_in (jobs ++ job ∷ []) ≡ events_in jobs + count_of job.packet
+events_in-push [] job = omega arith
+events_in-push (first ∷ jobs) job = omega (arith, events_in-push jobs job)
+
+-- packets of one operation are of another's where these are the same
+are_of-other : (operation other : ℕ) (jobs : List Numbered) → 0 < length jobs → are_of operation jobs ≡ true → are_of other jobs ≡ (operation == other)
+are_of-other operation other [] some h = absurd (omega arith)
+are_of-other operation other (job ∷ []) some h =
+    let same = eqb-true job.packet.operation operation (and_parts (job.packet.operation == operation) true h).0 in
+    rw same (elim (operation == other) as (λ b. (b && true) ≡ b) [ true ↦ refl | false ↦ refl ])
+are_of-other operation other (job ∷ next ∷ jobs) some h =
+    let parts = and_parts (job.packet.operation == operation) (are_of operation (next ∷ jobs)) h in
+    let same = eqb-true job.packet.operation operation parts.0 in
+    rw (same, are_of-other operation other (next ∷ jobs) (omega arith) parts.1) (elim (operation == other) as (λ b. (b && b) ≡ b) [ true ↦ refl | false ↦ refl ])
+
+taken_is_joins : (limit : ℕ) (jobs : List Numbered) (job : Numbered) → 0 < length jobs → is_taken limit jobs job ≡ joins limit jobs job
+taken_is_joins limit [] job some = absurd (omega arith)
+taken_is_joins limit (first ∷ jobs) job some = refl
+
+-- what a batch knows tells whether a packet joins it
+pub taken_by : (parts : Parts) (shares : Bool) (events limit : ℕ) (job : Numbered) → IsBatch parts shares events →
+    is_taken limit parts.jobs.items job ≡ (shares && (can_share job && ((parts.operation == job.packet.operation) && nat_le (events + count_of job.packet) limit)))
+taken_by parts shares events limit job h =
+    let jobs = parts.jobs.items in
+    taken_is_joins limit jobs job h.whole.lawful.some
+    ∙ rw (are_of-other parts.operation job.packet.operation jobs h.whole.lawful.some h.whole.lawful.one_operation, h.sharing, h.counted) refl
+
+-- ---- the group
+
+and_more : (a b c : Bool) → (a && b) ≡ true → (b ≡ true → c ≡ true) → (a && c) ≡ true
+and_more true b c h f = f h
+and_more false b c h f = cc
+
+joined_behind : (limit : ℕ) (group jobs : List Numbered) (job : Numbered) → join_in_turn limit group jobs ≡ true → joins limit (group ++ jobs) job ≡ true → join_in_turn limit group (jobs ++ job ∷ []) ≡ true
+joined_behind limit group [] job h j = ap (λ b. b && true) (ap (λ l. joins limit l job) (sym (append-nil group)) ∙ j)
+joined_behind limit group (next ∷ jobs) job h j =
+    and_more (joins limit group next) (join_in_turn limit (group ++ next ∷ []) jobs) (join_in_turn limit (group ++ next ∷ []) (jobs ++ job ∷ [])) h
+        (λ rest. joined_behind limit (group ++ next ∷ []) jobs job rest (ap (λ l. joins limit l job) (append_assoc group (next ∷ []) jobs) ∙ j))
+
+pub group_more : (limit : ℕ) (jobs : List Numbered) (job : Numbered) → IsGroup limit jobs → is_taken limit jobs job ≡ true → IsGroup limit (jobs ++ job ∷ [])
+group_more limit [] job h j = refl
+group_more limit (first ∷ jobs) job h j = joined_behind limit (first ∷ []) jobs job h j
+
+-- a group joined by a packet, or left as it was, is held
+pub still_held : {E : Type 0} (result : Result (Unit {0}) E) (limit : ℕ) (old new : List Numbered) (job : Numbered) → IsHeld limit old → is_taken limit old job ≡ true →
+    OnOk result (new ≡ old ++ job ∷ []) → OnErr result (new ≡ old) → IsHeld limit new
+still_held (Ok done) limit old new job h taken joined same =
+    record { limit_low = h.limit_low; limit_high = h.limit_high; group = rw joined (group_more limit old job h.group taken) }
+still_held (Err refused) limit old new job h taken joined same = rw same h
+
+-- ---- the batch
+
+equal_numbers : (n : ℕ) → (n == n) ≡ true
+equal_numbers n = grind (arith, nat_tests)
+
+le_true : (a b : ℕ) → nat_le a b ≡ true → a ≤ b
+le_true a b h = grind (arith, nat_tests)
+
+both_true : (a b c d : Bool) → (a && (b && (c && d))) ≡ true → (a ≡ true) × (b ≡ true) × (c ≡ true) × (d ≡ true)
+both_true a b c d h =
+    let p = and_parts a (b && (c && d)) h in
+    let q = and_parts b (c && d) p.1 in
+    let r = and_parts c d q.1 in
+    (p.0, q.0, r.0, r.1)
+
+-- what holds where a call succeeded
+pub given : {T E : Type 0} (r : Result T E) (P : Type 0) → is_err r ≡ false → OnOk r P → P
+given (Ok x) P h p = p
+given (Err e) P h p = cc
+
+-- one job more, for which there was room
+pub batch_more : (old new : Parts) (shares : Bool) (events limit : ℕ) (job : Numbered) → IsBatch old shares events → limit ≤ 8190 → is_taken limit old.jobs.items job ≡ true →
+    new.operation ≡ old.operation → new.jobs.items ≡ old.jobs.items ++ job ∷ [] → new.stubs.items ≡ old.stubs.items ++ stub_of job ∷ [] → new.body.items ≡ old.body.items ++ job.packet.bytes →
+    HasRoom old.operation (events + count_of job.packet) new.failures new.accounts → IsBatch new shares (events + count_of job.packet)
+batch_more old new shares events limit job h few taken operation jobs stubs body room =
+    let known = both_true shares (can_share job) (old.operation == job.packet.operation) (nat_le (events + count_of job.packet) limit) (sym (taken_by old shares events limit job h) ∙ taken) in
+    let lawful = h.whole.lawful in
+    let count : events_in new.jobs.items ≡ events + count_of job.packet = ap events_in jobs ∙ events_in-push old.jobs.items job ∙ ap (λ n. n + count_of job.packet) (sym h.counted) in
+    let same = eqb-true old.operation job.packet.operation known.2 in
+    let all_share : list_all can_share new.jobs.items ≡ true =
+        ap (list_all can_share) jobs ∙ list_all-append can_share old.jobs.items (job ∷ []) ∙ rw (sym h.sharing ∙ known.0, known.1) refl in
+    let one_operation : (are_of new.operation old.jobs.items && are_of new.operation (job ∷ [])) ≡ true =
+        rw (operation, lawful.one_operation, sym same) (ap (λ b. b && true) (equal_numbers old.operation)) in
+    record {
+      whole = record {
+        lawful = record {
+          some = omega (arith, ap length jobs, length-append old.jobs.items (job ∷ []));
+          one_operation = ap (are_of new.operation) jobs ∙ list_all-append (λ (j : Numbered). j.packet.operation == new.operation) old.jobs.items (job ∷ []) ∙ one_operation;
+          few = omega (arith, count, le_true (events + count_of job.packet) limit known.3);
+          alone = λ _. all_share
+        };
+        stubs = stubs ∙ ap (λ ss. ss ++ stub_of job ∷ []) h.whole.stubs ∙ sym (map-append stub_of old.jobs.items (job ∷ [])) ∙ ap (map stub_of) (sym jobs);
+        body = body ∙ ap (λ bs. bs ++ job.packet.bytes) h.whole.body ∙ ap (λ bs. body_of old.jobs.items ++ bs) (sym (append-nil job.packet.bytes)) ∙ sym (flat_map-append (λ (j : Numbered). j.packet.bytes) old.jobs.items (job ∷ [])) ∙ ap body_of (sym jobs);
+        room = rw (operation, count) room
+      };
+      sharing = known.0 ∙ sym all_share;
+      counted = sym count
+    }

@@ -1,0 +1,46 @@
+-- A batch.
+use Rattle.std.specs.Prelude.{◌≡◌, ◌==◌, ◌<◌, ◌≤◌, ℕ, Bool, true, false, List, [], ◌∷◌, length, map, Vec, vec_capacity}
+use Rattle.std.specs.List.{flat_map, list_all}
+use Rattle.std.specs.declared.alloc.Global.{Global}
+use Rattle.tb_layout.specs.declared.account.Account.{Account}
+use Rattle.tb_layout.specs.declared.failure.Failure.{Failure}
+use Rattle.tb_work.specs.declared.stub.Stub.{Stub}
+use Rattle.tb_work.specs.Job.{Numbered, stub_of}
+use Rattle.tb_batch.specs.declared.parts.Parts.{Parts}
+use Rattle.tb_batch.specs.Grouping.{events_in, can_share, are_of}
+
+-- the packets' data, one behind the other
+abbrev pub body_of : List Numbered → List ℕ
+body_of jobs = flat_map (λ job. job.packet.bytes) jobs
+
+-- some packets of one operation, of at most 8190 events together; one that can't share its batch is alone
+pub record IsLawful (operation : ℕ) (jobs : List Numbered) : Type 0 where
+  pub some : 0 < length jobs
+  pub one_operation : are_of operation jobs ≡ true
+  pub few : events_in jobs ≤ 8190
+  pub alone : 1 < length jobs → list_all can_share jobs ≡ true
+
+-- an empty answer has room for all failures, or for all accounts of a lookup
+pub record HasRoom (operation count : ℕ) (failures : Vec Failure Global) (accounts : Vec Account Global) : Type 0 where
+  pub no_failures : failures.items ≡ []
+  pub no_accounts : accounts.items ≡ []
+  pub for_failures : (operation == 131) ≡ false → count ≤ vec_capacity failures
+  pub for_accounts : (operation == 131) ≡ true → count ≤ vec_capacity accounts
+
+-- the parts of one batch: the stubs and the body are those of its jobs
+pub record AreParts (parts : Parts) : Type 0 where
+  pub lawful : IsLawful parts.operation parts.jobs.items
+  pub stubs : parts.stubs.items ≡ map stub_of parts.jobs.items
+  pub body : parts.body.items ≡ body_of parts.jobs.items
+  pub room : HasRoom parts.operation (events_in parts.jobs.items) parts.failures parts.accounts
+
+-- what a batch knows of its parts
+pub record IsBatch (parts : Parts) (shares : Bool) (events : ℕ) : Type 0 where
+  pub whole : AreParts parts
+  pub sharing : shares ≡ list_all can_share parts.jobs.items
+  pub counted : events ≡ events_in parts.jobs.items
+
+-- the operation of its packets
+abbrev pub operation_of : List Numbered → ℕ
+operation_of [] = 0
+operation_of (job ∷ jobs) = job.packet.operation

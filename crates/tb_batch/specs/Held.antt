@@ -1,0 +1,17 @@
+-- A batcher's value: its limit, and the group that it holds.
+use Rattle.std.specs.Prelude.{◌≤◌, ℕ, List, [], Option, Some, None}
+use Rattle.tb_work.specs.Job.{Numbered}
+use Rattle.tb_batch.specs.Grouping.{IsGroup}
+
+pub record Held : Type 0 where
+  pub limit : ℕ
+  pub jobs : List Numbered
+
+abbrev pub jobs_of : Option (List Numbered) → List Numbered
+jobs_of None = []
+jobs_of (Some jobs) = jobs
+
+pub record IsHeld (limit : ℕ) (jobs : List Numbered) : Type 0 where
+  pub limit_low : 1 ≤ limit
+  pub limit_high : limit ≤ 8190
+  pub group : IsGroup limit jobs

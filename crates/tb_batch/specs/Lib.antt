@@ -1,0 +1,4 @@
+pub mod Grouping
+pub mod Batch
+pub mod Held
+pub mod Offering

@@ -1,0 +1,123 @@
+//! The batcher.
+
+ghost use Rattle.std.specs.Prelude.{◌≡◌, ◌<◌, ◌≤◌, ◌∷◌, [], IfOk, IfErr, IsOk, IfSome, IfNone, true, false};
+ghost use Rattle.tb_work.specs.declared.refusal.Refusal.TheVariants.{BadLimit};
+
+use crate::batch::Batch;
+use crate::offered::Offered;
+use std::alloc::Global;
+use std::marker::Model;
+use std::mem;
+use tb_work::{Job, Refusal};
+
+const MOST_EVENTS: u32 = 8190;
+
+/// Joins neighbouring packets to batches of at most so many events. It is seen as its limit and the
+/// jobs of the group that it holds.
+#[derive(Drop)]
+pub struct Batcher {
+    alloc: Global,
+    limit: u32,
+    held: Option<Batch>,
+}
+
+impl Model for Batcher {
+    ghost use Rattle.tb_batch.specs.Held.{Held, IsHeld, jobs_of};
+
+    ghost Value = { Held };
+
+    ghost view = { λ batcher. record { limit = batcher.limit; jobs = jobs_of batcher.held } };
+
+    ghost invariant = { λ batcher. IsHeld batcher.limit (jobs_of batcher.held) };
+}
+
+impl Batcher {
+    ghost use Rattle.tb_batch.specs.Grouping.{is_taken, IsGroup};
+    ghost use Rattle.tb_batch.specs.Offering.{Offers, holding};
+
+    /// A batcher that holds nothing. The limit is 1 to 8190 events. Takes no memory.
+    pub fn new(alloc: Global, limit: u32) -> Result<Batcher, Refusal>
+        ensures held { IfOk result (λ batcher. (batcher.limit ≡ limit) × (batcher.jobs ≡ [])) }
+        ensures refused { IfErr result (λ refusal. refusal ≡ BadLimit) }
+        ensures lawful { 1 ≤ limit → limit ≤ 8190 → IsOk result }
+        ensures bounds { IsOk result → (1 ≤ limit) × (limit ≤ 8190) }
+    {
+        if limit < 1 || limit > MOST_EVENTS {
+            return Err(Refusal::BadLimit);
+        }
+        Ok(Batcher {
+            alloc,
+            limit,
+            held: None,
+        })
+    }
+
+    /// Whether a job begins a group or joins the one held.
+    fn takes(&self, job: &Job) -> bool
+        ensures taken { result ≡ is_taken self.now.limit self.now.jobs job.now }
+        ensures lawful { IsGroup self.now.limit self.now.jobs }
+    {
+        match &self.held {
+            None => true,
+            Some(held) => held.takes(self.limit, job),
+        }
+    }
+
+    /// Joins a job that is taken.
+    fn join(&mut self, job: Job) -> Offered
+        requires { is_taken self.old.limit self.old.jobs job ≡ true }
+        ensures { Offers self.old job result self.new }
+    {
+        if let Some(held) = &mut self.held {
+            return match held.join(self.limit, job) {
+                Ok(()) => Offered::Joined,
+                Err((job, refused)) => Offered::Refused(job, refused),
+            };
+        }
+        match Batch::alone(self.alloc, job) {
+            Ok(batch) => {
+                self.held = Some(batch);
+                Offered::Joined
+            }
+            Err((job, refused)) => Offered::Refused(job, refused),
+        }
+    }
+
+    /// Seals the group held, and begins the next one with a job.
+    fn replace(&mut self, job: Job) -> Offered
+        requires { is_taken self.old.limit self.old.jobs job ≡ false }
+        ensures { Offers self.old job result self.new }
+    {
+        match Batch::alone(self.alloc, job) {
+            Ok(batch) => match mem::replace(&mut self.held, Some(batch)) {
+                Some(sealed) => Offered::Sealed(sealed),
+                None => Offered::Joined,
+            },
+            Err((job, refused)) => Offered::Refused(job, refused),
+        }
+    }
+
+    /// Takes a job behind those before it: it begins a group, joins the one held, or has that sealed
+    /// (batching of tb_client, of neighbours alone). All memory is taken before anything changes; the
+    /// cost is a copy of the packet's data.
+    pub fn offer(&mut self, job: Job) -> Offered
+        ensures offers { Offers self.old job result self.new }
+        ensures lawful { IsGroup self.old.limit self.old.jobs }
+    {
+        if self.takes(&job) {
+            self.join(job)
+        } else {
+            self.replace(job)
+        }
+    }
+
+    /// The group held, which is then no longer held; None where nothing was. Takes no memory.
+    pub fn seal(&mut self) -> Option<Batch>
+        ensures left { self.new ≡ holding self.old [] }
+        ensures some { IfSome result (λ batch. batch ≡ self.old.jobs) }
+        ensures none { IfNone result (self.old.jobs ≡ []) }
+        ensures lawful { IsGroup self.old.limit self.old.jobs }
+    {
+        self.held.take()
+    }
+}
