@@ -1,22 +1,19 @@
 -- One packet more in a group.
-use Rattle.std.proofs.Common.{refl, sym, ap, ◌∙◌, arith, ◌≡◌, ◌==◌, ℕ, zero, suc, ◌+◌, ◌<◌, ◌≤◌, Bool, true, false, not, nat_le, List, [], ◌∷◌, ◌++◌, ◌&&◌, length, map, append_assoc, append-nil, length-append, le-ltb, Vec}
-use Rattle.std.specs.Prelude.{vec_capacity, Result, Ok, Err, OnOk, OnErr}
+use Rattle.std.proofs.Common.{refl, sym, ap, ◌∙◌, arith, ◌≡◌, ◌==◌, ℕ, ◌+◌, ◌<◌, ◌≤◌, Bool, true, false, nat_le, List, [], ◌∷◌, ◌++◌, ◌&&◌, length, map, append_assoc, append-nil, length-append}
+use Rattle.std.specs.Prelude.{Result, Ok, Err, OnOk, OnErr}
 use Rattle.std.specs.Result.{is_err}
-use Rattle.std.specs.List.{list_all, flat_map}
-use Rattle.std.specs.declared.alloc.Global.{Global}
+use Rattle.std.specs.List.{list_all}
 use Rattle.std.proofs.lemmas.Bool.{and_parts, eqb-true}
 use Rattle.std.proofs.lemmas.Bool.Decides.{nat_tests}
 use Rattle.std.proofs.lemmas.List.{map-append}
 use Rattle.std.proofs.lemmas.List.Folds.{list_all-append}
 use Rattle.std.proofs.lemmas.Grind.{flat_map-append}
-use Rattle.tb_layout.specs.declared.account.Account.{Account}
-use Rattle.tb_layout.specs.declared.failure.Failure.{Failure}
 use Rattle.tb_work.specs.Admission.{count_of}
 use Rattle.tb_work.specs.Job.{Numbered, stub_of}
 use Rattle.tb_batch.specs.declared.parts.Parts.{Parts}
 use Rattle.tb_batch.specs.Grouping.{events_in, can_share, are_of, joins, is_taken, join_in_turn, IsGroup}
 use Rattle.tb_batch.specs.Held.{IsHeld}
-use Rattle.tb_batch.specs.Batch.{IsLawful, HasRoom, AreParts, IsBatch, body_of}
+use Rattle.tb_batch.specs.Batch.{HasRoom, IsGroupOf, body_of}
 
 events_in-push : (jobs : List Numbered) (job : Numbered) → events_in (jobs ++ job ∷ []) ≡ events_in jobs + count_of job.packet
 events_in-push [] job = omega arith
@@ -37,8 +34,8 @@ taken_is_joins : (limit : ℕ) (jobs : List Numbered) (job : Numbered) → 0 < l
 taken_is_joins limit [] job some = absurd (omega arith)
 taken_is_joins limit (first ∷ jobs) job some = refl
 
--- what a batch knows tells whether a packet joins it
-pub taken_by : (parts : Parts) (shares : Bool) (events limit : ℕ) (job : Numbered) → IsBatch parts shares events →
+-- what a group knows tells whether a packet joins it
+pub taken_by : (parts : Parts) (shares : Bool) (events limit : ℕ) (job : Numbered) → IsGroupOf parts shares events →
     is_taken limit parts.jobs.items job ≡ (shares && (can_share job && ((parts.operation == job.packet.operation) && nat_le (events + count_of job.packet) limit)))
 taken_by parts shares events limit job h =
     let jobs = parts.jobs.items in
@@ -55,7 +52,7 @@ joined_behind : (limit : ℕ) (group jobs : List Numbered) (job : Numbered) → 
 joined_behind limit group [] job h j = ap (λ b. b && true) (ap (λ l. joins limit l job) (sym (append-nil group)) ∙ j)
 joined_behind limit group (next ∷ jobs) job h j =
     and_more (joins limit group next) (join_in_turn limit (group ++ next ∷ []) jobs) (join_in_turn limit (group ++ next ∷ []) (jobs ++ job ∷ [])) h
-        (λ rest. joined_behind limit (group ++ next ∷ []) jobs job rest (ap (λ l. joins limit l job) (append_assoc group (next ∷ []) jobs) ∙ j))
+    (λ rest. joined_behind limit (group ++ next ∷ []) jobs job rest (ap (λ l. joins limit l job) (append_assoc group (next ∷ []) jobs) ∙ j))
 
 pub group_more : (limit : ℕ) (jobs : List Numbered) (job : Numbered) → IsGroup limit jobs → is_taken limit jobs job ≡ true → IsGroup limit (jobs ++ job ∷ [])
 group_more limit [] job h j = refl
@@ -89,30 +86,30 @@ given (Ok x) P h p = p
 given (Err e) P h p = cc
 
 -- one job more, for which there was room
-pub batch_more : (old new : Parts) (shares : Bool) (events limit : ℕ) (job : Numbered) → IsBatch old shares events → limit ≤ 8190 → is_taken limit old.jobs.items job ≡ true →
+pub batch_more : (old new : Parts) (shares : Bool) (events limit : ℕ) (job : Numbered) → IsGroupOf old shares events → limit ≤ 8190 → is_taken limit old.jobs.items job ≡ true →
     new.operation ≡ old.operation → new.jobs.items ≡ old.jobs.items ++ job ∷ [] → new.stubs.items ≡ old.stubs.items ++ stub_of job ∷ [] → new.body.items ≡ old.body.items ++ job.packet.bytes →
-    HasRoom old.operation (events + count_of job.packet) new.failures new.accounts → IsBatch new shares (events + count_of job.packet)
+    HasRoom old.operation (events + count_of job.packet) new.failures new.accounts → IsGroupOf new shares (events + count_of job.packet)
 batch_more old new shares events limit job h few taken operation jobs stubs body room =
     let known = both_true shares (can_share job) (old.operation == job.packet.operation) (nat_le (events + count_of job.packet) limit) (sym (taken_by old shares events limit job h) ∙ taken) in
     let lawful = h.whole.lawful in
     let count : events_in new.jobs.items ≡ events + count_of job.packet = ap events_in jobs ∙ events_in-push old.jobs.items job ∙ ap (λ n. n + count_of job.packet) (sym h.counted) in
     let same = eqb-true old.operation job.packet.operation known.2 in
     let all_share : list_all can_share new.jobs.items ≡ true =
-        ap (list_all can_share) jobs ∙ list_all-append can_share old.jobs.items (job ∷ []) ∙ rw (sym h.sharing ∙ known.0, known.1) refl in
+    ap (list_all can_share) jobs ∙ list_all-append can_share old.jobs.items (job ∷ []) ∙ rw (sym h.sharing ∙ known.0, known.1) refl in
     let one_operation : (are_of new.operation old.jobs.items && are_of new.operation (job ∷ [])) ≡ true =
-        rw (operation, lawful.one_operation, sym same) (ap (λ b. b && true) (equal_numbers old.operation)) in
+    rw (operation, lawful.one_operation, sym same) (ap (λ b. b && true) (equal_numbers old.operation)) in
     record {
       whole = record {
         lawful = record {
           some = omega (arith, ap length jobs, length-append old.jobs.items (job ∷ []));
           one_operation = ap (are_of new.operation) jobs ∙ list_all-append (λ (j : Numbered). j.packet.operation == new.operation) old.jobs.items (job ∷ []) ∙ one_operation;
           few = omega (arith, count, le_true (events + count_of job.packet) limit known.3);
-          alone = λ _. all_share
+          alone = λ _. all_share;
         };
         stubs = stubs ∙ ap (λ ss. ss ++ stub_of job ∷ []) h.whole.stubs ∙ sym (map-append stub_of old.jobs.items (job ∷ [])) ∙ ap (map stub_of) (sym jobs);
         body = body ∙ ap (λ bs. bs ++ job.packet.bytes) h.whole.body ∙ ap (λ bs. body_of old.jobs.items ++ bs) (sym (append-nil job.packet.bytes)) ∙ sym (flat_map-append (λ (j : Numbered). j.packet.bytes) old.jobs.items (job ∷ [])) ∙ ap body_of (sym jobs);
-        room = rw (operation, count) room
+        room = rw (operation, count) room;
       };
       sharing = known.0 ∙ sym all_share;
-      counted = sym count
+      counted = sym count;
     }

@@ -4,7 +4,6 @@ use Rattle.std.specs.List.{flat_map, list_all}
 use Rattle.std.specs.declared.alloc.Global.{Global}
 use Rattle.tb_layout.specs.declared.account.Account.{Account}
 use Rattle.tb_layout.specs.declared.failure.Failure.{Failure}
-use Rattle.tb_work.specs.declared.stub.Stub.{Stub}
 use Rattle.tb_work.specs.Job.{Numbered, stub_of}
 use Rattle.tb_batch.specs.declared.parts.Parts.{Parts}
 use Rattle.tb_batch.specs.Grouping.{events_in, can_share, are_of}
@@ -34,8 +33,8 @@ pub record AreParts (parts : Parts) : Type 0 where
   pub body : parts.body.items ≡ body_of parts.jobs.items
   pub room : HasRoom parts.operation (events_in parts.jobs.items) parts.failures parts.accounts
 
--- what a batch knows of its parts
-pub record IsBatch (parts : Parts) (shares : Bool) (events : ℕ) : Type 0 where
+-- what a group that is held knows of its parts
+pub record IsGroupOf (parts : Parts) (shares : Bool) (events : ℕ) : Type 0 where
   pub whole : AreParts parts
   pub sharing : shares ≡ list_all can_share parts.jobs.items
   pub counted : events ≡ events_in parts.jobs.items

@@ -4,6 +4,7 @@ ghost use Rattle.std.specs.Prelude.{◌≡◌, ◌<◌, ◌≤◌, ◌∷◌, []
 ghost use Rattle.tb_work.specs.declared.refusal.Refusal.TheVariants.{BadLimit};
 
 use crate::batch::Batch;
+use crate::group::Group;
 use crate::offered::Offered;
 use std::alloc::Global;
 use std::marker::Model;
@@ -18,7 +19,7 @@ const MOST_EVENTS: u32 = 8190;
 pub struct Batcher {
     alloc: Global,
     limit: u32,
-    held: Option<Batch>,
+    held: Option<Group>,
 }
 
 impl Model for Batcher {
@@ -74,9 +75,9 @@ impl Batcher {
                 Err((job, refused)) => Offered::Refused(job, refused),
             };
         }
-        match Batch::alone(self.alloc, job) {
-            Ok(batch) => {
-                self.held = Some(batch);
+        match Group::alone(self.alloc, job) {
+            Ok(group) => {
+                self.held = Some(group);
                 Offered::Joined
             }
             Err((job, refused)) => Offered::Refused(job, refused),
@@ -88,9 +89,9 @@ impl Batcher {
         requires { is_taken self.old.limit self.old.jobs job ≡ false }
         ensures { Offers self.old job result self.new }
     {
-        match Batch::alone(self.alloc, job) {
-            Ok(batch) => match mem::replace(&mut self.held, Some(batch)) {
-                Some(sealed) => Offered::Sealed(sealed),
+        match Group::alone(self.alloc, job) {
+            Ok(group) => match mem::replace(&mut self.held, Some(group)) {
+                Some(held) => Offered::Sealed(held.seal()),
                 None => Offered::Joined,
             },
             Err((job, refused)) => Offered::Refused(job, refused),
@@ -118,6 +119,9 @@ impl Batcher {
         ensures none { IfNone result (self.old.jobs ≡ []) }
         ensures lawful { IsGroup self.old.limit self.old.jobs }
     {
-        self.held.take()
+        match self.held.take() {
+            Some(held) => Some(held.seal()),
+            None => None,
+        }
     }
 }

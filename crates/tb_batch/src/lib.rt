@@ -7,6 +7,7 @@
 
 mod batch;
 mod batcher;
+mod group;
 mod offered;
 mod parts;
 

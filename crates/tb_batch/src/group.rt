@@ -1,0 +1,103 @@
+//! The group that a batcher holds.
+
+ghost use Rattle.std.specs.Prelude.{◌≡◌, ◌<◌, ◌≤◌, ◌++◌, ◌∷◌, [], IfOk, IfErr, OnOk, OnErr};
+ghost use Rattle.tb_work.specs.Admission.{count_of};
+ghost use Rattle.tb_work.specs.Job.{is_lookup};
+ghost use Rattle.std.specs.Prelude.{true};
+ghost use Rattle.tb_batch.specs.Grouping.{can_share};
+ghost use Rattle.tb_batch.specs.Grouping.{is_taken};
+
+use crate::batch::Batch;
+use crate::parts::Parts;
+use std::alloc::Global;
+use std::marker::Model;
+use tb_layout::NoMemory;
+use tb_work::Job;
+
+const LOOKUP_ACCOUNTS: u8 = 131;
+
+/// A batch that packets may still join, seen as its jobs in order.
+#[derive(Drop)]
+pub(crate) struct Group {
+    parts: Parts,
+    shares: bool,
+    events: u32,
+}
+
+impl Model for Group {
+    ghost use Rattle.std.specs.Prelude.{List};
+    ghost use Rattle.tb_work.specs.Job.{Numbered};
+    ghost use Rattle.tb_batch.specs.Batch.{IsGroupOf};
+
+    ghost Value = { List Numbered };
+
+    ghost view = { λ group. group.parts.jobs.items };
+
+    ghost invariant = { λ group. IsGroupOf group.parts group.shares group.events };
+}
+
+/// Whether a job's packet is neither open nor a lookup.
+fn can_share(job: &Job) -> bool
+    ensures { result ≡ can_share job.now }
+{
+    !job.is_open() && job.packet().operation != LOOKUP_ACCOUNTS
+}
+
+impl Group {
+    /// A group of one job. Where memory is refused, the job comes back.
+    pub(crate) fn alone(alloc: Global, job: Job) -> Result<Group, (Job, NoMemory)>
+        ensures group { IfOk result (λ group. group ≡ job ∷ []) }
+        ensures back { IfErr result (λ refused. refused.0 ≡ job) }
+    {
+        let mut parts = Parts::new(alloc, job.packet().operation);
+        let events = job.stub().count;
+        if parts.reserve_for(&job, events).is_err() {
+            return Err((job, NoMemory));
+        }
+        let shares = can_share(&job);
+        parts.append(job);
+        Ok(Group {
+            parts,
+            shares,
+            events,
+        })
+    }
+
+    /// Whether a job joins the group.
+    pub(crate) fn takes(&self, limit: u32, job: &Job) -> bool
+        ensures { result ≡ is_taken limit self.now job.now }
+    {
+        if !self.shares || !can_share(job) {
+            return false;
+        }
+        if job.packet().operation != self.parts.operation {
+            return false;
+        }
+        self.events + job.stub().count <= limit
+    }
+
+    /// Puts a job that joins the group behind its others. Where memory is refused, the job comes back
+    /// and the group is as before.
+    pub(crate) fn join(&mut self, limit: u32, job: Job) -> Result<(), (Job, NoMemory)>
+        requires limit { limit ≤ 8190 }
+        requires joins { is_taken limit self.old job ≡ true }
+        ensures group { OnOk result (self.new ≡ self.old ++ job ∷ []) }
+        ensures same { OnErr result (self.new ≡ self.old) }
+        ensures back { IfErr result (λ refused. refused.0 ≡ job) }
+    {
+        let events = self.events + job.stub().count;
+        if self.parts.reserve_for(&job, events).is_err() {
+            return Err((job, NoMemory));
+        }
+        self.parts.append(job);
+        self.events = events;
+        Ok(())
+    }
+
+    /// The group as a batch, to which nothing joins any more.
+    pub(crate) fn seal(self) -> Batch
+        ensures { result ≡ self }
+    {
+        Batch::whole(self.parts)
+    }
+}
