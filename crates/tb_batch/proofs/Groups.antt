@@ -9,15 +9,15 @@ use Rattle.std.proofs.lemmas.List.{map-append}
 use Rattle.std.proofs.lemmas.List.Folds.{list_all-append}
 use Rattle.std.proofs.lemmas.Grind.{flat_map-append}
 use Rattle.tb_work.specs.Admission.{count_of}
-use Rattle.tb_work.specs.Job.{Numbered, stub_of}
+use Rattle.tb_work.specs.Job.{Numbered, count_of_all, stub_of}
 use Rattle.tb_batch.specs.declared.parts.Parts.{Parts}
-use Rattle.tb_batch.specs.Grouping.{events_in, can_share, are_of, joins, is_taken, join_in_turn, IsGroup}
+use Rattle.tb_batch.specs.Grouping.{can_share, are_of, joins, is_taken, join_in_turn, IsGroup}
 use Rattle.tb_batch.specs.Held.{IsHeld}
 use Rattle.tb_batch.specs.Batch.{HasRoom, IsGroupOf, body_of}
 
-events_in-push : (jobs : List Numbered) (job : Numbered) → events_in (jobs ++ job ∷ []) ≡ events_in jobs + count_of job.packet
-events_in-push [] job = omega arith
-events_in-push (first ∷ jobs) job = omega (arith, events_in-push jobs job)
+count_of_all-push : (jobs : List Numbered) (job : Numbered) → count_of_all (jobs ++ job ∷ []) ≡ count_of_all jobs + count_of job.packet
+count_of_all-push [] job = omega arith
+count_of_all-push (first ∷ jobs) job = omega (arith, count_of_all-push jobs job)
 
 -- packets of one operation are of another's where these are the same
 are_of-other : (operation other : ℕ) (jobs : List Numbered) → 0 < length jobs → are_of operation jobs ≡ true → are_of other jobs ≡ (operation == other)
@@ -92,7 +92,7 @@ pub batch_more : (old new : Parts) (shares : Bool) (events limit : ℕ) (job : N
 batch_more old new shares events limit job h few taken operation jobs stubs body room =
     let known = both_true shares (can_share job) (old.operation == job.packet.operation) (nat_le (events + count_of job.packet) limit) (sym (taken_by old shares events limit job h) ∙ taken) in
     let lawful = h.whole.lawful in
-    let count : events_in new.jobs.items ≡ events + count_of job.packet = ap events_in jobs ∙ events_in-push old.jobs.items job ∙ ap (λ n. n + count_of job.packet) (sym h.counted) in
+    let count : count_of_all new.jobs.items ≡ events + count_of job.packet = ap count_of_all jobs ∙ count_of_all-push old.jobs.items job ∙ ap (λ n. n + count_of job.packet) (sym h.counted) in
     let same = eqb-true old.operation job.packet.operation known.2 in
     let all_share : list_all can_share new.jobs.items ≡ true =
     ap (list_all can_share) jobs ∙ list_all-append can_share old.jobs.items (job ∷ []) ∙ rw (sym h.sharing ∙ known.0, known.1) refl in

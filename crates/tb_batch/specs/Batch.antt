@@ -4,9 +4,9 @@ use Rattle.std.specs.List.{flat_map, list_all}
 use Rattle.std.specs.declared.alloc.Global.{Global}
 use Rattle.tb_layout.specs.declared.account.Account.{Account}
 use Rattle.tb_layout.specs.declared.failure.Failure.{Failure}
-use Rattle.tb_work.specs.Job.{Numbered, stub_of}
+use Rattle.tb_work.specs.Job.{Numbered, count_of_all, stub_of}
 use Rattle.tb_batch.specs.declared.parts.Parts.{Parts}
-use Rattle.tb_batch.specs.Grouping.{events_in, can_share, are_of}
+use Rattle.tb_batch.specs.Grouping.{can_share, are_of}
 
 -- the packets' data, one behind the other
 abbrev pub body_of : List Numbered → List ℕ
@@ -16,7 +16,7 @@ body_of jobs = flat_map (λ job. job.packet.bytes) jobs
 pub record IsLawful (operation : ℕ) (jobs : List Numbered) : Type 0 where
   pub some : 0 < length jobs
   pub one_operation : are_of operation jobs ≡ true
-  pub few : events_in jobs ≤ 8190
+  pub few : count_of_all jobs ≤ 8190
   pub alone : 1 < length jobs → list_all can_share jobs ≡ true
 
 -- an empty answer has room for all failures, or for all accounts of a lookup
@@ -31,13 +31,13 @@ pub record AreParts (parts : Parts) : Type 0 where
   pub lawful : IsLawful parts.operation parts.jobs.items
   pub stubs : parts.stubs.items ≡ map stub_of parts.jobs.items
   pub body : parts.body.items ≡ body_of parts.jobs.items
-  pub room : HasRoom parts.operation (events_in parts.jobs.items) parts.failures parts.accounts
+  pub room : HasRoom parts.operation (count_of_all parts.jobs.items) parts.failures parts.accounts
 
 -- what a group that is held knows of its parts
 pub record IsGroupOf (parts : Parts) (shares : Bool) (events : ℕ) : Type 0 where
   pub whole : AreParts parts
   pub sharing : shares ≡ list_all can_share parts.jobs.items
-  pub counted : events ≡ events_in parts.jobs.items
+  pub counted : events ≡ count_of_all parts.jobs.items
 
 -- the operation of its packets
 abbrev pub operation_of : List Numbered → ℕ

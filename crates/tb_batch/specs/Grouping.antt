@@ -2,12 +2,7 @@
 use Rattle.std.specs.Prelude.{◌≡◌, ℕ, ◌+◌, ◌==◌, Bool, true, ◌&&◌, not, nat_le, List, [], ◌∷◌, ◌++◌}
 use Rattle.std.specs.List.{list_all}
 use Rattle.tb_work.specs.Admission.{count_of}
-use Rattle.tb_work.specs.Job.{Numbered, is_open, is_lookup}
-
--- how many events packets have together
-abbrev pub events_in : List Numbered → ℕ
-events_in [] = 0
-events_in (job ∷ jobs) = count_of job.packet + events_in jobs
+use Rattle.tb_work.specs.Job.{Numbered, count_of_all, is_open, is_lookup}
 
 -- a packet that is neither open nor a lookup
 abbrev pub can_share : Numbered → Bool
@@ -19,7 +14,7 @@ are_of operation jobs = list_all (λ job. job.packet.operation == operation) job
 -- whether a packet joins a group: all of one operation, none open, no lookup, and not too many events together
 abbrev pub joins : ℕ → List Numbered → Numbered → Bool
 joins limit group job =
-    list_all can_share group && (can_share job && (are_of job.packet.operation group && nat_le (events_in group + count_of job.packet) limit))
+    list_all can_share group && (can_share job && (are_of job.packet.operation group && nat_le (count_of_all group + count_of job.packet) limit))
 
 -- whether a packet stands in one batch with those held; where none is, it begins one
 abbrev pub is_taken : ℕ → List Numbered → Numbered → Bool

@@ -1,5 +1,5 @@
 -- A packet that was admitted, with its number.
-use Rattle.std.specs.Prelude.{ℕ, ◌≡◌, ◌≤◌, ◌==◌, Bool, false, List, [], Vec, Ok, vec_capacity, if◌then◌else◌}
+use Rattle.std.specs.Prelude.{ℕ, ◌≡◌, ◌≤◌, ◌+◌, ◌==◌, Bool, false, List, [], ◌∷◌, Vec, Ok, vec_capacity, if◌then◌else◌}
 use Rattle.std.specs.declared.alloc.Global.{Global}
 use Rattle.tb_layout.specs.declared.failure.Failure.{Failure}
 use Rattle.tb_layout.specs.Events.{Events, events_of, is_open as is_open_events}
@@ -17,6 +17,11 @@ pub record Numbered : Type 0 where
 
 abbrev pub stub_of : Numbered → Stub
 stub_of job = record { submitter = job.submitter; number = job.number; count = count_of job.packet }
+
+-- how many events packets have together
+abbrev pub count_of_all : List Numbered → ℕ
+count_of_all [] = 0
+count_of_all (job ∷ jobs) = count_of job.packet + count_of_all jobs
 
 abbrev pub events_in : Packet → Events
 events_in packet = events_of packet.operation packet.bytes

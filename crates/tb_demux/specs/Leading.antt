@@ -1,0 +1,8 @@
+-- The failures in front of an index.
+use Rattle.std.specs.Prelude.{ℕ, suc, List, [], ◌∷◌, nat_lt, if◌then◌else◌}
+use Rattle.tb_layout.specs.declared.failure.Failure.{Failure}
+
+-- how many failures lie in front of the first one whose index isn't below `end`
+abbrev pub leading : ℕ → List Failure → ℕ
+leading end [] = 0
+leading end (failure ∷ failures) = if nat_lt failure.index end then suc (leading end failures) else 0

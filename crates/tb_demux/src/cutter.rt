@@ -1,0 +1,77 @@
+//! The cutter.
+
+ghost use Rattle.std.specs.Prelude.{◌≡◌, ◌∷◌, [], IfSome, IfNone};
+ghost use Rattle.tb_demux.specs.Cutting.{replies_to, IsOutcomeOfAll};
+
+use crate::source::Source;
+use crate::uncut::Uncut;
+use std::marker::Model;
+use std::mem;
+use std::vec::IntoIter;
+use tb_work::{Answer, Job, Outcome, Reply};
+
+/// The packets of one batch with its outcome, seen as the replies still to come.
+#[derive(Drop)]
+pub struct Cutter {
+    jobs: IntoIter<Job>,
+    source: Source,
+}
+
+impl Model for Cutter {
+    ghost use Rattle.std.specs.Prelude.{List};
+    ghost use Rattle.std.specs.Vec.Iter.{into_iter_items};
+    ghost use Rattle.tb_work.specs.Reply.{Replied};
+    ghost use Rattle.tb_demux.specs.Left.{replies_left, IsSourceOf};
+
+    ghost Value = { List Replied };
+
+    ghost view = { λ cutter. replies_left cutter.source (into_iter_items cutter.jobs) };
+
+    ghost invariant = { λ cutter. IsSourceOf cutter.source (into_iter_items cutter.jobs) };
+}
+
+impl Cutter {
+    /// The replies to a batch's packets: `outcome` is that of the whole batch, its place that of the
+    /// first packet, its failures by their index in the batch (Demuxer of TigerBeetle's state machine).
+    /// Takes no memory.
+    pub fn new(jobs: Vec<Job>, outcome: Outcome) -> Cutter
+        requires { IsOutcomeOfAll outcome jobs.items }
+        ensures { result ≡ replies_to outcome jobs.items }
+    {
+        let source = match outcome {
+            Outcome::Committed { place, answer } => match answer {
+                Answer::Failures(failures) => Source::Failures(Uncut {
+                    place,
+                    offset: 0,
+                    taken: 0,
+                    failures: failures.into_vec(),
+                }),
+                Answer::Accounts(accounts) => Source::Lookup(Outcome::Committed {
+                    place,
+                    answer: Answer::Accounts(accounts),
+                }),
+            },
+            Outcome::Shutdown => Source::Shutdown,
+            Outcome::Stopped => Source::Stopped,
+        };
+        Cutter {
+            jobs: jobs.into_iter(),
+            source,
+        }
+    }
+
+    /// The next packet's reply; None when all are given, and from then on. Takes no memory; the cost is
+    /// that of the packet's failures.
+    pub fn next(&mut self) -> Option<Reply>
+        ensures some { IfSome result (λ reply. self.old ≡ reply ∷ self.new) }
+        ensures none { IfNone result ((self.old ≡ []) × (self.new ≡ [])) }
+    {
+        let job = self.jobs.next()?;
+        Some(match &mut self.source {
+            Source::Failures(uncut) => uncut.reply(job),
+            Source::Lookup(outcome) => Reply::of(job, mem::replace(outcome, Outcome::Shutdown)),
+            Source::Shutdown => Reply::of(job, Outcome::Shutdown),
+            Source::Stopped => Reply::of(job, Outcome::Stopped),
+        })
+    }
+}
