@@ -10,6 +10,8 @@ mod batcher;
 mod group;
 mod offered;
 mod parts;
+#[cfg(test)]
+mod tests;
 
 pub use batch::Batch;
 pub use batcher::Batcher;

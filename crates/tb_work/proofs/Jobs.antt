@@ -27,4 +27,4 @@ pub is_open-row : (operation : ℕ) (bytes row : List ℕ) (rows : List (List �
 is_open-row operation bytes row rows is last =
     let at : slice_get (rows_of 128 bytes) (length (rows_of 128 bytes) - 1) ≡ Some row = ap (λ (rs : List (List ℕ)). slice_get rs (length rs - 1)) (sym is) ∙ sym last in
     chosen (operation == 129) (operation == 130) (Accounts (accounts_of bytes)) (Transfers (transfers_of bytes)) (Ids (ids_of bytes)) _ _
-        (sym (is_last_linked-row is_linked_account account_of (rows_of 128 bytes) row at)) (sym (is_last_linked-row is_linked_transfer transfer_of (rows_of 128 bytes) row at)) refl
+    (sym (is_last_linked-row is_linked_account account_of (rows_of 128 bytes) row at)) (sym (is_last_linked-row is_linked_transfer transfer_of (rows_of 128 bytes) row at)) refl

@@ -7,9 +7,13 @@ use crate::packet::Packet;
 use crate::refusal::Refusal;
 
 const CREATE_ACCOUNTS: u8 = 129;
+
 const CREATE_TRANSFERS: u8 = 130;
+
 const LOOKUP_ACCOUNTS: u8 = 131;
+
 const EVENT_SIZE: usize = 128;
+
 const ID_SIZE: usize = 16;
 
 fn event_size(operation: u8) -> Option<usize>

@@ -14,7 +14,9 @@ use std::marker::Model;
 use tb_layout::{Failure, read_account, read_transfer};
 
 const CREATE_ACCOUNTS: u8 = 129;
+
 const CREATE_TRANSFERS: u8 = 130;
+
 const LOOKUP_ACCOUNTS: u8 = 131;
 
 /// An admitted packet of a submitter, with its number and with room for its failures.
@@ -67,7 +69,13 @@ impl Job {
     /// The packet as this submitter's packet of this number, with room for as many failures as it has
     /// events. Where it is not admitted or memory is refused, it comes back as it was. All memory that
     /// its way takes is taken here; it costs that room.
-    pub fn new(alloc: Global, submitter: u32, number: u64, limit: u32, packet: Packet) -> Result<Job, (Packet, Refusal)>
+    pub fn new(
+        alloc: Global,
+        submitter: u32,
+        number: u64,
+        limit: u32,
+        packet: Packet,
+    ) -> Result<Job, (Packet, Refusal)>
         requires { limit ≤ 8190 }
         ensures job { IfOk result (λ job. job ≡ numbered submitter number packet) }
         ensures admitted { OnOk result (IsOk (admitted limit packet)) }

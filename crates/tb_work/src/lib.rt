@@ -16,6 +16,8 @@ mod packet;
 mod refusal;
 mod reply;
 mod stub;
+#[cfg(test)]
+mod tests;
 
 pub use admission::admit;
 pub use answer::{Accounts, Answer, Failures, Outcome};

@@ -7,5 +7,5 @@ abbrev pub invariant-loop-failure : goal.invariant-loop-failure
 invariant-loop-failure l = record {
   items : l.room.items ≡ map (rebased l.offset) (take l.failure-index l.failures);
   len : vec_len l.room ≡ l.failure-index;
-  capacity : vec_capacity l.room ≡ vec_capacity l.fn.room
+  capacity : vec_capacity l.room ≡ vec_capacity l.fn.room;
 }

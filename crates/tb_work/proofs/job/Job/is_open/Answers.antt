@@ -7,4 +7,4 @@ pub returns-in-Some : goal.returns-in-Some
 returns-in-Some c =
     let inside = c.self.inside in
     rw (← c.self.view_is)
-        (c.is_last_linked.ensures ∙ is_open-row inside.packet.operation inside.packet.bytes c.in-Some.row.now _ (c.as_chunks.ensures.front ∙ ap (rows 128) c.as_slice.ensures) c.in-Some.ensures.value)
+    (c.is_last_linked.ensures ∙ is_open-row inside.packet.operation inside.packet.bytes c.in-Some.row.now _ (c.as_chunks.ensures.front ∙ ap (rows 128) c.as_slice.ensures) c.in-Some.ensures.value)
