@@ -7,6 +7,8 @@
 
 mod cutter;
 mod source;
+#[cfg(test)]
+mod tests;
 mod uncut;
 
 pub use cutter::Cutter;
