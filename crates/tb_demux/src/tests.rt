@@ -2,8 +2,8 @@
 
 use crate::Cutter;
 use std::test::Fail;
-use tb_layout::Failure;
-use tb_work::{Answer, Bytes, Failures, Job, Outcome, Packet};
+use tb_layout::{Failure, read_account};
+use tb_work::{Accounts, Answer, Bytes, Failures, Job, Outcome, Packet};
 
 /// A job of so many bytes of zeros, without an event that is linked.
 fn job_of(rt: &HostRuntime, submitter: u32, operation: u8, length: usize) -> Result<Job, Fail> {
@@ -109,5 +109,24 @@ fn packets_behind_the_close(rt: HostRuntime) -> Result<(), Fail> {
         told(&rt, &mut cutter)?.as_slice(),
         [0, 40, 1007].as_slice()
     );
+    Ok(())
+}
+
+#[test]
+fn a_lookup_whole(rt: HostRuntime) -> Result<(), Fail> {
+    let job = job_of(&rt, 1, 131, 16)?;
+    assert!(rt; job.packet().operation == 131);
+    assert!(rt; job.stub().count == 1);
+    let mut jobs = Vec::new(rt.alloc());
+    jobs.push(job)?;
+    let mut found = Vec::new(rt.alloc());
+    found.push(read_account(&[1; 128]))?;
+    let answer = Answer::Accounts(Accounts::from_vec(found));
+    let mut cutter = Cutter::new(jobs, Outcome::Committed { place: 5, answer });
+    assert_eq!(rt;
+        told(&rt, &mut cutter)?.as_slice(),
+        [1, 41, 5, 1].as_slice()
+    );
+    assert!(rt; cutter.next().is_none());
     Ok(())
 }
