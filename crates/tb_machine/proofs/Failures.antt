@@ -14,7 +14,7 @@ abbrev failure : ℕ → ℕ → Failure
 failure index code = record { index = index; code = code }
 
 -- one more failure in front, unless the code is 0
-abbrev failing : ℕ → ℕ → List Failure → List Failure
+abbrev pub failing : ℕ → ℕ → List Failure → List Failure
 failing index code rest = if code == 0 then rest else failure index code ∷ rest
 
 chosen-append : (b : Bool) (first : Failure) (xs ys : List Failure) → (if b then xs ++ ys else first ∷ xs ++ ys) ≡ (if b then xs else first ∷ xs) ++ ys

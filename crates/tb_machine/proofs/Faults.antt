@@ -3,10 +3,11 @@ use Rattle.std.proofs.Common.{refl, ◌∙◌, arith, ◌≡◌, ◌≢◌, ℕ,
 use Rattle.std.specs.Prelude.{if◌then◌else◌, ◌==◌}
 use Rattle.std.proofs.lemmas.List.{length-map, length-replicate}
 use Rattle.std.proofs.lemmas.Bool.Decides.{eqb_tells}
+use Rattle.tb_layout.specs.Events.{is_last_linked}
 use Rattle.tb_tables.specs.Facts.{Facts}
 use Rattle.tb_machine.specs.declared.fault.Fault.{Fault}
 use Rattle.tb_machine.specs.Clock.{next_timestamp, clock_after}
-use Rattle.tb_machine.specs.Chain.{Operation, Outcome, examined, stored_at, first_fault, failed_results, closed_outcome, chain_outcome, is_open, all_but_last}
+use Rattle.tb_machine.specs.Chain.{Operation, Outcome, examined, stored_at, first_fault, failed_results, closed_outcome, chain_outcome, all_but_last}
 use Rattle.tb_machine.specs.Examining.{LiesBelow}
 
 pub eqb-false : (a b : ℕ) → a ≢ b → (a == b) ≡ false
@@ -39,7 +40,7 @@ length-failed_results count (Some fault) below =
     length-append (replicate fault.index 1) (fault.code ∷ replicate (count - fault.index - 1) 1)
     ∙ (let e : length (replicate fault.index 1) + suc (length (replicate (count - fault.index - 1) 1)) ≡ count = omega (arith, length-replicate {A = ℕ} fault.index 1, length-replicate {A = ℕ} (count - fault.index - 1) 1) in e)
 
-length-all_but_last : {Event : Type 0} (is_linked : Event → Bool) (events : List Event) → is_open is_linked events ≡ true → length (all_but_last events) + 1 ≡ length events
+length-all_but_last : {Event : Type 0} (is_linked : Event → Bool) (events : List Event) → is_last_linked is_linked events ≡ true → length (all_but_last events) + 1 ≡ length events
 length-all_but_last is_linked [] h = cc
 length-all_but_last is_linked (event ∷ []) h = refl
 length-all_but_last is_linked (event ∷ next ∷ events) h = omega (arith, length-all_but_last is_linked (next ∷ events) h)
@@ -58,6 +59,6 @@ pub length-chain_outcome : {Event : Type 0} (operation : Operation Event) (clock
 length-chain_outcome operation clock facts chain =
     let front = all_but_last chain in
     let fault = first_fault operation 0 clock facts front in
-    length-chosen (is_open operation.is_linked chain) _ _ (length chain)
+    length-chosen (is_last_linked operation.is_linked chain) _ _ (length chain)
     (λ open_one. omega (arith, length-append (failed_results (length front) fault) (2 ∷ []), length-failed_results (length front) fault (first_fault-below operation 0 clock facts front (length front) (omega arith)), length-all_but_last operation.is_linked chain open_one))
     (λ _. length-closed operation clock facts chain (first_fault operation 0 clock facts chain) (first_fault-below operation 0 clock facts chain (length chain) (omega arith)))

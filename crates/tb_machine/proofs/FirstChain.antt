@@ -3,8 +3,9 @@ use Rattle.std.proofs.Common.{refl, sym, ap, ◌∙◌, arith, ◌≡◌, ℕ, s
 use Rattle.std.specs.Prelude.{if◌then◌else◌}
 use Rattle.std.proofs.lemmas.List.{length-map, take-map, get_or-map, take_rest, drop-map, drop-drop}
 use Rattle.tb_layout.specs.declared.failure.Failure.{Failure}
+use Rattle.tb_layout.specs.Events.{is_last_linked}
 use Rattle.tb_tables.specs.Facts.{Facts}
-use Rattle.tb_machine.specs.Chain.{Operation, Outcome, before_chains, chains_of, chain_outcome, chains_outcome, then_outcome, is_open, all_but_last, open_outcome, closed_outcome, first_fault}
+use Rattle.tb_machine.specs.Chain.{Operation, Outcome, before_chains, chains_of, chain_outcome, chains_outcome, then_outcome, all_but_last, open_outcome, closed_outcome, first_fault}
 use Rattle.tb_machine.specs.Clock.{clock_after}
 use Rattle.tb_machine.specs.Packet.{events_outcome, failures_from}
 use Rattle.tb_machine.specs.Examining.{first_chain_length}
@@ -13,11 +14,11 @@ use Rattle.tb_machine.proofs.Failures.{failures_from-append}
 
 -- ---- whether a chain is open is told by its last event
 
-is_open-last : {Event : Type 0} (is_linked : Event → Bool) (events : List Event) (d : Event) → 0 < length events → is_open is_linked events ≡ is_linked (get_or events (length events - 1) d)
-is_open-last is_linked [] d h = absurd (omega arith)
-is_open-last is_linked (event ∷ []) d h = refl
-is_open-last is_linked (event ∷ next ∷ events) d h =
-    is_open-last is_linked (next ∷ events) d (omega arith)
+last_linked : {Event : Type 0} (is_linked : Event → Bool) (events : List Event) (d : Event) → 0 < length events → is_last_linked is_linked events ≡ is_linked (get_or events (length events - 1) d)
+last_linked is_linked [] d h = absurd (omega arith)
+last_linked is_linked (event ∷ []) d h = refl
+last_linked is_linked (event ∷ next ∷ events) d h =
+    last_linked is_linked (next ∷ events) d (omega arith)
     ∙ (let e : suc (length (next ∷ events) - 1) ≡ length (event ∷ next ∷ events) - 1 = omega arith in ap (λ k. is_linked (get_or (event ∷ next ∷ events) k d)) e)
 
 all_but_last-take : {Event : Type 0} (events : List Event) → all_but_last events ≡ take (length events - 1) events
@@ -30,13 +31,13 @@ all_but_last-take (event ∷ next ∷ events) =
 chain_outcome-open : {Event : Type 0} (operation : Operation Event) (clock : ℕ) (facts : Facts) (chain : List Event) (d : Event) → 0 < length chain → operation.is_linked (get_or chain (length chain - 1) d) ≡ true →
     let front = take (length chain - 1) chain in chain_outcome operation clock facts chain ≡ open_outcome operation facts front (first_fault operation 0 clock facts front)
 chain_outcome-open operation clock facts chain d h linked =
-    ap (λ b. if b then open_outcome operation facts (all_but_last chain) (first_fault operation 0 clock facts (all_but_last chain)) else closed_outcome operation clock facts chain (first_fault operation 0 clock facts chain)) (is_open-last operation.is_linked chain d h ∙ linked)
+    ap (λ b. if b then open_outcome operation facts (all_but_last chain) (first_fault operation 0 clock facts (all_but_last chain)) else closed_outcome operation clock facts chain (first_fault operation 0 clock facts chain)) (last_linked operation.is_linked chain d h ∙ linked)
     ∙ ap (λ front. open_outcome operation facts front (first_fault operation 0 clock facts front)) (all_but_last-take chain)
 
 chain_outcome-closed : {Event : Type 0} (operation : Operation Event) (clock : ℕ) (facts : Facts) (chain : List Event) (d : Event) → 0 < length chain → operation.is_linked (get_or chain (length chain - 1) d) ≡ false →
     chain_outcome operation clock facts chain ≡ closed_outcome operation clock facts chain (first_fault operation 0 clock facts chain)
 chain_outcome-closed operation clock facts chain d h linked =
-    ap (λ b. if b then open_outcome operation facts (all_but_last chain) (first_fault operation 0 clock facts (all_but_last chain)) else closed_outcome operation clock facts chain (first_fault operation 0 clock facts chain)) (is_open-last operation.is_linked chain d h ∙ linked)
+    ap (λ b. if b then open_outcome operation facts (all_but_last chain) (first_fault operation 0 clock facts (all_but_last chain)) else closed_outcome operation clock facts chain (first_fault operation 0 clock facts chain)) (last_linked operation.is_linked chain d h ∙ linked)
 
 -- the same for events that rows of bytes hold
 

@@ -1,5 +1,6 @@
 -- Chains of linked events: where they end, and what becomes of one.
-use Rattle.std.specs.Prelude.{ℕ, ◌+◌, ◌-◌, ◌==◌, Bool, false, List, [], ◌∷◌, ◌++◌, length, replicate, Option, Some, None, if◌then◌else◌}
+use Rattle.std.specs.Prelude.{ℕ, ◌+◌, ◌-◌, ◌==◌, Bool, List, [], ◌∷◌, ◌++◌, length, replicate, Option, Some, None, if◌then◌else◌}
+use Rattle.tb_layout.specs.Events.{is_last_linked}
 use Rattle.tb_tables.specs.Facts.{Facts}
 use Rattle.tb_machine.specs.declared.fault.Fault.{Fault}
 use Rattle.tb_machine.specs.Clock.{next_timestamp, clock_after}
@@ -30,12 +31,6 @@ abbrev pub chains_of : {Event : Type 0} → (Event → Bool) → List Event → 
 chains_of is_linked [] = []
 chains_of is_linked (event ∷ events) =
     if is_linked event then before_chains event (chains_of is_linked events) else (event ∷ []) ∷ chains_of is_linked events
-
--- whether the last event is linked
-abbrev pub is_open : {Event : Type 0} → (Event → Bool) → List Event → Bool
-is_open is_linked [] = false
-is_open is_linked (event ∷ []) = is_linked event
-is_open is_linked (event ∷ next ∷ events) = is_open is_linked (next ∷ events)
 
 abbrev pub all_but_last : {Event : Type 0} → List Event → List Event
 all_but_last [] = []
@@ -93,7 +88,7 @@ open_outcome operation facts front fault =
 
 abbrev pub chain_outcome : {Event : Type 0} → Operation Event → ℕ → Facts → List Event → Outcome
 chain_outcome operation clock facts chain =
-    if is_open operation.is_linked chain
+    if is_last_linked operation.is_linked chain
     then open_outcome operation facts (all_but_last chain) (first_fault operation 0 clock facts (all_but_last chain))
     else closed_outcome operation clock facts chain (first_fault operation 0 clock facts chain)
 

@@ -1,23 +1,16 @@
--- The state machine over packets.
-use Rattle.std.specs.Prelude.{ℕ, List, fold, length}
+-- The state machine over packets and pulses.
+use Rattle.std.specs.Prelude.{ℕ, max, List, [], fold, map, length, take, slice_get, Option, Some, None}
+use Rattle.std.specs.List.{filter_map}
 use Rattle.tb_layout.specs.declared.account.Account.{Account}
 use Rattle.tb_layout.specs.declared.failure.Failure.{Failure}
-use Rattle.tb_layout.specs.AccountCode.{number_of}
-use Rattle.tb_layout.specs.Account.{is_linked}
-use Rattle.tb_tables.specs.Facts.{Facts, no_facts, add_account}
-use Rattle.tb_machine.specs.AccountVerdict.{account_verdict}
-use Rattle.tb_machine.specs.Chain.{Operation, Outcome}
+use Rattle.tb_layout.specs.Events.{Events, Accounts, Transfers, Ids}
+use Rattle.tb_tables.specs.Facts.{Facts, no_facts}
+use Rattle.tb_tables.specs.Status.{expire_due}
+use Rattle.tb_tables.specs.Balances.{with_balances, balanced_account}
+use Rattle.tb_machine.specs.Chain.{Outcome}
 use Rattle.tb_machine.specs.Packet.{events_outcome, failures_from}
+use Rattle.tb_machine.specs.Operations.{create_accounts, create_transfers}
 use Rattle.tb_machine.specs.Clock.{clock_after}
-
--- an account is stored with its timestamp, and a fault leaves nothing behind
-abbrev pub create_accounts : Operation Account
-create_accounts = record {
-  is_linked = is_linked;
-  verdict = λ facts timestamp event. number_of (account_verdict facts event);
-  stored = λ facts timestamp event. add_account facts (record event { timestamp = timestamp });
-  remembered = λ facts code event. facts;
-}
 
 pub record State : Type 0 where
   pub clock : ℕ
@@ -27,17 +20,71 @@ pub record State : Type 0 where
 abbrev pub opening : ℕ → State
 opening clock = record { clock = clock; facts = no_facts }
 
-abbrev pub outcome_of : State → List Account → Outcome
-outcome_of state events = events_outcome create_accounts state.clock state.facts events
+-- ---- a packet
 
--- the failed events of a packet of accounts in a state, in rising index
-abbrev pub failures_of : State → List Account → List Failure
+-- the results of a packet's events, and the facts after them; a lookup has no results
+abbrev pub outcome_of : State → Events → Outcome
+outcome_of state (Accounts events) = events_outcome create_accounts state.clock state.facts events
+outcome_of state (Transfers events) = events_outcome create_transfers state.clock state.facts events
+outcome_of state (Ids ids) = record { results = []; facts = state.facts }
+
+-- the events that failed, in rising index
+abbrev pub failures_of : State → Events → List Failure
 failures_of state events = failures_from 0 (outcome_of state events).results
 
--- the state after a packet
-abbrev pub after_packet : State → List Account → State
-after_packet state events = record { clock = clock_after state.clock (length events); facts = (outcome_of state events).facts }
+-- the accounts with these ids that are there, with their balances, in the order asked
+abbrev pub accounts_found : Facts → List ℕ → List Account
+accounts_found facts ids = filter_map (balanced_account facts) ids
 
--- the state after packets in order, from a clock and no facts
-abbrev pub replay : ℕ → List (List Account) → State
-replay clock packets = fold after_packet (opening clock) packets
+-- all accounts in order of making, with their balances
+abbrev pub balanced_accounts : Facts → List Account
+balanced_accounts facts = map (with_balances facts) facts.accounts
+
+-- what a packet is answered
+pub data Answer : Type 0 where
+  Failed : List Failure → Answer
+  Found : List Account → Answer
+
+abbrev pub answer_of : State → Events → Answer
+answer_of state (Accounts events) = Failed (failures_of state (Accounts events))
+answer_of state (Transfers events) = Failed (failures_of state (Transfers events))
+answer_of state (Ids ids) = Found (accounts_found state.facts ids)
+
+-- each event of accounts or transfers raises the clock by one, whatever its result
+abbrev pub after_events : State → ℕ → Facts → State
+after_events state count facts = record { clock = clock_after state.clock count; facts = facts }
+
+-- a lookup leaves the state as it is
+abbrev pub after_packet : State → Events → State
+after_packet state (Accounts events) = after_events state (length events) (outcome_of state (Accounts events)).facts
+after_packet state (Transfers events) = after_events state (length events) (outcome_of state (Transfers events)).facts
+after_packet state (Ids ids) = state
+
+-- ---- a pulse
+
+-- the clock is raised to the moment, and whatever is due then expires
+abbrev pub pulsed : State → ℕ → State
+pulsed state moment = record { clock = max state.clock moment; facts = expire_due (max state.clock moment) state.facts }
+
+-- ---- packets and pulses
+
+pub data Item : Type 0 where
+  Packet : Events → Item
+  Pulse : ℕ → Item
+
+abbrev pub after_item : State → Item → State
+after_item state (Packet events) = after_packet state events
+after_item state (Pulse moment) = pulsed state moment
+
+-- the state after items in order, from a clock and no facts
+abbrev pub replay : ℕ → List Item → State
+replay clock items = fold after_item (opening clock) items
+
+abbrev pub answer_to : State → Option Item → Option Answer
+answer_to state None = None
+answer_to state (Some (Pulse moment)) = None
+answer_to state (Some (Packet events)) = Some (answer_of state events)
+
+-- the answer to the packet at a place, in the state that the items before it left
+abbrev pub reply_at : ℕ → List Item → ℕ → Option Answer
+reply_at clock items place = answer_to (replay clock (take place items)) (slice_get items place)

@@ -1,9 +1,11 @@
 //! The clock, in nanoseconds.
 
-ghost use Rattle.std.specs.Prelude.{◌≡◌, ◌≤◌};
+ghost use Rattle.std.specs.Prelude.{◌≡◌, ◌+◌, ◌*◌, ◌≤◌};
 ghost use Rattle.tb_machine.specs.Clock as spec;
 
-const CLOCK_MAX: u64 = 0x7fff_ffff_ffff_ffff;
+pub const CLOCK_MAX: u64 = 0x7fff_ffff_ffff_ffff;
+
+const NANOSECONDS: u128 = 1_000_000_000;
 
 /// The timestamp of the next event, if the clock can be raised for it.
 pub fn next_timestamp(clock: u64) -> Option<u64>
@@ -28,4 +30,11 @@ pub fn clock_after(clock: u64, count: usize) -> u64
     } else {
         CLOCK_MAX
     }
+}
+
+/// When a timeout, in seconds, is over that began at a timestamp.
+pub fn expires_at(timestamp: u64, timeout: u32) -> u128
+    ensures { result ≡ timestamp + timeout * 1000000000 }
+{
+    u128::from(timestamp) + u128::from(timeout) * NANOSECONDS
 }

@@ -1,14 +1,20 @@
 //! What the two operations that change the facts make of their events.
 
-ghost use Rattle.std.specs.Prelude.{◌≡◌, ◌≢◌, ◌≤◌, ℕ, List, Ok, IfOk};
+ghost use Rattle.std.specs.Prelude.{◌≡◌, ◌≢◌, ◌≤◌, ℕ, List, Ok, IfOk, OnOk, OnErr};
 ghost use Rattle.tb_layout.specs.Account.{account_of};
+ghost use Rattle.tb_layout.specs.Transfer.{transfer_of};
+ghost use Rattle.tb_layout.specs.TransferCode.{number_of};
+ghost use Rattle.tb_tables.specs.Facts.{add_transfer};
 ghost use Rattle.tb_tables.specs.History.{changed, Extends};
 ghost use Rattle.tb_machine.specs.Clock.{clock_max};
 ghost use Rattle.tb_machine.specs.Chain.{Operation};
-ghost use Rattle.tb_machine.specs.Replay.{create_accounts};
+ghost use Rattle.tb_machine.specs.TransferVerdict.{stored_by, transfer_verdict as verdict_of};
+ghost use Rattle.tb_machine.specs.Operations.{create_accounts, create_transfers};
 
 use crate::account_verdict::account_verdict;
-use tb_layout::{Account, NoMemory, read_account};
+use crate::resolved::{is_resolving, resolved_by};
+use crate::transfer_verdict::transfer_verdict;
+use tb_layout::{Account, NoMemory, Transfer, read_account, read_transfer};
 use tb_tables::Tables;
 
 /// An event of an operation.
@@ -60,5 +66,52 @@ impl Event for Account {
 
     fn remember(&self, _tables: &mut Tables, _code: u32) -> Result<(), NoMemory> {
         Ok(())
+    }
+}
+
+impl Event for Transfer {
+    ghost event_of = { transfer_of };
+
+    ghost operation = { create_transfers };
+
+    fn read(row: &[u8; 128]) -> Transfer {
+        read_transfer(row)
+    }
+
+    fn is_linked(&self) -> bool {
+        Transfer::is_linked(self)
+    }
+
+    fn examine(&self, tables: &mut Tables, timestamp: u64) -> Result<u32, NoMemory> {
+        let code = transfer_verdict(tables, timestamp, self).number();
+        if code == 0 {
+            store(tables, timestamp, self)?;
+        }
+        Ok(code)
+    }
+
+    fn remember(&self, tables: &mut Tables, code: u32) -> Result<(), NoMemory> {
+        if matches!(code, 21 | 22 | 25 | 54 | 55) && !tables.failed(self.id) {
+            tables.add_failed(self.id)?;
+        }
+        Ok(())
+    }
+}
+
+/// Stores a transfer whose checks find nothing.
+fn store(tables: &mut Tables, timestamp: u64, event: &Transfer) -> Result<(), NoMemory>
+    requires clock { timestamp ≤ clock_max }
+    requires ok { number_of (verdict_of tables.old.now timestamp event.now) ≡ 0 }
+    ensures ok { OnOk result (tables.new ≡ changed tables.old (add_transfer tables.old.now (stored_by tables.old.now timestamp event.now))) }
+    ensures err { OnErr result (tables.new ≡ tables.old) }
+{
+    let transfer = Transfer {
+        timestamp,
+        ..resolved_by(tables, event.pending_id, event)
+    };
+    if is_resolving(event) {
+        tables.resolve(transfer)
+    } else {
+        tables.add_transfer(transfer)
     }
 }

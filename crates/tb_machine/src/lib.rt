@@ -1,8 +1,8 @@
 //! The state machine: what becomes of a packet's events.
 //!
 //! Callers see a machine as a clock and the facts of a ledger. A packet's events are cut into
-//! chains, and each chain succeeds or fails whole. The only refusal is want of memory, after which
-//! the machine is as before.
+//! chains, and each chain succeeds or fails whole; a pulse lets pending transfers expire; a lookup
+//! changes nothing. The only refusal is want of memory, after which the machine is as before.
 #![tactic(auto)]
 
 mod account_verdict;
@@ -11,7 +11,16 @@ mod clock;
 mod commit;
 mod event;
 mod fault;
+mod joining;
+mod lookup;
 mod machine;
+mod moving_verdict;
 mod report;
+mod resolved;
+mod resolving_verdict;
+#[cfg(test)]
+mod tests;
+mod transfer_verdict;
 
+pub use joining::joining_is_invisible;
 pub use machine::Machine;

@@ -1,16 +1,21 @@
 //! The machine.
 
-ghost use Rattle.std.specs.Prelude.{◌≡◌, ◌/◌, ◌%◌, ◌≤◌, [], length, slice_get, vec_capacity, OnOk, OnErr};
-ghost use Rattle.tb_layout.specs.Events.{accounts_of};
-ghost use Rattle.tb_tables.specs.Facts.{account_with};
+ghost use Rattle.std.specs.Prelude.{◌≡◌, ◌==◌, ◌||◌, ◌/◌, ◌%◌, ◌^◌, ◌≤◌, [], true, length, map, slice_get, vec_capacity, OnOk, OnErr};
+ghost use Rattle.tb_layout.specs.Events.{events_of, ids_of, rows};
+ghost use Rattle.tb_tables.specs.Facts.{transfer_with};
+ghost use Rattle.tb_tables.specs.Status.{status_with};
+ghost use Rattle.tb_tables.specs.Balances.{balanced_account};
 ghost use Rattle.tb_machine.specs.Clock.{clock_max};
+ghost use Rattle.tb_machine.specs.Packet.{events_outcome, failures_from};
 
 use crate::clock::clock_after;
 use crate::commit::commit_chains;
+use crate::event::Event;
+use crate::lookup::look_up;
 use std::alloc::Global;
 use std::marker::Model;
-use tb_layout::{Account, Failure, NoMemory};
-use tb_tables::Tables;
+use tb_layout::{Account, Failure, NoMemory, Transfer};
+use tb_tables::{Status, Tables};
 
 const CREATE_ACCOUNTS: u8 = 129;
 
@@ -33,7 +38,7 @@ impl Model for Machine {
 }
 
 impl Machine {
-    ghost use Rattle.tb_machine.specs.Replay.{opening, failures_of, after_packet};
+    ghost use Rattle.tb_machine.specs.Replay.{opening, failures_of, accounts_found, balanced_accounts, after_events, after_packet, pulsed};
 
     /// A machine without facts, whose clock starts at a number. Takes no memory.
     pub fn new(alloc: Global, clock: u64) -> Machine
@@ -54,21 +59,44 @@ impl Machine {
         body: &[u8],
         out: &mut Vec<Failure>,
     ) -> Result<(), NoMemory>
-        requires operation { operation ≡ 129 }
+        requires operation { operation == 129 || operation == 130 ≡ true }
         requires whole { length body.now % 128 ≡ 0 }
         requires limit { length body.now / 128 ≤ 8190 }
         requires empty { out.old.items ≡ [] }
         requires room { length body.now / 128 ≤ vec_capacity out.old }
-        ensures state { OnOk result (self.new ≡ after_packet self.old (accounts_of body.now)) }
-        ensures failures { OnOk result (out.new.items ≡ failures_of self.old (accounts_of body.now)) }
+        ensures state { OnOk result (self.new ≡ after_packet self.old (events_of operation body.now)) }
+        ensures failures { OnOk result (out.new.items ≡ failures_of self.old (events_of operation body.now)) }
         ensures unchanged { OnErr result (self.new ≡ self.old) }
         ensures none { OnErr result (out.new.items ≡ []) }
         ensures capacity { vec_capacity out.new ≡ vec_capacity out.old }
     {
-        prove!(operation == CREATE_ACCOUNTS);
+        if operation == CREATE_ACCOUNTS {
+            self.commit_events::<Account>(body, out)
+        } else {
+            self.commit_events::<Transfer>(body, out)
+        }
+    }
+
+    fn commit_events<E: Event>(
+        &mut self,
+        body: &[u8],
+        out: &mut Vec<Failure>,
+    ) -> Result<(), NoMemory>
+        requires whole { length body.now % 128 ≡ 0 }
+        requires limit { length body.now / 128 ≤ 8190 }
+        requires empty { out.old.items ≡ [] }
+        requires room { length body.now / 128 ≤ vec_capacity out.old }
+        ensures state { let events = map E.event_of (rows 128 body.now) in
+            OnOk result (self.new ≡ after_events self.old (length events) (events_outcome E.operation self.old.clock self.old.facts events).facts) }
+        ensures failures { let events = map E.event_of (rows 128 body.now) in
+            OnOk result (out.new.items ≡ failures_from 0 (events_outcome E.operation self.old.clock self.old.facts events).results) }
+        ensures unchanged { OnErr result (self.new ≡ self.old) }
+        ensures none { OnErr result (out.new.items ≡ []) }
+        ensures capacity { vec_capacity out.new ≡ vec_capacity out.old }
+    {
         let mark = self.tables.mark();
         let (rows, _) = body.as_chunks::<128>();
-        match commit_chains::<Account>(self.clock, &mut self.tables, rows, out) {
+        match commit_chains::<E>(self.clock, &mut self.tables, rows, out) {
             Ok(()) => {
                 self.tables.keep();
                 self.clock = clock_after(self.clock, rows.len());
@@ -82,6 +110,30 @@ impl Machine {
         }
     }
 
+    /// Raises the clock to a moment, in nanoseconds, and lets each pending transfer expire that nothing
+    /// resolved and whose timeout is over then. Takes no memory.
+    pub fn pulse(&mut self, moment: u64)
+        requires { moment ≤ 2 ^ 62 }
+        ensures { self.new ≡ pulsed self.old moment }
+    {
+        self.clock = self.clock.max(moment);
+        self.tables.expire_due(self.clock);
+    }
+
+    /// Puts the accounts whose ids are in `body` behind each other, with their balances. Ids without
+    /// an account are left out. Takes no memory.
+    pub fn lookup(&self, body: &[u8], out: &mut Vec<Account>)
+        requires whole { length body.now % 16 ≡ 0 }
+        requires limit { length body.now / 16 ≤ 8190 }
+        requires empty { out.old.items ≡ [] }
+        requires room { length body.now / 16 ≤ vec_capacity out.old }
+        ensures found { out.new.items ≡ accounts_found self.now.facts (ids_of body.now) }
+        ensures capacity { vec_capacity out.new ≡ vec_capacity out.old }
+    {
+        let (rows, _) = body.as_chunks::<16>();
+        look_up(&self.tables, rows, out);
+    }
+
     /// The newest timestamp, or where the clock started.
     pub fn clock(&self) -> u64
         ensures value { result ≡ self.now.clock }
@@ -90,16 +142,16 @@ impl Machine {
         self.clock
     }
 
-    /// The account with this id.
+    /// The account with this id, with its balances.
     pub fn account(&self, id: u128) -> Option<Account>
-        ensures { result ≡ account_with self.now.facts id }
+        ensures { result ≡ balanced_account self.now.facts id }
     {
         self.tables.account(id)
     }
 
-    /// The account at a place in the order of making, counted from 0.
+    /// The account at a place in the order of making, counted from 0, with its balances.
     pub fn account_at(&self, place: usize) -> Option<Account>
-        ensures { result ≡ slice_get self.now.facts.accounts place }
+        ensures { result ≡ slice_get (balanced_accounts self.now.facts) place }
     {
         self.tables.account_at(place)
     }
@@ -109,5 +161,19 @@ impl Machine {
         ensures { result ≡ length self.now.facts.accounts }
     {
         self.tables.accounts()
+    }
+
+    /// The transfer with this id; a post or a void with its resolved fields.
+    pub fn transfer(&self, id: u128) -> Option<Transfer>
+        ensures { result ≡ transfer_with self.now.facts id }
+    {
+        self.tables.transfer(id)
+    }
+
+    /// What became of the pending transfer with this id.
+    pub fn status(&self, id: u128) -> Option<Status>
+        ensures { result ≡ status_with self.now.facts id }
+    {
+        self.tables.status(id)
     }
 }

@@ -16,14 +16,16 @@ use Rattle.tb_program.specs.declared.keyword.Keyword.{Keyword}
 use Rattle.tb_program.specs.declared.keyword.Keyword.TheVariants as word
 use Rattle.tb_program.specs.declared.item.Settings.{Settings}
 use Rattle.tb_program.specs.declared.item.Submission.{Submission}
+use Rattle.tb_program.specs.declared.item.Item.{Item}
+use Rattle.tb_program.specs.declared.item.Item.TheVariants.{Packet, Pulse}
 use Rattle.tb_program.specs.declared.fault.Fault.{Fault}
 use Rattle.tb_program.specs.Text.{lines_of, words_of}
 use Rattle.tb_program.specs.Number.{number_of, number_within}
 use Rattle.tb_program.specs.Steps.{◌>>=◌}
 use Rattle.tb_program.specs.Keyword.{keyword_of}
 use Rattle.tb_program.specs.Event.{hex_bytes}
-use Rattle.tb_program.specs.Script.{Said, nothing_said, items_of, is_in_place, is_text, with_words, with_line, with_packet, after_line, after_lines, at_line}
-use Rattle.tb_program.specs.Spelling.{spaced, ended, setting_lines, settings_lines, byte_line, packet_lines, CanBeSet, CanBeSubmitted}
+use Rattle.tb_program.specs.Script.{Said, nothing_said, items_of, is_in_place, is_text, with_words, with_line, with_packet, with_pulse, after_line, after_lines, at_line}
+use Rattle.tb_program.specs.Spelling.{spaced, ended, setting_lines, settings_lines, byte_line, packet_lines, item_lines, CanBeSet, CanBeSubmitted, CanBeSaid}
 use Rattle.tb_program.specs.Laws.{SpelledScriptsAreRead}
 use Rattle.tb_program.proofs.Numbers.{own}
 
@@ -231,10 +233,10 @@ one_byte : (byte : ℕ) → byte < 256 → hex_bytes (encode_lower (byte ∷ [])
 unfolding hex_bytes
 one_byte byte h = rw (decode_of-encode_lower (byte ∷ []) (one_is_bytes byte h)) refl
 
-abbrev adding : Settings → List Submission → Submission → Said
+abbrev adding : Settings → List Item → Submission → Said
 adding settings items packet = record { settings = settings; items = items; packet = Some packet }
 
-says_byte : (settings : Settings) (items : List Submission) (packet : Submission) (byte : ℕ) → byte < 256 →
+says_byte : (settings : Settings) (items : List Item) (packet : Submission) (byte : ℕ) → byte < 256 →
     after_line (adding settings items packet) (byte_line byte) ≡ Ok (adding settings items (record packet { bytes = packet.bytes ++ byte ∷ [] }))
 unfolding with_line keyword_of
 says_byte settings items packet byte h =
@@ -244,7 +246,7 @@ says_byte settings items packet byte h =
 byte_line_is_text : (byte : ℕ) → byte < 256 → is_text (byte_line byte) ≡ true
 byte_line_is_text byte h = is_text-spaced (codes "hex" ∷ encode_lower (byte ∷ []) ∷ []) (rw (encoded_is_word byte h) refl)
 
-says_bytes : (settings : Settings) (items : List Submission) (packet : Submission) (bytes : List ℕ) → All (λ byte. byte < 256) bytes →
+says_bytes : (settings : Settings) (items : List Item) (packet : Submission) (bytes : List ℕ) → All (λ byte. byte < 256) bytes →
     Says (adding settings items packet) (map byte_line bytes) (adding settings items (record packet { bytes = packet.bytes ++ bytes }))
 says_bytes settings items packet [] h = subst (λ bs. Says (adding settings items packet) [] (adding settings items (record packet { bytes = bs }))) (sym (append-nil packet.bytes)) (says_nothing _)
 says_bytes settings items packet (byte ∷ bytes) h =
@@ -273,28 +275,59 @@ says_packet_line said packet few h =
     keyword_line said word.Packet (codes "packet") (decimal packet.submitter ∷ decimal packet.operation ∷ []) words short refl refl refl
     ∙ rw (number_within-decimal 0 (unwrap_or said.settings.submitters 2 - 1) packet.submitter (omega arith) (omega (arith, h.submitter)) submitter, number_within-decimal 0 255 packet.operation (omega arith) (omega (arith, h.operation)) operation) refl
 
--- the items behind those that were said
-record SaysItems (said : Said) (packets : List Submission) : Type 0 where
-  next : Said
-  says : Says said (flat_map packet_lines packets) next
-  settings : next.settings ≡ said.settings
-  items : items_of next ≡ items_of said ++ packets
+-- a pulse's line says its pulse
+says_pulse : (said : Said) (moment : ℕ) → moment < 2 ^ 64 → Says said (item_lines (Pulse moment)) (with_pulse said moment)
+unfolding with_line keyword_of
+says_pulse said moment h =
+    let words : list_all is_word (codes "pulse" ∷ decimal moment ∷ []) ≡ true = rw (decimal_is_word moment h) refl in
+    let short : length (spaced (codes "pulse" ∷ decimal moment ∷ [])) ≤ 65536 = omega (arith, length-decimal moment h) in
+    let line = keyword_line said word.Pulse (codes "pulse") (decimal moment ∷ []) words short refl refl refl ∙ rw (number_within-decimal 0 (2 ^ 64 - 1) moment (omega arith) (omega arith) h) refl in
+    says_more said (with_pulse said moment) (with_pulse said moment) _ [] (is_text-spaced (codes "pulse" ∷ decimal moment ∷ []) words) line (says_nothing (with_pulse said moment))
 
-says_items : (said : Said) (packets : List Submission) → unwrap_or said.settings.submitters 2 ≤ 16 → AllByRecursion (CanBeSubmitted (unwrap_or said.settings.submitters 2)) packets → SaysItems said packets
-says_items said [] few all = record { next = said; says = says_nothing said; settings = refl; items = sym (append-nil (items_of said)) }
-says_items said (packet ∷ packets) few all =
-    let h = all.0 in
+-- a packet's lines say the packet
+says_packet : (said : Said) (packet : Submission) → unwrap_or said.settings.submitters 2 ≤ 16 → CanBeSubmitted (unwrap_or said.settings.submitters 2) packet →
+    Says said (packet_lines packet) (adding said.settings (items_of said) packet)
+says_packet said packet few h =
     let started = adding said.settings (items_of said) (record packet { bytes = [] }) in
-    let whole = adding said.settings (items_of said) packet in
-    let later = says_items whole packets few all.1 in
     let words = packet_words_are_words packet (unwrap_or said.settings.submitters 2) few h in
+    says_more said started (adding said.settings (items_of said) packet) _ (map byte_line packet.bytes) (is_text-spaced (packet_words packet) words) (says_packet_line said packet few h)
+    (says_bytes said.settings (items_of said) (record packet { bytes = [] }) packet.bytes h.bytes)
+
+-- one item behind those that were said
+abbrev with_item : Said → Item → Said
+with_item said (Packet packet) = adding said.settings (items_of said) packet
+with_item said (Pulse moment) = with_pulse said moment
+
+says_item : (said : Said) (item : Item) → unwrap_or said.settings.submitters 2 ≤ 16 → CanBeSaid (unwrap_or said.settings.submitters 2) item → Says said (item_lines item) (with_item said item)
+says_item said (Packet packet) few h = says_packet said packet few h
+says_item said (Pulse moment) few h = says_pulse said moment h
+
+settings_stay : (said : Said) (item : Item) → (with_item said item).settings ≡ said.settings
+settings_stay said (Packet packet) = refl
+settings_stay said (Pulse moment) = refl
+
+item_is_last : (said : Said) (item : Item) → items_of (with_item said item) ≡ items_of said ++ item ∷ []
+item_is_last said (Packet packet) = refl
+item_is_last said (Pulse moment) = append-nil (items_of said ++ Pulse moment ∷ [])
+
+-- the items behind those that were said
+record SaysItems (said : Said) (items : List Item) : Type 0 where
+  next : Said
+  says : Says said (flat_map item_lines items) next
+  settings : next.settings ≡ said.settings
+  all : items_of next ≡ items_of said ++ items
+
+says_items : (said : Said) (items : List Item) → unwrap_or said.settings.submitters 2 ≤ 16 → AllByRecursion (CanBeSaid (unwrap_or said.settings.submitters 2)) items → SaysItems said items
+says_items said [] few all = record { next = said; says = says_nothing said; settings = refl; all = sym (append-nil (items_of said)) }
+says_items said (item ∷ items) few all =
+    let between = with_item said item in
+    let same = settings_stay said item in
+    let later = says_items between items (subst (λ (s : Settings). unwrap_or s.submitters 2 ≤ 16) (sym same) few) (subst (λ (s : Settings). AllByRecursion (CanBeSaid (unwrap_or s.submitters 2)) items) (sym same) all.1) in
     record {
       next = later.next;
-      says = says_both said whole later.next (packet_lines packet) (flat_map packet_lines packets)
-          (says_more said started whole _ (map byte_line packet.bytes) (is_text-spaced (packet_words packet) words) (says_packet_line said packet few h) (says_bytes said.settings (items_of said) (record packet { bytes = [] }) packet.bytes h.bytes))
-          later.says;
-      settings = later.settings;
-      items = later.items ∙ append_assoc (items_of said) (packet ∷ []) packets;
+      says = says_both said between later.next (item_lines item) (flat_map item_lines items) (says_item said item few all.0) later.says;
+      settings = later.settings ∙ same;
+      all = later.all ∙ ap (λ xs. xs ++ items) (item_is_last said item) ∙ append_assoc (items_of said) (item ∷ []) items;
     }
 
 few_submitters : (submitters : Option ℕ) → IfSome submitters (λ n. (1 ≤ n) × (n ≤ 16)) → unwrap_or submitters 2 ≤ 16
@@ -302,8 +335,8 @@ few_submitters None h = omega arith
 few_submitters (Some n) h = h.1
 
 pub read_as_spelled : SpelledScriptsAreRead
-read_as_spelled settings packets can all =
+read_as_spelled settings items can all =
     let start = given settings.clock settings.limit settings.capacity settings.credit settings.submitters in
-    let later = says_items start packets (few_submitters settings.submitters can.submitters) all in
-    let whole = says_both nothing_said start later.next (settings_lines settings) (flat_map packet_lines packets) (says_settings settings can) later.says in
-    (later.next, ap (after_lines 1 nothing_said) (lines_of-ended (settings_lines settings ++ flat_map packet_lines packets) whole.text) ∙ whole.read 1, later.settings, later.items)
+    let later = says_items start items (few_submitters settings.submitters can.submitters) all in
+    let whole = says_both nothing_said start later.next (settings_lines settings) (flat_map item_lines items) (says_settings settings can) later.says in
+    (later.next, ap (after_lines 1 nothing_said) (lines_of-ended (settings_lines settings ++ flat_map item_lines items) whole.text) ∙ whole.read 1, later.settings, later.all)

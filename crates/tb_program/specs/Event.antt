@@ -8,7 +8,7 @@ use Rattle.tb_program.specs.declared.fault.Fault.TheVariants.{BadField, BadHex}
 use Rattle.tb_program.specs.declared.event.Field.{Field}
 use Rattle.tb_program.specs.declared.event.Draft.{Draft}
 use Rattle.tb_program.specs.declared.event.Layout.{Layout}
-use Rattle.tb_program.specs.declared.event.Layout.TheVariants.{Account}
+use Rattle.tb_program.specs.declared.event.Layout.TheVariants.{Account, Transfer}
 use Rattle.tb_program.specs.Number.{number_within}
 use Rattle.tb_program.specs.Steps.{◌>>=◌, look_up}
 
@@ -39,8 +39,26 @@ account_fields =
     (codes "timestamp", field 12 120 8) ∷
     []
 
+abbrev pub transfer_fields : List (List ℕ × Field)
+transfer_fields =
+    (codes "id", field 0 0 16) ∷
+    (codes "debit_account_id", field 1 16 16) ∷
+    (codes "credit_account_id", field 2 32 16) ∷
+    (codes "amount", field 3 48 16) ∷
+    (codes "pending_id", field 4 64 16) ∷
+    (codes "user_data_128", field 5 80 16) ∷
+    (codes "user_data_64", field 6 96 8) ∷
+    (codes "user_data_32", field 7 104 4) ∷
+    (codes "timeout", field 8 108 4) ∷
+    (codes "ledger", field 9 112 4) ∷
+    (codes "code", field 10 116 2) ∷
+    (codes "flags", field 11 118 2) ∷
+    (codes "timestamp", field 12 120 8) ∷
+    []
+
 abbrev pub fields_of : Layout → List (List ℕ × Field)
 fields_of Account = account_fields
+fields_of Transfer = transfer_fields
 
 unfoldable pub field_of : Layout → List ℕ → Option Field
 field_of layout name = look_up name (fields_of layout)

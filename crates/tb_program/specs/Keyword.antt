@@ -3,7 +3,7 @@ use Rattle.std.specs.Prelude.{ℕ, List, [], ◌∷◌, Option, Result, Ok, Err,
 use Rattle.tb_program.specs.declared.fault.Fault.{Fault}
 use Rattle.tb_program.specs.declared.fault.Fault.TheVariants.{WrongNumberOfWords}
 use Rattle.tb_program.specs.declared.keyword.Keyword.{Keyword}
-use Rattle.tb_program.specs.declared.keyword.Keyword.TheVariants.{Clock, Limit, Capacity, Credit, Submitters, Packet, Account, Hex}
+use Rattle.tb_program.specs.declared.keyword.Keyword.TheVariants.{Clock, Limit, Capacity, Credit, Submitters, Packet, Account, Transfer, Hex, Pulse}
 use Rattle.tb_program.specs.Steps.{look_up}
 
 abbrev pub keywords : List (List ℕ × Keyword)
@@ -15,7 +15,9 @@ keywords =
     (codes "submitters", Submitters) ∷
     (codes "packet", Packet) ∷
     (codes "account", Account) ∷
+    (codes "transfer", Transfer) ∷
     (codes "hex", Hex) ∷
+    (codes "pulse", Pulse) ∷
     []
 
 unfoldable pub keyword_of : List ℕ → Option Keyword

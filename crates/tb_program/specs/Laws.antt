@@ -3,9 +3,9 @@ use Rattle.std.specs.Prelude.{◌≡◌, ℕ, ◌+◌, List, ◌∷◌, ◌++◌
 use Rattle.tb_program.specs.declared.fault.Fault.{Fault}
 use Rattle.std.specs.List.{AllByRecursion}
 use Rattle.tb_program.specs.declared.item.Settings.{Settings}
-use Rattle.tb_program.specs.declared.item.Submission.{Submission}
+use Rattle.tb_program.specs.declared.item.Item.{Item}
 use Rattle.tb_program.specs.Script.{Said, after_line, after_lines, items_of, script_of}
-use Rattle.tb_program.specs.Spelling.{spelled, CanBeSet, CanBeSubmitted}
+use Rattle.tb_program.specs.Spelling.{spelled, CanBeSet, CanBeSaid}
 
 -- where some lines have no fault and the next has one, that fault decides, whatever follows, with the number of its line
 abbrev pub FirstFaultDecides : Type 0
@@ -24,11 +24,11 @@ NoLineIsFaulty number said lines =
 abbrev pub FaultlessLinesAreSaid : Type 0
 FaultlessLinesAreSaid = (number : ℕ) (said : Said) (lines : List (List ℕ)) → NoLineIsFaulty number said lines → IsOk (after_lines number said lines)
 
--- a script spelled from settings and packets is read as these
-abbrev pub IsReadAsSpelled : Settings → List Submission → Type 0
-IsReadAsSpelled settings packets = (said : Said) × (script_of (spelled settings packets) ≡ Ok said) × (said.settings ≡ settings) × (items_of said ≡ packets)
+-- a script spelled from settings and items is read as these
+abbrev pub IsReadAsSpelled : Settings → List Item → Type 0
+IsReadAsSpelled settings items = (said : Said) × (script_of (spelled settings items) ≡ Ok said) × (said.settings ≡ settings) × (items_of said ≡ items)
 
 abbrev pub SpelledScriptsAreRead : Type 0
 SpelledScriptsAreRead =
-    (settings : Settings) (packets : List Submission) → CanBeSet settings → AllByRecursion (CanBeSubmitted (unwrap_or settings.submitters 2)) packets →
-    IsReadAsSpelled settings packets
+    (settings : Settings) (items : List Item) → CanBeSet settings → AllByRecursion (CanBeSaid (unwrap_or settings.submitters 2)) items →
+    IsReadAsSpelled settings items

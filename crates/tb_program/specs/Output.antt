@@ -3,8 +3,8 @@ use Rattle.std.specs.Prelude.{◌≡◌, ◌<◌, ◌≤◌, ◌+◌, ℕ, Bool,
 use Rattle.std.specs.declared.alloc.Global.{Global}
 use Rattle.tb_layout.specs.declared.account.Account.{Account}
 use Rattle.tb_layout.specs.declared.failure.Failure.{Failure}
-use Rattle.tb_layout.specs.Events.{accounts_of}
-use Rattle.tb_machine.specs.Replay.{State, opening, failures_of, after_packet}
+use Rattle.tb_machine.specs.Replay.{State, opening, failures_of, after_packet, balanced_accounts, pulsed}
+use Rattle.tb_program.specs.Admission.{events_in}
 use Rattle.tb_program.specs.declared.fault.Fault.{Fault}
 use Rattle.tb_program.specs.declared.fault.Fault.TheVariants.{LineTooLong, BadByte, UnknownWord, OutOfPlace, WrongNumberOfWords, BadField, BadNumber, BadHex}
 use Rattle.tb_program.specs.declared.admission.Refusal.{Refusal}
@@ -51,6 +51,12 @@ committed_front submitter number place =
 abbrev pub committed_line : ℕ → ℕ → ℕ → List Failure → List ℕ
 committed_line submitter number place failures = committed_front submitter number place ++ flat_map failure_text failures ++ codes "\n"
 
+unfoldable pub pulse_line : ℕ → List ℕ
+pulse_line place = codes "pulse " ++ decimal place ++ codes "\n"
+
+abbrev pub refused_pulse_line : List ℕ
+refused_pulse_line = codes "pulse refused 12 MomentTooLarge\n"
+
 abbrev pub clock_line : ℕ → List ℕ
 clock_line clock = codes "clock " ++ decimal clock ++ codes "\n"
 
@@ -66,23 +72,27 @@ abbrev pub account_line : Account → List ℕ
 account_line account = account_front account.id account.timestamp ++ balances_text account
 
 -- the lines of a plan, one for each item, from a state and a place on: each packet that is queued gives what it gives
--- alone in the state that those before it left
+-- alone in the state that the packets and pulses before it left
 unfoldable pub plan_text : State → ℕ → List Planned → List ℕ
 plan_text state place [] = []
 plan_text state place (plan.Queued queued ∷ others) =
-    committed_line queued.submitter queued.number place (failures_of state (accounts_of queued.body))
-    ++ plan_text (after_packet state (accounts_of queued.body)) (place + 1) others
+    committed_line queued.submitter queued.number place (failures_of state (events_in queued.body))
+    ++ plan_text (after_packet state (events_in queued.body)) (place + 1) others
 plan_text state place (plan.Refused submitter refusal ∷ others) = refused_line submitter refusal ++ plan_text state place others
+plan_text state place (plan.Pulse moment ∷ others) = pulse_line place ++ plan_text (pulsed state moment) (place + 1) others
+plan_text state place (plan.RefusedPulse ∷ others) = refused_pulse_line ++ plan_text state place others
 
--- the state after the packets of a plan
+-- the state after the packets and pulses of a plan
 unfoldable pub state_after : State → List Planned → State
 state_after state [] = state
-state_after state (plan.Queued queued ∷ others) = state_after (after_packet state (accounts_of queued.body)) others
+state_after state (plan.Queued queued ∷ others) = state_after (after_packet state (events_in queued.body)) others
 state_after state (plan.Refused submitter refusal ∷ others) = state_after state others
+state_after state (plan.Pulse moment ∷ others) = state_after (pulsed state moment) others
+state_after state (plan.RefusedPulse ∷ others) = state_after state others
 
 -- the clock, and the accounts in order of making
 abbrev pub state_text : State → List ℕ
-state_text state = clock_line state.clock ++ flat_map account_line state.facts.accounts
+state_text state = clock_line state.clock ++ flat_map account_line (balanced_accounts state.facts)
 
 abbrev pub plan_of : Said → List Planned
 plan_of said = plan_behind (limit_of said.settings) [] (items_of said)

@@ -5,9 +5,11 @@ use Rattle.tb_program.specs.declared.fault.Fault.{Fault}
 use Rattle.tb_program.specs.declared.fault.Fault.TheVariants.{LineTooLong, BadByte, UnknownWord, OutOfPlace}
 use Rattle.tb_program.specs.declared.keyword.Keyword.{Keyword}
 use Rattle.tb_program.specs.declared.keyword.Keyword.TheVariants as word
-use Rattle.tb_program.specs.declared.event.Layout.TheVariants.{Account}
+use Rattle.tb_program.specs.declared.event.Layout.TheVariants.{Account, Transfer}
 use Rattle.tb_program.specs.declared.item.Settings.{Settings}
 use Rattle.tb_program.specs.declared.item.Submission.{Submission}
+use Rattle.tb_program.specs.declared.item.Item.{Item}
+use Rattle.tb_program.specs.declared.item.Item.TheVariants.{Packet, Pulse}
 use Rattle.tb_program.specs.Text.{lines_of, words_of}
 use Rattle.tb_program.specs.Number.{number_within}
 use Rattle.tb_program.specs.Steps.{◌>>=◌}
@@ -18,7 +20,7 @@ use Rattle.tb_program.specs.Event.{event_of, hex_bytes}
 -- events still add
 pub record Said : Type 0 where
   pub settings : Settings
-  pub items : List Submission
+  pub items : List Item
   pub packet : Option Submission
 
 abbrev pub nothing_said : Said
@@ -28,12 +30,12 @@ nothing_said = record {
   packet = None;
 }
 
-abbrev pub packet_items : Option Submission → List Submission
+abbrev pub packet_items : Option Submission → List Item
 packet_items None = []
-packet_items (Some packet) = packet ∷ []
+packet_items (Some packet) = Packet packet ∷ []
 
 -- all items
-abbrev pub items_of : Said → List Submission
+abbrev pub items_of : Said → List Item
 items_of said = said.items ++ packet_items said.packet
 
 abbrev pub has_begun : Said → Bool
@@ -52,7 +54,9 @@ is_in_place said word.Credit = may_set said said.settings.credit
 is_in_place said word.Submitters = may_set said said.settings.submitters
 is_in_place said word.Packet = true
 is_in_place said word.Account = is_some said.packet
+is_in_place said word.Transfer = is_some said.packet
 is_in_place said word.Hex = is_some said.packet
+is_in_place said word.Pulse = true
 
 abbrev pub set_to : Said → Settings → Said
 set_to said settings = record said { settings = settings }
@@ -62,6 +66,9 @@ with_packet said submitter operation = record said {
   items = items_of said;
   packet = Some (record { submitter = submitter; operation = operation; bytes = [] });
 }
+
+abbrev pub with_pulse : Said → ℕ → Said
+with_pulse said moment = record said { items = items_of said ++ Pulse moment ∷ []; packet = None }
 
 abbrev pub more_bytes : Option Submission → List ℕ → Option Submission
 more_bytes None bytes = None
@@ -100,10 +107,17 @@ with_line said word.Packet words = do
 with_line said word.Account words = do
   bytes ← event_of Account words
   Ok (with_bytes said bytes)
+with_line said word.Transfer words = do
+  bytes ← event_of Transfer words
+  Ok (with_bytes said bytes)
 with_line said word.Hex words = do
   text ← one_word words
   bytes ← hex_bytes text
   Ok (with_bytes said bytes)
+with_line said word.Pulse words = do
+  text ← one_word words
+  moment ← number_within 0 (2 ^ 64 - 1) text
+  Ok (with_pulse said moment)
 
 abbrev pub with_keyword : Said → Option Keyword → List (List ℕ) → Result Said Fault
 with_keyword said None words = Err UnknownWord

@@ -1,9 +1,11 @@
--- A script spelled from settings and packets.
+-- A script spelled from settings and items.
 use Rattle.std.specs.Prelude.{ℕ, ◌<◌, ◌≤◌, ◌^◌, List, [], ◌∷◌, ◌++◌, map, All, Option, Some, None, codes, decimal, IfSome}
 use Rattle.std.specs.List.{flat_map}
 use Rattle.hex.specs.Hex.{encode_lower}
 use Rattle.tb_program.specs.declared.item.Settings.{Settings}
 use Rattle.tb_program.specs.declared.item.Submission.{Submission}
+use Rattle.tb_program.specs.declared.item.Item.{Item}
+use Rattle.tb_program.specs.declared.item.Item.TheVariants.{Packet, Pulse}
 
 -- words with a space between them
 abbrev pub spaced : List (List ℕ) → List ℕ
@@ -35,8 +37,12 @@ byte_line byte = spaced (codes "hex" ∷ encode_lower (byte ∷ []) ∷ [])
 abbrev pub packet_lines : Submission → List (List ℕ)
 packet_lines packet = spaced (codes "packet" ∷ decimal packet.submitter ∷ decimal packet.operation ∷ []) ∷ map byte_line packet.bytes
 
-abbrev pub spelled : Settings → List Submission → List ℕ
-spelled settings packets = ended (settings_lines settings ++ flat_map packet_lines packets)
+abbrev pub item_lines : Item → List (List ℕ)
+item_lines (Packet packet) = packet_lines packet
+item_lines (Pulse moment) = spaced (codes "pulse" ∷ decimal moment ∷ []) ∷ []
+
+abbrev pub spelled : Settings → List Item → List ℕ
+spelled settings items = ended (settings_lines settings ++ flat_map item_lines items)
 
 -- a script can say these settings
 pub record CanBeSet (settings : Settings) : Type 0 where
@@ -51,3 +57,7 @@ pub record CanBeSubmitted (submitters : ℕ) (packet : Submission) : Type 0 wher
   pub submitter : packet.submitter < submitters
   pub operation : packet.operation < 256
   pub bytes : All (λ byte. byte < 256) packet.bytes
+
+abbrev pub CanBeSaid : ℕ → Item → Type 0
+CanBeSaid submitters (Packet packet) = CanBeSubmitted submitters packet
+CanBeSaid submitters (Pulse moment) = moment < 2 ^ 64

@@ -38,13 +38,15 @@ impl Refusal {
 
 const CREATE_ACCOUNTS: u8 = 129;
 
+const CREATE_TRANSFERS: u8 = 130;
+
 const EVENT_SIZE: usize = 128;
 
 /// Why a packet of this operation with these bytes is refused, if it is. Costs the same for any packet.
 pub fn refusal_of(limit: u32, operation: u8, bytes: &[u8]) -> Option<Refusal>
     ensures { result ≡ refusal_of limit operation bytes.now }
 {
-    if operation != CREATE_ACCOUNTS {
+    if operation != CREATE_ACCOUNTS && operation != CREATE_TRANSFERS {
         return Some(Refusal::InvalidOperation);
     }
     if bytes.len() % EVENT_SIZE != 0 {

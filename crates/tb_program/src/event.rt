@@ -3,7 +3,7 @@
 ghost use Rattle.std.specs.Prelude.{◌≡◌, ◌≤◌, ◌<◌, ◌+◌, ◌-◌, ◌^◌, ◌⊎◌, IfSome, IfOk};
 ghost use Rattle.tb_program.specs.Text.{words_of};
 ghost use Rattle.tb_program.specs.Steps.{Gives, Tells, look_up};
-ghost use Rattle.tb_program.specs.Event.{Lies, field as field_at, field_of, account_fields, greatest, sides_of, new_field, written, assigned, all_assigned, blank, event_of, hex_bytes};
+ghost use Rattle.tb_program.specs.Event.{Lies, field as field_at, field_of, account_fields, transfer_fields, greatest, sides_of, new_field, written, assigned, all_assigned, blank, event_of, hex_bytes};
 
 use crate::fault::{Fault, LineError};
 use crate::number::number_within;
@@ -15,6 +15,7 @@ use std::alloc::Global;
 #[derive(Clone, Copy, Debug, PartialEq, Eq)]
 pub enum Layout {
     Account,
+    Transfer,
 }
 
 /// A field: its place among the fields, and its bytes in the event.
@@ -77,6 +78,41 @@ fn account_field(name: &[u8]) -> Option<Field>
     }
 }
 
+fn transfer_field(name: &[u8]) -> Option<Field>
+    ensures row { result ≡ look_up name.now transfer_fields }
+    ensures lies { IfSome result Lies }
+{
+    if name == b"id".as_slice() {
+        Some(lying_at(0, 0, 16))
+    } else if name == b"debit_account_id".as_slice() {
+        Some(lying_at(1, 16, 16))
+    } else if name == b"credit_account_id".as_slice() {
+        Some(lying_at(2, 32, 16))
+    } else if name == b"amount".as_slice() {
+        Some(lying_at(3, 48, 16))
+    } else if name == b"pending_id".as_slice() {
+        Some(lying_at(4, 64, 16))
+    } else if name == b"user_data_128".as_slice() {
+        Some(lying_at(5, 80, 16))
+    } else if name == b"user_data_64".as_slice() {
+        Some(lying_at(6, 96, 8))
+    } else if name == b"user_data_32".as_slice() {
+        Some(lying_at(7, 104, 4))
+    } else if name == b"timeout".as_slice() {
+        Some(lying_at(8, 108, 4))
+    } else if name == b"ledger".as_slice() {
+        Some(lying_at(9, 112, 4))
+    } else if name == b"code".as_slice() {
+        Some(lying_at(10, 116, 2))
+    } else if name == b"flags".as_slice() {
+        Some(lying_at(11, 118, 2))
+    } else if name == b"timestamp".as_slice() {
+        Some(lying_at(12, 120, 8))
+    } else {
+        None
+    }
+}
+
 #[tactic(auto, unfolding(crate::specs::Event::field_of))]
 fn field_of(layout: Layout, name: &[u8]) -> Option<Field>
     ensures row { result ≡ field_of layout name.now }
@@ -84,6 +120,7 @@ fn field_of(layout: Layout, name: &[u8]) -> Option<Field>
 {
     match layout {
         Layout::Account => account_field(name),
+        Layout::Transfer => transfer_field(name),
     }
 }
 

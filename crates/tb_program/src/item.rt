@@ -13,6 +13,14 @@ pub struct Settings {
     pub submitters: Option<u32>,
 }
 
+/// What a script queues, in the order of its lines.
+#[derive(Drop)]
+pub enum Item {
+    Packet(Submission),
+    /// A pulse with its moment, in nanoseconds, which may be too large.
+    Pulse(u64),
+}
+
 /// A packet, as its submitter hands it in.
 #[derive(Drop)]
 pub struct Submission {

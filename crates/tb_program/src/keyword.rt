@@ -13,7 +13,9 @@ pub enum Keyword {
     Submitters,
     Packet,
     Account,
+    Transfer,
     Hex,
+    Pulse,
 }
 
 /// The keyword that a word spells.
@@ -35,8 +37,12 @@ pub fn keyword_of(word: &[u8]) -> Option<Keyword>
         Some(Keyword::Packet)
     } else if word == b"account".as_slice() {
         Some(Keyword::Account)
+    } else if word == b"transfer".as_slice() {
+        Some(Keyword::Transfer)
     } else if word == b"hex".as_slice() {
         Some(Keyword::Hex)
+    } else if word == b"pulse".as_slice() {
+        Some(Keyword::Pulse)
     } else {
         None
     }

@@ -12,7 +12,7 @@ pub fn faultless_lines_are_said()
     ensures { FaultlessLinesAreSaid }
 {}
 
-/// A script spelled from settings and packets is read as these.
+/// A script spelled from settings and items is read as these.
 pub fn spelled_scripts_are_read()
     ensures { SpelledScriptsAreRead }
 {}

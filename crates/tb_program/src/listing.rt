@@ -2,31 +2,31 @@
 
 ghost use Rattle.std.specs.Prelude.{◌≡◌, ◌≤◌, ◌<◌, ◌^◌, ◌++◌, ◌∷◌, ◌+◌, List, IfOk, OnOk, string_bytes};
 ghost use Rattle.std.specs.List.{flat_map};
-ghost use Rattle.tb_layout.specs.Events.{accounts_of};
-ghost use Rattle.tb_machine.specs.Replay.{opening, failures_of, after_packet};
+ghost use Rattle.tb_machine.specs.Replay.{opening, failures_of, after_packet, balanced_accounts};
+ghost use Rattle.tb_program.specs.Admission.{events_in};
 ghost use Rattle.tb_machine.specs.Clock.{clock_max};
 ghost use Rattle.tb_program.specs.declared.plan.Planned.{Planned as PlannedValue};
 ghost use Rattle.tb_program.specs.Output.{account_line, committed_line, plan_text, state_after, state_text};
 
 use crate::body::Body;
-use crate::output::{put_account, put_clock, put_committed, put_refused};
+use crate::output::{
+    put_account, put_clock, put_committed, put_pulse, put_refused, put_refused_pulse,
+};
 use crate::plan::{Planned, Queued};
 use std::alloc::Global;
 use tb_layout::{Failure, NoMemory};
 use tb_machine::Machine;
 
-const CREATE_ACCOUNTS: u8 = 129;
-
 const EVENT_SIZE: usize = 128;
 
 /// Commits a packet, and gives its failures.
 fn commit(alloc: Global, machine: &mut Machine, body: &Body) -> Result<Vec<Failure>, NoMemory>
-    ensures state { OnOk result (machine.new ≡ after_packet machine.old (accounts_of body.now)) }
-    ensures failures { IfOk result (λ failures. failures.items ≡ failures_of machine.old (accounts_of body.now)) }
+    ensures state { OnOk result (machine.new ≡ after_packet machine.old (events_in body.now)) }
+    ensures failures { IfOk result (λ failures. failures.items ≡ failures_of machine.old (events_in body.now)) }
 {
     let bytes = body.as_slice();
     let mut failures = Vec::with_capacity(alloc, bytes.len() / EVENT_SIZE)?;
-    machine.commit(CREATE_ACCOUNTS, bytes, &mut failures)?;
+    machine.commit(body.operation(), bytes, &mut failures)?;
     Ok(failures)
 }
 
@@ -37,8 +37,8 @@ fn put_queued(
     place: u64,
     queued: &Queued,
 ) -> Result<(), NoMemory>
-    ensures state { OnOk result (machine.new ≡ after_packet machine.old (accounts_of queued.now.body)) }
-    ensures line { OnOk result (string_bytes out.new ≡ string_bytes out.old ++ committed_line queued.now.submitter queued.now.number place (failures_of machine.old (accounts_of queued.now.body))) }
+    ensures state { OnOk result (machine.new ≡ after_packet machine.old (events_in queued.now.body)) }
+    ensures line { OnOk result (string_bytes out.new ≡ string_bytes out.old ++ committed_line queued.now.submitter queued.now.number place (failures_of machine.old (events_in queued.now.body))) }
 {
     let failures = commit(alloc, machine, &queued.body)?;
     put_committed(out, queued.submitter.get(), queued.number, place, &failures)?;
@@ -69,10 +69,19 @@ fn put_planned(
             put_refused(out, submitter.get(), *refusal)?;
             Ok(place)
         }
+        Planned::Pulse(moment) => {
+            machine.pulse(moment.get());
+            put_pulse(out, place)?;
+            Ok(place + 1)
+        }
+        Planned::RefusedPulse => {
+            put_refused_pulse(out)?;
+            Ok(place)
+        }
     }
 }
 
-/// The lines of a plan, and the state that its packets leave.
+/// The lines of a plan, and the state that its packets and pulses leave.
 #[tactic(auto, unfolding(crate::specs::Output::plan_text, crate::specs::Output::state_after))]
 fn put_plan(
     alloc: Global,
@@ -91,7 +100,7 @@ fn put_plan(
 }
 
 fn put_accounts(out: &mut String, machine: &Machine) -> Result<(), NoMemory>
-    ensures { OnOk result (string_bytes out.new ≡ string_bytes out.old ++ flat_map account_line machine.now.facts.accounts) }
+    ensures { OnOk result (string_bytes out.new ≡ string_bytes out.old ++ flat_map account_line (balanced_accounts machine.now.facts)) }
 {
     for place in 0..machine.accounts() {
         let account = machine.account_at(place).unwrap();

@@ -2,7 +2,7 @@
 
 ghost use Rattle.std.specs.Prelude.{◌≡◌, ◌++◌, OnOk, string_bytes};
 ghost use Rattle.std.specs.List.{flat_map};
-ghost use Rattle.tb_program.specs.Output.{fault_text, fault_line, refused_line, failure_text, committed_front, committed_line, clock_line, account_front, balances_text, account_line};
+ghost use Rattle.tb_program.specs.Output.{fault_text, fault_line, refused_line, failure_text, committed_front, committed_line, pulse_line, refused_pulse_line, clock_line, account_front, balances_text, account_line};
 
 use crate::admission::Refusal;
 use crate::fault::Fault;
@@ -79,6 +79,21 @@ pub fn put_committed(
     put_committed_front(out, submitter, number, place)?;
     put_failures(out, failures)?;
     out.push_str("\n")
+}
+
+/// The line of a pulse.
+#[tactic(auto, unfolding(crate::specs::Output::pulse_line))]
+pub fn put_pulse(out: &mut String, place: u64) -> Result<(), AllocError>
+    ensures { OnOk result (string_bytes out.new ≡ string_bytes out.old ++ pulse_line place) }
+{
+    write!(out, "pulse {place}\n")
+}
+
+/// The line of a pulse whose moment is too large.
+pub fn put_refused_pulse(out: &mut String) -> Result<(), AllocError>
+    ensures { OnOk result (string_bytes out.new ≡ string_bytes out.old ++ refused_pulse_line) }
+{
+    out.push_str("pulse refused 12 MomentTooLarge\n")
 }
 
 /// The line of the clock.

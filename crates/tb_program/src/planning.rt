@@ -1,18 +1,22 @@
 //! The plan of a script's items.
 
 ghost use Rattle.std.specs.Prelude.{◌≡◌, ◌≤◌, ◌<◌, ℕ, List, [], ◌∷◌, ◌++◌, get_or, OnOk, IfOk};
-ghost use Rattle.tb_program.specs.Plan.{number_in, with_item, plan_behind};
+ghost use Rattle.tb_program.specs.Plan.{number_in, pulse_as, with_item, plan_behind};
+ghost use Rattle.tb_program.specs.declared.item.Item.TheVariants.{Packet as PacketItem};
 ghost use Rattle.tb_program.specs.declared.plan.Planned.{Planned};
 ghost use Rattle.tb_program.specs.declared.plan.Planned.TheVariants.{Queued as QueuedPlanned, Refused as RefusedPlanned};
 
 use crate::admission::{Refusal, refusal_of};
 use crate::body::Body;
-use crate::item::Submission;
+use crate::item::{Item, Submission};
 use crate::plan::{Planned, Queued};
 use crate::submitter_number::SubmitterNumber;
 use std::alloc::Global;
 use std::marker::Model;
 use tb_layout::NoMemory;
+use tb_work::Moment;
+
+const GREATEST_MOMENT: u64 = 1 << 62;
 
 /// The items planned so far, and the next number of each submitter.
 #[derive(Drop)]
@@ -63,9 +67,9 @@ impl Plan {
     }
 
     /// Plans a packet behind the items so far.
-    fn add(&mut self, limit: u32, packet: Submission) -> Result<(), NoMemory>
+    fn add_packet(&mut self, limit: u32, packet: Submission) -> Result<(), NoMemory>
         requires { limit ≤ 8190 }
-        ensures { OnOk result (self.new ≡ with_item limit self.old packet) }
+        ensures { OnOk result (self.new ≡ with_item limit self.old (PacketItem packet)) }
     {
         let Submission {
             submitter,
@@ -74,7 +78,31 @@ impl Plan {
         } = packet;
         match refusal_of(limit, operation, bytes.as_slice()) {
             Some(refusal) => self.refuse(submitter, refusal),
-            None => self.queue(submitter, Body::new(bytes)),
+            None => self.queue(submitter, Body::new(operation, bytes)),
+        }
+    }
+
+    /// Plans a pulse behind the items so far.
+    fn add_pulse(&mut self, moment: u64) -> Result<(), NoMemory>
+        ensures { OnOk result (self.new ≡ self.old ++ pulse_as moment ∷ []) }
+    {
+        let planned = if moment > GREATEST_MOMENT {
+            Planned::RefusedPulse
+        } else {
+            Planned::Pulse(Moment::new(moment))
+        };
+        self.planned.push(planned)?;
+        Ok(())
+    }
+
+    /// Plans an item behind those so far.
+    fn add(&mut self, limit: u32, item: Item) -> Result<(), NoMemory>
+        requires { limit ≤ 8190 }
+        ensures { OnOk result (self.new ≡ with_item limit self.old item) }
+    {
+        match item {
+            Item::Packet(packet) => self.add_packet(limit, packet),
+            Item::Pulse(moment) => self.add_pulse(moment),
         }
     }
 
@@ -88,7 +116,7 @@ impl Plan {
 
 /// The plan of items in order.
 #[tactic(auto, unfolding(crate::specs::Plan::plan_behind))]
-pub fn plan_all(alloc: Global, limit: u32, items: Vec<Submission>) -> Result<Plan, NoMemory>
+pub fn plan_all(alloc: Global, limit: u32, items: Vec<Item>) -> Result<Plan, NoMemory>
     requires { limit ≤ 8190 }
     ensures { IfOk result (λ plan. plan ≡ plan_behind limit [] items.items) }
 {

@@ -4,12 +4,12 @@ ghost use Rattle.std.specs.Prelude.{◌≡◌, ◌++◌, List, IfOk, OnOk};
 ghost use Rattle.tb_program.specs.Text.{words_of};
 ghost use Rattle.tb_program.specs.Steps.{Gives, Tells, Leaves};
 ghost use Rattle.tb_program.specs.Keyword.{one_word, two_words};
-ghost use Rattle.tb_program.specs.Script.{Said, nothing_said, items_of, has_begun, is_in_place, with_packet, with_bytes, set_to, with_line, with_keyword, with_words, is_text, after_line, InBounds};
+ghost use Rattle.tb_program.specs.Script.{Said, nothing_said, items_of, has_begun, is_in_place, with_packet, with_pulse, with_bytes, set_to, with_line, with_keyword, with_words, is_text, after_line, InBounds};
 
 use crate::bytes::Bytes;
 use crate::event::{Layout, event_of, hex_bytes};
 use crate::fault::{Fault, LineError};
-use crate::item::{Settings, Submission};
+use crate::item::{Item, Settings, Submission};
 use crate::keyword::{Keyword, keyword_of};
 use crate::number::number_within;
 use crate::submitter_number::SubmitterNumber;
@@ -19,6 +19,8 @@ use std::marker::Model;
 use tb_layout::NoMemory;
 
 const CLOCK_MAX: u128 = 0x7fff_ffff_ffff_ffff;
+
+const GREATEST_MOMENT: u128 = 0xffff_ffff_ffff_ffff;
 
 const LONGEST_LINE: usize = 65_536;
 
@@ -32,7 +34,7 @@ const MOST_SUBMITTERS: u128 = 16;
 #[derive(Drop)]
 pub struct Script {
     settings: Settings,
-    items: Vec<Submission>,
+    items: Vec<Item>,
     packet: Option<Submission>,
 }
 
@@ -103,8 +105,8 @@ impl Script {
             Keyword::Capacity => !self.has_begun() && self.settings.capacity.is_none(),
             Keyword::Credit => !self.has_begun() && self.settings.credit.is_none(),
             Keyword::Submitters => !self.has_begun() && self.settings.submitters.is_none(),
-            Keyword::Packet => true,
-            Keyword::Account | Keyword::Hex => self.packet.is_some(),
+            Keyword::Packet | Keyword::Pulse => true,
+            Keyword::Account | Keyword::Transfer | Keyword::Hex => self.packet.is_some(),
         }
     }
 
@@ -113,7 +115,7 @@ impl Script {
         ensures { OnOk result (self.new ≡ record self.old { items = items_of self.old; packet = None }) }
     {
         if let Some(packet) = self.packet.take() {
-            self.items.push(packet)?;
+            self.items.push(Item::Packet(packet))?;
         }
         Ok(())
     }
@@ -132,6 +134,14 @@ impl Script {
             operation,
             bytes: Bytes::new(alloc),
         });
+        Ok(())
+    }
+
+    fn add_pulse(&mut self, moment: u64) -> Result<(), NoMemory>
+        ensures { OnOk result (self.new ≡ with_pulse self.old moment) }
+    {
+        self.end_packet()?;
+        self.items.push(Item::Pulse(moment))?;
         Ok(())
     }
 
@@ -214,6 +224,23 @@ impl Script {
     }
 
     #[tactic(auto, unfolding(crate::specs::Script::with_line))]
+    fn take_transfer(&mut self, words: Words) -> Result<(), LineError>
+        ensures { Leaves result self.new (with_line self.old Keyword.Transfer (words_of words.entry.rest.now)) }
+    {
+        self.add_bytes(&event_of(Layout::Transfer, words)?)?;
+        Ok(())
+    }
+
+    #[tactic(auto, unfolding(crate::specs::Script::with_line))]
+    fn take_pulse(&mut self, words: Words) -> Result<(), LineError>
+        ensures { Leaves result self.new (with_line self.old Keyword.Pulse (words_of words.entry.rest.now)) }
+    {
+        let moment = number_within(one_word(words)?, 0, GREATEST_MOMENT)?;
+        self.add_pulse(moment as u64)?;
+        Ok(())
+    }
+
+    #[tactic(auto, unfolding(crate::specs::Script::with_line))]
     fn take_hex(&mut self, alloc: Global, words: Words) -> Result<(), LineError>
         ensures { Leaves result self.new (with_line self.old Keyword.Hex (words_of words.entry.rest.now)) }
     {
@@ -234,7 +261,9 @@ impl Script {
             Keyword::Submitters => self.set_submitters(words),
             Keyword::Packet => self.take_packet(alloc, words),
             Keyword::Account => self.take_account(words),
+            Keyword::Transfer => self.take_transfer(words),
             Keyword::Hex => self.take_hex(alloc, words),
+            Keyword::Pulse => self.take_pulse(words),
         }
     }
 
@@ -266,7 +295,7 @@ impl Script {
     }
 
     /// The settings and all items.
-    pub fn finish(self) -> Result<(Settings, Vec<Submission>), NoMemory>
+    pub fn finish(self) -> Result<(Settings, Vec<Item>), NoMemory>
         ensures all { IfOk result (λ both. (both.0 ≡ self.settings) × (both.1.items ≡ items_of self)) }
         ensures bounds { IfOk result (λ both. InBounds both.0) }
     {

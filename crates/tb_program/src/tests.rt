@@ -6,9 +6,11 @@ use std::io;
 use std::io::{Read, Write};
 use std::test::Fail;
 
+mod codes;
 mod examples;
 mod faults;
 mod streams;
+mod transfers;
 
 /// What `list` writes for a script.
 fn listed(rt: &HostRuntime, script: &str) -> Result<String, Fail> {

@@ -1,10 +1,12 @@
 -- The history after a change, and after one is taken back.
-use Rattle.std.proofs.Common.{refl, sym, ap, ◌∙◌, arith, ◌≡◌, ℕ, ◌-◌, ◌≤◌, List, [], ◌∷◌, ◌++◌, length, take, length-append, suc, zero, get_or}
+use Rattle.std.proofs.Common.{refl, sym, ap, subst, ◌∙◌, arith, ◌≡◌, ℕ, ◌-◌, ◌≤◌, List, [], ◌∷◌, ◌++◌, length, take, length-append, suc, zero, get_or}
+use Rattle.std.specs.List.{AllByRecursion}
 use Rattle.std.proofs.Math.Seq.{take-append_seam, take-length}
 use Rattle.std.proofs.lemmas.List.{take-append-le, get_or_past}
 use Rattle.tb_tables.specs.Facts.{Facts}
 use Rattle.tb_tables.specs.History.{History, changed, mark_of, undone, Extends}
-use Rattle.tb_tables.specs.Changes.{without_last, before, oldest, past_of, history_of}
+use Rattle.tb_tables.specs.Lawful.{IsLawful, AreLawful}
+use Rattle.tb_tables.specs.Changes.{Lists, facts_of, without_last, before, oldest, past_of, history_of}
 use Rattle.tb_tables.specs.declared.change.Change.{Change}
 
 pub without_last-push : {X : Type 0} (xs : List X) (x : X) → without_last (xs ++ x ∷ []) ≡ xs
@@ -12,32 +14,32 @@ without_last-push xs x =
     let e : length (xs ++ x ∷ []) - 1 ≡ length xs = omega (arith, length-append xs (x ∷ [])) in
     ap (λ n. take n (xs ++ x ∷ [])) e ∙ take-append_seam xs (x ∷ [])
 
-oldest-push : (changes : List Change) (change : Change) (facts : Facts) → oldest (changes ++ change ∷ []) facts ≡ oldest changes (before change facts)
-oldest-push [] change facts = refl
-oldest-push (first ∷ changes) change facts = ap (before first) (oldest-push changes change facts)
+oldest-push : (changes : List Change) (change : Change) (lists : Lists) → oldest (changes ++ change ∷ []) lists ≡ oldest changes (before change lists)
+oldest-push [] change lists = refl
+oldest-push (first ∷ changes) change lists = ap (before first) (oldest-push changes change lists)
 
-past_of-push : (changes : List Change) (change : Change) (facts : Facts) → past_of (changes ++ change ∷ []) facts ≡ past_of changes (before change facts) ++ before change facts ∷ []
-past_of-push [] change facts = refl
-past_of-push (first ∷ changes) change facts = cc (oldest-push changes change facts, past_of-push changes change facts)
+past_of-push : (changes : List Change) (change : Change) (lists : Lists) → past_of (changes ++ change ∷ []) lists ≡ past_of changes (before change lists) ++ facts_of (before change lists) ∷ []
+past_of-push [] change lists = refl
+past_of-push (first ∷ changes) change lists = cc (oldest-push changes change lists, past_of-push changes change lists)
 
-pub length-past_of : (changes : List Change) (facts : Facts) → length (past_of changes facts) ≡ length changes
-length-past_of [] facts = refl
-length-past_of (first ∷ changes) facts = ap suc (length-past_of changes facts)
+pub length-past_of : (changes : List Change) (lists : Lists) → length (past_of changes lists) ≡ length changes
+length-past_of [] lists = refl
+length-past_of (first ∷ changes) lists = ap suc (length-past_of changes lists)
 
 -- one entry more is one change more
-pub history_of-push : (changes : List Change) (change : Change) (old new : Facts) → before change new ≡ old → history_of (changes ++ change ∷ []) new ≡ changed (history_of changes old) new
+pub history_of-push : (changes : List Change) (change : Change) (old new : Lists) → before change new ≡ old → history_of (changes ++ change ∷ []) new ≡ changed (history_of changes old) (facts_of new)
 history_of-push changes change old new e =
-    ap (λ past. record { now = new; past = past }) (past_of-push changes change new ∙ ap (λ facts. past_of changes facts ++ facts ∷ []) e)
+    ap (λ past. record { now = facts_of new; past = past }) (past_of-push changes change new ∙ ap (λ lists. past_of changes lists ++ facts_of lists ∷ []) e)
+
+-- the history with the last change on it again
+pub history_of-pop : (changes : List Change) (change : Change) (lists : Lists) → changed (history_of changes (before change lists)) (facts_of lists) ≡ history_of (changes ++ change ∷ []) lists
+history_of-pop changes change lists = sym (history_of-push changes change (before change lists) lists refl)
 
 get_or-push : {X : Type 0} (xs : List X) (place : ℕ) (x d : X) → place ≤ length xs → get_or (xs ++ x ∷ []) place d ≡ get_or xs place x
 get_or-push [] zero x d h = refl
 get_or-push [] (suc place) x d h = absurd (omega arith)
 get_or-push (y ∷ xs) zero x d h = refl
 get_or-push (y ∷ xs) (suc place) x d h = get_or-push xs place x d (omega arith)
-
--- the history with the last change on it again
-pub history_of-pop : (changes : List Change) (change : Change) (facts : Facts) → changed (history_of changes (before change facts)) facts ≡ history_of (changes ++ change ∷ []) facts
-history_of-pop changes change facts = sym (history_of-push changes change (before change facts) facts refl)
 
 -- a later change doesn't matter to what was before it
 pub undone-changed : (mark : ℕ) (history : History) (facts : Facts) → mark ≤ length history.past → undone mark (changed history facts) ≡ undone mark history
@@ -71,3 +73,30 @@ extends_through a b c first next = record {
 -- back at the mark, the history is what it was there
 pub undone-extended : (old new : History) → Extends old new → undone (mark_of old) new ≡ old
 undone-extended old new extended = extended.same (mark_of old) (omega arith) ∙ undone-mark old
+
+-- ---- the facts of each moment stay lawful
+
+all_push : {X : Type 0} (P : X → Type 0) (xs : List X) (x : X) → AllByRecursion P xs → P x → AllByRecursion P (xs ++ x ∷ [])
+all_push P [] x all p = (p, tt)
+all_push P (y ∷ xs) x all p = (all.0, all_push P xs x all.1 p)
+
+all_pop : {X : Type 0} (P : X → Type 0) (xs : List X) (x : X) → AllByRecursion P (xs ++ x ∷ []) → AllByRecursion P xs × P x
+all_pop P [] x all = (tt, all.0)
+all_pop P (y ∷ xs) x all =
+    let rest = all_pop P xs x all.1 in
+    ((all.0, rest.0), rest.1)
+
+pub lawful_changed : (history : History) (facts : Facts) → AreLawful history → IsLawful facts → AreLawful (changed history facts)
+lawful_changed history facts old new = record { now = new; past = all_push IsLawful history.past history.now old.past old.now }
+
+pub lawful_before : (history : History) (facts : Facts) → AreLawful (changed history facts) → AreLawful history
+lawful_before history facts all =
+    let past = all_pop IsLawful history.past history.now all.past in
+    record { now = past.1; past = past.0 }
+
+-- one entry more, where the facts with it are lawful
+pub lawful_push : (changes : List Change) (change : Change) (old new : Lists) → before change new ≡ old → IsLawful (facts_of new) → AreLawful (history_of changes old) → AreLawful (history_of (changes ++ change ∷ []) new)
+lawful_push changes change old new e lawful all = subst AreLawful (sym (history_of-push changes change old new e)) (lawful_changed (history_of changes old) (facts_of new) all lawful)
+
+pub lawful_pop : (changes : List Change) (change : Change) (lists : Lists) → AreLawful (history_of (changes ++ change ∷ []) lists) → AreLawful (history_of changes (before change lists))
+lawful_pop changes change lists all = lawful_before (history_of changes (before change lists)) (facts_of lists) (subst AreLawful (sym (history_of-pop changes change lists)) all)

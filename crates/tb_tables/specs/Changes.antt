@@ -1,26 +1,51 @@
--- The facts before each of some changes, which are told by what each added.
-use Rattle.std.specs.Prelude.{◌-◌, List, [], ◌∷◌, length, take}
+-- What the tables keep, seen as facts, and the facts before each of some changes, which are told by what each added.
+use Rattle.std.specs.Prelude.{◌-◌, ℕ, List, [], ◌∷◌, length, take, map, filter}
+use Rattle.tb_layout.specs.declared.account.Account.{Account as AccountRecord}
+use Rattle.tb_layout.specs.declared.transfer.Transfer.{Transfer as TransferRecord}
 use Rattle.tb_tables.specs.Facts.{Facts}
 use Rattle.tb_tables.specs.History.{History}
+use Rattle.tb_tables.specs.declared.row.Row.{Row}
 use Rattle.tb_tables.specs.declared.change.Change.{Change}
-use Rattle.tb_tables.specs.declared.change.Change.TheVariants.{Account}
+use Rattle.tb_tables.specs.declared.change.Change.TheVariants.{Account, Transfer, Failed}
+
+-- the lists, each in order of making
+pub record Lists : Type 0 where
+  pub accounts : List AccountRecord
+  pub rows : List Row
+  pub failed : List ℕ
+
+abbrev pub transfers_in : List Row → List TransferRecord
+transfers_in rows = map (λ (row : Row). row.transfer) rows
+
+-- the ids of the rows that are marked as expired
+abbrev pub expired_in : List Row → List ℕ
+expired_in rows = map (λ (row : Row). row.transfer.id) (filter (λ (row : Row). row.expired) rows)
+
+abbrev pub facts_of : Lists → Facts
+facts_of lists = record { accounts = lists.accounts; transfers = transfers_in lists.rows; expired = expired_in lists.rows; failed = lists.failed }
+
+-- the facts of rows alone, which is all that balances depend on
+abbrev pub facts_in : List Row → Facts
+facts_in rows = facts_of (record { accounts = []; rows = rows; failed = [] })
 
 abbrev pub without_last : {X : Type 0} → List X → List X
 without_last xs = take (length xs - 1) xs
 
--- the facts before a change
-abbrev pub before : Change → Facts → Facts
-before Account facts = record { accounts = without_last facts.accounts }
+-- the lists before a change
+abbrev pub before : Change → Lists → Lists
+before Account lists = record lists { accounts = without_last lists.accounts }
+before Transfer lists = record lists { rows = without_last lists.rows }
+before Failed lists = record lists { failed = without_last lists.failed }
 
--- the facts before all of the changes, of which the newest is at the end
-abbrev pub oldest : List Change → Facts → Facts
-oldest [] facts = facts
-oldest (change ∷ changes) facts = before change (oldest changes facts)
+-- the lists before all of the changes, of which the newest is at the end
+abbrev pub oldest : List Change → Lists → Lists
+oldest [] lists = lists
+oldest (change ∷ changes) lists = before change (oldest changes lists)
 
 -- the facts before each
-abbrev pub past_of : List Change → Facts → List Facts
-past_of [] facts = []
-past_of (change ∷ changes) facts = oldest (change ∷ changes) facts ∷ past_of changes facts
+abbrev pub past_of : List Change → Lists → List Facts
+past_of [] lists = []
+past_of (change ∷ changes) lists = facts_of (oldest (change ∷ changes) lists) ∷ past_of changes lists
 
-abbrev pub history_of : List Change → Facts → History
-history_of changes facts = record { now = facts; past = past_of changes facts }
+abbrev pub history_of : List Change → Lists → History
+history_of changes lists = record { now = facts_of lists; past = past_of changes lists }

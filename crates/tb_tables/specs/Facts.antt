@@ -1,24 +1,39 @@
 -- What the state machine knows.
-use Rattle.std.specs.Prelude.{◌≡◌, ℕ, ◌==◌, List, [], ◌∷◌, ◌++◌, Option, find}
+use Rattle.std.specs.Prelude.{ℕ, ◌==◌, Bool, List, [], ◌∷◌, ◌++◌, Option, find}
+use Rattle.std.specs.List.{list_any}
 use Rattle.tb_layout.specs.declared.account.Account.{Account}
+use Rattle.tb_layout.specs.declared.transfer.Transfer.{Transfer}
 
--- the accounts stand in the order in which they were made, with their timestamps
+-- accounts and transfers stand in the order in which they were made, with their timestamps, and a post or a void
+-- with its resolved fields; `expired` has the ids of the pending transfers that expired, in the order in which those
+-- were made, and `failed` the ids that failed
 pub record Facts : Type 0 where
   pub accounts : List Account
+  pub transfers : List Transfer
+  pub expired : List ℕ
+  pub failed : List ℕ
 
 abbrev pub no_facts : Facts
-no_facts = record { accounts = [] }
+no_facts = record { accounts = []; transfers = []; expired = []; failed = [] }
 
--- the account with this id
+-- the account, or the transfer, with this id
 abbrev pub account_with : Facts → ℕ → Option Account
 account_with facts id = find (λ account. account.id == id) facts.accounts
 
-abbrev pub add_account : Facts → Account → Facts
-add_account facts account = record { accounts = facts.accounts ++ account ∷ [] }
+abbrev pub transfer_with : Facts → ℕ → Option Transfer
+transfer_with facts id = find (λ transfer. transfer.id == id) facts.transfers
 
--- a new account has no balances of its own
-pub record HasNoBalances (account : Account) : Type 0 where
-  pub debits_pending : account.debits_pending ≡ 0
-  pub debits_posted : account.debits_posted ≡ 0
-  pub credits_pending : account.credits_pending ≡ 0
-  pub credits_posted : account.credits_posted ≡ 0
+abbrev pub is_expired : Facts → ℕ → Bool
+is_expired facts id = list_any (λ expired. expired == id) facts.expired
+
+abbrev pub is_failed : Facts → ℕ → Bool
+is_failed facts id = list_any (λ failed. failed == id) facts.failed
+
+abbrev pub add_account : Facts → Account → Facts
+add_account facts account = record facts { accounts = facts.accounts ++ account ∷ [] }
+
+abbrev pub add_transfer : Facts → Transfer → Facts
+add_transfer facts transfer = record facts { transfers = facts.transfers ++ transfer ∷ [] }
+
+abbrev pub add_failed : Facts → ℕ → Facts
+add_failed facts id = record facts { failed = facts.failed ++ id ∷ [] }

@@ -2,4 +2,6 @@
 #[derive(Clone, Copy, Debug, PartialEq, Eq)]
 pub enum Change {
     Account,
+    Transfer,
+    Failed,
 }

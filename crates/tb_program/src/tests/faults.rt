@@ -43,9 +43,26 @@ fn first_faults(rt: HostRuntime) -> Result<(), Fail> {
         ("packet 0 129\naccount =1", "fault 2 bad field\n"),
         ("packet 0 129\naccount amount=1", "fault 2 bad field\n"),
         ("packet 0 129\naccount id", "fault 2 bad field\n"),
-        ("pulse 1\n", "fault 1 unknown word\n"),
+        (
+            "packet 0 130\ntransfer debits_posted=1\n",
+            "fault 2 bad field\n",
+        ),
+        (
+            "packet 0 130\ntransfer amount=1 amount=1\n",
+            "fault 2 bad field\n",
+        ),
+        (
+            "packet 0 130\ntransfer timeout=4294967296\n",
+            "fault 2 bad number\n",
+        ),
+        ("transfer amount=1\n", "fault 1 out of place\n"),
+        ("pulse 1\ntransfer\n", "fault 2 out of place\n"),
+        ("pulse 1\nclock 1\n", "fault 2 out of place\n"),
+        ("pulse\n", "fault 1 wrong number of words\n"),
+        ("pulse 1 2\n", "fault 1 wrong number of words\n"),
+        ("pulse x\n", "fault 1 bad number\n"),
+        ("pulse 18446744073709551616\n", "fault 1 bad number\n"),
         ("shut\n", "fault 1 unknown word\n"),
-        ("packet 0 129\ntransfer\n", "fault 2 unknown word\n"),
         ("packet 0 129\nid 1\n", "fault 2 unknown word\n"),
     ] {
         assert_eq!(rt; listed(&rt, script)?.as_str(), line, "at {script:?}");

@@ -2,12 +2,13 @@ use Rattle.std.proofs.Common.{◌≡◌, ◌∙◌, ◌+◌, ◌++◌, ◌∷◌
 use Rattle.std.specs.List.{flat_map, slice_get}
 use Rattle.std.proofs.lemmas.List.{take_more, flat_map_more}
 use Rattle.std.proofs.lemmas.Option.{get_or_from_slice_get, slice_get_within}
+use Rattle.tb_machine.specs.Replay.{balanced_accounts}
 use Rattle.tb_program.specs.Output.{account_line}
 use Rattle.tb_program.proofs.listing.put_accounts.Goals as goal
 
 pub loop-place-preserved : goal.loop-place-preserved
 loop-place-preserved c =
-    let accounts = c.args.machine.now.facts.accounts in
+    let accounts = balanced_accounts c.args.machine.now.facts in
     let place = c.loop-place.place in
     let account = c.unwrap-account.result in
     let at : slice_get accounts place ≡ Some account = sym c.account_at.ensures ∙ c.unwrap-account.ensures in

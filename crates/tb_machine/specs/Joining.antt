@@ -1,0 +1,30 @@
+-- Packets of one operation laid one after another, and each by itself.
+use Rattle.std.specs.Prelude.{◌≡◌, ℕ, ◌+◌, Bool, not, List, [], ◌∷◌, map, flat_map, fold, length}
+use Rattle.std.specs.List.{list_all}
+use Rattle.tb_layout.specs.declared.failure.Failure.{Failure}
+use Rattle.tb_layout.specs.Events.{Events, is_last_linked}
+use Rattle.tb_layout.specs.Failures.{cut}
+use Rattle.tb_machine.specs.Replay.{State, failures_of, after_packet}
+
+-- the events of packets, laid one after another
+abbrev pub laid : {Event : Type 0} → List (List Event) → List Event
+laid packets = flat_map (λ packet. packet) packets
+
+-- none of the packets is open
+abbrev pub none_open : {Event : Type 0} → (Event → Bool) → List (List Event) → Bool
+none_open is_linked packets = list_all (λ packet. not (is_last_linked is_linked packet)) packets
+
+-- the failures of each of some packets that lie one after another from an offset on, with indices from 0
+abbrev pub cuts : {Event : Type 0} → ℕ → List (List Event) → List Failure → List (List Failure)
+cuts offset [] failures = []
+cuts offset (packet ∷ packets) failures = cut offset (length packet) failures ∷ cuts (offset + length packet) packets failures
+
+-- the failures of each packet by itself, in the state that those before it left
+abbrev pub failures_each : State → List Events → List (List Failure)
+failures_each state [] = []
+failures_each state (packet ∷ packets) = failures_of state packet ∷ failures_each (after_packet state packet) packets
+
+-- packets laid one after another give each packet what it gives by itself, and leave the same state
+pub record JoiningIsInvisible {Event : Type 0} (packet_of : List Event → Events) (state : State) (packets : List (List Event)) : Type 0 where
+  pub failures : cuts 0 packets (failures_of state (packet_of (laid packets))) ≡ failures_each state (map packet_of packets)
+  pub state_after : after_packet state (packet_of (laid packets)) ≡ fold after_packet state (map packet_of packets)

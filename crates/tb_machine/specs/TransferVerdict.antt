@@ -1,0 +1,182 @@
+-- The verdict on an event that asks for a transfer, and the transfer that is stored where it is ok.
+use Rattle.std.specs.Prelude.{ℕ, ◌+◌, Bool, not, ◌&&◌, ◌||◌, ◌==◌, nat_lt, List, [], ◌∷◌, Option, Some, None, if◌then◌else◌}
+use Rattle.tb_layout.specs.declared.account.Account.{Account}
+use Rattle.tb_layout.specs.declared.transfer.Transfer.{Transfer}
+use Rattle.tb_layout.specs.declared.transfer_code.TransferCode.{TransferCode}
+use Rattle.tb_layout.specs.declared.transfer_code.TransferCode.TheVariants.{TimestampMustBeZero, ReservedFlag, IdMustNotBeZero, IdMustNotBeIntMax, ExistsWithDifferentFlags, ExistsWithDifferentPendingId, ExistsWithDifferentDebitAccountId, ExistsWithDifferentCreditAccountId, ExistsWithDifferentAmount, ExistsWithDifferentUserData128, ExistsWithDifferentUserData64, ExistsWithDifferentUserData32, ExistsWithDifferentTimeout, ExistsWithDifferentLedger, ExistsWithDifferentCode, Exists, IdAlreadyFailed, FlagsAreMutuallyExclusive, PendingIdMustNotBeZero, PendingIdMustNotBeIntMax, PendingIdMustBeDifferent, TimeoutReservedForPendingTransfer, PendingTransferNotFound, PendingTransferNotPending, PendingTransferHasDifferentDebitAccountId, PendingTransferHasDifferentCreditAccountId, PendingTransferHasDifferentLedger, PendingTransferHasDifferentCode, ExceedsPendingTransferAmount, PendingTransferHasDifferentAmount, PendingTransferAlreadyPosted, PendingTransferAlreadyVoided, PendingTransferExpired, DebitAccountIdMustNotBeZero, DebitAccountIdMustNotBeIntMax, CreditAccountIdMustNotBeZero, CreditAccountIdMustNotBeIntMax, AccountsMustBeDifferent, PendingIdMustBeZero, LedgerMustNotBeZero, CodeMustNotBeZero, DebitAccountNotFound, CreditAccountNotFound, AccountsMustHaveTheSameLedger, TransferMustHaveTheSameLedgerAsAccounts, OverflowsDebitsPending, OverflowsCreditsPending, OverflowsDebitsPosted, OverflowsCreditsPosted, OverflowsDebits, OverflowsCredits, OverflowsTimeout, ExceedsCredits, ExceedsDebits, Ok}
+use Rattle.tb_layout.specs.Account.{debits_must_not_exceed_credits, credits_must_not_exceed_debits}
+use Rattle.tb_layout.specs.Flags.{has_reserved_flag}
+use Rattle.tb_layout.specs.Transfer.{is_pending, is_post, is_void, is_resolving}
+use Rattle.tb_tables.specs.Facts.{Facts, transfer_with, is_failed}
+use Rattle.tb_tables.specs.Balances.{balanced_account}
+use Rattle.tb_tables.specs.Status.{status_of, is_due, expires_at}
+use Rattle.tb_tables.specs.declared.status.Status.{Status}
+use Rattle.tb_tables.specs.declared.status.Status.TheVariants.{Pending, Posted, Voided, Expired}
+use Rattle.tb_machine.specs.AccountVerdict.{u128_max}
+use Rattle.tb_machine.specs.Clock.{clock_max}
+use Rattle.tb_machine.specs.Table.{first_row}
+
+-- ---- what a post or a void leaves to the transfer that it names
+
+-- a field, or where it is 0 the pending transfer's
+abbrev pub unless_zero : ℕ → ℕ → ℕ
+unless_zero field otherwise = if field == 0 then otherwise else field
+
+-- whether the amount stands for the whole of the pending transfer's: the greatest in a post, 0 in a void
+abbrev pub means_whole_amount : Transfer → Bool
+means_whole_amount event = (is_post event && (event.amount == u128_max)) || (is_void event && (event.amount == 0))
+
+abbrev pub resolved : Transfer → Transfer → Transfer
+resolved pending event =
+    record event {
+      debit_account_id = unless_zero event.debit_account_id pending.debit_account_id;
+      credit_account_id = unless_zero event.credit_account_id pending.credit_account_id;
+      amount = if means_whole_amount event then pending.amount else event.amount;
+      user_data_128 = unless_zero event.user_data_128 pending.user_data_128;
+      user_data_64 = unless_zero event.user_data_64 pending.user_data_64;
+      user_data_32 = unless_zero event.user_data_32 pending.user_data_32;
+      ledger = unless_zero event.ledger pending.ledger;
+      code = unless_zero event.code pending.code;
+    }
+
+-- any other event has no fields to resolve
+abbrev pub resolved_by : Option Transfer → Transfer → Transfer
+resolved_by (Some pending) event = if is_resolving event then resolved pending event else event
+resolved_by None event = event
+
+-- what is stored: the event with its timestamp, and a post or a void with its fields resolved
+abbrev pub stored_by : Facts → ℕ → Transfer → Transfer
+stored_by facts timestamp event = record (resolved_by (transfer_with facts event.pending_id) event) { timestamp = timestamp }
+
+-- ---- each table has its checks in their order, and what follows where none applies
+
+-- an event, with its fields resolved, whose id is that of a stored transfer
+abbrev pub stored_checks : Transfer → Transfer → List (Bool × TransferCode)
+stored_checks stored event =
+    (not (event.flags == stored.flags), ExistsWithDifferentFlags) ∷
+    (not (event.pending_id == stored.pending_id), ExistsWithDifferentPendingId) ∷
+    (not (event.debit_account_id == stored.debit_account_id), ExistsWithDifferentDebitAccountId) ∷
+    (not (event.credit_account_id == stored.credit_account_id), ExistsWithDifferentCreditAccountId) ∷
+    (not (event.amount == stored.amount), ExistsWithDifferentAmount) ∷
+    (not (event.user_data_128 == stored.user_data_128), ExistsWithDifferentUserData128) ∷
+    (not (event.user_data_64 == stored.user_data_64), ExistsWithDifferentUserData64) ∷
+    (not (event.user_data_32 == stored.user_data_32), ExistsWithDifferentUserData32) ∷
+    (not (event.timeout == stored.timeout), ExistsWithDifferentTimeout) ∷
+    (not (event.ledger == stored.ledger), ExistsWithDifferentLedger) ∷
+    (not (event.code == stored.code), ExistsWithDifferentCode) ∷
+    []
+
+abbrev pub against_stored : Transfer → Transfer → TransferCode
+against_stored stored event = first_row (stored_checks stored event) Exists
+
+-- ---- a post or a void
+
+-- against the status of the transfer that it names, and whether that one is due
+abbrev pub against_status : Status → Bool → TransferCode
+against_status Posted due = PendingTransferAlreadyPosted
+against_status Voided due = PendingTransferAlreadyVoided
+against_status Expired due = PendingTransferExpired
+against_status Pending due = if due then PendingTransferExpired else Ok
+
+-- against the transfer that it names; `event` has its fields resolved
+abbrev pub pending_checks : Transfer → Transfer → List (Bool × TransferCode)
+pending_checks pending event =
+    (not (is_pending pending), PendingTransferNotPending) ∷
+    (not (event.debit_account_id == pending.debit_account_id), PendingTransferHasDifferentDebitAccountId) ∷
+    (not (event.credit_account_id == pending.credit_account_id), PendingTransferHasDifferentCreditAccountId) ∷
+    (not (event.ledger == pending.ledger), PendingTransferHasDifferentLedger) ∷
+    (not (event.code == pending.code), PendingTransferHasDifferentCode) ∷
+    (nat_lt pending.amount event.amount, ExceedsPendingTransferAmount) ∷
+    (is_void event && nat_lt event.amount pending.amount, PendingTransferHasDifferentAmount) ∷
+    []
+
+abbrev pub against_pending : Facts → ℕ → Transfer → Transfer → TransferCode
+against_pending facts timestamp pending event = first_row (pending_checks pending event) (against_status (status_of facts pending.id) (is_due timestamp pending))
+
+abbrev pub against_named : Facts → ℕ → Option Transfer → Transfer → TransferCode
+against_named facts timestamp None event = PendingTransferNotFound
+against_named facts timestamp (Some pending) event = against_pending facts timestamp pending (resolved pending event)
+
+abbrev pub resolving_checks : Transfer → List (Bool × TransferCode)
+resolving_checks event =
+    (event.pending_id == 0, PendingIdMustNotBeZero) ∷
+    (event.pending_id == u128_max, PendingIdMustNotBeIntMax) ∷
+    (event.pending_id == event.id, PendingIdMustBeDifferent) ∷
+    (not (event.timeout == 0), TimeoutReservedForPendingTransfer) ∷
+    []
+
+abbrev pub resolving_verdict : Facts → ℕ → Transfer → TransferCode
+resolving_verdict facts timestamp event = first_row (resolving_checks event) (against_named facts timestamp (transfer_with facts event.pending_id) event)
+
+-- ---- a plain or pending transfer
+
+-- between two accounts, which have their balances; sums have no bound
+abbrev pub balance_checks : ℕ → Account → Account → Transfer → List (Bool × TransferCode)
+balance_checks timestamp debit credit event =
+    (not (debit.ledger == credit.ledger), AccountsMustHaveTheSameLedger) ∷
+    (not (event.ledger == debit.ledger), TransferMustHaveTheSameLedgerAsAccounts) ∷
+    (is_pending event && nat_lt u128_max (debit.debits_pending + event.amount), OverflowsDebitsPending) ∷
+    (is_pending event && nat_lt u128_max (credit.credits_pending + event.amount), OverflowsCreditsPending) ∷
+    (nat_lt u128_max (debit.debits_posted + event.amount), OverflowsDebitsPosted) ∷
+    (nat_lt u128_max (credit.credits_posted + event.amount), OverflowsCreditsPosted) ∷
+    (nat_lt u128_max (debit.debits_pending + debit.debits_posted + event.amount), OverflowsDebits) ∷
+    (nat_lt u128_max (credit.credits_pending + credit.credits_posted + event.amount), OverflowsCredits) ∷
+    (not (event.timeout == 0) && nat_lt clock_max (expires_at (record event { timestamp = timestamp })), OverflowsTimeout) ∷
+    (debits_must_not_exceed_credits debit && nat_lt debit.credits_posted (debit.debits_pending + debit.debits_posted + event.amount), ExceedsCredits) ∷
+    (credits_must_not_exceed_debits credit && nat_lt credit.debits_posted (credit.credits_pending + credit.credits_posted + event.amount), ExceedsDebits) ∷
+    []
+
+abbrev pub between : ℕ → Account → Account → Transfer → TransferCode
+between timestamp debit credit event = first_row (balance_checks timestamp debit credit event) Ok
+
+abbrev pub between_found : ℕ → Option Account → Option Account → Transfer → TransferCode
+between_found timestamp None credit event = DebitAccountNotFound
+between_found timestamp (Some debit) None event = CreditAccountNotFound
+between_found timestamp (Some debit) (Some credit) event = between timestamp debit credit event
+
+abbrev pub moving_checks : Transfer → List (Bool × TransferCode)
+moving_checks event =
+    (event.debit_account_id == 0, DebitAccountIdMustNotBeZero) ∷
+    (event.debit_account_id == u128_max, DebitAccountIdMustNotBeIntMax) ∷
+    (event.credit_account_id == 0, CreditAccountIdMustNotBeZero) ∷
+    (event.credit_account_id == u128_max, CreditAccountIdMustNotBeIntMax) ∷
+    (event.debit_account_id == event.credit_account_id, AccountsMustBeDifferent) ∷
+    (not (event.pending_id == 0), PendingIdMustBeZero) ∷
+    (not (is_pending event) && not (event.timeout == 0), TimeoutReservedForPendingTransfer) ∷
+    (event.ledger == 0, LedgerMustNotBeZero) ∷
+    (event.code == 0, CodeMustNotBeZero) ∷
+    []
+
+abbrev pub moving_verdict : Facts → ℕ → Transfer → TransferCode
+moving_verdict facts timestamp event = first_row (moving_checks event) (between_found timestamp (balanced_account facts event.debit_account_id) (balanced_account facts event.credit_account_id) event)
+
+-- ---- any event
+
+-- whether more than one of pending, post and void is set
+abbrev pub has_exclusive_flags : Transfer → Bool
+has_exclusive_flags event = (is_pending event && is_post event) || (is_pending event && is_void event) || (is_post event && is_void event)
+
+-- an event with a new id
+abbrev pub new_id_checks : Facts → Transfer → List (Bool × TransferCode)
+new_id_checks facts event =
+    (is_failed facts event.id, IdAlreadyFailed) ∷
+    (has_exclusive_flags event, FlagsAreMutuallyExclusive) ∷
+    []
+
+abbrev pub of_new_id : Facts → ℕ → Transfer → TransferCode
+of_new_id facts timestamp event = first_row (new_id_checks facts event) (if is_resolving event then resolving_verdict facts timestamp event else moving_verdict facts timestamp event)
+
+abbrev pub against_id : Facts → ℕ → Option Transfer → Transfer → TransferCode
+against_id facts timestamp (Some stored) event = against_stored stored (resolved_by (transfer_with facts stored.pending_id) event)
+against_id facts timestamp None event = of_new_id facts timestamp event
+
+abbrev pub event_checks : Transfer → List (Bool × TransferCode)
+event_checks event =
+    (not (event.timestamp == 0), TimestampMustBeZero) ∷
+    (has_reserved_flag event.flags, ReservedFlag) ∷
+    (event.id == 0, IdMustNotBeZero) ∷
+    (event.id == u128_max, IdMustNotBeIntMax) ∷
+    []
+
+abbrev pub transfer_verdict : Facts → ℕ → Transfer → TransferCode
+transfer_verdict facts timestamp event = first_row (event_checks event) (against_id facts timestamp (transfer_with facts event.id) event)

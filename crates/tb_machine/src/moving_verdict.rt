@@ -1,0 +1,135 @@
+//! The checks of a plain or pending transfer, in their order.
+
+ghost use Rattle.std.specs.Prelude.{◌≡◌, ◌+◌, nat_lt};
+ghost use Rattle.tb_tables.specs.Balances.{balanced_account};
+ghost use Rattle.tb_machine.specs.TransferVerdict as spec;
+
+use crate::clock::{CLOCK_MAX, expires_at};
+use tb_layout::{Account, Transfer, TransferCode};
+use tb_tables::Tables;
+
+/// Whether the sum of two amounts is above a number.
+fn sum_exceeds(first: u128, second: u128, most: u128) -> bool
+    ensures { result ≡ nat_lt most (first + second) }
+{
+    match first.checked_add(second) {
+        Some(sum) => sum > most,
+        None => true,
+    }
+}
+
+/// Whether a balance, pending and posted together, and an amount are above a number.
+fn total_exceeds(pending: u128, posted: u128, amount: u128, most: u128) -> bool
+    ensures { result ≡ nat_lt most (pending + posted + amount) }
+{
+    match pending.checked_add(posted) {
+        Some(balance) => sum_exceeds(balance, amount, most),
+        None => true,
+    }
+}
+
+fn total_debits_exceed(account: &Account, amount: u128, most: u128) -> bool
+    ensures { result ≡ nat_lt most (account.now.debits_pending + account.now.debits_posted + amount) }
+{
+    total_exceeds(account.debits_pending, account.debits_posted, amount, most)
+}
+
+fn total_credits_exceed(account: &Account, amount: u128, most: u128) -> bool
+    ensures { result ≡ nat_lt most (account.now.credits_pending + account.now.credits_posted + amount) }
+{
+    total_exceeds(
+        account.credits_pending,
+        account.credits_posted,
+        amount,
+        most,
+    )
+}
+
+fn between(timestamp: u64, debit: &Account, credit: &Account, event: &Transfer) -> TransferCode
+    ensures { result ≡ spec.between timestamp debit.now credit.now event.now }
+{
+    if debit.ledger != credit.ledger {
+        return TransferCode::AccountsMustHaveTheSameLedger;
+    }
+    if event.ledger != debit.ledger {
+        return TransferCode::TransferMustHaveTheSameLedgerAsAccounts;
+    }
+    if event.is_pending() && sum_exceeds(debit.debits_pending, event.amount, u128::MAX) {
+        return TransferCode::OverflowsDebitsPending;
+    }
+    if event.is_pending() && sum_exceeds(credit.credits_pending, event.amount, u128::MAX) {
+        return TransferCode::OverflowsCreditsPending;
+    }
+    if sum_exceeds(debit.debits_posted, event.amount, u128::MAX) {
+        return TransferCode::OverflowsDebitsPosted;
+    }
+    if sum_exceeds(credit.credits_posted, event.amount, u128::MAX) {
+        return TransferCode::OverflowsCreditsPosted;
+    }
+    if total_debits_exceed(debit, event.amount, u128::MAX) {
+        return TransferCode::OverflowsDebits;
+    }
+    if total_credits_exceed(credit, event.amount, u128::MAX) {
+        return TransferCode::OverflowsCredits;
+    }
+    if event.timeout != 0 && expires_at(timestamp, event.timeout) > u128::from(CLOCK_MAX) {
+        return TransferCode::OverflowsTimeout;
+    }
+    if debit.debits_must_not_exceed_credits()
+        && total_debits_exceed(debit, event.amount, debit.credits_posted)
+    {
+        return TransferCode::ExceedsCredits;
+    }
+    if credit.credits_must_not_exceed_debits()
+        && total_credits_exceed(credit, event.amount, credit.debits_posted)
+    {
+        return TransferCode::ExceedsDebits;
+    }
+    TransferCode::Ok
+}
+
+fn between_found(tables: &Tables, timestamp: u64, event: &Transfer) -> TransferCode
+    ensures { result ≡ spec.between_found timestamp (balanced_account tables.now.now event.now.debit_account_id) (balanced_account tables.now.now event.now.credit_account_id) event.now }
+{
+    let Some(debit) = tables.account(event.debit_account_id) else {
+        return TransferCode::DebitAccountNotFound;
+    };
+    let Some(credit) = tables.account(event.credit_account_id) else {
+        return TransferCode::CreditAccountNotFound;
+    };
+    between(timestamp, &debit, &credit, event)
+}
+
+/// The first check that a plain or pending transfer fails, or Ok.
+pub fn moving_verdict(tables: &Tables, timestamp: u64, event: &Transfer) -> TransferCode
+    ensures { result ≡ spec.moving_verdict tables.now.now timestamp event.now }
+{
+    if event.debit_account_id == 0 {
+        return TransferCode::DebitAccountIdMustNotBeZero;
+    }
+    if event.debit_account_id == u128::MAX {
+        return TransferCode::DebitAccountIdMustNotBeIntMax;
+    }
+    if event.credit_account_id == 0 {
+        return TransferCode::CreditAccountIdMustNotBeZero;
+    }
+    if event.credit_account_id == u128::MAX {
+        return TransferCode::CreditAccountIdMustNotBeIntMax;
+    }
+    if event.debit_account_id == event.credit_account_id {
+        return TransferCode::AccountsMustBeDifferent;
+    }
+    if event.pending_id != 0 {
+        return TransferCode::PendingIdMustBeZero;
+    }
+    if !event.is_pending() && event.timeout != 0 {
+        return TransferCode::TimeoutReservedForPendingTransfer;
+    }
+    if event.ledger == 0 {
+        return TransferCode::LedgerMustNotBeZero;
+    }
+    if event.code == 0 {
+        return TransferCode::CodeMustNotBeZero;
+    }
+    between_found(tables, timestamp, event)
+}

@@ -1,0 +1,77 @@
+//! What a post or a void leaves to the transfer that it names.
+
+ghost use Rattle.std.specs.Prelude.{◌≡◌};
+ghost use Rattle.tb_layout.specs.Transfer.{is_resolving as is_resolving_event};
+ghost use Rattle.tb_tables.specs.Facts.{transfer_with};
+ghost use Rattle.tb_machine.specs.TransferVerdict as spec;
+
+use tb_layout::Transfer;
+use tb_tables::Tables;
+
+fn unless_zero_u128(field: u128, otherwise: u128) -> u128
+    ensures { result ≡ spec.unless_zero field otherwise }
+{
+    if field == 0 { otherwise } else { field }
+}
+
+fn unless_zero_u64(field: u64, otherwise: u64) -> u64
+    ensures { result ≡ spec.unless_zero field otherwise }
+{
+    if field == 0 { otherwise } else { field }
+}
+
+fn unless_zero_u32(field: u32, otherwise: u32) -> u32
+    ensures { result ≡ spec.unless_zero field otherwise }
+{
+    if field == 0 { otherwise } else { field }
+}
+
+fn unless_zero_u16(field: u16, otherwise: u16) -> u16
+    ensures { result ≡ spec.unless_zero field otherwise }
+{
+    if field == 0 { otherwise } else { field }
+}
+
+/// Whether an event is a post or a void.
+pub fn is_resolving(event: &Transfer) -> bool
+    ensures { result ≡ is_resolving_event event.now }
+{
+    event.is_post() || event.is_void()
+}
+
+fn means_whole_amount(event: &Transfer) -> bool
+    ensures { result ≡ spec.means_whole_amount event.now }
+{
+    event.is_post() && event.amount == u128::MAX || event.is_void() && event.amount == 0
+}
+
+/// A post or a void with its fields resolved.
+pub fn resolved(pending: &Transfer, event: &Transfer) -> Transfer
+    ensures { result ≡ spec.resolved pending.now event.now }
+{
+    Transfer {
+        debit_account_id: unless_zero_u128(event.debit_account_id, pending.debit_account_id),
+        credit_account_id: unless_zero_u128(event.credit_account_id, pending.credit_account_id),
+        amount: if means_whole_amount(event) {
+            pending.amount
+        } else {
+            event.amount
+        },
+        user_data_128: unless_zero_u128(event.user_data_128, pending.user_data_128),
+        user_data_64: unless_zero_u64(event.user_data_64, pending.user_data_64),
+        user_data_32: unless_zero_u32(event.user_data_32, pending.user_data_32),
+        ledger: unless_zero_u32(event.ledger, pending.ledger),
+        code: unless_zero_u16(event.code, pending.code),
+        ..*event
+    }
+}
+
+/// An event with its fields resolved against the transfer with an id, where it is a post or a void.
+pub fn resolved_by(tables: &Tables, pending_id: u128, event: &Transfer) -> Transfer
+    ensures { result ≡ spec.resolved_by (transfer_with tables.now.now pending_id) event.now }
+{
+    match tables.transfer(pending_id) {
+        Some(pending) if is_resolving(event) => resolved(&pending, event),
+        _ => *event,
+    }
+}

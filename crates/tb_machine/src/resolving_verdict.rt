@@ -1,0 +1,93 @@
+//! The checks of a post or a void, in their order.
+
+ghost use Rattle.std.specs.Prelude.{◌≡◌, Some, true};
+ghost use Rattle.tb_layout.specs.Transfer.{is_pending};
+ghost use Rattle.tb_tables.specs.Facts.{transfer_with};
+ghost use Rattle.tb_tables.specs.Status.{status_of, is_due as is_due_at};
+ghost use Rattle.tb_machine.specs.TransferVerdict as spec;
+
+use crate::clock::expires_at;
+use crate::resolved::resolved;
+use tb_layout::{Transfer, TransferCode};
+use tb_tables::{Status, Tables};
+
+/// Whether a transfer has a timeout that is over at a clock.
+fn is_due(clock: u64, transfer: &Transfer) -> bool
+    ensures { result ≡ is_due_at clock transfer.now }
+{
+    transfer.timeout != 0 && expires_at(transfer.timestamp, transfer.timeout) <= u128::from(clock)
+}
+
+fn against_status(tables: &Tables, pending: &Transfer, due: bool) -> TransferCode
+    requires there { transfer_with tables.now.now pending.now.id ≡ Some pending.now }
+    requires pending { is_pending pending.now ≡ true }
+    ensures { result ≡ spec.against_status (status_of tables.now.now pending.now.id) due }
+{
+    match tables.status(pending.id) {
+        Some(Status::Posted) => TransferCode::PendingTransferAlreadyPosted,
+        Some(Status::Voided) => TransferCode::PendingTransferAlreadyVoided,
+        Some(Status::Expired) => TransferCode::PendingTransferExpired,
+        Some(Status::Pending) | None => {
+            if due {
+                TransferCode::PendingTransferExpired
+            } else {
+                TransferCode::Ok
+            }
+        }
+    }
+}
+
+fn against_pending(
+    tables: &Tables,
+    timestamp: u64,
+    pending: &Transfer,
+    event: &Transfer,
+) -> TransferCode
+    requires { transfer_with tables.now.now pending.now.id ≡ Some pending.now }
+    ensures { result ≡ spec.against_pending tables.now.now timestamp pending.now event.now }
+{
+    if !pending.is_pending() {
+        return TransferCode::PendingTransferNotPending;
+    }
+    if event.debit_account_id != pending.debit_account_id {
+        return TransferCode::PendingTransferHasDifferentDebitAccountId;
+    }
+    if event.credit_account_id != pending.credit_account_id {
+        return TransferCode::PendingTransferHasDifferentCreditAccountId;
+    }
+    if event.ledger != pending.ledger {
+        return TransferCode::PendingTransferHasDifferentLedger;
+    }
+    if event.code != pending.code {
+        return TransferCode::PendingTransferHasDifferentCode;
+    }
+    if event.amount > pending.amount {
+        return TransferCode::ExceedsPendingTransferAmount;
+    }
+    if event.is_void() && event.amount < pending.amount {
+        return TransferCode::PendingTransferHasDifferentAmount;
+    }
+    against_status(tables, pending, is_due(timestamp, pending))
+}
+
+/// The first check that a post or a void fails, or Ok.
+pub fn resolving_verdict(tables: &Tables, timestamp: u64, event: &Transfer) -> TransferCode
+    ensures { result ≡ spec.resolving_verdict tables.now.now timestamp event.now }
+{
+    if event.pending_id == 0 {
+        return TransferCode::PendingIdMustNotBeZero;
+    }
+    if event.pending_id == u128::MAX {
+        return TransferCode::PendingIdMustNotBeIntMax;
+    }
+    if event.pending_id == event.id {
+        return TransferCode::PendingIdMustBeDifferent;
+    }
+    if event.timeout != 0 {
+        return TransferCode::TimeoutReservedForPendingTransfer;
+    }
+    match tables.transfer(event.pending_id) {
+        Some(pending) => against_pending(tables, timestamp, &pending, &resolved(&pending, event)),
+        None => TransferCode::PendingTransferNotFound,
+    }
+}

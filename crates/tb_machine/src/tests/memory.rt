@@ -1,0 +1,153 @@
+//! What is tried with each allocation refused in turn, by `rt try --test --fail-alloc N`.
+
+use super::{MOST, account, accounts_body, resolving, transfer, transfers_body};
+use crate::Machine;
+use std::test::Fail;
+use tb_layout::{Account, Failure, Transfer};
+use tb_tables::Status;
+
+/// What the look-ups of a machine answer for ids 1, 2 and 3.
+#[derive(Clone, Copy)]
+struct Seen {
+    clock: u64,
+    count: usize,
+    accounts: [Option<Account>; 3],
+    transfers: [Option<Transfer>; 3],
+    statuses: [Option<Status>; 3],
+}
+
+impl Seen {
+    fn of(machine: &Machine) -> Seen {
+        Seen {
+            clock: machine.clock(),
+            count: machine.accounts(),
+            accounts: [machine.account(1), machine.account(2), machine.account(3)],
+            transfers: [
+                machine.transfer(1),
+                machine.transfer(2),
+                machine.transfer(3),
+            ],
+            statuses: [machine.status(1), machine.status(2), machine.status(3)],
+        }
+    }
+
+    fn holds(&self, machine: &Machine) -> bool {
+        let now = Seen::of(machine);
+        self.clock == now.clock
+            && self.count == now.count
+            && self.accounts == now.accounts
+            && self.transfers == now.transfers
+            && self.statuses == now.statuses
+    }
+}
+
+/// Whether a packet was committed, with just these failures. Where memory was wanting, the machine is
+/// as before.
+fn is_committed(
+    rt: &HostRuntime,
+    machine: &mut Machine,
+    operation: u8,
+    body: &[u8],
+    failures: &[(u32, u32)],
+) -> Result<bool, Fail> {
+    if operation != 129 && operation != 130 || body.len() % 128 != 0 || body.len() / 128 > 8190 {
+        Err("no packet")?;
+    }
+    let Ok(mut out) = Vec::with_capacity(rt.alloc(), body.len() / 128) else {
+        return Ok(false);
+    };
+    let seen = Seen::of(machine);
+    if machine.commit(operation, body, &mut out).is_err() {
+        if !seen.holds(machine) || !out.is_empty() {
+            Err("the machine isn't as before")?;
+        }
+        return Ok(false);
+    }
+    let same = out.len() == failures.len()
+        && out.iter().zip(failures).all(|(failure, wanted)| (failure.index, failure.code)
+            == *wanted);
+    if !same {
+        Err("other failures")?;
+    }
+    Ok(true)
+}
+
+#[test]
+fn chains_of_transfers_joined_refused_memory(rt: HostRuntime) -> Result<(), Fail> {
+    let Ok(accounts) = accounts_body(
+        &rt,
+        [account(1, 0), account(2, 2), account(3, 0)].as_slice(),
+    ) else {
+        return Ok(());
+    };
+    let without_ledger = Transfer {
+        ledger: 0,
+        ..transfer(3, 1, 3, 10, 0)
+    };
+    let Ok(chain) = transfers_body(
+        &rt,
+        [
+            transfer(1, 1, 2, 10, 1),
+            transfer(2, 2, 3, 10, 1),
+            without_ledger,
+        ]
+        .as_slice(),
+    ) else {
+        return Ok(());
+    };
+    let Ok(single) = transfers_body(&rt, [transfer(2, 2, 3, 10, 0)].as_slice()) else {
+        return Ok(());
+    };
+    let mut machine = Machine::new(rt.alloc(), 0);
+    let all = is_committed(&rt, &mut machine, 129, &accounts, [].as_slice())?
+        && is_committed(
+            &rt,
+            &mut machine,
+            130,
+            &chain,
+            [(0, 1), (1, 1), (2, 19)].as_slice(),
+        )?
+        && is_committed(&rt, &mut machine, 130, &single, [(0, 54)].as_slice())?;
+    if all {
+        assert_eq!(rt; machine.clock(), 7);
+    }
+    Ok(())
+}
+
+#[test]
+fn id_already_failed_refused_memory(rt: HostRuntime) -> Result<(), Fail> {
+    let Ok(accounts) = accounts_body(&rt, [account(1, 0), account(2, 0)].as_slice()) else {
+        return Ok(());
+    };
+    let Ok(chain) = transfers_body(
+        &rt,
+        [transfer(1, 1, 2, 5, 1), transfer(2, 1, 9, 5, 0)].as_slice(),
+    ) else {
+        return Ok(());
+    };
+    let Ok(again) = transfers_body(
+        &rt,
+        [transfer(1, 1, 2, 5, 0), transfer(2, 1, 2, 5, 0)].as_slice(),
+    ) else {
+        return Ok(());
+    };
+    let Ok(post) = transfers_body(&rt, [resolving(3, 8, MOST, 4)].as_slice()) else {
+        return Ok(());
+    };
+    let Ok(last) = transfers_body(
+        &rt,
+        [transfer(3, 1, 2, 1, 0), transfer(2, 1, 2, 1, 6)].as_slice(),
+    ) else {
+        return Ok(());
+    };
+    let mut machine = Machine::new(rt.alloc(), 0);
+    let all = is_committed(&rt, &mut machine, 129, &accounts, [].as_slice())?
+        && is_committed(&rt, &mut machine, 130, &chain, [(0, 1), (1, 22)].as_slice())?
+        && is_committed(&rt, &mut machine, 130, &again, [(1, 68)].as_slice())?
+        && is_committed(&rt, &mut machine, 130, &post, [(0, 25)].as_slice())?
+        && is_committed(&rt, &mut machine, 130, &last, [(0, 68), (1, 68)].as_slice())?;
+    if all {
+        assert_eq!(rt; machine.clock(), 9);
+    }
+    Ok(())
+}

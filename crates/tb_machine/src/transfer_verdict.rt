@@ -1,0 +1,96 @@
+//! The checks of an event that asks for a transfer, in their order.
+
+ghost use Rattle.std.specs.Prelude.{◌≡◌};
+ghost use Rattle.tb_machine.specs.TransferVerdict as spec;
+
+use crate::moving_verdict::moving_verdict;
+use crate::resolved::{is_resolving, resolved_by};
+use crate::resolving_verdict::resolving_verdict;
+use tb_layout::{Transfer, TransferCode};
+use tb_tables::Tables;
+
+/// An event, with its fields resolved, whose id is that of a stored transfer.
+fn against_stored(stored: &Transfer, event: &Transfer) -> TransferCode
+    ensures { result ≡ spec.against_stored stored.now event.now }
+{
+    if event.flags != stored.flags {
+        return TransferCode::ExistsWithDifferentFlags;
+    }
+    if event.pending_id != stored.pending_id {
+        return TransferCode::ExistsWithDifferentPendingId;
+    }
+    if event.debit_account_id != stored.debit_account_id {
+        return TransferCode::ExistsWithDifferentDebitAccountId;
+    }
+    if event.credit_account_id != stored.credit_account_id {
+        return TransferCode::ExistsWithDifferentCreditAccountId;
+    }
+    if event.amount != stored.amount {
+        return TransferCode::ExistsWithDifferentAmount;
+    }
+    if event.user_data_128 != stored.user_data_128 {
+        return TransferCode::ExistsWithDifferentUserData128;
+    }
+    if event.user_data_64 != stored.user_data_64 {
+        return TransferCode::ExistsWithDifferentUserData64;
+    }
+    if event.user_data_32 != stored.user_data_32 {
+        return TransferCode::ExistsWithDifferentUserData32;
+    }
+    if event.timeout != stored.timeout {
+        return TransferCode::ExistsWithDifferentTimeout;
+    }
+    if event.ledger != stored.ledger {
+        return TransferCode::ExistsWithDifferentLedger;
+    }
+    if event.code != stored.code {
+        return TransferCode::ExistsWithDifferentCode;
+    }
+    TransferCode::Exists
+}
+
+fn has_exclusive_flags(event: &Transfer) -> bool
+    ensures { result ≡ spec.has_exclusive_flags event.now }
+{
+    event.is_pending() && event.is_post()
+        || event.is_pending() && event.is_void()
+        || event.is_post() && event.is_void()
+}
+
+fn of_new_id(tables: &Tables, timestamp: u64, event: &Transfer) -> TransferCode
+    ensures { result ≡ spec.of_new_id tables.now.now timestamp event.now }
+{
+    if tables.failed(event.id) {
+        return TransferCode::IdAlreadyFailed;
+    }
+    if has_exclusive_flags(event) {
+        return TransferCode::FlagsAreMutuallyExclusive;
+    }
+    if is_resolving(event) {
+        resolving_verdict(tables, timestamp, event)
+    } else {
+        moving_verdict(tables, timestamp, event)
+    }
+}
+
+/// The first check that the event fails, or Ok.
+pub fn transfer_verdict(tables: &Tables, timestamp: u64, event: &Transfer) -> TransferCode
+    ensures { result ≡ spec.transfer_verdict tables.now.now timestamp event.now }
+{
+    if event.timestamp != 0 {
+        return TransferCode::TimestampMustBeZero;
+    }
+    if event.flags > 15 {
+        return TransferCode::ReservedFlag;
+    }
+    if event.id == 0 {
+        return TransferCode::IdMustNotBeZero;
+    }
+    if event.id == u128::MAX {
+        return TransferCode::IdMustNotBeIntMax;
+    }
+    match tables.transfer(event.id) {
+        Some(stored) => against_stored(&stored, &resolved_by(tables, stored.pending_id, event)),
+        None => of_new_id(tables, timestamp, event),
+    }
+}

@@ -1,0 +1,109 @@
+-- How the sums of an account change with the facts.
+use Rattle.std.proofs.Common.{refl, sym, ap, ◌∙◌, arith, ◌≡◌, ℕ, ◌+◌, ◌≤◌, Bool, true, false, not, List, [], ◌∷◌, ◌++◌, sum_by, filter}
+use Rattle.std.specs.Prelude.{if◌then◌else◌, ◌==◌, ◌&&◌, ◌||◌, Some, find}
+use Rattle.std.proofs.Common.{cond}
+use Rattle.std.specs.List.{AllByRecursion}
+use Rattle.std.proofs.lemmas.Bool.{eqb-true}
+use Rattle.std.proofs.lemmas.List.Sums.{sum_by-cons, sum_by_push}
+use Rattle.tb_layout.specs.declared.transfer.Transfer.{Transfer}
+use Rattle.tb_tables.specs.Lawful.{has_id, ids_distinct}
+
+-- the amount of a transfer, where it passes a test
+abbrev pub amount_if : (Transfer → Bool) → Transfer → ℕ
+amount_if test transfer = if test transfer then transfer.amount else 0
+
+-- the amounts of the transfers that pass a test
+abbrev pub amounts : (Transfer → Bool) → List Transfer → ℕ
+amounts test transfers = sum_by (λ transfer. transfer.amount) (filter test transfers)
+
+amounts-step : (b : Bool) (x : Transfer) (xs : List Transfer) → sum_by (λ (t : Transfer). t.amount) (if b then x ∷ xs else xs) ≡ (if b then x.amount else 0) + sum_by (λ (t : Transfer). t.amount) xs
+amounts-step true x xs = sum_by-cons (λ (t : Transfer). t.amount) x xs
+amounts-step false x xs = omega arith
+
+pub amounts-each : (test : Transfer → Bool) (xs : List Transfer) → amounts test xs ≡ sum_by (amount_if test) xs
+amounts-each test [] = refl
+amounts-each test (x ∷ xs) = amounts-step (test x) x (filter test xs) ∙ ap (λ n. amount_if test x + n) (amounts-each test xs) ∙ sym (sum_by-cons (amount_if test) x xs)
+
+pub sum_by-same : {X : Type 0} (f g : X → ℕ) (xs : List X) → ((x : X) → f x ≡ g x) → sum_by f xs ≡ sum_by g xs
+sum_by-same f g [] h = refl
+sum_by-same f g (x ∷ xs) h = sum_by-cons f x xs ∙ ap (λ n. n + sum_by f xs) (h x) ∙ ap (λ n. g x + n) (sum_by-same f g xs h) ∙ sym (sum_by-cons g x xs)
+
+sum_by-most : {X : Type 0} (f g : X → ℕ) (xs : List X) → AllByRecursion (λ x. f x ≤ g x) xs → sum_by f xs ≤ sum_by g xs
+sum_by-most f g [] h = omega arith
+sum_by-most f g (x ∷ xs) h = omega (arith, sum_by-cons f x xs, sum_by-cons g x xs, h.0, sum_by-most f g xs h.1)
+
+-- a harder test leaves no more
+pub amounts-most : (easy hard : Transfer → Bool) (xs : List Transfer) → AllByRecursion (λ x. amount_if hard x ≤ amount_if easy x) xs → amounts hard xs ≤ amounts easy xs
+amounts-most easy hard xs h = omega (arith, amounts-each easy xs, amounts-each hard xs, sum_by-most (amount_if hard) (amount_if easy) xs h)
+
+-- one transfer more, where the test stays the same for the others
+pub amounts-push : (old new : Transfer → Bool) (xs : List Transfer) (x : Transfer) → ((y : Transfer) → new y ≡ old y) → amounts new (xs ++ x ∷ []) ≡ amounts old xs + amount_if new x
+amounts-push old new xs x same =
+    amounts-each new (xs ++ x ∷ []) ∙ sum_by_push (amount_if new) xs x
+    ∙ ap (λ n. n + amount_if new x) (sum_by-same (amount_if new) (amount_if old) xs (λ y. ap (λ b. if b then y.amount else 0) (same y)) ∙ sym (amounts-each old xs))
+
+-- ---- one transfer taken out of a sum, by its id
+
+pub or-left : (a b : Bool) → (a || b) ≡ false → a ≡ false
+or-left true b h = h
+or-left false b h = refl
+
+pub or-right : (a b : Bool) → (a || b) ≡ false → b ≡ false
+or-right true b h = cc
+or-right false b h = h
+
+pub not_and-left : (a b : Bool) → (not a && b) ≡ true → a ≡ false
+not_and-left true b h = cc
+not_and-left false b h = refl
+
+pub not_and-right : (a b : Bool) → (not a && b) ≡ true → b ≡ true
+not_and-right true b h = cc
+not_and-right false b h = h
+
+amounts-cons : (test : Transfer → Bool) (x : Transfer) (xs : List Transfer) → amounts test (x ∷ xs) ≡ amount_if test x + amounts test xs
+amounts-cons test x xs = amounts-step (test x) x (filter test xs)
+
+-- the test, but for the transfer with an id
+abbrev pub but_for : ℕ → (Transfer → Bool) → Transfer → Bool
+but_for id test transfer = test transfer && not (transfer.id == id)
+
+stays : (t e : Bool) (n : ℕ) → e ≡ false → (if t && not e then n else 0) ≡ (if t then n else 0)
+stays true e n h = rw h refl
+stays false e n h = refl
+
+leaves : (t e : Bool) (n : ℕ) → e ≡ true → (if t && not e then n else 0) ≡ 0
+leaves true e n h = rw h refl
+leaves false e n h = refl
+
+-- where no transfer has the id, none is taken out
+but_for-absent : (test : Transfer → Bool) (id : ℕ) (xs : List Transfer) → has_id id xs ≡ false → amounts (but_for id test) xs ≡ amounts test xs
+but_for-absent test id [] h = refl
+but_for-absent test id (x ∷ xs) h =
+    amounts-cons (but_for id test) x xs
+    ∙ ap (λ n. n + amounts (but_for id test) xs) (stays (test x) (x.id == id) x.amount (or-left (x.id == id) (has_id id xs) h))
+    ∙ ap (λ n. amount_if test x + n) (but_for-absent test id xs (or-right (x.id == id) (has_id id xs) h))
+    ∙ sym (amounts-cons test x xs)
+
+pub but_for-found : (test : Transfer → Bool) (id : ℕ) (xs : List Transfer) (p : Transfer) → ids_distinct xs ≡ true → find (λ (x : Transfer). x.id == id) xs ≡ Some p →
+    amounts test xs ≡ amounts (but_for id test) xs + amount_if test p
+but_for-found test id [] p distinct found = cc
+but_for-found test id (x ∷ xs) p distinct found =
+    let e = by (x.id == id) refl (but_for-found test id xs p (not_and-right (has_id x.id xs) (ids_distinct xs) distinct)) found in
+    let f = amounts-cons test x xs in
+    let g = amounts-cons (but_for id test) x xs in
+    omega arith
+  where
+    by : (b : Bool) → (x.id == id) ≡ b → (find (λ (y : Transfer). y.id == id) xs ≡ Some p → amounts test xs ≡ amounts (but_for id test) xs + amount_if test p) →
+        cond b (Some x) (find (λ (y : Transfer). y.id == id) xs) ≡ Some p →
+        amount_if test x + amounts test xs ≡ amount_if (but_for id test) x + amounts (but_for id test) xs + amount_if test p
+    by true is rest first =
+        let same : x ≡ p = cc in
+        let absent : has_id id xs ≡ false = ap (λ k. has_id k xs) (sym (eqb-true x.id id is)) ∙ not_and-left (has_id x.id xs) (ids_distinct xs) distinct in
+        let e = but_for-absent test id xs absent in
+        let f = leaves (test x) (x.id == id) x.amount is in
+        let g = ap (amount_if test) same in
+        omega arith
+    by false is rest later =
+        let e = rest later in
+        let f = stays (test x) (x.id == id) x.amount is in
+        omega arith

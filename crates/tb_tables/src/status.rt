@@ -1,0 +1,8 @@
+/// What became of a pending transfer.
+#[derive(Clone, Copy, Debug, PartialEq, Eq)]
+pub enum Status {
+    Pending,
+    Posted,
+    Voided,
+    Expired,
+}
