@@ -14,6 +14,8 @@ mod row;
 mod status;
 mod statuses;
 mod tables;
+#[cfg(test)]
+mod tests;
 
 pub use mark::Mark;
 pub use status::Status;

@@ -41,6 +41,7 @@ impl Tables {
     ghost use Rattle.tb_tables.specs.Balances.{with_balances as balanced, balanced_account};
     ghost use Rattle.tb_tables.specs.Conditions.{HasNoBalances, MayAdd, MayResolve};
     ghost use Rattle.tb_tables.specs.History.{changed, mark_of, undone, kept};
+    ghost use Rattle.tb_tables.specs.Lawful.{IsLawful};
 
     /// Tables without facts. Takes no memory.
     pub fn new(alloc: Global) -> Tables
@@ -67,9 +68,9 @@ impl Tables {
         Ok(())
     }
 
-    /// Adds a plain or pending transfer behind those that are there.
-    pub fn add_transfer(&mut self, transfer: Transfer) -> Result<(), NoMemory>
-        requires { MayAdd self.old.now transfer }
+    /// Adds a transfer with which lawful facts stay so.
+    fn add_row(&mut self, transfer: Transfer) -> Result<(), NoMemory>
+        requires { IsLawful self.old.now → IsLawful (with_transfer self.old.now transfer) }
         ensures ok { OnOk result (self.new ≡ changed self.old (with_transfer self.old.now transfer)) }
         ensures err { OnErr result (self.new ≡ self.old) }
     {
@@ -79,16 +80,22 @@ impl Tables {
         Ok(())
     }
 
+    /// Adds a plain or pending transfer behind those that are there.
+    pub fn add_transfer(&mut self, transfer: Transfer) -> Result<(), NoMemory>
+        requires { MayAdd self.old.now transfer }
+        ensures ok { OnOk result (self.new ≡ changed self.old (with_transfer self.old.now transfer)) }
+        ensures err { OnErr result (self.new ≡ self.old) }
+    {
+        self.add_row(transfer)
+    }
+
     /// Adds a post or a void, with its resolved fields. The transfer that it names is pending no more.
     pub fn resolve(&mut self, transfer: Transfer) -> Result<(), NoMemory>
         requires { MayResolve self.old.now transfer }
         ensures ok { OnOk result (self.new ≡ changed self.old (with_transfer self.old.now transfer)) }
         ensures err { OnErr result (self.new ≡ self.old) }
     {
-        self.changes.reserve(1)?;
-        self.rows.push(new_row(transfer))?;
-        note(&mut self.changes, Change::Transfer);
-        Ok(())
+        self.add_row(transfer)
     }
 
     /// Adds an id to those that failed.
