@@ -1,7 +1,7 @@
 -- Worked examples, computed from the definitions. Each account has ledger and code 1 and nothing else, and each plain
 -- or pending transfer too, unless said.
 use Rattle.std.proofs.Common.{refl, ◌≡◌, ℕ, List, [], ◌∷◌, map}
-use Rattle.std.specs.Prelude.{Option, Some, None}
+use Rattle.std.specs.Prelude.{Some, None}
 use Rattle.tb_layout.specs.declared.account.Account.{Account}
 use Rattle.tb_layout.specs.declared.transfer.Transfer.{Transfer}
 use Rattle.tb_layout.specs.declared.failure.Failure.{Failure}
@@ -9,9 +9,8 @@ use Rattle.tb_layout.specs.Events.{Events, Accounts, Transfers, Ids}
 use Rattle.tb_tables.specs.Facts.{no_facts}
 use Rattle.tb_tables.specs.Balances.{debits_pending, debits_posted, credits_pending, credits_posted}
 use Rattle.tb_tables.specs.Status.{status_with}
-use Rattle.tb_tables.specs.declared.status.Status.{Status}
-use Rattle.tb_tables.specs.declared.status.Status.TheVariants.{Pending, Posted, Voided, Expired}
-use Rattle.tb_machine.specs.Replay.{State, Item, Packet, Pulse, Answer, Failed, Found, replay, reply_at, failures_of}
+use Rattle.tb_tables.specs.declared.status.Status.TheVariants.{Pending, Voided, Expired}
+use Rattle.tb_machine.specs.Replay.{Item, Packet, Pulse, Failed, Found, replay, reply_at, failures_of}
 
 abbrev most : ℕ
 most = 340282366920938463463374607431768211455

@@ -7,12 +7,21 @@ use std::test::Fail;
 use tb_layout::{Account, Transfer};
 
 fn account(id: u128) -> Account
-    ensures {
-        result ≡ record {
-            id = id; debits_pending = 0; debits_posted = 0; credits_pending = 0; credits_posted = 0; user_data_128 = 0; user_data_64 = 0;
-            user_data_32 = 0; reserved = 0; ledger = 1; code = 1; flags = 0; timestamp = 1
-        }
-    }
+    ensures { result ≡ record {
+      id = id;
+      debits_pending = 0;
+      debits_posted = 0;
+      credits_pending = 0;
+      credits_posted = 0;
+      user_data_128 = 0;
+      user_data_64 = 0;
+      user_data_32 = 0;
+      reserved = 0;
+      ledger = 1;
+      code = 1;
+      flags = 0;
+      timestamp = 1;
+    } }
 {
     Account {
         id,
@@ -33,12 +42,21 @@ fn account(id: u128) -> Account
 
 /// A transfer from account 1 to account 2.
 fn transfer(id: u128, amount: u128, pending_id: u128, flags: u16) -> Transfer
-    ensures {
-        result ≡ record {
-            id = id; debit_account_id = 1; credit_account_id = 2; amount = amount; pending_id = pending_id; user_data_128 = 0; user_data_64 = 0;
-            user_data_32 = 0; timeout = 0; ledger = 1; code = 1; flags = flags; timestamp = 3
-        }
-    }
+    ensures { result ≡ record {
+      id = id;
+      debit_account_id = 1;
+      credit_account_id = 2;
+      amount = amount;
+      pending_id = pending_id;
+      user_data_128 = 0;
+      user_data_64 = 0;
+      user_data_32 = 0;
+      timeout = 0;
+      ledger = 1;
+      code = 1;
+      flags = flags;
+      timestamp = 3;
+    } }
 {
     Transfer {
         id,

@@ -28,8 +28,19 @@ add_transfer-requires g c =
 pub resolve-requires : goal.resolve-requires
 resolve-requires g c =
     let pending : Transfer = record {
-      id = 1; debit_account_id = 1; credit_account_id = 2; amount = 100; pending_id = 0; user_data_128 = 0; user_data_64 = 0;
-      user_data_32 = 0; timeout = 0; ledger = 1; code = 1; flags = 2; timestamp = 3
+      id = 1;
+      debit_account_id = 1;
+      credit_account_id = 2;
+      amount = 100;
+      pending_id = 0;
+      user_data_128 = 0;
+      user_data_64 = 0;
+      user_data_32 = 0;
+      timeout = 0;
+      ledger = 1;
+      code = 1;
+      flags = 2;
+      timestamp = 3;
     } in
     rw (c.keep.ensures, c.in_ok-add_transfer.ensures.ok, c.in_ok-add_account-2.ensures.ok, c.in_ok-add_account.ensures.ok, c.new-tables.ensures, c.account-2.ensures, c.account.ensures, c.transfer.ensures, c.transfer-2.ensures)
     (record {

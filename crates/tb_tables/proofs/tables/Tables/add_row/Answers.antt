@@ -1,7 +1,7 @@
 use Rattle.std.proofs.Common.{ap, subst, sym, ◌∙◌, false}
 use Rattle.tb_tables.specs.Lawful.{IsLawful}
 use Rattle.tb_tables.specs.History.{changed}
-use Rattle.tb_tables.specs.Changes.{Lists, facts_of, history_of}
+use Rattle.tb_tables.specs.Changes.{Lists, history_of}
 use Rattle.tb_tables.specs.declared.row.Row.{Row}
 use Rattle.tb_tables.specs.declared.change.Change.TheVariants.{Transfer}
 use Rattle.tb_tables.proofs.Histories.{history_of-push, lawful_push, without_last-push}

@@ -1,0 +1,63 @@
+-- What a front hands out and then holds is what it held, followed by what the ticket comes to.
+use Rattle.std.proofs.Common.{refl, sym, ap, subst, ◌∙◌, ◌≡◌, ℕ, Bool, true, false, List, [], ◌∷◌, ◌++◌, map, append-nil}
+use Rattle.std.specs.Prelude.{◌||◌, if◌then◌else◌}
+use Rattle.std.proofs.lemmas.List.{map-append}
+use Rattle.std.proofs.lemmas.Grind.{flat_map-append}
+use Rattle.tb_work.specs.Job.{Numbered}
+use Rattle.tb_work.specs.declared.item.Item.{Item}
+use Rattle.tb_work.specs.declared.item.Item.TheVariants as item
+use Rattle.tb_batch.specs.Grouping.{is_taken}
+use Rattle.tb_core.specs.declared.parcel.Cause.TheVariants.{Shutdown, Stopped}
+use Rattle.tb_core.specs.declared.parcel.Parcel.{Parcel}
+use Rattle.tb_core.specs.declared.parcel.Parcel.TheVariants.{Pulse, Return}
+use Rattle.tb_core.specs.Passage.{Passage, Admitted, Returned, passed}
+use Rattle.tb_core.specs.Front.{FrontState, Taken, IsFront, handing, holding, sealed, with_end, all_ended, took, took_packet, took_pulse, spelled, spelled_one, held_by}
+
+abbrev pub IsAccounted : FrontState → Item → Taken → Type 0
+IsAccounted front item taken = spelled taken.parcels ++ held_by taken.front ≡ held_by front ++ passed front.closed taken.front.stopped item
+
+abbrev front_of : ℕ → ℕ → List Numbered → Bool → Bool → List Bool → FrontState
+front_of limit submitters held closed stopped ended = record { limit = limit; submitters = submitters; held = held; closed = closed; stopped = stopped; ended = ended }
+
+spelled-sealed : (held : List Numbered) → spelled (sealed held) ≡ map Admitted held
+spelled-sealed [] = refl
+spelled-sealed (job ∷ jobs) = append-nil (map Admitted (job ∷ jobs))
+
+sealed_alone : (held : List Numbered) → spelled (sealed held) ++ [] ≡ map Admitted held ++ []
+sealed_alone held = ap (λ passages. passages ++ []) (spelled-sealed held)
+
+sealed_before : (held : List Numbered) (parcel : Parcel) → spelled (sealed held ++ parcel ∷ []) ++ [] ≡ map Admitted held ++ spelled_one parcel
+sealed_before held parcel =
+    append-nil (spelled (sealed held ++ parcel ∷ [])) ∙ flat_map-append spelled_one (sealed held) (parcel ∷ [])
+    ∙ ap (λ passages. passages ++ (spelled_one parcel ++ [])) (spelled-sealed held) ∙ ap (λ passages. map Admitted held ++ passages) (append-nil (spelled_one parcel))
+
+none_held : (held : List Numbered) (passage : Passage) → held ≡ [] → passage ∷ map Admitted held ≡ map Admitted held ++ passage ∷ []
+none_held held passage none = ap (λ jobs. passage ∷ map Admitted jobs) none ∙ ap (λ jobs. map Admitted jobs ++ passage ∷ []) (sym none)
+
+packet : (refused taken : Bool) (limit submitters : ℕ) (held : List Numbered) (closed stopped : Bool) (ended : List Bool) (job : Numbered) → ((closed || stopped) ≡ true → held ≡ []) → is_taken limit held job ≡ taken →
+    IsAccounted (front_of limit submitters held closed stopped ended) (item.Packet job) (took_packet refused (front_of limit submitters held closed stopped ended) job)
+packet refused taken limit submitters held true stopped ended job clear is = none_held held (Returned job Shutdown) (clear refl)
+packet refused taken limit submitters held false true ended job clear is = none_held held (Returned job Stopped) (clear refl)
+packet true taken limit submitters held false false ended job clear is = sealed_before held (Return job Stopped)
+packet false true limit submitters held false false ended job clear is = rw is (map-append Admitted held (job ∷ []))
+packet false false limit submitters held false false ended job clear is = rw is (ap (λ passages. passages ++ Admitted job ∷ []) (spelled-sealed held))
+
+pulse : (limit submitters : ℕ) (held : List Numbered) (closed stopped : Bool) (ended : List Bool) (moment : ℕ) →
+    IsAccounted (front_of limit submitters held closed stopped ended) (item.Pulse moment) (took_pulse (front_of limit submitters held closed stopped ended) moment)
+pulse limit submitters held true stopped ended moment = sym (append-nil (map Admitted held))
+pulse limit submitters held false true ended moment = sym (append-nil (map Admitted held))
+pulse limit submitters held false false ended moment = sealed_before held (Pulse moment)
+
+end : (front : FrontState) (sender : ℕ) (all : Bool) → IsAccounted front item.End (let next = with_end front sender in if all then handing (holding next []) (sealed front.held) else handing next [])
+end front sender true = sealed_alone front.held
+end front sender false = sym (append-nil (held_by front))
+
+accounted : (refused : Bool) (front : FrontState) (sender : ℕ) (x : Item) → IsFront front → IsAccounted front x (took refused front sender x)
+accounted refused front sender (item.Packet job) is = packet refused (is_taken front.limit front.held job) front.limit front.submitters front.held front.closed front.stopped front.ended job is.clear refl
+accounted refused front sender (item.Pulse moment) is = pulse front.limit front.submitters front.held front.closed front.stopped front.ended moment
+accounted refused front sender item.End is = end front sender (all_ended (with_end front sender))
+accounted refused front sender item.Close is = sealed_alone front.held
+
+-- the same for a front and parcels that have names
+pub taken_is_accounted : (refused : Bool) (front next : FrontState) (sender : ℕ) (x : Item) (parcels : List Parcel) → IsFront front → handing next parcels ≡ took refused front sender x → IsAccounted front x (handing next parcels)
+taken_is_accounted refused front next sender x parcels is took_is = subst (IsAccounted front x) (sym took_is) (accounted refused front sender x is)

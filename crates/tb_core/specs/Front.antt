@@ -1,0 +1,104 @@
+-- What a front makes of one ticket.
+use Rattle.std.specs.Prelude.{◌≡◌, ℕ, ◌+◌, ◌≤◌, Bool, true, ◌||◌, if◌then◌else◌, List, [], ◌∷◌, ◌++◌, map, take, slice_set, nat_lt, Option, Some, None}
+use Rattle.std.specs.List.{list_all, flat_map}
+use Rattle.tb_work.specs.Job.{Numbered}
+use Rattle.tb_work.specs.declared.item.Item.{Item}
+use Rattle.tb_work.specs.declared.item.Item.TheVariants as item
+use Rattle.tb_work.specs.declared.refusal.Refusal.{Refusal}
+use Rattle.tb_work.specs.declared.refusal.Refusal.TheVariants.{BadLimit, BadSubmitters}
+use Rattle.tb_batch.specs.Grouping.{is_taken}
+use Rattle.tb_core.specs.declared.parcel.Cause.TheVariants.{Shutdown, Stopped}
+use Rattle.tb_core.specs.declared.parcel.Parcel.{Parcel}
+use Rattle.tb_core.specs.declared.parcel.Parcel.TheVariants.{Batch, Pulse, Return, Last}
+use Rattle.tb_core.specs.Passage.{Passage, Admitted, Pulsed, Returned}
+
+-- its limit and how many submitters there are, the group held, whether a Close was taken, whether a growth was refused,
+-- and of each sender whether its End or Close was taken
+pub record FrontState : Type 0 where
+  pub limit : ℕ
+  pub submitters : ℕ
+  pub held : List Numbered
+  pub closed : Bool
+  pub stopped : Bool
+  pub ended : List Bool
+
+-- why a front can't be opened, if it can't: the limit is 1 to 8190 events, and there are 1 to 16 submitters
+abbrev pub opening_refusal : ℕ → ℕ → Option Refusal
+opening_refusal limit submitters =
+    if nat_lt limit 1 || nat_lt 8190 limit then Some BadLimit
+    else if nat_lt submitters 1 || nat_lt 16 submitters then Some BadSubmitters
+    else None
+
+-- a front, and what it hands out
+pub record Taken : Type 0 where
+  pub front : FrontState
+  pub parcels : List Parcel
+
+abbrev pub handing : FrontState → List Parcel → Taken
+handing front parcels = record { front = front; parcels = parcels }
+
+abbrev pub holding : FrontState → List Numbered → FrontState
+holding front jobs = record front { held = jobs }
+
+-- the group held as a batch, where there is one
+abbrev pub sealed : List Numbered → List Parcel
+sealed [] = []
+sealed (job ∷ jobs) = Batch (job ∷ jobs) ∷ []
+
+-- whether an End or Close of each sender was taken; the control is the sender behind the last submitter
+abbrev pub all_ended : FrontState → Bool
+all_ended front = list_all (λ ended. ended) (take (front.submitters + 1) front.ended)
+
+abbrev pub with_end : FrontState → ℕ → FrontState
+with_end front sender = record front { ended = slice_set front.ended sender true }
+
+-- a packet behind a Close or a stop comes back; one whose growth is refused stops the front; any other joins the group
+-- held, or that is sealed and the packet begins the next one
+abbrev pub took_packet : Bool → FrontState → Numbered → Taken
+took_packet refused front job =
+    if front.closed then handing front (Return job Shutdown ∷ [])
+    else if front.stopped then handing front (Return job Stopped ∷ [])
+    else if refused then handing (record front { held = []; stopped = true }) (sealed front.held ++ Return job Stopped ∷ [])
+    else if is_taken front.limit front.held job then handing (holding front (front.held ++ job ∷ [])) []
+    else handing (holding front (job ∷ [])) (sealed front.held)
+
+abbrev pub took_pulse : FrontState → ℕ → Taken
+took_pulse front moment =
+    if front.closed || front.stopped then handing front [] else handing (holding front []) (sealed front.held ++ Pulse moment ∷ [])
+
+-- the last End seals the group
+abbrev pub took_end : FrontState → ℕ → Taken
+took_end front sender =
+    let next = with_end front sender in
+    if all_ended next then handing (holding next []) (sealed front.held) else handing next []
+
+abbrev pub took_close : FrontState → ℕ → Taken
+took_close front sender = handing (record (with_end front sender) { held = []; closed = true }) (sealed front.held)
+
+-- one ticket taken, where `refused` says that the growth which it needs is refused
+abbrev pub took : Bool → FrontState → ℕ → Item → Taken
+took refused front sender (item.Packet job) = took_packet refused front job
+took refused front sender (item.Pulse moment) = took_pulse front moment
+took refused front sender item.End = took_end front sender
+took refused front sender item.Close = took_close front sender
+
+-- ---- without batches
+
+abbrev pub spelled_one : Parcel → List Passage
+spelled_one (Batch jobs) = map Admitted jobs
+spelled_one (Pulse moment) = Pulsed moment ∷ []
+spelled_one (Return job cause) = Returned job cause ∷ []
+spelled_one Last = []
+
+-- parcels as packets, pulses and returned packets
+abbrev pub spelled : List Parcel → List Passage
+spelled parcels = flat_map spelled_one parcels
+
+-- the group held
+abbrev pub held_by : FrontState → List Passage
+held_by front = map Admitted front.held
+
+-- behind a Close or a stop nothing is held
+pub record IsFront (front : FrontState) : Type 0 where
+  pub few : front.submitters ≤ 16
+  pub clear : (front.closed || front.stopped) ≡ true → front.held ≡ []

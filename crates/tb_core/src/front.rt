@@ -1,0 +1,248 @@
+//! The front: tickets in, batches out.
+
+ghost use Rattle.std.specs.Prelude.{◌≡◌, ◌≤◌, ◌++◌, ◌∷◌, [], true, false, Some, None, IfOk, OnOk, IfErr, IfSome, IfNone};
+
+use crate::parcel::{Cause, Parcel};
+use arrayvec::ArrayVec;
+use std::alloc::Global;
+use std::marker::Model;
+use tb_batch::{Batch, Batcher, Offered};
+use tb_work::{Item, Job, Moment, Refusal, Ticket};
+
+const MOST_SUBMITTERS: u32 = 16;
+
+/// Takes the tickets of a queue in order, joins neighbouring packets to batches, and hands these on
+/// with the pulses, and with the packets that come back uncommitted.
+#[derive(Drop)]
+pub struct Front {
+    batcher: Batcher,
+    submitters: u32,
+    closed: bool,
+    stopped: bool,
+    ended: [bool; 17],
+}
+
+impl Model for Front {
+    ghost use Rattle.tb_core.specs.Front.{FrontState, IsFront};
+
+    ghost Value = { FrontState };
+
+    ghost view = { λ front. record {
+      limit = front.batcher.limit;
+      submitters = front.submitters;
+      held = front.batcher.jobs;
+      closed = front.closed;
+      stopped = front.stopped;
+      ended = front.ended;
+    } };
+
+    ghost invariant = { λ front. IsFront (record {
+      limit = front.batcher.limit;
+      submitters = front.submitters;
+      held = front.batcher.jobs;
+      closed = front.closed;
+      stopped = front.stopped;
+      ended = front.ended;
+    }) };
+}
+
+impl Front {
+    ghost use Rattle.std.specs.Prelude.{Bool, replicate};
+    ghost use Rattle.tb_batch.specs.Grouping.{IsGroup};
+    ghost use Rattle.tb_work.specs.declared.item.Item.TheVariants as item;
+    ghost use Rattle.tb_core.specs.declared.parcel.Parcel.TheVariants as parcel;
+    ghost use Rattle.tb_core.specs.Passage.{passed};
+    ghost use Rattle.tb_core.specs.Front.{FrontState, IsFront, opening_refusal, handing, holding, sealed, all_ended, took, took_packet, took_pulse, took_end, took_close, spelled, held_by};
+
+    /// A front that took nothing. The limit is 1 to 8190 events, and there are 1 to 16 submitters; the
+    /// limit is looked at first. Takes no memory.
+    pub fn new(alloc: Global, limit: u32, submitters: u32) -> Result<Front, Refusal>
+        ensures front { IfOk result (λ front. front ≡ record { limit = limit; submitters = submitters; held = []; closed = false; stopped = false; ended = replicate 17 false }) }
+        ensures opens { OnOk result (opening_refusal limit submitters ≡ None) }
+        ensures refusal { IfErr result (λ refusal. opening_refusal limit submitters ≡ Some refusal) }
+    {
+        let batcher = Batcher::new(alloc, limit)?;
+        if submitters < 1 || submitters > MOST_SUBMITTERS {
+            return Err(Refusal::BadSubmitters);
+        }
+        Ok(Front {
+            batcher,
+            submitters,
+            closed: false,
+            stopped: false,
+            ended: [false; 17],
+        })
+    }
+
+    /// Whether an End or Close of each sender was taken.
+    pub fn finished(&self) -> bool
+        ensures { result ≡ all_ended self.now }
+    {
+        let ended = &self.ended[..self.submitters as usize + 1];
+        ended.iter().all(|ended| *ended)
+    }
+
+    /// The group held, which is then no longer held; None where nothing was. Takes no memory.
+    pub fn idle(&mut self) -> Option<Batch>
+        ensures left { self.new ≡ holding self.old [] }
+        ensures some { IfSome result (λ batch. batch ≡ self.old.held) }
+        ensures none { IfNone result (self.old.held ≡ []) }
+        ensures lawful { IsGroup self.old.limit self.old.held }
+    {
+        self.batcher.seal()
+    }
+
+    /// The group held, as a parcel.
+    fn seal(&mut self) -> ArrayVec<Parcel, 2>
+        ensures left { self.new ≡ holding self.old [] }
+        ensures sealed { result.items ≡ sealed self.old.held }
+    {
+        let mut parcels = ArrayVec::new();
+        if let Some(batch) = self.batcher.seal() {
+            parcels.push(Parcel::Batch(batch));
+        }
+        parcels
+    }
+
+    fn seal_before(&mut self, parcel: Parcel) -> ArrayVec<Parcel, 2>
+        ensures left { self.new ≡ holding self.old [] }
+        ensures sealed { result.items ≡ sealed self.old.held ++ parcel ∷ [] }
+    {
+        let mut parcels = self.seal();
+        parcels.push(parcel);
+        parcels
+    }
+
+    fn hand_back(job: Job, cause: Cause) -> ArrayVec<Parcel, 2>
+        ensures { result.items ≡ parcel.Return job cause ∷ [] }
+    {
+        let mut parcels = ArrayVec::new();
+        parcels.push(Parcel::Return(job, cause));
+        parcels
+    }
+
+    /// A packet. It comes back where its growth is refused, and nothing has changed.
+    fn offer(&mut self, job: Job) -> Result<ArrayVec<Parcel, 2>, Job>
+        ensures ok { IfOk result (λ parcels. handing self.new parcels.items ≡ took_packet false self.old job) }
+        ensures err { IfErr result (λ back. (back ≡ job) × (self.new ≡ self.old)) }
+        ensures front { IsFront self.old }
+    {
+        if self.closed {
+            return Ok(Front::hand_back(job, Cause::Shutdown));
+        }
+        if self.stopped {
+            return Ok(Front::hand_back(job, Cause::Stopped));
+        }
+        let mut parcels = ArrayVec::new();
+        match self.batcher.offer(job) {
+            Offered::Joined => Ok(parcels),
+            Offered::Sealed(batch) => {
+                parcels.push(Parcel::Batch(batch));
+                Ok(parcels)
+            }
+            Offered::Refused(job, _refused) => Err(job),
+        }
+    }
+
+    /// A packet whose growth is refused.
+    fn refuse(&mut self, job: Job) -> ArrayVec<Parcel, 2>
+        ensures took { handing self.new result.items ≡ took_packet true self.old job }
+        ensures front { IsFront self.old }
+    {
+        if self.closed {
+            return Front::hand_back(job, Cause::Shutdown);
+        }
+        if self.stopped {
+            return Front::hand_back(job, Cause::Stopped);
+        }
+        let parcels = self.seal_before(Parcel::Return(job, Cause::Stopped));
+        self.stopped = true;
+        parcels
+    }
+
+    fn pulse(&mut self, moment: Moment) -> ArrayVec<Parcel, 2>
+        ensures took { handing self.new result.items ≡ took_pulse self.old moment }
+        ensures front { IsFront self.old }
+    {
+        if self.closed || self.stopped {
+            return ArrayVec::new();
+        }
+        self.seal_before(Parcel::Pulse(moment))
+    }
+
+    fn end(&mut self, sender: u32) -> ArrayVec<Parcel, 2>
+        requires { sender ≤ self.old.submitters }
+        ensures took { handing self.new result.items ≡ took_end self.old sender }
+        ensures front { IsFront self.old }
+    {
+        self.ended[sender as usize] = true;
+        if self.finished() {
+            self.seal()
+        } else {
+            ArrayVec::new()
+        }
+    }
+
+    fn close(&mut self, sender: u32) -> ArrayVec<Parcel, 2>
+        requires { sender ≤ self.old.submitters }
+        ensures took { handing self.new result.items ≡ took_close self.old sender }
+        ensures front { IsFront self.old }
+    {
+        self.ended[sender as usize] = true;
+        let parcels = self.seal();
+        self.closed = true;
+        parcels
+    }
+
+    /// One ticket, where its growth isn't refused. Otherwise it comes back, and nothing has changed.
+    pub(crate) fn try_take(&mut self, ticket: Ticket) -> Result<ArrayVec<Parcel, 2>, Ticket>
+        requires { ticket.sender ≤ self.old.submitters }
+        ensures ok { IfOk result (λ parcels. handing self.new parcels.items ≡ took false self.old ticket.sender ticket.item) }
+        ensures err { IfErr result (λ back. (back ≡ ticket) × (self.new ≡ self.old)) }
+        ensures front { IsFront self.old }
+    {
+        let Ticket { sender, item } = ticket;
+        match item {
+            Item::Packet(job) => match self.offer(job) {
+                Ok(parcels) => Ok(parcels),
+                Err(job) => Err(Ticket {
+                    sender,
+                    item: Item::Packet(job),
+                }),
+            },
+            Item::Pulse(moment) => Ok(self.pulse(moment)),
+            Item::End => Ok(self.end(sender)),
+            Item::Close => Ok(self.close(sender)),
+        }
+    }
+
+    /// One ticket, as `take` takes it where its growth is refused. Takes no memory.
+    pub fn take_as_refused(&mut self, ticket: Ticket) -> ArrayVec<Parcel, 2>
+        requires { ticket.sender ≤ self.old.submitters }
+        ensures took { handing self.new result.items ≡ took true self.old ticket.sender ticket.item }
+        ensures front { IsFront self.old }
+    {
+        let Ticket { sender, item } = ticket;
+        match item {
+            Item::Packet(job) => self.refuse(job),
+            Item::Pulse(moment) => self.pulse(moment),
+            Item::End => self.end(sender),
+            Item::Close => self.close(sender),
+        }
+    }
+
+    /// One ticket. A packet joins the group held, or has that sealed and begins the next one; a pulse, a
+    /// Close and the End that makes all ended seal it (batching of tb_client, of neighbours alone). A packet
+    /// behind a Close comes back; so does one whose growth is refused, and each behind that.
+    pub fn take(&mut self, ticket: Ticket) -> ArrayVec<Parcel, 2>
+        requires { ticket.sender ≤ self.old.submitters }
+        ensures took { (refused : Bool) × (handing self.new result.items ≡ took refused self.old ticket.sender ticket.item) }
+        ensures accounted { spelled result.items ++ held_by self.new ≡ held_by self.old ++ passed self.old.closed self.new.stopped ticket.item }
+        ensures same { self.new.submitters ≡ self.old.submitters }
+    {
+        match self.try_take(ticket) {
+            Ok(parcels) => parcels,
+            Err(ticket) => self.take_as_refused(ticket),
+        }
+    }
+}

@@ -1,0 +1,24 @@
+use tb_batch::Batch;
+use tb_work::{Job, Moment};
+
+/// Why a packet comes back uncommitted.
+#[derive(Clone, Copy, Debug, PartialEq, Eq)]
+pub enum Cause {
+    Shutdown,
+    Stopped,
+}
+
+/// What the front hands on. Last, which is the default, is the end of it.
+#[derive(Drop)]
+pub enum Parcel {
+    Batch(Batch),
+    Pulse(Moment),
+    Return(Job, Cause),
+    Last,
+}
+
+impl Default for Parcel {
+    fn default() -> Parcel {
+        Parcel::Last
+    }
+}
