@@ -1,5 +1,5 @@
 -- What a front hands out and then holds is what it held, followed by what the ticket comes to.
-use Rattle.std.proofs.Common.{refl, sym, ap, subst, ◌∙◌, ◌≡◌, ℕ, Bool, true, false, List, [], ◌∷◌, ◌++◌, map, append-nil}
+use Rattle.std.proofs.Common.{refl, sym, ap, subst, ◌∙◌, ◌≡◌, ℕ, Bool, true, false, List, [], ◌∷◌, ◌++◌, map, append-nil, append_assoc}
 use Rattle.std.specs.Prelude.{◌||◌, if◌then◌else◌}
 use Rattle.std.proofs.lemmas.List.{map-append}
 use Rattle.std.proofs.lemmas.Grind.{flat_map-append}
@@ -10,8 +10,9 @@ use Rattle.tb_batch.specs.Grouping.{is_taken}
 use Rattle.tb_core.specs.declared.parcel.Cause.TheVariants.{Shutdown, Stopped}
 use Rattle.tb_core.specs.declared.parcel.Parcel.{Parcel}
 use Rattle.tb_core.specs.declared.parcel.Parcel.TheVariants.{Pulse, Return}
-use Rattle.tb_core.specs.Passage.{Passage, Admitted, Returned, passed}
+use Rattle.tb_core.specs.Passage.{Passage, Admitted, Returned, passed, Passes, is_close, stops_at}
 use Rattle.tb_core.specs.Front.{FrontState, Taken, IsFront, handing, holding, sealed, with_end, all_ended, took, took_packet, took_pulse, spelled, spelled_one, held_by}
+use Rattle.tb_core.proofs.Passing.{passes_more}
 
 abbrev pub IsAccounted : FrontState → Item → Taken → Type 0
 IsAccounted front item taken = spelled taken.parcels ++ held_by taken.front ≡ held_by front ++ passed front.closed taken.front.stopped item
@@ -61,3 +62,57 @@ accounted refused front sender item.Close is = sealed_alone front.held
 -- the same for a front and parcels that have names
 pub taken_is_accounted : (refused : Bool) (front next : FrontState) (sender : ℕ) (x : Item) (parcels : List Parcel) → IsFront front → handing next parcels ≡ took refused front sender x → IsAccounted front x (handing next parcels)
 taken_is_accounted refused front next sender x parcels is took_is = subst (IsAccounted front x) (sym took_is) (accounted refused front sender x is)
+
+-- ---- whether it is closed and stopped then
+
+or_true : (b : Bool) → (b || true) ≡ true
+or_true true = refl
+or_true false = refl
+
+or_false : (b : Bool) → (b || false) ≡ b
+or_false true = refl
+or_false false = refl
+
+either_same : {X : Type 0} (view : Taken → X) (b : Bool) (x y : Taken) (v : X) → view x ≡ v → view y ≡ v → view (if b then x else y) ≡ v
+either_same view true x y v e f = e
+either_same view false x y v e f = f
+
+closed_then : (refused : Bool) (front : FrontState) (sender : ℕ) (x : Item) → (took refused front sender x).front.closed ≡ (front.closed || is_close x)
+closed_then refused front sender (item.Packet job) =
+    let closed : Taken → Bool = λ taken. taken.front.closed in
+    either_same closed front.closed _ _ front.closed refl
+    (either_same closed front.stopped _ _ front.closed refl (either_same closed refused _ _ front.closed refl (either_same closed (is_taken front.limit front.held job) _ _ front.closed refl refl)))
+    ∙ sym (or_false front.closed)
+closed_then refused front sender (item.Pulse moment) = either_same (λ taken. taken.front.closed) (front.closed || front.stopped) _ _ front.closed refl refl ∙ sym (or_false front.closed)
+closed_then refused front sender item.End = either_same (λ taken. taken.front.closed) (all_ended (with_end front sender)) _ _ front.closed refl refl ∙ sym (or_false front.closed)
+closed_then refused front sender item.Close = sym (or_true front.closed)
+
+packet_stops : (refused taken closed stopped : Bool) (front : FrontState) (job : Numbered) → front.closed ≡ closed → front.stopped ≡ stopped → is_taken front.limit front.held job ≡ taken →
+    (took_packet refused front job).front.stopped ≡ (stopped || stops_at refused closed (item.Packet job))
+packet_stops true taken true stopped front job c s t = rw c (s ∙ sym (or_false stopped))
+packet_stops false taken true stopped front job c s t = rw c (s ∙ sym (or_false stopped))
+packet_stops refused taken false true front job c s t = rw (c, s) refl
+packet_stops true taken false false front job c s t = rw (c, s) refl
+packet_stops false true false false front job c s t = rw (c, s, t) refl
+packet_stops false false false false front job c s t = rw (c, s, t) refl
+
+stopped_then : (refused : Bool) (front : FrontState) (sender : ℕ) (x : Item) → (took refused front sender x).front.stopped ≡ (front.stopped || stops_at refused front.closed x)
+stopped_then refused front sender (item.Packet job) = packet_stops refused (is_taken front.limit front.held job) front.closed front.stopped front job refl refl refl
+stopped_then refused front sender (item.Pulse moment) = either_same (λ taken. taken.front.stopped) (front.closed || front.stopped) _ _ front.stopped refl refl ∙ sym (or_false front.stopped)
+stopped_then refused front sender item.End = either_same (λ taken. taken.front.stopped) (all_ended (with_end front sender)) _ _ front.stopped refl refl ∙ sym (or_false front.stopped)
+stopped_then refused front sender item.Close = sym (or_false front.stopped)
+
+-- ---- the queue with the ticket behind it
+
+pub taken_passes : (refused : Bool) (front next : FrontState) (sender : ℕ) (x : Item) (parcels : List Parcel) (items : List Item) (sent : List Passage) → IsFront front → handing next parcels ≡ took refused front sender x →
+    Passes items front.closed front.stopped (sent ++ held_by front) → Passes (items ++ x ∷ []) next.closed next.stopped ((sent ++ spelled parcels) ++ held_by next)
+taken_passes refused front next sender x parcels items sent is took_is passes =
+    let closed : next.closed ≡ (front.closed || is_close x) = ap (λ (taken : Taken). taken.front.closed) took_is ∙ closed_then refused front sender x in
+    let stopped : next.stopped ≡ (front.stopped || stops_at refused front.closed x) = ap (λ (taken : Taken). taken.front.stopped) took_is ∙ stopped_then refused front sender x in
+    let account = taken_is_accounted refused front next sender x parcels is took_is in
+    let all : (sent ++ held_by front) ++ passed front.closed next.stopped x ≡ (sent ++ spelled parcels) ++ held_by next =
+    append_assoc sent (held_by front) (passed front.closed next.stopped x) ∙ ap (λ passages. sent ++ passages) (sym account) ∙ sym (append_assoc sent (spelled parcels) (held_by next)) in
+    subst (Passes (items ++ x ∷ []) next.closed next.stopped) all
+    (subst (λ b. Passes (items ++ x ∷ []) b next.stopped ((sent ++ held_by front) ++ passed front.closed next.stopped x)) (sym closed)
+    (subst (λ b. Passes (items ++ x ∷ []) (front.closed || is_close x) b ((sent ++ held_by front) ++ passed front.closed b x)) (sym stopped)
+    (passes_more refused items front.closed front.stopped (sent ++ held_by front) x passes)))

@@ -1,1 +1,7 @@
+mod Passing
 mod Accounting
+mod Bodies
+mod Committing
+mod Batches
+mod Recording
+mod Growing

@@ -1,2 +1,6 @@
 pub mod Passage
 pub mod Front
+pub mod Ledger
+pub mod Admitted
+pub mod Answered
+pub mod Journal

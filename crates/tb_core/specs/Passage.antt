@@ -1,6 +1,8 @@
 -- What becomes of packets and pulses on their way to the state machine; no batch is in it.
-use Rattle.std.specs.Prelude.{ℕ, Bool, ◌||◌, List, [], ◌∷◌, if◌then◌else◌}
+use Rattle.std.specs.Prelude.{◌≡◌, ◌<◌, ℕ, ◌+◌, Bool, true, false, not, ◌&&◌, ◌||◌, nat_lt, List, [], ◌∷◌, ◌++◌, length, Option, Some, None, is_some, IfSome, if◌then◌else◌}
+use Rattle.std.specs.List.{list_any}
 use Rattle.tb_work.specs.Job.{Numbered}
+use Rattle.tb_work.specs.Queue.{ahead}
 use Rattle.tb_work.specs.declared.item.Item.{Item}
 use Rattle.tb_work.specs.declared.item.Item.TheVariants as item
 use Rattle.tb_core.specs.declared.parcel.Cause.{Cause}
@@ -12,6 +14,8 @@ pub data Passage : Type 0 where
   Pulsed : (moment : ℕ) → Passage
   Returned : Numbered → Cause → Passage
 
+-- ---- one item
+
 -- what an item comes to, where a Close was taken before it, or a growth was refused before it or at it
 abbrev pub passed : Bool → Bool → Item → List Passage
 passed closed stopped (item.Packet job) =
@@ -19,3 +23,75 @@ passed closed stopped (item.Packet job) =
 passed closed stopped (item.Pulse moment) = if closed || stopped then [] else Pulsed moment ∷ []
 passed closed stopped item.End = []
 passed closed stopped item.Close = []
+
+-- ---- a queue
+
+-- where an item stands: with so many packets and pulses in front of it, or behind the Close
+pub data Place : Type 0 where
+  Ahead : ℕ → Place
+  Behind : Place
+
+abbrev pub is_behind : Place → Bool
+is_behind (Ahead k) = false
+is_behind Behind = true
+
+-- the place behind an item
+abbrev pub next_place : Place → Item → Place
+next_place Behind item = Behind
+next_place (Ahead k) (item.Packet job) = Ahead (k + 1)
+next_place (Ahead k) (item.Pulse moment) = Ahead (k + 1)
+next_place (Ahead k) item.End = Ahead k
+next_place (Ahead k) item.Close = Behind
+
+abbrev pub place_behind : Place → List Item → Place
+place_behind place [] = place
+place_behind place (item ∷ items) = place_behind (next_place place item) items
+
+-- whether a growth was refused before so many packets and pulses, or at the next one
+abbrev pub is_stopped_at : Option ℕ → ℕ → Bool
+is_stopped_at None k = false
+is_stopped_at (Some through) k = if nat_lt k through then false else true
+
+-- what an item comes to at its place, where just so many were let through before a growth was refused, or all were
+abbrev pub passed_at : Option ℕ → Place → Item → List Passage
+passed_at stop (Ahead k) item = passed false (is_stopped_at stop k) item
+passed_at stop Behind item = passed true (is_some stop) item
+
+abbrev pub passed_from : Option ℕ → Place → List Item → List Passage
+passed_from stop place [] = []
+passed_from stop place (item ∷ items) = passed_at stop place item ++ passed_from stop (next_place place item) items
+
+-- what a queue comes to
+abbrev pub all_passed : Option ℕ → List Item → List Passage
+all_passed stop items = passed_from stop (Ahead 0) items
+
+abbrev pub is_stopped : Passage → Bool
+is_stopped (Admitted job) = false
+is_stopped (Pulsed moment) = false
+is_stopped (Returned job Shutdown) = false
+is_stopped (Returned job Stopped) = true
+
+-- the passages are what a front made of the items: it is closed where a Close is among them, and where it stopped, it
+-- did so at a packet ahead of the Close, and let no more through
+pub record Passes (items : List Item) (closed stopped : Bool) (passages : List Passage) : Type 0 where
+  pub stop : Option ℕ
+  pub all : passages ≡ all_passed stop items
+  pub shut : closed ≡ is_behind (place_behind (Ahead 0) items)
+  pub stops : stopped ≡ is_some stop
+  pub before : IfSome stop (λ through. through < length (ahead items))
+  pub told : stopped ≡ true → list_any is_stopped passages ≡ true
+
+-- ---- one step of a front
+
+abbrev pub is_close : Item → Bool
+is_close (item.Packet job) = false
+is_close (item.Pulse moment) = false
+is_close item.End = false
+is_close item.Close = true
+
+-- whether a front stops at an item: at a packet that is ahead of the Close, and whose growth is refused
+abbrev pub stops_at : Bool → Bool → Item → Bool
+stops_at refused closed (item.Packet job) = refused && not closed
+stops_at refused closed (item.Pulse moment) = false
+stops_at refused closed item.End = false
+stops_at refused closed item.Close = false

@@ -47,11 +47,11 @@ impl Model for Front {
 }
 
 impl Front {
-    ghost use Rattle.std.specs.Prelude.{Bool, replicate};
+    ghost use Rattle.std.specs.Prelude.{Bool, List, replicate};
     ghost use Rattle.tb_batch.specs.Grouping.{IsGroup};
-    ghost use Rattle.tb_work.specs.declared.item.Item.TheVariants as item;
+    ghost use Rattle.tb_work.specs.declared.item.Item.{Item as ItemValue};
     ghost use Rattle.tb_core.specs.declared.parcel.Parcel.TheVariants as parcel;
-    ghost use Rattle.tb_core.specs.Passage.{passed};
+    ghost use Rattle.tb_core.specs.Passage.{Passage, Passes, passed};
     ghost use Rattle.tb_core.specs.Front.{FrontState, IsFront, opening_refusal, handing, holding, sealed, all_ended, took, took_packet, took_pulse, took_end, took_close, spelled, held_by};
 
     /// A front that took nothing. The limit is 1 to 8190 events, and there are 1 to 16 submitters; the
@@ -238,6 +238,8 @@ impl Front {
         requires { ticket.sender ≤ self.old.submitters }
         ensures took { (refused : Bool) × (handing self.new result.items ≡ took refused self.old ticket.sender ticket.item) }
         ensures accounted { spelled result.items ++ held_by self.new ≡ held_by self.old ++ passed self.old.closed self.new.stopped ticket.item }
+        ensures passes { (items : List ItemValue) (sent : List Passage) → Passes items self.old.closed self.old.stopped (sent ++ held_by self.old)
+            → Passes (items ++ ticket.item ∷ []) self.new.closed self.new.stopped ((sent ++ spelled result.items) ++ held_by self.new) }
         ensures same { self.new.submitters ≡ self.old.submitters }
     {
         match self.try_take(ticket) {

@@ -87,7 +87,7 @@ events_outcome-append operation clock facts xs ys h closed =
     ∙ chains_outcome-append operation clock facts (chains_of operation.is_linked xs) (chains_of operation.is_linked ys) h
     ∙ ap (λ (es : List _). then_outcome first (events_outcome operation (clock_after clock (length es)) first.facts ys)) (laid-chains_of operation.is_linked xs)
 
-length-outcome : {Event : Type 0} (operation : Operation Event) (clock : ℕ) (facts : Facts) (events : List Event) → length (events_outcome operation clock facts events).results ≡ length events
+pub length-outcome : {Event : Type 0} (operation : Operation Event) (clock : ℕ) (facts : Facts) (events : List Event) → length (events_outcome operation clock facts events).results ≡ length events
 length-outcome operation clock facts events = length-results operation clock facts (chains_of operation.is_linked events) ∙ ap length (laid-chains_of operation.is_linked events)
 
 -- ---- failures of a range
@@ -150,7 +150,7 @@ rebased-failures offset index (code ∷ codes) =
     ∙ ap (λ i. failing i code (failures_from (index + 1) codes)) here
 
 -- those of some results in the middle
-cut-middle : (before codes after : List ℕ) → cut (length before) (length codes) (failures_from 0 (before ++ (codes ++ after))) ≡ failures_from 0 codes
+pub cut-middle : (before codes after : List ℕ) → cut (length before) (length codes) (failures_from 0 (before ++ (codes ++ after))) ≡ failures_from 0 codes
 cut-middle before codes after =
     let offset = length before in
     let count = length codes in

@@ -1,0 +1,79 @@
+-- A ledger with one entry more.
+use Rattle.std.proofs.Common.{refl, sym, ap, ◌∙◌, arith, ◌≡◌, ◌≤◌, ℕ, ◌+◌, ◌^◌, Bool, true, false, List, [], ◌∷◌, ◌++◌, map, length, length-append, append-nil}
+use Rattle.std.specs.Prelude.{◌==◌, ◌||◌, nat_lt, fold, Result, Ok, Err, is_err, OnOk}
+use Rattle.std.specs.List.{flat_map}
+use Rattle.std.proofs.lemmas.List.{map-append, length-map}
+use Rattle.std.proofs.lemmas.Grind.{flat_map-append}
+use Rattle.std.proofs.lemmas.Bool.{eqb-true}
+use Rattle.std.proofs.lemmas.Bool.Decides.{nat_tests}
+use Rattle.tb_layout.specs.Events.{events_of}
+use Rattle.tb_machine.specs.Replay.{State, after_packet, after_item, opening}
+use Rattle.tb_work.specs.Job.{Numbered, events_in}
+use Rattle.tb_work.specs.Work.{Work, work_of}
+use Rattle.tb_batch.specs.Batch.{body_of}
+use Rattle.tb_batch.specs.declared.parts.Parts.{Parts}
+use Rattle.tb_core.specs.Answered.{AreAnswered}
+use Rattle.tb_core.specs.Journal.{IsLedger}
+use Rattle.tb_core.specs.Ledger.{LedgerState, works, item_of, halts}
+use Rattle.tb_core.proofs.Batches.{gives_each, gives_one}
+
+-- what holds of a call that succeeded
+pub given : {A E : Type 0} (result : Result A E) (P : Type 0) → is_err result ≡ false → OnOk result P → P
+given (Ok x) P ok holds = holds
+given (Err e) P ok holds = cc
+
+fold-append : {A B : Type 0} (f : A → B → A) (a : A) (xs ys : List B) → fold f a (xs ++ ys) ≡ fold f (fold f a xs) ys
+fold-append f a [] ys = refl
+fold-append f a (x ∷ xs) ys = fold-append f (f a x) xs ys
+
+works-more : (groups : List (List Work)) (group : List Work) → flat_map (λ g. g) (groups ++ group ∷ []) ≡ flat_map (λ g. g) groups ++ group
+works-more groups group = flat_map-append (λ g. g) groups (group ∷ []) ∙ ap (λ rest. flat_map (λ g. g) groups ++ rest) (append-nil group)
+
+-- there were places
+within : (refused : Bool) (ledger : LedgerState) (count : ℕ) → halts refused ledger count ≡ false → length (works ledger) + count ≤ 2 ^ 63
+within refused ledger count goes = by ledger.stopped refused (nat_lt (2 ^ 63) (length (works ledger) + count)) refl goes
+  where
+    at_most : (n most : ℕ) → nat_lt most n ≡ false → n ≤ most
+    at_most n most h = grind (arith, nat_tests)
+
+    by : (a b c : Bool) → nat_lt (2 ^ 63) (length (works ledger) + count) ≡ c → (a || (b || c)) ≡ false → length (works ledger) + count ≤ 2 ^ 63
+    by true b c is h = cc
+    by false true c is h = cc
+    by false false true is h = cc
+    by false false false is h = at_most (length (works ledger) + count) (2 ^ 63) is
+
+-- the packets of jobs, one by one
+jobs_after : (state : State) (jobs : List Numbered) → fold after_packet state (map (λ (job : Numbered). events_in job.packet) jobs) ≡ fold after_item state (map item_of (map work_of jobs))
+jobs_after state [] = refl
+jobs_after state (job ∷ jobs) = jobs_after (after_packet state (events_in job.packet)) jobs
+
+-- the state behind a batch
+batch_state : (state : State) (parts : Parts) → AreAnswered state parts →
+    after_packet state (events_of parts.operation parts.body.items) ≡ fold after_item state (map item_of (map work_of parts.jobs.items))
+batch_state state parts answered =
+    ap (λ body. after_packet state (events_of parts.operation body)) answered.body ∙ by (parts.operation == 131) refl ∙ jobs_after state parts.jobs.items
+  where
+    none : (a : ℕ) → (131 == a) ≡ false → parts.operation ≡ 131 → (parts.operation == a) ≡ false
+    none a h is = ap (λ n. n == a) is ∙ h
+
+    by : (b : Bool) → (parts.operation == 131) ≡ b → after_packet state (events_of parts.operation (body_of parts.jobs.items)) ≡ fold after_packet state (map (λ (job : Numbered). events_in job.packet) parts.jobs.items)
+    by true is =
+        ap (λ op. after_packet state (events_of op (body_of parts.jobs.items))) (eqb-true parts.operation 131 is)
+        ∙ (gives_one 0 parts.operation state parts.jobs.items answered.lawful answered.admitted is).states
+    by false is = (gives_each 0 parts.operation state parts.jobs.items answered.in_range answered.lawful answered.admitted is).states
+
+pub batch_entered : (ledger : LedgerState) (state next : State) (places : ℕ) (groups : List (List Work)) (parts : Parts) (count : ℕ) → IsLedger ledger state places → AreAnswered state parts →
+    next ≡ after_packet state (events_of parts.operation parts.body.items) → groups ≡ ledger.groups ++ map work_of parts.jobs.items ∷ [] → count ≡ length parts.jobs.items → halts false ledger count ≡ false →
+    IsLedger (record ledger { groups = groups }) next (places + count)
+batch_entered ledger state next places groups parts count is answered next_is groups_is count_is goes =
+    let group = map work_of parts.jobs.items in
+    let all : flat_map (λ g. g) groups ≡ works ledger ++ group = ap (flat_map (λ g. g)) groups_is ∙ works-more ledger.groups group in
+    let room = within false ledger count goes in
+    record {
+      machine = next_is ∙ batch_state state parts answered ∙ ap (λ s. fold after_item s (map item_of group)) is.machine
+          ∙ sym (fold-append after_item (opening ledger.opening) (map item_of (works ledger)) (map item_of group))
+          ∙ ap (fold after_item (opening ledger.opening)) (sym (map-append item_of (works ledger) group) ∙ ap (map item_of) (sym all));
+      counted = (let e : places + count ≡ length (works ledger ++ group) = omega (arith, is.counted, count_is, length-append (works ledger) group, length-map parts.jobs.items work_of) in e) ∙ ap length (sym all);
+      few = omega (arith, is.counted, room);
+      opening = is.opening;
+    }

@@ -1,0 +1,18 @@
+use Rattle.std.proofs.Common.{◌∙◌, ap, sym, false, map, length, ◌++◌, ◌∷◌, []}
+use Rattle.tb_work.specs.Work.{work_of}
+use Rattle.tb_core.specs.Ledger.{LedgerState, group_of, halts}
+use Rattle.tb_core.proofs.Growing.{given, batch_entered}
+use Rattle.tb_core.proofs.ledger.Ledger.commit.Goals as goal
+
+pub invariant_of-self-2 : goal.invariant_of-self-2
+invariant_of-self-2 c =
+    let inside = c.self.inside in
+    let ledger : LedgerState = record { opening = inside.opening; groups = map group_of inside.entries.items; stopped = inside.stopped } in
+    let parts = c.take_batch.new.parts in
+    let ok = sym c.is_err-2.ensures.value ∙ c.if-is_err-2.false in
+    let answered = given c.take_batch.result _ ok c.take_batch.ensures.answered in
+    let next = given c.take_batch.result _ ok c.take_batch.ensures.state in
+    let groups = c.record-replies.ensures.entry ∙ ap (λ items. map group_of items ++ map work_of parts.jobs.items ∷ []) c.reserve.ensures.items in
+    let count = ap length (c.jobs-count.ensures.jobs ∙ sym c.into_parts-parts.ensures.jobs ∙ sym c.take_batch.ensures.jobs) in
+    let goes = ap (λ (l : LedgerState). halts false l (length c.jobs-count.result.now)) c.self.view_is ∙ sym c.halts_at.ensures ∙ c.if-halts_at.false in
+    batch_entered ledger inside.machine c.take_batch.new.machine inside.places (map group_of c.record-replies.new.entries.items) parts (length c.jobs-count.result.now) c.self.invariant answered next groups count goes

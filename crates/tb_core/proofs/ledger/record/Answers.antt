@@ -1,0 +1,21 @@
+use Rattle.std.proofs.Common.{◌∙◌, ap, map, ◌++◌, ◌∷◌, []}
+use Rattle.std.proofs.lemmas.List.{map-append}
+use Rattle.tb_core.specs.Ledger.{group_of, packets_of}
+use Rattle.tb_core.proofs.Batches.{entry_has}
+use Rattle.tb_core.proofs.Recording.{recorded}
+use Rattle.tb_core.proofs.ledger.record.Goals as goal
+
+pub new-requires : goal.new-requires
+new-requires c =
+    let answered = c.requires.answered in
+    rw c.answer-answer.ensures (recorded c.args.place answered.0 c.args.parts c.requires.fits answered.1).fits
+
+pub returns-clause-entry : goal.returns-clause-entry
+returns-clause-entry c =
+    let answered = c.requires.answered.1 in
+    let parts = c.args.parts in
+    let packets = ap (λ body. packets_of parts.operation body parts.stubs.items) answered.body ∙ ap (packets_of parts.operation _) answered.stubs ∙ entry_has parts.operation parts.jobs.items answered.lawful answered.admitted in
+    rw c.push_reserved.ensures.items (map-append group_of c.args.entries.now.items _ ∙ ap (λ group. map group_of c.args.entries.now.items ++ group ∷ []) packets)
+
+pub returns-clause-replies : goal.returns-clause-replies
+returns-clause-replies c = λ state answered. c.new.ensures ∙ rw c.answer-answer.ensures (recorded c.args.place state c.args.parts c.requires.fits answered).replies

@@ -1,0 +1,27 @@
+-- The parts of a batch that the machine took.
+use Rattle.std.specs.Prelude.{◌≡◌, ◌≤◌, ℕ, ◌==◌, true, false, List, map, if◌then◌else◌}
+use Rattle.tb_layout.specs.declared.account.Account.{Account}
+use Rattle.tb_layout.specs.declared.failure.Failure.{Failure}
+use Rattle.tb_layout.specs.Events.{events_of, ids_of}
+use Rattle.tb_machine.specs.Clock.{clock_max}
+use Rattle.tb_machine.specs.Replay.{State, failures_of, accounts_found}
+use Rattle.tb_work.specs.Job.{stub_of}
+use Rattle.tb_work.specs.declared.answer.Answer.{Answer}
+use Rattle.tb_work.specs.declared.answer.Answer.TheVariants.{Failures, Accounts}
+use Rattle.tb_batch.specs.Batch.{body_of, IsLawful}
+use Rattle.tb_batch.specs.declared.parts.Parts.{Parts}
+use Rattle.tb_core.specs.Admitted.{AreAdmitted}
+
+-- accounts answer a lookup, failures all else
+abbrev pub answer_in : ℕ → List Failure → List Account → Answer
+answer_in operation failures accounts = if operation == 131 then Accounts accounts else Failures failures
+
+-- they are those of a batch, with the answer to all of its events in a state
+pub record AreAnswered (state : State) (parts : Parts) : Type 0 where
+  pub in_range : state.clock ≤ clock_max
+  pub lawful : IsLawful parts.operation parts.jobs.items
+  pub admitted : AreAdmitted parts.jobs.items
+  pub stubs : parts.stubs.items ≡ map stub_of parts.jobs.items
+  pub body : parts.body.items ≡ body_of parts.jobs.items
+  pub failures : (parts.operation == 131) ≡ false → parts.failures.items ≡ failures_of state (events_of parts.operation parts.body.items)
+  pub accounts : (parts.operation == 131) ≡ true → parts.accounts.items ≡ accounts_found state.facts (ids_of parts.body.items)

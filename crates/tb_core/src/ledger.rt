@@ -1,0 +1,289 @@
+//! The ledger: the journal, and the machine that it gives.
+
+ghost use Rattle.std.specs.Prelude.{◌≡◌, ◌==◌, ◌<◌, ◌≤◌, ◌+◌, ◌^◌, ◌++◌, ◌∷◌, [], ℕ, List, Bool, false, true, length, map, vec_len, vec_capacity, OnOk, OnErr, IfOk, IfErr, nat_lt, ◌||◌};
+ghost use Rattle.tb_layout.specs.Events.{events_of};
+ghost use Rattle.tb_machine.specs.Clock.{clock_max};
+ghost use Rattle.tb_machine.specs.Replay.{State, after_packet};
+ghost use Rattle.tb_batch.specs.Batch.{AreParts};
+ghost use Rattle.tb_work.specs.Reply.{reply_with};
+ghost use Rattle.tb_work.specs.Work.{work_of};
+ghost use Rattle.tb_core.specs.Admitted.{AreAdmitted};
+ghost use Rattle.tb_core.specs.Answered.{AreAnswered, answer_in};
+ghost use Rattle.tb_work.specs.declared.answer.Outcome.TheVariants.{Stopped as StoppedOutcome};
+ghost use Rattle.tb_core.specs.Ledger.{group_of, committed_from, outcome_of};
+
+use crate::journal::{Entry, Outcomes};
+use crate::parcel::{Cause, Parcel};
+use std::alloc::Global;
+use std::marker::Model;
+use tb_batch::{Batch, Parts};
+use tb_demux::Cutter;
+use tb_layout::{Account, Failure, NoMemory};
+use tb_machine::Machine;
+use tb_work::{Accounts, Answer, Failures, Job, Moment, Outcome, Reply};
+
+const LOOKUP_ACCOUNTS: u8 = 131;
+
+const MOST_PLACES: u64 = 1 << 63;
+
+/// Commits what the front hands on, and keeps a journal of it.
+#[derive(Drop)]
+pub struct Ledger {
+    opening: u64,
+    machine: Machine,
+    entries: Vec<Entry>,
+    places: u64,
+    stopped: bool,
+}
+
+impl Model for Ledger {
+    ghost use Rattle.std.specs.Prelude.{map};
+    ghost use Rattle.tb_core.specs.Ledger.{LedgerState, group_of};
+    ghost use Rattle.tb_core.specs.Journal.{IsLedger};
+
+    ghost Value = { LedgerState };
+
+    ghost view = { λ ledger. record { opening = ledger.opening; groups = map group_of ledger.entries.items; stopped = ledger.stopped } };
+
+    ghost invariant = { λ ledger. IsLedger (record { opening = ledger.opening; groups = map group_of ledger.entries.items; stopped = ledger.stopped }) ledger.machine ledger.places };
+}
+
+/// Each job's type keeps that its packet was admitted. Nothing is done.
+fn jobs_are_admitted(jobs: &[Job])
+    ensures { AreAdmitted jobs.now }
+{
+    for job in jobs {
+        let _ = job.packet();
+    }
+}
+
+/// The machine's type keeps that its clock is in range. Nothing is done.
+fn clock_is_in_range(machine: &Machine)
+    ensures { machine.now.clock ≤ clock_max }
+{
+    let _ = machine.clock();
+}
+
+/// Lets the machine take a batch. Where memory is refused, it and the parts are as before.
+fn take_batch(machine: &mut Machine, parts: &mut Parts) -> Result<(), NoMemory>
+    requires parts { AreParts parts.old }
+    ensures jobs { parts.new.jobs.items ≡ parts.old.jobs.items }
+    ensures answered { OnOk result (AreAnswered machine.old parts.new) }
+    ensures state { OnOk result (machine.new ≡ after_packet machine.old (events_of parts.new.operation parts.new.body.items)) }
+    ensures same { OnErr result (machine.new ≡ machine.old) }
+    ensures back { OnErr result (AreParts parts.new) }
+{
+    jobs_are_admitted(&parts.jobs);
+    clock_is_in_range(machine);
+    if parts.operation == LOOKUP_ACCOUNTS {
+        machine.lookup(&parts.body, &mut parts.accounts);
+        Ok(())
+    } else {
+        machine.commit(parts.operation, &parts.body, &mut parts.failures)
+    }
+}
+
+/// The answer to a batch: accounts where it is a lookup, failures else.
+fn answer(operation: u8, failures: Vec<Failure>, accounts: Vec<Account>) -> Answer
+    ensures { result ≡ answer_in operation failures.items accounts.items }
+{
+    if operation == LOOKUP_ACCOUNTS {
+        Answer::Accounts(Accounts::from_vec(accounts))
+    } else {
+        Answer::Failures(Failures::from_vec(failures))
+    }
+}
+
+/// Puts a batch that was committed at a place into the journal, for which there is room, and gives its
+/// replies.
+fn record(entries: &mut Vec<Entry>, place: u64, parts: Parts) -> Cutter
+    requires room { vec_len entries.old < vec_capacity entries.old }
+    requires answered { (state : State) × AreAnswered state parts }
+    requires fits { place + length parts.jobs.items ≤ 2 ^ 63 }
+    ensures entry { map group_of entries.new.items ≡ map group_of entries.old.items ++ map work_of parts.jobs.items ∷ [] }
+    ensures replies { (state : State) → AreAnswered state parts → result ≡ committed_from place state parts.jobs.items }
+{
+    let Parts {
+        operation,
+        body,
+        stubs,
+        jobs,
+        failures,
+        accounts,
+    } = parts;
+    let answer = answer(operation, failures, accounts);
+    entries.push_reserved(Entry::Batch {
+        operation,
+        body,
+        stubs,
+    });
+    Cutter::new(jobs, Outcome::Committed { place, answer })
+}
+
+/// The replies to a batch that isn't committed.
+fn stopped(batch: Batch) -> Cutter
+    ensures { result ≡ map (reply_with StoppedOutcome) batch }
+{
+    Cutter::new(batch.into_parts().jobs, Outcome::Stopped)
+}
+
+/// The reply to a packet that comes back.
+fn returned(job: Job, cause: Cause) -> Reply
+    ensures { result ≡ reply_with (outcome_of cause) job }
+{
+    match cause {
+        Cause::Shutdown => Reply::of(job, Outcome::Shutdown),
+        Cause::Stopped => Reply::of(job, Outcome::Stopped),
+    }
+}
+
+impl Ledger {
+    ghost use Rattle.tb_machine.specs.Replay.{replay};
+    ghost use Rattle.tb_core.specs.declared.parcel.Parcel.TheVariants as parcel;
+    ghost use Rattle.tb_core.specs.declared.journal.Outcomes.TheVariants.{Nothing as NothingComes};
+    ghost use Rattle.tb_core.specs.Ledger.{LedgerState, Applied, works, state_after, giving, halting, entering, halts, applied};
+
+    /// A ledger without entries, whose clock starts at a number. Takes no memory.
+    pub fn new(alloc: Global, clock: u64) -> Ledger
+        requires { clock ≤ clock_max }
+        ensures { result ≡ record { opening = clock; groups = []; stopped = false } }
+    {
+        Ledger {
+            opening: clock,
+            machine: Machine::new(alloc, clock),
+            entries: Vec::new(alloc),
+            places: 0,
+            stopped: false,
+        }
+    }
+
+    /// Where the clock started.
+    pub fn opening(&self) -> u64
+        ensures { result ≡ self.now.opening }
+    {
+        self.opening
+    }
+
+    /// Whether a growth was refused, or there were no places left.
+    pub fn stopped(&self) -> bool
+        ensures { result ≡ self.now.stopped }
+    {
+        self.stopped
+    }
+
+    /// How many packets and pulses were committed.
+    pub fn places(&self) -> u64
+        ensures { result ≡ length (works self.now) }
+    {
+        self.places
+    }
+
+    /// The machine, as the journal gives it.
+    pub fn machine(&self) -> &Machine
+        ensures { result.now ≡ state_after self.now.opening (works self.now) }
+    {
+        &self.machine
+    }
+
+    /// The entries, in order.
+    pub fn journal(&self) -> &[Entry]
+        ensures { map group_of result.now ≡ self.now.groups }
+    {
+        self.entries.as_slice()
+    }
+
+    /// Whether so many packets or pulses more aren't committed, however much memory there is.
+    fn halts_at(&self, count: usize) -> bool
+        ensures { result ≡ halts false self.now count }
+    {
+        self.stopped || count as u64 > MOST_PLACES - self.places
+    }
+
+    /// A batch. Where a growth is refused it comes back, and nothing has changed.
+    fn commit(&mut self, batch: Batch) -> Result<Outcomes, Batch>
+        ensures ok { IfOk result (λ outcomes. giving self.new outcomes ≡ applied false self.old (parcel.Batch batch)) }
+        ensures err { IfErr result (λ back. (back ≡ batch) × (self.new ≡ self.old)) }
+    {
+        let count = batch.jobs().len();
+        if self.halts_at(count) {
+            self.stopped = true;
+            return Ok(Outcomes::Cut(stopped(batch)));
+        }
+        if self.entries.reserve(1).is_err() {
+            return Err(batch);
+        }
+        let mut parts = batch.into_parts();
+        if take_batch(&mut self.machine, &mut parts).is_err() {
+            return Err(Batch::whole(parts));
+        }
+        let replies = record(&mut self.entries, self.places, parts);
+        self.places += count as u64;
+        Ok(Outcomes::Cut(replies))
+    }
+
+    /// A pulse. Where a growth is refused nothing has changed.
+    fn pulse(&mut self, moment: Moment) -> Result<(), NoMemory>
+        ensures ok { OnOk result (giving self.new NothingComes ≡ applied false self.old (parcel.Pulse moment)) }
+        ensures err { OnErr result (self.new ≡ self.old) }
+    {
+        if self.halts_at(1) {
+            self.stopped = true;
+            return Ok(());
+        }
+        self.entries.reserve(1)?;
+        self.machine.pulse(moment.get());
+        self.entries.push_reserved(Entry::Pulse { moment });
+        self.places += 1;
+        Ok(())
+    }
+
+    /// One parcel, where its growth isn't refused. Otherwise it comes back, and nothing has changed.
+    pub(crate) fn try_apply(&mut self, parcel: Parcel) -> Result<Outcomes, Parcel>
+        ensures ok { IfOk result (λ outcomes. giving self.new outcomes ≡ applied false self.old parcel) }
+        ensures err { IfErr result (λ back. (back ≡ parcel) × (self.new ≡ self.old)) }
+    {
+        match parcel {
+            Parcel::Batch(batch) => match self.commit(batch) {
+                Ok(outcomes) => Ok(outcomes),
+                Err(batch) => Err(Parcel::Batch(batch)),
+            },
+            Parcel::Pulse(moment) => match self.pulse(moment) {
+                Ok(()) => Ok(Outcomes::Nothing),
+                Err(_) => Err(Parcel::Pulse(moment)),
+            },
+            Parcel::Return(job, cause) => Ok(Outcomes::One(returned(job, cause))),
+            Parcel::Last => Ok(Outcomes::Last),
+        }
+    }
+
+    /// One parcel, as `apply` applies it where its growth is refused. Takes no memory.
+    pub fn apply_as_refused(&mut self, parcel: Parcel) -> Outcomes
+        ensures { giving self.new result ≡ applied true self.old parcel }
+    {
+        match parcel {
+            Parcel::Batch(batch) => {
+                self.stopped = true;
+                Outcomes::Cut(stopped(batch))
+            }
+            Parcel::Pulse(_) => {
+                self.stopped = true;
+                Outcomes::Nothing
+            }
+            Parcel::Return(job, cause) => Outcomes::One(returned(job, cause)),
+            Parcel::Last => Outcomes::Last,
+        }
+    }
+
+    /// One parcel. A batch is committed as one and each of its packets answered; a pulse is applied; a packet
+    /// that comes back is answered with its cause. Where a growth is refused, where it stopped before, or where
+    /// there are no places left, nothing is committed, the ledger stops, and each packet of a batch is answered
+    /// Stopped. It takes memory for the facts and for the journal.
+    pub fn apply(&mut self, parcel: Parcel) -> Outcomes
+        ensures { (refused : Bool) × (giving self.new result ≡ applied refused self.old parcel) }
+    {
+        match self.try_apply(parcel) {
+            Ok(outcomes) => outcomes,
+            Err(parcel) => self.apply_as_refused(parcel),
+        }
+    }
+}
