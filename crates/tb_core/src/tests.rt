@@ -4,7 +4,9 @@ ghost use Rattle.std.specs.Prelude.{◌≡◌, IfOk};
 
 use crate::{Cause, Front, Parcel};
 use std::test::Fail;
-use tb_work::{Bytes, Item, Job, Moment, Packet, Refusal, Ticket};
+use tb_work::{Bytes, Item, Job, Packet, Refusal, Ticket};
+
+mod ledger;
 
 /// A ticket of a submitter, with a packet of so many events of zeros.
 fn ticket_of(rt: &HostRuntime, sender: u32, operation: u8, events: usize) -> Result<Ticket, Fail>
@@ -56,31 +58,6 @@ fn openings(rt: HostRuntime) -> Result<(), Fail> {
         Some(Refusal::BadSubmitters)
     );
     assert!(rt; Front::new(rt.alloc(), 4, 3).is_ok());
-    Ok(())
-}
-
-#[test]
-fn pulse_between_batches(rt: HostRuntime) -> Result<(), Fail> {
-    let mut front = Front::new(rt.alloc(), 4, 1).ok().ok_or("bad opening")?;
-    assert!(rt; front.take(ticket_of(&rt, 0, 129, 1)?).is_empty());
-    assert!(rt; front.take(ticket_of(&rt, 0, 129, 1)?).is_empty());
-    let pulse = Ticket {
-        sender: 1,
-        item: Item::Pulse(Moment::new(5)),
-    };
-    let parcels = front.take(pulse);
-    assert_eq!(rt;
-        counts(&rt, parcels.as_slice())?.as_slice(),
-        [2, 0].as_slice()
-    );
-    for _ in 0..4 {
-        assert!(rt; front.take(ticket_of(&rt, 0, 129, 1)?).is_empty());
-    }
-    let parcels = front.take(ticket_of(&rt, 0, 130, 0)?);
-    assert_eq!(rt; counts(&rt, parcels.as_slice())?.as_slice(), [4].as_slice());
-    assert!(rt; !front.finished());
-    assert_eq!(rt; front.idle().map(|batch| batch.jobs().len()), Some(1));
-    assert!(rt; front.idle().is_none());
     Ok(())
 }
 
