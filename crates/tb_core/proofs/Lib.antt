@@ -5,3 +5,4 @@ mod Committing
 mod Batches
 mod Recording
 mod Growing
+mod Examples

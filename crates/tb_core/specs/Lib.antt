@@ -4,3 +4,4 @@ pub mod Ledger
 pub mod Admitted
 pub mod Answered
 pub mod Journal
+pub mod Report

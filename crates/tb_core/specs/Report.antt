@@ -1,0 +1,64 @@
+-- What a run that has ended reports: it is said of single packets and pulses, and no batch is in it.
+use Rattle.std.specs.Prelude.{◌≡◌, ℕ, ◌==◌, ◌<◌, ◌≤◌, Bool, true, false, List, [], ◌∷◌, ◌++◌, map, Option, Some, None, if◌then◌else◌}
+use Rattle.std.specs.List.{list_any}
+use Rattle.tb_machine.specs.Replay.{State, Answer, reply_at}
+use Rattle.tb_work.specs.Queue.{part, ahead}
+use Rattle.tb_work.specs.Reply.{Replied, reply_with}
+use Rattle.tb_work.specs.Work.{Work}
+use Rattle.tb_work.specs.declared.answer.Outcome.{Outcome}
+use Rattle.tb_work.specs.declared.answer.Outcome.TheVariants.{Committed, Shutdown, Stopped}
+use Rattle.tb_work.specs.declared.item.Item.{Item}
+use Rattle.tb_work.specs.declared.item.Item.TheVariants as item
+use Rattle.tb_work.specs.declared.item.Ticket.{Ticket}
+use Rattle.tb_core.specs.Ledger.{answer_as, item_of, state_after}
+use Rattle.tb_core.specs.Passage.{Place, Ahead, Behind, next_place}
+
+-- ---- what is due
+
+-- a packet is committed where the journal reaches as far as its place
+abbrev pub committed_as : ℕ → Option Answer → Outcome
+committed_as place (Some answer) = Committed place (answer_as answer)
+committed_as place None = Stopped
+
+-- what a packet at a place of the queue comes to, with these packets and pulses committed from a clock on
+abbrev pub outcome_at : ℕ → List Work → Place → Outcome
+outcome_at clock works (Ahead place) = committed_as place (reply_at clock (map item_of works) place)
+outcome_at clock works Behind = Shutdown
+
+abbrev pub reply_due : Outcome → Item → List Replied
+reply_due outcome (item.Packet job) = reply_with outcome job ∷ []
+reply_due outcome (item.Pulse moment) = []
+reply_due outcome item.End = []
+reply_due outcome item.Close = []
+
+abbrev pub due_from : ℕ → List Work → ℕ → Place → List Ticket → List Replied
+due_from clock works sender place [] = []
+due_from clock works sender place (ticket ∷ queue) =
+    (if ticket.sender == sender then reply_due (outcome_at clock works place) ticket.item else []) ++ due_from clock works sender (next_place place ticket.item) queue
+
+-- the replies to a sender's packets, in order
+abbrev pub due : ℕ → List Ticket → List Work → ℕ → List Replied
+due clock queue works sender = due_from clock works sender (Ahead 0) queue
+
+-- ---- the report
+
+abbrev pub is_stopped : Outcome → Bool
+is_stopped (Committed place answer) = false
+is_stopped Shutdown = false
+is_stopped Stopped = true
+
+-- the ledger isn't marked, and no submitter's reply is Stopped
+pub record NothingStopped (submitters : ℕ) (stopped : Bool) (replies : ℕ → List Replied) : Type 0 where
+  pub unmarked : stopped ≡ false
+  pub untold : (sender : ℕ) → sender < submitters → list_any (λ (reply : Replied). is_stopped reply.outcome) (replies sender) ≡ false
+
+-- From a clock on these packets and pulses were committed of a queue, each sender's part of which it queued itself;
+-- the machine has this state, the ledger this mark, and each of so many submitters got these replies.
+pub record LawfulReport (clock submitters : ℕ) (queue : List Ticket) (queued : ℕ → List Item) (works : List Work) (state : State) (stopped : Bool) (replies : ℕ → List Replied) : Type 0 where
+  pub parts : (sender : ℕ) → sender ≤ submitters → part sender queue ≡ queued sender
+  pub behind : List Work
+  pub committed : works ++ behind ≡ ahead (map (λ (ticket : Ticket). ticket.item) queue)
+  pub whole : NothingStopped submitters stopped replies → behind ≡ []
+  pub unstopped : behind ≡ [] → NothingStopped submitters stopped replies
+  pub state_is : state ≡ state_after clock works
+  pub replied : (sender : ℕ) → sender < submitters → replies sender ≡ due clock queue works sender
