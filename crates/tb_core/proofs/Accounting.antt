@@ -102,6 +102,17 @@ stopped_then refused front sender (item.Pulse moment) = either_same (λ taken. t
 stopped_then refused front sender item.End = either_same (λ taken. taken.front.stopped) (all_ended (with_end front sender)) _ _ front.stopped refl refl ∙ sym (or_false front.stopped)
 stopped_then refused front sender item.Close = sym (or_false front.stopped)
 
+-- a front whose growth isn't refused goes on
+pub goes_on : (front next : FrontState) (sender : ℕ) (x : Item) (parcels : List Parcel) → handing next parcels ≡ took false front sender x → front.stopped ≡ false → next.stopped ≡ false
+goes_on front next sender x parcels took_is going =
+    ap (λ (taken : Taken). taken.front.stopped) took_is ∙ stopped_then false front sender x ∙ ap (λ b. b || stops_at false front.closed x) going ∙ none x
+  where
+    none : (x : Item) → stops_at false front.closed x ≡ false
+    none (item.Packet job) = refl
+    none (item.Pulse moment) = refl
+    none item.End = refl
+    none item.Close = refl
+
 -- ---- the queue with the ticket behind it
 
 pub taken_passes : (refused : Bool) (front next : FrontState) (sender : ℕ) (x : Item) (parcels : List Parcel) (items : List Item) (sent : List Passage) → IsFront front → handing next parcels ≡ took refused front sender x →

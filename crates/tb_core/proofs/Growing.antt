@@ -22,11 +22,11 @@ pub given : {A E : Type 0} (result : Result A E) (P : Type 0) → is_err result 
 given (Ok x) P ok holds = holds
 given (Err e) P ok holds = cc
 
-fold-append : {A B : Type 0} (f : A → B → A) (a : A) (xs ys : List B) → fold f a (xs ++ ys) ≡ fold f (fold f a xs) ys
+pub fold-append : {A B : Type 0} (f : A → B → A) (a : A) (xs ys : List B) → fold f a (xs ++ ys) ≡ fold f (fold f a xs) ys
 fold-append f a [] ys = refl
 fold-append f a (x ∷ xs) ys = fold-append f (f a x) xs ys
 
-works-more : (groups : List (List Work)) (group : List Work) → flat_map (λ g. g) (groups ++ group ∷ []) ≡ flat_map (λ g. g) groups ++ group
+pub works-more : (groups : List (List Work)) (group : List Work) → flat_map (λ g. g) (groups ++ group ∷ []) ≡ flat_map (λ g. g) groups ++ group
 works-more groups group = flat_map-append (λ g. g) groups (group ∷ []) ∙ ap (λ rest. flat_map (λ g. g) groups ++ rest) (append-nil group)
 
 -- there were places

@@ -6,3 +6,4 @@ mod Batches
 mod Recording
 mod Growing
 mod Examples
+mod Answering

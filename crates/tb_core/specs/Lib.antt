@@ -5,3 +5,4 @@ pub mod Admitted
 pub mod Answered
 pub mod Journal
 pub mod Report
+pub mod Answering

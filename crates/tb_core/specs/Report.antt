@@ -10,7 +10,7 @@ use Rattle.tb_work.specs.declared.answer.Outcome.TheVariants.{Committed, Shutdow
 use Rattle.tb_work.specs.declared.item.Item.{Item}
 use Rattle.tb_work.specs.declared.item.Item.TheVariants as item
 use Rattle.tb_work.specs.declared.item.Ticket.{Ticket}
-use Rattle.tb_core.specs.Ledger.{answer_as, item_of, state_after}
+use Rattle.tb_core.specs.Ledger.{LedgerState, works, answer_as, item_of, state_after}
 use Rattle.tb_core.specs.Passage.{Place, Ahead, Behind, next_place}
 
 -- ---- what is due
@@ -31,12 +31,20 @@ reply_due outcome (item.Pulse moment) = []
 reply_due outcome item.End = []
 reply_due outcome item.Close = []
 
+abbrev pub all_due_from : ℕ → List Work → Place → List Item → List Replied
+all_due_from clock works place [] = []
+all_due_from clock works place (item ∷ items) = reply_due (outcome_at clock works place) item ++ all_due_from clock works (next_place place item) items
+
+-- the replies to a queue's packets, in order
+abbrev pub all_due : ℕ → List Item → List Work → List Replied
+all_due clock items works = all_due_from clock works (Ahead 0) items
+
 abbrev pub due_from : ℕ → List Work → ℕ → Place → List Ticket → List Replied
 due_from clock works sender place [] = []
 due_from clock works sender place (ticket ∷ queue) =
     (if ticket.sender == sender then reply_due (outcome_at clock works place) ticket.item else []) ++ due_from clock works sender (next_place place ticket.item) queue
 
--- the replies to a sender's packets, in order
+-- those to a sender's packets
 abbrev pub due : ℕ → List Ticket → List Work → ℕ → List Replied
 due clock queue works sender = due_from clock works sender (Ahead 0) queue
 
@@ -62,3 +70,12 @@ pub record LawfulReport (clock submitters : ℕ) (queue : List Ticket) (queued :
   pub unstopped : behind ≡ [] → NothingStopped submitters stopped replies
   pub state_is : state ≡ state_after clock works
   pub replied : (sender : ℕ) → sender < submitters → replies sender ≡ due clock queue works sender
+
+-- ---- a list in one thread
+
+-- From a clock on all packets and pulses ahead of the Close were committed, and each packet has its reply, in order.
+pub record IsListed (clock : ℕ) (items : List Item) (ledger : LedgerState) (replies : List Replied) : Type 0 where
+  pub from : ledger.opening ≡ clock
+  pub goes_on : ledger.stopped ≡ false
+  pub committed : works ledger ≡ ahead items
+  pub replied : replies ≡ all_due clock items (ahead items)

@@ -4,6 +4,7 @@
 mod front;
 mod journal;
 mod ledger;
+mod list;
 mod parcel;
 #[cfg(test)]
 mod tests;
@@ -11,4 +12,5 @@ mod tests;
 pub use front::Front;
 pub use journal::{Entry, Outcomes};
 pub use ledger::Ledger;
+pub use list::{Listed, run_list};
 pub use parcel::{Cause, Parcel};
