@@ -15,7 +15,7 @@ const SHUT: u64 = 1007;
 /// Stands for the place of a packet that came at or behind a stop.
 const STOPPED: u64 = 1008;
 
-fn place_of(reply: &Reply) -> u64 {
+pub(super) fn place_of(reply: &Reply) -> u64 {
     match &reply.outcome {
         Outcome::Committed { place, answer: _ } => *place,
         Outcome::Shutdown => SHUT,
@@ -75,7 +75,7 @@ fn account(id: u128) -> Account {
 }
 
 /// A packet that creates an account; None where memory is refused.
-fn create(rt: &HostRuntime, id: u128) -> Option<Job> {
+pub(super) fn create(rt: &HostRuntime, id: u128) -> Option<Job> {
     let mut bytes = Vec::new(rt.alloc());
     bytes.extend_from_slice(&write_account(&account(id))).ok()?;
     let packet = Packet {
@@ -109,7 +109,7 @@ fn alone(rt: &HostRuntime, job: Job) -> Option<Batch> {
 }
 
 /// How many packets each entry has, 0 for a pulse.
-fn packets(rt: &HostRuntime, journal: &[Entry]) -> Result<Vec<usize>, AllocError> {
+pub(super) fn packets(rt: &HostRuntime, journal: &[Entry]) -> Result<Vec<usize>, AllocError> {
     let mut packets = Vec::new(rt.alloc());
     for entry in journal {
         packets.push(match entry {

@@ -1,0 +1,62 @@
+//! A list of items, by worked examples.
+
+use super::ledger::{create, packets, place_of};
+use crate::run_list;
+use std::alloc::AllocError;
+use std::test::Fail;
+use tb_work::{Item, Moment, Reply};
+
+fn packet(rt: &HostRuntime, id: u128) -> Result<Item, Fail> {
+    let job = create(rt, id).ok_or("no memory")?;
+    Ok(Item::Packet(job))
+}
+
+fn places(rt: &HostRuntime, replies: &[Reply]) -> Result<Vec<u64>, AllocError> {
+    let mut places = Vec::new(rt.alloc());
+    for reply in replies {
+        places.push(place_of(reply))?;
+    }
+    Ok(places)
+}
+
+#[test]
+fn pulse_between_batches(rt: HostRuntime) -> Result<(), Fail> {
+    let mut items = Vec::new(rt.alloc());
+    items.push(packet(&rt, 1)?)?;
+    items.push(packet(&rt, 2)?)?;
+    items.push(Item::Pulse(Moment::new(5)))?;
+    items.push(packet(&rt, 3)?)?;
+    items.push(packet(&rt, 4)?)?;
+    items.push(packet(&rt, 5)?)?;
+    items.push(packet(&rt, 6)?)?;
+    items.push(Item::End)?;
+    let listed = run_list(rt.alloc(), 0, 4, items).ok().ok_or("no memory")?;
+    assert_eq!(rt;
+        places(&rt, &listed.replies)?.as_slice(),
+        [0, 1, 3, 4, 5, 6].as_slice()
+    );
+    assert_eq!(rt;
+        packets(&rt, listed.ledger.journal())?.as_slice(),
+        [2, 0, 4].as_slice()
+    );
+    assert_eq!(rt; listed.ledger.machine().clock(), 9);
+    Ok(())
+}
+
+#[test]
+fn packet_behind_shut(rt: HostRuntime) -> Result<(), Fail> {
+    let mut items = Vec::new(rt.alloc());
+    items.push(packet(&rt, 1)?)?;
+    items.push(Item::Close)?;
+    items.push(packet(&rt, 2)?)?;
+    items.push(Item::Pulse(Moment::new(5)))?;
+    let listed = run_list(rt.alloc(), 0, 4, items).ok().ok_or("no memory")?;
+    assert_eq!(rt;
+        places(&rt, &listed.replies)?.as_slice(),
+        [0, 1007].as_slice()
+    );
+    assert_eq!(rt; listed.ledger.machine().clock(), 1);
+    assert_eq!(rt; listed.ledger.machine().accounts(), 1);
+    assert!(rt; !listed.ledger.stopped());
+    Ok(())
+}
