@@ -1,8 +1,7 @@
 -- What is known of a batch that the machine takes.
-use Rattle.std.proofs.Common.{refl, sym, ap, subst, ◌∙◌, arith, ◌≡◌, ◌≤◌, ◌<◌, ℕ, zero, suc, drop, append-nil, true≢false, ◌*◌, ◌/◌, ◌%◌, Bool, true, false, not, List, [], ◌∷◌, ◌++◌, map, length, length-append, Option, Some, None}
+use Rattle.std.proofs.Common.{refl, sym, ap, subst, ◌∙◌, arith, ◌≡◌, ◌≤◌, ◌<◌, ℕ, append-nil, true≢false, ◌*◌, ◌/◌, ◌%◌, Bool, true, false, not, List, [], ◌∷◌, ◌++◌, map, length, length-append, Option, Some, None}
 use Rattle.std.specs.Prelude.{◌==◌, ◌||◌, ◌&&◌, fold, IsOk, if◌then◌else◌}
 use Rattle.std.specs.List.{list_all, filter_map, cons_option}
-use Rattle.std.specs.Simd.{first_chunks}
 use Rattle.std.proofs.lemmas.List.{length-map}
 use Rattle.std.proofs.lemmas.Bool.{and_parts, eqb-true}
 use Rattle.tb_layout.specs.Account.{account_of}
@@ -27,7 +26,7 @@ use Rattle.tb_demux.specs.Cutting.{replies_from}
 use Rattle.tb_core.specs.Admitted.{AreAdmitted}
 use Rattle.tb_core.specs.Ledger.{answer_as, committed_from, packets_of}
 use Rattle.tb_core.proofs.Bodies.{first_is, whole_events, packets_of-jobs}
-use Rattle.tb_core.proofs.Committing.{replies_are, states_are, rise}
+use Rattle.tb_core.proofs.Committing.{length-chunks, replies_are, states_are, rise}
 
 -- ---- operations
 
@@ -180,10 +179,6 @@ length-found {X} {Y} f (x ∷ xs) = by (f x) (length-found f xs)
     by : (found : Option Y) → length (filter_map f xs) ≤ length xs → length (cons_option found (filter_map f xs)) ≤ length (x ∷ xs)
     by None h = omega arith
     by (Some y) h = omega arith
-
-length-chunks : {X : Type 0} (size k : ℕ) (xs : List X) → length (first_chunks size k xs) ≡ k
-length-chunks size zero xs = refl
-length-chunks size (suc k) xs = ap suc (length-chunks size k (drop size xs))
 
 shares_nothing : (job : Numbered) → is_lookup job.packet ≡ true → can_share job ≡ false
 shares_nothing job lookup = ap (λ b. not (is_open_packet job.packet) && not b) lookup ∙ and_false (not (is_open_packet job.packet))

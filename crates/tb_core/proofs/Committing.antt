@@ -32,7 +32,7 @@ replied place [] failures = []
 replied place (job ∷ jobs) [] = []
 replied place (job ∷ jobs) (failures ∷ others) = reply_with (Committed place (Failures failures)) job ∷ replied (place + 1) jobs others
 
-length-chunks : {X : Type 0} (size k : ℕ) (xs : List X) → length (first_chunks size k xs) ≡ k
+pub length-chunks : {X : Type 0} (size k : ℕ) (xs : List X) → length (first_chunks size k xs) ≡ k
 length-chunks size zero xs = refl
 length-chunks size (suc k) xs = ap suc (length-chunks size k (drop size xs))
 
