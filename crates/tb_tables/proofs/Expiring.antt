@@ -11,60 +11,59 @@ use Rattle.tb_tables.specs.Status.{is_resolved, is_reserving, is_due, expire_due
 use Rattle.tb_tables.specs.Lawful.{IsLawful, AreLawful, has_id, ids_distinct}
 use Rattle.tb_tables.specs.Changes.{Lists, facts_of, transfers_in, expired_in, past_of, history_of}
 use Rattle.tb_tables.specs.Expiring.{lapses, with_lapse, with_lapses}
-use Rattle.tb_tables.specs.declared.row.Row.{Row}
 use Rattle.tb_tables.specs.declared.change.Change.{Change}
 use Rattle.tb_tables.proofs.Sums.{amount_if, amounts-most, or-left, or-right, not_and-left, not_and-right}
 use Rattle.tb_tables.proofs.Laws.{reserves, total}
 
 -- ---- a row's mark tells whether its transfer expired
 
-marked_id-absent : (id : ℕ) (rows : List Row) → has_id id (transfers_in rows) ≡ false → list_any (λ x. x == id) (expired_in rows) ≡ false
+pub marked_id-absent : (id : ℕ) (rows : List (Transfer × Bool)) → has_id id (transfers_in rows) ≡ false → list_any (λ x. x == id) (expired_in rows) ≡ false
 marked_id-absent id [] h = refl
-marked_id-absent id (row ∷ rows) h = by row.expired (or-left (row.transfer.id == id) (has_id id (transfers_in rows)) h) (marked_id-absent id rows (or-right (row.transfer.id == id) (has_id id (transfers_in rows)) h))
+marked_id-absent id (row ∷ rows) h = by row.1 (or-left (row.0.id == id) (has_id id (transfers_in rows)) h) (marked_id-absent id rows (or-right (row.0.id == id) (has_id id (transfers_in rows)) h))
   where
-    by : (b : Bool) → (row.transfer.id == id) ≡ false → list_any (λ x. x == id) (expired_in rows) ≡ false →
-        list_any (λ x. x == id) (map (λ (r : Row). r.transfer.id) (cond b (row ∷ filter (λ (r : Row). r.expired) rows) (filter (λ (r : Row). r.expired) rows))) ≡ false
+    by : (b : Bool) → (row.0.id == id) ≡ false → list_any (λ x. x == id) (expired_in rows) ≡ false →
+        list_any (λ x. x == id) (map (λ (r : Transfer × Bool). r.0.id) (cond b (row ∷ filter (λ (r : Transfer × Bool). r.1) rows) (filter (λ (r : Transfer × Bool). r.1) rows))) ≡ false
     by true one rest = cc (one, rest)
     by false one rest = rest
 
-abbrev IsMarkedAmong : List ℕ → Row → Type 0
-IsMarkedAmong ids row = list_any (λ x. x == row.transfer.id) ids ≡ row.expired
+abbrev IsMarkedAmong : List ℕ → Transfer × Bool → Type 0
+IsMarkedAmong ids row = list_any (λ x. x == row.0.id) ids ≡ row.1
 
 -- the same ids with one more in front, of which none of the rows has
-marked_more : (id : ℕ) (b : Bool) (ids : List ℕ) (rows : List Row) → has_id id (transfers_in rows) ≡ false → AllByRecursion (IsMarkedAmong ids) rows → AllByRecursion (IsMarkedAmong (if b then id ∷ ids else ids)) rows
+marked_more : (id : ℕ) (b : Bool) (ids : List ℕ) (rows : List (Transfer × Bool)) → has_id id (transfers_in rows) ≡ false → AllByRecursion (IsMarkedAmong ids) rows → AllByRecursion (IsMarkedAmong (if b then id ∷ ids else ids)) rows
 marked_more id b ids [] h all = tt
-marked_more id b ids (row ∷ rows) h all = (by b all.0, marked_more id b ids rows (or-right (row.transfer.id == id) (has_id id (transfers_in rows)) h) all.1)
+marked_more id b ids (row ∷ rows) h all = (by b all.0, marked_more id b ids rows (or-right (row.0.id == id) (has_id id (transfers_in rows)) h) all.1)
   where
     apart : (x y : ℕ) → (y == x) ≡ false → (x == y) ≡ false
     apart x y e = grind (arith, nat_tests)
 
     by : (b : Bool) → IsMarkedAmong ids row → IsMarkedAmong (if b then id ∷ ids else ids) row
-    by true one = ap (λ c. c || list_any (λ x. x == row.transfer.id) ids) (apart id row.transfer.id (or-left (row.transfer.id == id) (has_id id (transfers_in rows)) h)) ∙ one
+    by true one = ap (λ c. c || list_any (λ x. x == row.0.id) ids) (apart id row.0.id (or-left (row.0.id == id) (has_id id (transfers_in rows)) h)) ∙ one
     by false one = one
 
-marked : (rows : List Row) → ids_distinct (transfers_in rows) ≡ true → AllByRecursion (IsMarkedAmong (expired_in rows)) rows
+marked : (rows : List (Transfer × Bool)) → ids_distinct (transfers_in rows) ≡ true → AllByRecursion (IsMarkedAmong (expired_in rows)) rows
 marked [] distinct = tt
 marked (row ∷ rows) distinct =
-    let fresh = not_and-left (has_id row.transfer.id (transfers_in rows)) (ids_distinct (transfers_in rows)) distinct in
-    let rest = marked rows (not_and-right (has_id row.transfer.id (transfers_in rows)) (ids_distinct (transfers_in rows)) distinct) in
-    (first row.expired (marked_id-absent row.transfer.id rows fresh), next row.expired (λ b. marked_more row.transfer.id b (expired_in rows) rows fresh rest))
+    let fresh = not_and-left (has_id row.0.id (transfers_in rows)) (ids_distinct (transfers_in rows)) distinct in
+    let rest = marked rows (not_and-right (has_id row.0.id (transfers_in rows)) (ids_distinct (transfers_in rows)) distinct) in
+    (first row.1 (marked_id-absent row.0.id rows fresh), next row.1 (λ b. marked_more row.0.id b (expired_in rows) rows fresh rest))
   where
     ids_if : Bool → List ℕ
-    ids_if b = map (λ (r : Row). r.transfer.id) (cond b (row ∷ filter (λ (r : Row). r.expired) rows) (filter (λ (r : Row). r.expired) rows))
+    ids_if b = map (λ (r : Transfer × Bool). r.0.id) (cond b (row ∷ filter (λ (r : Transfer × Bool). r.1) rows) (filter (λ (r : Transfer × Bool). r.1) rows))
 
-    first : (b : Bool) → list_any (λ x. x == row.transfer.id) (expired_in rows) ≡ false → list_any (λ x. x == row.transfer.id) (ids_if b) ≡ b
-    first true absent = ap (λ c. c || list_any (λ x. x == row.transfer.id) (expired_in rows)) (eq-eqb row.transfer.id row.transfer.id refl)
+    first : (b : Bool) → list_any (λ x. x == row.0.id) (expired_in rows) ≡ false → list_any (λ x. x == row.0.id) (ids_if b) ≡ b
+    first true absent = ap (λ c. c || list_any (λ x. x == row.0.id) (expired_in rows)) (eq-eqb row.0.id row.0.id refl)
     first false absent = absent
 
-    next : (b : Bool) → ((c : Bool) → AllByRecursion (IsMarkedAmong (if c then row.transfer.id ∷ expired_in rows else expired_in rows)) rows) → AllByRecursion (IsMarkedAmong (ids_if b)) rows
+    next : (b : Bool) → ((c : Bool) → AllByRecursion (IsMarkedAmong (if c then row.0.id ∷ expired_in rows else expired_in rows)) rows) → AllByRecursion (IsMarkedAmong (ids_if b)) rows
     next true all = all true
     next false all = all false
 
 -- ---- the rows with their new marks are seen as the facts after the expiry
 
-transfers-with_lapses : (clock : ℕ) (transfers : List Transfer) (rows : List Row) → transfers_in (with_lapses clock transfers rows) ≡ transfers_in rows
+transfers-with_lapses : (clock : ℕ) (transfers : List Transfer) (rows : List (Transfer × Bool)) → transfers_in (with_lapses clock transfers rows) ≡ transfers_in rows
 transfers-with_lapses clock transfers [] = refl
-transfers-with_lapses clock transfers (row ∷ rows) = ap (λ ts. row.transfer ∷ ts) (transfers-with_lapses clock transfers rows)
+transfers-with_lapses clock transfers (row ∷ rows) = ap (λ ts. row.0 ∷ ts) (transfers-with_lapses clock transfers rows)
 
 abbrev expires : ℕ → Facts → Transfer → Bool
 expires clock facts transfer = is_expired facts transfer.id || (is_reserving facts transfer && is_due clock transfer)
@@ -75,20 +74,20 @@ expires-bits false true true d = refl
 expires-bits false true false d = refl
 expires-bits false false r d = refl
 
-expired-with_lapses : (clock : ℕ) (facts : Facts) (rows : List Row) → AllByRecursion (IsMarkedAmong facts.expired) rows →
+expired-with_lapses : (clock : ℕ) (facts : Facts) (rows : List (Transfer × Bool)) → AllByRecursion (IsMarkedAmong facts.expired) rows →
     expired_in (with_lapses clock facts.transfers rows) ≡ map (λ (t : Transfer). t.id) (filter (expires clock facts) (transfers_in rows))
 expired-with_lapses clock facts [] all = refl
 expired-with_lapses clock facts (row ∷ rows) all =
-    let t = row.transfer in
-    let test : (row.expired || lapses clock facts.transfers t) ≡ expires clock facts t =
+    let t = row.0 in
+    let test : (row.1 || lapses clock facts.transfers t) ≡ expires clock facts t =
     ap (λ b. b || lapses clock facts.transfers t) (sym all.0) ∙ sym (expires-bits (is_expired facts t.id) (is_pending t) (is_resolved facts t.id) (is_due clock t)) in
-    ap (λ b. map (λ (r : Row). r.transfer.id) (cond b (with_lapse clock facts.transfers row ∷ filter (λ (r : Row). r.expired) (with_lapses clock facts.transfers rows)) (filter (λ (r : Row). r.expired) (with_lapses clock facts.transfers rows)))) test
+    ap (λ b. map (λ (r : Transfer × Bool). r.0.id) (cond b (with_lapse clock facts.transfers row ∷ filter (λ (r : Transfer × Bool). r.1) (with_lapses clock facts.transfers rows)) (filter (λ (r : Transfer × Bool). r.1) (with_lapses clock facts.transfers rows)))) test
     ∙ by (expires clock facts t) (expired-with_lapses clock facts rows all.1)
   where
     by : (b : Bool) → expired_in (with_lapses clock facts.transfers rows) ≡ map (λ (t : Transfer). t.id) (filter (expires clock facts) (transfers_in rows)) →
-        map (λ (r : Row). r.transfer.id) (cond b (with_lapse clock facts.transfers row ∷ filter (λ (r : Row). r.expired) (with_lapses clock facts.transfers rows)) (filter (λ (r : Row). r.expired) (with_lapses clock facts.transfers rows)))
-        ≡ map (λ (t : Transfer). t.id) (cond b (row.transfer ∷ filter (expires clock facts) (transfers_in rows)) (filter (expires clock facts) (transfers_in rows)))
-    by true h = ap (λ ids. row.transfer.id ∷ ids) h
+        map (λ (r : Transfer × Bool). r.0.id) (cond b (with_lapse clock facts.transfers row ∷ filter (λ (r : Transfer × Bool). r.1) (with_lapses clock facts.transfers rows)) (filter (λ (r : Transfer × Bool). r.1) (with_lapses clock facts.transfers rows)))
+        ≡ map (λ (t : Transfer). t.id) (cond b (row.0 ∷ filter (expires clock facts) (transfers_in rows)) (filter (expires clock facts) (transfers_in rows)))
+    by true h = ap (λ ids. row.0.id ∷ ids) h
     by false h = h
 
 pub facts_of-expired : (clock : ℕ) (lists : Lists) → IsLawful (facts_of lists) →
@@ -153,13 +152,13 @@ expire_due_lawful clock facts lawful = record {
 
 -- ---- the history then
 
-expired_history : (clock : ℕ) (changes : List Change) (lists : Lists) (rows : List Row) → past_of changes lists ≡ [] → rows ≡ with_lapses clock (transfers_in lists.rows) lists.rows → IsLawful (facts_of lists) →
+expired_history : (clock : ℕ) {T : Type 0} (changes : List (Change T)) (lists : Lists) (rows : List (Transfer × Bool)) → past_of changes lists ≡ [] → rows ≡ with_lapses clock (transfers_in lists.rows) lists.rows → IsLawful (facts_of lists) →
     history_of changes (record lists { rows = rows }) ≡ record { now = expire_due clock (facts_of lists); past = [] }
 expired_history clock [] lists rows none is lawful =
     ap (λ (facts : Facts). record { now = facts; past = [] }) (ap (λ rs. facts_of (record lists { rows = rs })) is ∙ facts_of-expired clock lists lawful)
 expired_history clock (change ∷ changes) lists rows none is lawful = cc
 
-pub history_expired : (clock : ℕ) (changes : List Change) (lists : Lists) (rows : List Row) → past_of changes lists ≡ [] → rows ≡ with_lapses clock (transfers_in lists.rows) lists.rows → AreLawful (history_of changes lists) →
+pub history_expired : (clock : ℕ) {T : Type 0} (changes : List (Change T)) (lists : Lists) (rows : List (Transfer × Bool)) → past_of changes lists ≡ [] → rows ≡ with_lapses clock (transfers_in lists.rows) lists.rows → AreLawful (history_of changes lists) →
     (history_of changes (record lists { rows = rows }) ≡ record { now = expire_due clock (facts_of lists); past = [] }) × AreLawful (history_of changes (record lists { rows = rows }))
 history_expired clock changes lists rows none is all =
     let e = expired_history clock changes lists rows none is all.now in

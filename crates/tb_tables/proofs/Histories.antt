@@ -14,25 +14,25 @@ without_last-push xs x =
     let e : length (xs ++ x ∷ []) - 1 ≡ length xs = omega (arith, length-append xs (x ∷ [])) in
     ap (λ n. take n (xs ++ x ∷ [])) e ∙ take-append_seam xs (x ∷ [])
 
-oldest-push : (changes : List Change) (change : Change) (lists : Lists) → oldest (changes ++ change ∷ []) lists ≡ oldest changes (before change lists)
+pub oldest-push : {T : Type 0} (changes : List (Change T)) (change : Change T) (lists : Lists) → oldest (changes ++ change ∷ []) lists ≡ oldest changes (before change lists)
 oldest-push [] change lists = refl
 oldest-push (first ∷ changes) change lists = ap (before first) (oldest-push changes change lists)
 
-past_of-push : (changes : List Change) (change : Change) (lists : Lists) → past_of (changes ++ change ∷ []) lists ≡ past_of changes (before change lists) ++ facts_of (before change lists) ∷ []
+past_of-push : {T : Type 0} (changes : List (Change T)) (change : Change T) (lists : Lists) → past_of (changes ++ change ∷ []) lists ≡ past_of changes (before change lists) ++ facts_of (before change lists) ∷ []
 past_of-push [] change lists = refl
 past_of-push (first ∷ changes) change lists = cc (oldest-push changes change lists, past_of-push changes change lists)
 
-pub length-past_of : (changes : List Change) (lists : Lists) → length (past_of changes lists) ≡ length changes
+pub length-past_of : {T : Type 0} (changes : List (Change T)) (lists : Lists) → length (past_of changes lists) ≡ length changes
 length-past_of [] lists = refl
 length-past_of (first ∷ changes) lists = ap suc (length-past_of changes lists)
 
 -- one entry more is one change more
-pub history_of-push : (changes : List Change) (change : Change) (old new : Lists) → before change new ≡ old → history_of (changes ++ change ∷ []) new ≡ changed (history_of changes old) (facts_of new)
+pub history_of-push : {T : Type 0} (changes : List (Change T)) (change : Change T) (old new : Lists) → before change new ≡ old → history_of (changes ++ change ∷ []) new ≡ changed (history_of changes old) (facts_of new)
 history_of-push changes change old new e =
     ap (λ past. record { now = facts_of new; past = past }) (past_of-push changes change new ∙ ap (λ lists. past_of changes lists ++ facts_of lists ∷ []) e)
 
 -- the history with the last change on it again
-pub history_of-pop : (changes : List Change) (change : Change) (lists : Lists) → changed (history_of changes (before change lists)) (facts_of lists) ≡ history_of (changes ++ change ∷ []) lists
+pub history_of-pop : {T : Type 0} (changes : List (Change T)) (change : Change T) (lists : Lists) → changed (history_of changes (before change lists)) (facts_of lists) ≡ history_of (changes ++ change ∷ []) lists
 history_of-pop changes change lists = sym (history_of-push changes change (before change lists) lists refl)
 
 get_or-push : {X : Type 0} (xs : List X) (place : ℕ) (x d : X) → place ≤ length xs → get_or (xs ++ x ∷ []) place d ≡ get_or xs place x
@@ -95,8 +95,8 @@ lawful_before history facts all =
     record { now = past.1; past = past.0 }
 
 -- one entry more, where the facts with it are lawful
-pub lawful_push : (changes : List Change) (change : Change) (old new : Lists) → before change new ≡ old → IsLawful (facts_of new) → AreLawful (history_of changes old) → AreLawful (history_of (changes ++ change ∷ []) new)
+pub lawful_push : {T : Type 0} (changes : List (Change T)) (change : Change T) (old new : Lists) → before change new ≡ old → IsLawful (facts_of new) → AreLawful (history_of changes old) → AreLawful (history_of (changes ++ change ∷ []) new)
 lawful_push changes change old new e lawful all = subst AreLawful (sym (history_of-push changes change old new e)) (lawful_changed (history_of changes old) (facts_of new) all lawful)
 
-pub lawful_pop : (changes : List Change) (change : Change) (lists : Lists) → AreLawful (history_of (changes ++ change ∷ []) lists) → AreLawful (history_of changes (before change lists))
+pub lawful_pop : {T : Type 0} (changes : List (Change T)) (change : Change T) (lists : Lists) → AreLawful (history_of (changes ++ change ∷ []) lists) → AreLawful (history_of changes (before change lists))
 lawful_pop changes change lists all = lawful_before (history_of changes (before change lists)) (facts_of lists) (subst AreLawful (sym (history_of-pop changes change lists)) all)

@@ -27,10 +27,10 @@ posts side id transfer = is_posting transfer && (side transfer == id)
 abbrev pub total : (Transfer → ℕ) → Facts → ℕ → ℕ
 total side facts id = amounts (reserves side facts id) facts.transfers + amounts (posts side id) facts.transfers
 
-==_swap : (a b : ℕ) → (a == b) ≡ (b == a)
+pub ==_swap : (a b : ℕ) → (a == b) ≡ (b == a)
 ==_swap a b = grind (arith, nat_tests)
 
-or_false : (b : Bool) → (b || false) ≡ b
+pub or_false : (b : Bool) → (b || false) ≡ b
 or_false true = refl
 or_false false = refl
 
@@ -56,11 +56,11 @@ distinct-push (x ∷ xs) t fresh distinct =
 
 -- ---- one plain or pending transfer more
 
-any-push : (test : Transfer → Bool) (xs : List Transfer) (x : Transfer) → list_any test (xs ++ x ∷ []) ≡ (list_any test xs || test x)
+pub any-push : (test : Transfer → Bool) (xs : List Transfer) (x : Transfer) → list_any test (xs ++ x ∷ []) ≡ (list_any test xs || test x)
 any-push test xs x = list_any-append test xs (x ∷ []) ∙ ap (λ b. list_any test xs || b) (or_false (test x))
 
 module _ (facts : Facts) (t : Transfer) (may : MayAdd facts t) where
-  resolves_nothing : (id : ℕ) → (is_resolving t && (t.pending_id == id)) ≡ false
+  pub resolves_nothing : (id : ℕ) → (is_resolving t && (t.pending_id == id)) ≡ false
   resolves_nothing id = by (is_post t) (is_void t) may.not_post may.not_void
     where
       by : (a b : Bool) → a ≡ false → b ≡ false → ((a || b) && (t.pending_id == id)) ≡ false
@@ -68,12 +68,15 @@ module _ (facts : Facts) (t : Transfer) (may : MayAdd facts t) where
       by false true h k = cc
       by false false h k = refl
 
-  reserves-same : (side : Transfer → ℕ) (id : ℕ) (y : Transfer) → reserves side (add_transfer facts t) id y ≡ reserves side facts id y
-  reserves-same side id y =
+  pub reserving-same : (y : Transfer) → is_reserving (add_transfer facts t) y ≡ is_reserving facts y
+  reserving-same y =
       let resolved : is_resolved (add_transfer facts t) y.id ≡ is_resolved facts y.id =
       any-push (λ other. is_resolving other && (other.pending_id == y.id)) facts.transfers t
       ∙ ap (λ b. is_resolved facts y.id || b) (resolves_nothing y.id) ∙ or_false (is_resolved facts y.id) in
-      ap (λ b. (is_pending y && not b && not (is_expired facts y.id)) && (side y == id)) resolved
+      ap (λ b. is_pending y && not b && not (is_expired facts y.id)) resolved
+
+  pub reserves-same : (side : Transfer → ℕ) (id : ℕ) (y : Transfer) → reserves side (add_transfer facts t) id y ≡ reserves side facts id y
+  reserves-same side id y = ap (λ b. b && (side y == id)) (reserving-same y)
 
   -- either it reserves its amount, or it has posted it
   once : (p r e v s : Bool) (n : ℕ) → (if (p && not r && not e) && s then n else 0) + (if (not p && not v) && s then n else 0) ≤ (if s then n else 0)
@@ -119,19 +122,19 @@ or-and false true true false s = refl
 or-and false true false r s = refl
 or-and false false c r s = refl
 
-resolved_either : (id : ℕ) (xs : List Transfer) →
+pub resolved_either : (id : ℕ) (xs : List Transfer) →
     list_any (λ x. is_resolving x && (x.pending_id == id)) xs ≡ (list_any (λ x. is_post x && (x.pending_id == id)) xs || list_any (λ x. is_void x && (x.pending_id == id)) xs)
 resolved_either id [] = refl
 resolved_either id (x ∷ xs) = ap (λ b. (is_resolving x && (x.pending_id == id)) || b) (resolved_either id xs) ∙ or-and (is_post x) (is_void x) (x.pending_id == id) _ _
 
-pending_is : (a b e : Bool) → (if a then Posted else if b then Voided else if e then Expired else Pending) ≡ Pending → ((a || b) ≡ false) × (e ≡ false)
+pub pending_is : (a b e : Bool) → (if a then Posted else if b then Voided else if e then Expired else Pending) ≡ Pending → ((a || b) ≡ false) × (e ≡ false)
 pending_is true b e h = cc
 pending_is false true e h = cc
 pending_is false false true h = cc
 pending_is false false false h = (refl, refl)
 
 module _ (facts : Facts) (t : Transfer) (may : MayResolve facts t) where
-  resolves : is_resolving t ≡ true
+  pub resolves : is_resolving t ≡ true
   resolves = by (is_post t) (is_void t) may.post_or_void
     where
       by : (a b : Bool) → b ≡ not a → (a || b) ≡ true
@@ -139,7 +142,7 @@ module _ (facts : Facts) (t : Transfer) (may : MayResolve facts t) where
       by false b h = h
 
   -- the transfer that it names reserves its amount
-  reserving : is_reserving facts may.pending ≡ true
+  pub reserving : is_reserving facts may.pending ≡ true
   reserving =
       let s = pending_is (is_posted facts t.pending_id) (is_voided facts t.pending_id) (is_expired facts t.pending_id) may.unresolved in
       let open_one : is_resolved facts t.pending_id ≡ false = resolved_either t.pending_id facts.transfers ∙ s.0 in
@@ -162,15 +165,19 @@ module _ (facts : Facts) (t : Transfer) (may : MayResolve facts t) where
   and-swap true false false = refl
   and-swap false b c = refl
 
+  pub reserving-other : (y : Transfer) → is_reserving (add_transfer facts t) y ≡ (is_reserving facts y && not (t.pending_id == y.id))
+  reserving-other y =
+      ap (λ b. is_pending y && not b && not (is_expired facts y.id)) (any-push (λ other. is_resolving other && (other.pending_id == y.id)) facts.transfers t)
+      ∙ names (is_pending y) (is_resolved facts y.id) (is_resolving t) (t.pending_id == y.id) (is_expired facts y.id) resolves
+
   -- it takes the amount of the one that it names from what is reserved, and nothing else
-  reserves-but_for : (side : Transfer → ℕ) (id : ℕ) (y : Transfer) → reserves side (add_transfer facts t) id y ≡ but_for t.pending_id (reserves side facts id) y
+  pub reserves-but_for : (side : Transfer → ℕ) (id : ℕ) (y : Transfer) → reserves side (add_transfer facts t) id y ≡ but_for t.pending_id (reserves side facts id) y
   reserves-but_for side id y =
-      ap (λ b. (is_pending y && not b && not (is_expired facts y.id)) && (side y == id)) (any-push (λ other. is_resolving other && (other.pending_id == y.id)) facts.transfers t)
-      ∙ ap (λ b. b && (side y == id)) (names (is_pending y) (is_resolved facts y.id) (is_resolving t) (t.pending_id == y.id) (is_expired facts y.id) resolves)
+      ap (λ b. b && (side y == id)) (reserving-other y)
       ∙ and-swap (is_reserving facts y) (not (t.pending_id == y.id)) (side y == id)
       ∙ ap (λ b. reserves side facts id y && not b) (==_swap t.pending_id y.id)
 
-  reserves_nothing : (p r e s : Bool) (n : ℕ) → p ≡ false → (if (p && r && e) && s then n else 0) ≡ 0
+  pub reserves_nothing : (p r e s : Bool) (n : ℕ) → p ≡ false → (if (p && r && e) && s then n else 0) ≡ 0
   reserves_nothing true r e s n h = cc
   reserves_nothing false r e s n h = refl
 

@@ -5,3 +5,18 @@ mod Laws
 mod Rows
 mod Expiring
 mod Marking
+pub mod Stored
+pub mod Raising
+pub mod Indexing
+pub mod Added
+pub mod Resolving
+pub mod Grounding
+pub mod Expecting
+pub mod Keeping
+pub mod Settling
+pub mod Opening
+pub mod Locating
+pub mod Stepping
+pub mod Forgetting
+pub mod Lapsing
+pub mod Due

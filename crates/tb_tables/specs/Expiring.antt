@@ -4,7 +4,6 @@ use Rattle.std.specs.List.{list_any}
 use Rattle.tb_layout.specs.declared.transfer.Transfer.{Transfer}
 use Rattle.tb_layout.specs.Transfer.{is_pending, is_resolving}
 use Rattle.tb_tables.specs.Status.{is_due}
-use Rattle.tb_tables.specs.declared.row.Row.{Row}
 
 -- whether a transfer is a pending one that none of the transfers resolves and that is due
 abbrev pub lapses : ℕ → List Transfer → Transfer → Bool
@@ -12,8 +11,8 @@ lapses clock transfers transfer =
     is_pending transfer && not (list_any (λ other. is_resolving other && (other.pending_id == transfer.id)) transfers) && is_due clock transfer
 
 -- a row, marked where its transfer lapses
-abbrev pub with_lapse : ℕ → List Transfer → Row → Row
-with_lapse clock transfers row = record row { expired = row.expired || lapses clock transfers row.transfer }
+abbrev pub with_lapse : ℕ → List Transfer → Transfer × Bool → Transfer × Bool
+with_lapse clock transfers row = (row.0, row.1 || lapses clock transfers row.0)
 
-abbrev pub with_lapses : ℕ → List Transfer → List Row → List Row
+abbrev pub with_lapses : ℕ → List Transfer → List (Transfer × Bool) → List (Transfer × Bool)
 with_lapses clock transfers rows = map (with_lapse clock transfers) rows

@@ -6,3 +6,7 @@ pub mod History
 pub mod Lawful
 pub mod Changes
 pub mod Expiring
+pub mod Sums
+pub mod Expiries
+pub mod Kept
+pub mod Storing

@@ -22,9 +22,12 @@ status_of facts id =
     else Pending
 
 -- only a pending transfer has a status
+abbrev pub status_in : Facts → Transfer → Option Status
+status_in facts transfer = if is_pending transfer then Some (status_of facts transfer.id) else None
+
 abbrev pub status_if_pending : Facts → Option Transfer → Option Status
 status_if_pending facts None = None
-status_if_pending facts (Some transfer) = if is_pending transfer then Some (status_of facts transfer.id) else None
+status_if_pending facts (Some transfer) = status_in facts transfer
 
 -- the status of the transfer with this id
 abbrev pub status_with : Facts → ℕ → Option Status

@@ -1,7 +1,7 @@
-/// What a change added.
+/// What a change added; for a transfer, with what else is told of it.
 #[derive(Clone, Copy, Debug, PartialEq, Eq)]
-pub enum Change {
+pub enum Change<T> {
     Account,
-    Transfer,
+    Transfer(T),
     Failed,
 }

@@ -7,12 +7,18 @@
 //! a `requires`; the only refusal is want of memory, after which the tables are as before.
 #![tactic(auto)]
 
-mod balances;
+mod amounts;
+mod balance;
 mod change;
+mod entries;
+mod expiries;
+mod lapse;
 mod mark;
+mod note;
+mod places;
 mod row;
 mod status;
-mod statuses;
+mod storing;
 mod tables;
 #[cfg(test)]
 mod tests;

@@ -1,8 +1,9 @@
+use crate::status::Status;
 use tb_layout::Transfer;
 
-/// A transfer, and whether it expired.
-#[derive(Clone, Copy)]
+/// A transfer, and its status where it is a pending one.
+#[derive(Clone, Copy, Debug, PartialEq, Eq)]
 pub struct Row {
     pub transfer: Transfer,
-    pub expired: bool,
+    pub status: Option<Status>,
 }

@@ -1,38 +1,50 @@
 //! The tables.
 
-ghost use Rattle.std.specs.Prelude.{◌≡◌, ◌<◌, ◌≤◌, ◌==◌, None, [], ◌∷◌, ◌++◌, OnOk, OnErr, false, length, slice_get, find, vec_len, vec_capacity};
+ghost use Rattle.std.specs.Prelude.{◌≡◌, ◌<◌, ◌≤◌, None, [], OnOk, OnErr, false, length, slice_get};
 ghost use Rattle.std.specs.Option.{option_map};
-ghost use Rattle.tb_tables.specs.Changes.{without_last};
 
-use crate::balances::with_balances;
 use crate::change::Change;
+use crate::entries::{place_of, pop_account, pop_failed, push_account, push_failed, push_transfer};
+use crate::lapse::expire_all;
 use crate::mark::Mark;
+use crate::note::note;
+use crate::places::Places;
 use crate::row::Row;
 use crate::status::Status;
-use crate::statuses::{expire_due, status_in, transfer_in};
+use crate::storing::{apply, expect, forget, forget_resolved, take_back};
+use indexmap::{IndexMap, IndexSet};
 use std::alloc::Global;
+use std::collections::BTreeSet;
 use std::marker::Model;
 use tb_layout::{Account, NoMemory, Transfer};
 
-/// The facts of a ledger, as plain lists.
+/// The facts of a ledger: accounts and transfers in order of making, under their ids.
 #[derive(Drop)]
 pub struct Tables {
-    accounts: Vec<Account>,
-    rows: Vec<Row>,
-    failed: Vec<u128>,
-    changes: Vec<Change>,
+    accounts: IndexMap<u128, Account>,
+    transfers: IndexMap<u128, Row>,
+    failed: IndexSet<u128>,
+    changes: Vec<Change<Places>>,
+    expiries: BTreeSet<(u64, usize)>,
 }
 
 impl Model for Tables {
     ghost use Rattle.tb_tables.specs.History.{History};
-    ghost use Rattle.tb_tables.specs.Lawful.{AreLawful};
     ghost use Rattle.tb_tables.specs.Changes.{history_of};
+    ghost use Rattle.tb_tables.specs.Expiries.{is_indexed};
+    ghost use Rattle.tb_tables.specs.Kept.{lists_in, IsKept};
 
     ghost Value = { History };
 
-    ghost view = { λ tables. history_of tables.changes.items (record { accounts = tables.accounts.items; rows = tables.rows.items; failed = tables.failed.items }) };
+    ghost view = { λ tables. history_of tables.changes.items (lists_in tables.accounts.entries tables.transfers.entries tables.failed.keys) };
 
-    ghost invariant = { λ tables. AreLawful (history_of tables.changes.items (record { accounts = tables.accounts.items; rows = tables.rows.items; failed = tables.failed.items })) };
+    ghost invariant = { λ tables. IsKept (record {
+      accounts = tables.accounts.entries;
+      transfers = tables.transfers.entries;
+      failed = tables.failed.keys;
+      changes = tables.changes.items;
+      is_indexed = is_indexed tables.expiries;
+    }) };
 }
 
 impl Tables {
@@ -41,17 +53,18 @@ impl Tables {
     ghost use Rattle.tb_tables.specs.Balances.{with_balances as balanced, balanced_account};
     ghost use Rattle.tb_tables.specs.Conditions.{HasNoBalances, MayAdd, MayResolve};
     ghost use Rattle.tb_tables.specs.History.{changed, mark_of, undone, kept};
-    ghost use Rattle.tb_tables.specs.Lawful.{IsLawful};
+    ghost use Rattle.tb_tables.specs.Kept.{MayStore, HavePlaces};
 
     /// Tables without facts. Takes no memory.
     pub fn new(alloc: Global) -> Tables
         ensures { result ≡ record { now = no_facts; past = [] } }
     {
         Tables {
-            accounts: Vec::new(alloc),
-            rows: Vec::new(alloc),
-            failed: Vec::new(alloc),
+            accounts: IndexMap::new(alloc),
+            transfers: IndexMap::new(alloc),
+            failed: IndexSet::new(alloc),
             changes: Vec::new(alloc),
+            expiries: BTreeSet::new(alloc),
         }
     }
 
@@ -63,39 +76,9 @@ impl Tables {
         ensures err { OnErr result (self.new ≡ self.old) }
     {
         self.changes.reserve(1)?;
-        self.accounts.push(account)?;
+        push_account(&mut self.accounts, account)?;
         note(&mut self.changes, Change::Account);
         Ok(())
-    }
-
-    /// Adds a transfer with which lawful facts stay so.
-    fn add_row(&mut self, transfer: Transfer) -> Result<(), NoMemory>
-        requires { IsLawful self.old.now → IsLawful (with_transfer self.old.now transfer) }
-        ensures ok { OnOk result (self.new ≡ changed self.old (with_transfer self.old.now transfer)) }
-        ensures err { OnErr result (self.new ≡ self.old) }
-    {
-        self.changes.reserve(1)?;
-        self.rows.push(new_row(transfer))?;
-        note(&mut self.changes, Change::Transfer);
-        Ok(())
-    }
-
-    /// Adds a plain or pending transfer behind those that are there.
-    pub fn add_transfer(&mut self, transfer: Transfer) -> Result<(), NoMemory>
-        requires { MayAdd self.old.now transfer }
-        ensures ok { OnOk result (self.new ≡ changed self.old (with_transfer self.old.now transfer)) }
-        ensures err { OnErr result (self.new ≡ self.old) }
-    {
-        self.add_row(transfer)
-    }
-
-    /// Adds a post or a void, with its resolved fields. The transfer that it names is pending no more.
-    pub fn resolve(&mut self, transfer: Transfer) -> Result<(), NoMemory>
-        requires { MayResolve self.old.now transfer }
-        ensures ok { OnOk result (self.new ≡ changed self.old (with_transfer self.old.now transfer)) }
-        ensures err { OnErr result (self.new ≡ self.old) }
-    {
-        self.add_row(transfer)
     }
 
     /// Adds an id to those that failed.
@@ -105,58 +88,100 @@ impl Tables {
         ensures err { OnErr result (self.new ≡ self.old) }
     {
         self.changes.reserve(1)?;
-        self.failed.push(id)?;
+        push_failed(&mut self.failed, id)?;
         note(&mut self.changes, Change::Failed);
         Ok(())
+    }
+
+    /// Adds a transfer whose accounts, and whose pending transfer, have these places.
+    fn store(&mut self, transfer: Transfer, places: Places) -> Result<(), NoMemory>
+        requires at { HavePlaces self.old.now transfer places }
+        requires may { MayStore self.old.now transfer places.pending }
+        ensures ok { OnOk result (self.new ≡ changed self.old (with_transfer self.old.now transfer)) }
+        ensures err { OnErr result (self.new ≡ self.old) }
+    {
+        let place = self.transfers.len();
+        self.changes.reserve(1)?;
+        expect(&mut self.expiries, &transfer, place)?;
+        if let Err(refused) = push_transfer(&mut self.transfers, transfer) {
+            forget(&mut self.expiries, &transfer, place);
+            return Err(refused);
+        }
+        note(&mut self.changes, Change::Transfer(places));
+        apply(&mut self.accounts, &mut self.transfers, places, transfer);
+        Ok(())
+    }
+
+    /// Adds a plain or pending transfer behind those that are there.
+    pub fn add_transfer(&mut self, transfer: Transfer) -> Result<(), NoMemory>
+        requires { MayAdd self.old.now transfer }
+        ensures ok { OnOk result (self.new ≡ changed self.old (with_transfer self.old.now transfer)) }
+        ensures err { OnErr result (self.new ≡ self.old) }
+    {
+        let places = Places {
+            debit: place_of(&self.accounts, transfer.debit_account_id),
+            credit: place_of(&self.accounts, transfer.credit_account_id),
+            pending: None,
+        };
+        self.store(transfer, places)
+    }
+
+    /// Adds a post or a void, with its resolved fields. The transfer that it names is pending no more.
+    pub fn resolve(&mut self, transfer: Transfer) -> Result<(), NoMemory>
+        requires { MayResolve self.old.now transfer }
+        ensures ok { OnOk result (self.new ≡ changed self.old (with_transfer self.old.now transfer)) }
+        ensures err { OnErr result (self.new ≡ self.old) }
+    {
+        let places = Places {
+            debit: place_of(&self.accounts, transfer.debit_account_id),
+            credit: place_of(&self.accounts, transfer.credit_account_id),
+            pending: Some(place_of(&self.transfers, transfer.pending_id)),
+        };
+        self.store(transfer, places)
     }
 
     /// The account with this id, with its balances.
     pub fn account(&self, id: u128) -> Option<Account>
         ensures { result ≡ balanced_account self.now.now id }
     {
-        let account = account_in(&self.accounts, id)?;
-        Some(with_balances(&self.rows, account))
+        self.accounts.get(&id).copied()
     }
 
     /// The account at a place in the order of making, counted from 0, with its balances.
     pub fn account_at(&self, place: usize) -> Option<Account>
         ensures { result ≡ option_map (balanced self.now.now) (slice_get self.now.now.accounts place) }
     {
-        let account = account_at(&self.accounts, place)?;
-        Some(with_balances(&self.rows, account))
+        let (_, account) = self.accounts.get_index(place)?;
+        Some(*account)
     }
 
     /// How many accounts there are.
     pub fn accounts(&self) -> usize
         ensures { result ≡ length self.now.now.accounts }
     {
-        self.accounts.as_slice().len()
+        self.accounts.len()
     }
 
     /// The transfer with this id; a post or a void with its resolved fields.
     pub fn transfer(&self, id: u128) -> Option<Transfer>
         ensures { result ≡ transfer_with self.now.now id }
     {
-        transfer_in(&self.rows, id)
+        let row = self.transfers.get(&id)?;
+        Some(row.transfer)
     }
 
     /// What became of the pending transfer with this id.
     pub fn status(&self, id: u128) -> Option<Status>
         ensures { result ≡ status_with self.now.now id }
     {
-        let transfer = transfer_in(&self.rows, id)?;
-        if transfer.is_pending() {
-            Some(status_in(&self.rows, transfer.id))
-        } else {
-            None
-        }
+        self.transfers.get(&id)?.status
     }
 
     /// Whether an id is among those that failed.
     pub fn failed(&self, id: u128) -> bool
         ensures { result ≡ is_failed self.now.now id }
     {
-        self.failed.iter().any(|failed| *failed == id)
+        self.failed.contains(&id)
     }
 
     /// The present moment, to go back to. It is spent by `keep` and by going back past it.
@@ -173,9 +198,16 @@ impl Tables {
     {
         match self.changes.pop() {
             None => {}
-            Some(Change::Account) => drop_last(&mut self.accounts),
-            Some(Change::Transfer) => drop_last(&mut self.rows),
-            Some(Change::Failed) => drop_last(&mut self.failed),
+            Some(Change::Account) => pop_account(&mut self.accounts),
+            Some(Change::Transfer(places)) => {
+                take_back(
+                    &mut self.accounts,
+                    &mut self.transfers,
+                    &mut self.expiries,
+                    places,
+                );
+            }
+            Some(Change::Failed) => pop_failed(&mut self.failed),
         }
     }
 
@@ -189,55 +221,25 @@ impl Tables {
         }
     }
 
-    /// Lets the changes stand: they can't be taken back any more.
+    /// Lets the changes stand: they can't be taken back any more. Costs as much as the changes.
     pub fn keep(&mut self)
         ensures { self.new ≡ kept self.old }
     {
+        forget_resolved(&mut self.expiries, &self.transfers, self.changes.as_slice());
         self.changes.clear();
     }
 
     /// Lets each pending transfer expire that nothing resolved and whose timeout is over at a clock, in
-    /// nanoseconds. Takes no memory.
+    /// nanoseconds. Costs as much as what expires, and takes no memory.
     pub fn expire_due(&mut self, clock: u64)
         requires { self.old.past ≡ [] }
         ensures { self.new ≡ record { now = with_due_expired clock self.old.now; past = [] } }
     {
-        expire_due(self.rows.as_mut_slice(), clock);
+        expire_all(
+            &mut self.accounts,
+            &mut self.transfers,
+            &mut self.expiries,
+            clock,
+        );
     }
-}
-
-fn new_row(transfer: Transfer) -> Row
-    ensures { result ≡ record { transfer = transfer; expired = false } }
-{
-    Row {
-        transfer,
-        expired: false,
-    }
-}
-
-fn drop_last<T: Drop>(items: &mut Vec<T>)
-    ensures { items.new.items ≡ without_last items.old.items }
-{
-    let count = items.as_slice().len();
-    items.truncate(count.saturating_sub(1));
-}
-
-/// Notes a change for which there is room.
-fn note(changes: &mut Vec<Change>, change: Change)
-    requires { vec_len changes.old < vec_capacity changes.old }
-    ensures { changes.new.items ≡ changes.old.items ++ change ∷ [] }
-{
-    changes.push(change).unwrap();
-}
-
-fn account_in(accounts: &[Account], id: u128) -> Option<Account>
-    ensures { result ≡ find (λ account. account.id == id) accounts.now }
-{
-    accounts.iter().copied().find(|account| account.id == id)
-}
-
-fn account_at(accounts: &[Account], place: usize) -> Option<Account>
-    ensures { result ≡ slice_get accounts.now place }
-{
-    accounts.get(place).copied()
 }

@@ -2,6 +2,8 @@
 
 ghost use Rattle.std.specs.Prelude.{◌≡◌};
 
+mod plain;
+
 use crate::{Status, Tables};
 use std::test::Fail;
 use tb_layout::{Account, Transfer};

@@ -1,7 +1,11 @@
-use Rattle.std.proofs.Common.{◌∙◌, sym, refl}
+use Rattle.std.proofs.Common.{◌∙◌}
+use Rattle.tb_tables.specs.Expiries.{is_indexed}
+use Rattle.tb_tables.specs.Kept.{Stored}
+use Rattle.tb_tables.proofs.Locating.{account-found}
 use Rattle.tb_tables.proofs.tables.Tables.account.Goals as goal
 
 pub returns : goal.returns
 returns c =
-    let found = sym c.account_in.ensures ∙ c.in_ok-account.was in
-    rw (← c.self.view_is, ← c.deref.ensures.value, found, c.with_balances.ensures, c.deref-2.ensures.value) refl
+    let o = c.self.inside in
+    let old : Stored = record { accounts = o.accounts.entries; transfers = o.transfers.entries; failed = o.failed.keys; changes = o.changes.items; is_indexed = is_indexed o.expiries } in
+    rw (← c.self.view_is) (c.copied.ensures ∙ c.get.ensures.value ∙ account-found old c.self.invariant c.args.id)

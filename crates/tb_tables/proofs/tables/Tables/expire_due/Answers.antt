@@ -1,21 +1,30 @@
-use Rattle.std.proofs.Common.{◌∙◌}
-use Rattle.std.proofs.lemmas.List.{with_items_is}
-use Rattle.tb_tables.specs.Changes.{Lists}
-use Rattle.tb_tables.proofs.Expiring.{history_expired}
+use Rattle.std.proofs.Common.{◌∙◌, ap, []}
+use Rattle.tb_tables.specs.Changes.{history_of}
+use Rattle.tb_tables.specs.declared.places.Places.{Places}
+use Rattle.tb_tables.specs.Kept.{lists_in}
+use Rattle.tb_tables.proofs.Due.{no-changes, expired}
 use Rattle.tb_tables.proofs.tables.Tables.expire_due.Goals as goal
+
+pub expire_all-requires : goal.expire_all-requires
+expire_all-requires c =
+    let o = c.self.inside in
+    let lists = lists_in o.accounts.entries o.transfers.entries o.failed.keys in
+    let none = no-changes o.changes.items lists (rw (← c.self.view_is) at c.requires) in
+    let kept = rw none at c.self.invariant in
+    (o.failed.keys, kept)
 
 pub invariant_of-self : goal.invariant_of-self
 invariant_of-self c =
-    let inside = c.self.inside in
-    let lists : Lists = record { accounts = inside.accounts.items; rows = inside.rows.items; failed = inside.failed.items } in
-    let items = with_items_is inside.rows c.expire_due.new.rows (c.expire_due.ensures.len ∙ c.as_mut_slice.ensures.len) in
-    let marked = rw c.as_mut_slice.ensures.value at c.expire_due.ensures.rows in
-    rw items (history_expired c.args.clock inside.changes.items lists c.expire_due.new.rows (rw (← c.self.view_is) at c.requires) marked c.self.invariant).1
+    let o = c.self.inside in
+    let lists = lists_in o.accounts.entries o.transfers.entries o.failed.keys in
+    let none = no-changes o.changes.items lists (rw (← c.self.view_is) at c.requires) in
+    let kept = rw none at c.self.invariant in
+    rw none (c.expire_all.ensures.kept o.failed.keys kept)
 
 pub returns : goal.returns
 returns c =
-    let inside = c.self.inside in
-    let lists : Lists = record { accounts = inside.accounts.items; rows = inside.rows.items; failed = inside.failed.items } in
-    let items = with_items_is inside.rows c.expire_due.new.rows (c.expire_due.ensures.len ∙ c.as_mut_slice.ensures.len) in
-    let marked = rw c.as_mut_slice.ensures.value at c.expire_due.ensures.rows in
-    rw (← c.self.view_is, items) (history_expired c.args.clock inside.changes.items lists c.expire_due.new.rows (rw (← c.self.view_is) at c.requires) marked c.self.invariant).0
+    let o = c.self.inside in
+    let lists = lists_in o.accounts.entries o.transfers.entries o.failed.keys in
+    let none = no-changes o.changes.items lists (rw (← c.self.view_is) at c.requires) in
+    let kept = rw none at c.self.invariant in
+    rw (← c.self.view_is, none) (ap (history_of {T = Places} []) (c.expire_all.ensures.lists o.failed.keys kept) ∙ expired c.args.clock lists kept.lawful.now)

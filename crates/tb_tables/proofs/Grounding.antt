@@ -1,0 +1,83 @@
+-- Transfers stay grounded with each change.
+use Rattle.std.proofs.Common.{refl, sym, ap, subst, ◌∙◌, ◌≡◌, Bool, true, false, cond, List, [], ◌∷◌, ◌++◌, true≢false}
+use Rattle.std.specs.Prelude.{◌==◌, ◌||◌, Some, IsSome, find}
+use Rattle.std.specs.List.{list_any, AllByRecursion}
+use Rattle.std.proofs.lemmas.List.Folds.{list_any-append}
+use Rattle.tb_layout.specs.declared.account.Account.{Account}
+use Rattle.tb_layout.specs.declared.transfer.Transfer.{Transfer}
+use Rattle.tb_layout.specs.Transfer.{is_post, is_void}
+use Rattle.tb_tables.specs.Facts.{Facts, add_account, add_transfer}
+use Rattle.tb_tables.specs.Conditions.{MayAdd, MayResolve}
+use Rattle.tb_tables.specs.Kept.{has_account, IsGrounded, AreGrounded}
+
+pub all_push : {X : Type 0} (P : X → Type 0) (xs : List X) (x : X) → AllByRecursion P xs → P x → AllByRecursion P (xs ++ x ∷ [])
+all_push P [] x all p = (p, tt)
+all_push P (y ∷ xs) x all p = (all.0, all_push P xs x all.1 p)
+
+any-more : {X : Type 0} (test : X → Bool) (xs ys : List X) → list_any test xs ≡ true → list_any test (xs ++ ys) ≡ true
+any-more test xs ys h = list_any-append test xs ys ∙ ap (λ b. b || list_any test ys) h
+
+any-found : {X : Type 0} (test : X → Bool) (xs : List X) → IsSome (find test xs) → list_any test xs ≡ true
+any-found test [] h = absurd (true≢false (sym h))
+any-found {X} test (x ∷ xs) h = by (test x) (any-found test xs) h
+  where
+    by : (b : Bool) → (IsSome (find test xs) → list_any test xs ≡ true) → IsSome (cond b (Some x) (find test xs)) → (b || list_any test xs) ≡ true
+    by true rest h = refl
+    by false rest h = rest h
+
+pub all-found : {X : Type 0} (P : X → Type 0) (test : X → Bool) (xs : List X) (x : X) → AllByRecursion P xs → find test xs ≡ Some x → P x
+all-found P test [] x all h = cc
+all-found {X} P test (y ∷ xs) x all h = by (test y) (all-found P test xs x all.1) h
+  where
+    by : (b : Bool) → (find test xs ≡ Some x → P x) → cond b (Some y) (find test xs) ≡ Some x → P x
+    by true rest h = let same : y ≡ x = cc in subst P same all.0
+    by false rest h = rest h
+
+module _ (accounts more_accounts : List Account) (transfers more_transfers : List Transfer) where
+  grounded-more : (xs : List Transfer) → AllByRecursion (IsGrounded accounts transfers) xs → AllByRecursion (IsGrounded (accounts ++ more_accounts) (transfers ++ more_transfers)) xs
+  grounded-more [] all = tt
+  grounded-more (x ∷ xs) all = (
+    record {
+      debit = any-more (λ (a : Account). a.id == x.debit_account_id) accounts more_accounts all.0.debit;
+      credit = any-more (λ (a : Account). a.id == x.credit_account_id) accounts more_accounts all.0.credit;
+      named = λ resolving. any-more (λ (t : Transfer). t.id == x.pending_id) transfers more_transfers (all.0.named resolving);
+      expiry_fits = all.0.expiry_fits;
+    },
+    grounded-more xs all.1,
+  )
+
+append-none : {X : Type 0} (xs : List X) → xs ++ [] ≡ xs
+append-none [] = refl
+append-none (x ∷ xs) = ap (λ ys. x ∷ ys) (append-none xs)
+
+pub grounded_account : (facts : Facts) (account : Account) → AreGrounded facts → AreGrounded (add_account facts account)
+grounded_account facts account all = rw (append-none facts.transfers) at (grounded-more facts.accounts (account ∷ []) facts.transfers [] facts.transfers all)
+
+grounded_transfer : (facts : Facts) (t : Transfer) → AreGrounded facts → IsGrounded facts.accounts (facts.transfers ++ t ∷ []) t → AreGrounded (add_transfer facts t)
+grounded_transfer facts t all ground =
+    all_push (IsGrounded facts.accounts (facts.transfers ++ t ∷ [])) facts.transfers t (rw (append-none facts.accounts) at (grounded-more facts.accounts [] facts.transfers (t ∷ []) facts.transfers all)) ground
+
+not_resolving : (a b : Bool) → a ≡ false → b ≡ false → (a || b) ≡ true → (X : Type 0) → X
+not_resolving true b h k r X = cc
+not_resolving false true h k r X = cc
+not_resolving false false h k r X = cc
+
+pub grounded_added : (facts : Facts) (t : Transfer) → MayAdd facts t → AreGrounded facts → AreGrounded (add_transfer facts t)
+grounded_added facts t may all =
+    grounded_transfer facts t all (record {
+      debit = any-found (λ (a : Account). a.id == t.debit_account_id) facts.accounts may.debit_there;
+      credit = any-found (λ (a : Account). a.id == t.credit_account_id) facts.accounts may.credit_there;
+      named = λ resolving. not_resolving (is_post t) (is_void t) may.not_post may.not_void resolving _;
+      expiry_fits = λ pending. may.expiry_fits;
+    })
+
+pub grounded_resolved : (facts : Facts) (t : Transfer) → MayResolve facts t → AreGrounded facts → AreGrounded (add_transfer facts t)
+grounded_resolved facts t may all =
+    let ground = all-found (IsGrounded facts.accounts facts.transfers) (λ (x : Transfer). x.id == t.pending_id) facts.transfers may.pending all may.named in
+    let there : IsSome (find (λ (x : Transfer). x.id == t.pending_id) facts.transfers) = rw may.named refl in
+    grounded_transfer facts t all (record {
+      debit = ap (λ id. has_account id facts.accounts) may.same_debit ∙ ground.debit;
+      credit = ap (λ id. has_account id facts.accounts) may.same_credit ∙ ground.credit;
+      named = λ resolving. any-more (λ (x : Transfer). x.id == t.pending_id) facts.transfers (t ∷ []) (any-found (λ (x : Transfer). x.id == t.pending_id) facts.transfers there);
+      expiry_fits = λ pending. absurd (true≢false (sym pending ∙ may.not_pending));
+    })

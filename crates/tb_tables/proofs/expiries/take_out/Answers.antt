@@ -1,0 +1,6 @@
+use Rattle.std.proofs.Common.{◌∙◌}
+use Rattle.tb_tables.proofs.Indexing.{without_pair}
+use Rattle.tb_tables.proofs.expiries.take_out.Goals as goal
+
+pub returns : goal.returns
+returns c = λ m p. c.remove.ensures.updates.0 (m, p) ∙ without_pair c.args.moment c.args.place m p _

@@ -1,0 +1,117 @@
+//! Entries of the maps, in order of making.
+
+ghost use Rattle.std.specs.Prelude.{◌≡◌, ◌<◌, ◌++◌, ◌∷◌, ◌==◌, [], ℕ, None, Some, OnOk, OnErr, IsSome, false, nat_eq, slice_get, List};
+ghost use Rattle.std.specs.List.{list_any};
+ghost use Rattle.indexmap.specs.IndexMap.{get, keys, index_map_len, set_value_at, IsUnique};
+ghost use Rattle.tb_tables.specs.declared.row.Row.{Row as RowRecord};
+ghost use Rattle.tb_tables.specs.Changes.{without_last};
+ghost use Rattle.tb_tables.specs.Storing.{new_row, settled};
+
+use crate::row::Row;
+use crate::status::Status;
+use indexmap::{IndexMap, IndexSet};
+use tb_layout::{Account, NoMemory, Transfer};
+
+/// Puts a new account behind the others.
+pub fn push_account(
+    accounts: &mut IndexMap<u128, Account>,
+    account: Account,
+) -> Result<(), NoMemory>
+    requires { get nat_eq accounts.old account.id ≡ None }
+    ensures ok { OnOk result (accounts.new.entries ≡ accounts.old.entries ++ (account.id, account) ∷ []) }
+    ensures err { OnErr result (accounts.new.entries ≡ accounts.old.entries) }
+{
+    accounts.insert(account.id, account)?;
+    Ok(())
+}
+
+/// Puts a new transfer behind the others.
+pub fn push_transfer(
+    transfers: &mut IndexMap<u128, Row>,
+    transfer: Transfer,
+) -> Result<(), NoMemory>
+    requires { get nat_eq transfers.old transfer.id ≡ None }
+    ensures ok { OnOk result (transfers.new.entries ≡ transfers.old.entries ++ (transfer.id, new_row transfer) ∷ []) }
+    ensures err { OnErr result (transfers.new.entries ≡ transfers.old.entries) }
+{
+    let status = if transfer.is_pending() {
+        Some(Status::Pending)
+    } else {
+        None
+    };
+    transfers.insert(transfer.id, Row { transfer, status })?;
+    Ok(())
+}
+
+/// Puts a new failed id behind the others.
+pub fn push_failed(failed: &mut IndexSet<u128>, id: u128) -> Result<(), NoMemory>
+    requires { list_any (λ other. other == id) failed.old.keys ≡ false }
+    ensures ok { OnOk result (failed.new.keys ≡ failed.old.keys ++ id ∷ []) }
+    ensures err { OnErr result (failed.new.keys ≡ failed.old.keys) }
+{
+    failed.insert(id)?;
+    Ok(())
+}
+
+/// Takes the last account off.
+pub fn pop_account(accounts: &mut IndexMap<u128, Account>)
+    ensures { accounts.new.entries ≡ without_last accounts.old.entries }
+{
+    accounts.truncate(accounts.len().saturating_sub(1));
+}
+
+/// Takes the last failed id off.
+pub fn pop_failed(failed: &mut IndexSet<u128>)
+    ensures { failed.new.keys ≡ without_last failed.old.keys }
+{
+    failed.truncate(failed.len().saturating_sub(1));
+}
+
+/// The place of the entry with this id.
+pub fn place_of<V: Drop>(entries: &IndexMap<u128, V>, id: u128) -> usize
+    requires { IsSome (get nat_eq entries.now id) }
+    ensures { slice_get (keys entries.now) result ≡ Some id }
+{
+    entries.get_index_of(&id).unwrap()
+}
+
+/// The transfer at a place.
+pub fn transfer_at(transfers: &IndexMap<u128, Row>, place: usize) -> Transfer
+    requires { IsSome (slice_get transfers.now.entries place) }
+    ensures { (id : ℕ) (row : RowRecord) → slice_get transfers.now.entries place ≡ Some (id, row) → result ≡ row.transfer }
+{
+    let (_, row) = transfers.get_index(place).unwrap();
+    row.transfer
+}
+
+/// Takes the last transfer off.
+pub fn pop_transfer(transfers: &mut IndexMap<u128, Row>) -> Transfer
+    requires { 0 < index_map_len transfers.old }
+    ensures { (id : ℕ) (row : RowRecord) (others : List (ℕ × RowRecord)) → transfers.old.entries ≡ others ++ (id, row) ∷ []
+        → (result ≡ row.transfer) × (transfers.new.entries ≡ others) }
+{
+    let (_, row) = transfers.pop().unwrap();
+    row.transfer
+}
+
+/// Sets the status of the transfer at a place.
+pub fn set_status(transfers: &mut IndexMap<u128, Row>, place: usize, status: Status)
+    requires { IsSome (slice_get transfers.old.entries place) }
+    ensures entries { (id : ℕ) (row : RowRecord) → slice_get transfers.old.entries place ≡ Some (id, row)
+        → transfers.new.entries ≡ set_value_at transfers.old.entries place (record row { status = Some status }) }
+    ensures unique { IsUnique nat_eq transfers.old }
+{
+    let (_, row) = transfers.pair_mut(place);
+    row.status = Some(status);
+}
+
+/// The status of what a post or a void names.
+pub fn settled_status(is_post: bool) -> Status
+    ensures { result ≡ settled is_post }
+{
+    if is_post {
+        Status::Posted
+    } else {
+        Status::Voided
+    }
+}

@@ -1,0 +1,44 @@
+//! The index of expiries: when each pending transfer with a timeout expires, and its place in the order of
+//! making.
+
+ghost use Rattle.std.specs.Prelude.{◌≡◌, ◌≤◌, ◌<◌, OnOk, OnErr, true, not, ◌&&◌, ◌||◌, ℕ, IfSome, IfNone};
+ghost use Rattle.std.specs.BTreeSet.{btree_set_len};
+ghost use Rattle.tb_tables.specs.Expiries.{is_indexed, same_pair};
+
+use std::collections::BTreeSet;
+use tb_layout::NoMemory;
+
+/// Puts a pair in.
+pub fn put_in(
+    expiries: &mut BTreeSet<(u64, usize)>,
+    moment: u64,
+    place: usize,
+) -> Result<(), NoMemory>
+    ensures ok { OnOk result ((m p : ℕ) → is_indexed expiries.new m p ≡ (same_pair moment place m p || is_indexed expiries.old m p)) }
+    ensures err { OnErr result (expiries.new.keys ≡ expiries.old.keys) }
+{
+    expiries.insert((moment, place))?;
+    Ok(())
+}
+
+/// Takes a pair out.
+pub fn take_out(expiries: &mut BTreeSet<(u64, usize)>, moment: u64, place: usize)
+    ensures { (m p : ℕ) → is_indexed expiries.new m p ≡ (not (same_pair moment place m p) && is_indexed expiries.old m p) }
+{
+    expiries.remove(&(moment, place));
+}
+
+/// Takes the first pair out, where it is due at a clock.
+pub fn take_due(expiries: &mut BTreeSet<(u64, usize)>, clock: u64) -> Option<usize>
+    ensures due { IfSome result (λ place. (moment : ℕ) × (moment ≤ clock) × (is_indexed expiries.old moment place ≡ true)
+        × ((m p : ℕ) → is_indexed expiries.new m p ≡ (not (same_pair moment place m p) && is_indexed expiries.old m p))) }
+    ensures fewer { IfSome result (λ place. btree_set_len expiries.new < btree_set_len expiries.old) }
+    ensures later { IfNone result ((moment place : ℕ) → is_indexed expiries.old moment place ≡ true → clock < moment) }
+    ensures none { IfNone result (expiries.new.keys ≡ expiries.old.keys) }
+{
+    if expiries.first()?.0 > clock {
+        return None;
+    }
+    let (_, place) = expiries.pop_first()?;
+    Some(place)
+}

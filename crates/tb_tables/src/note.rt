@@ -1,0 +1,11 @@
+ghost use Rattle.std.specs.Prelude.{◌≡◌, ◌<◌, ◌++◌, ◌∷◌, [], vec_len, vec_capacity};
+
+use crate::change::Change;
+
+/// Notes a change for which there is room.
+pub fn note<T: Drop>(changes: &mut Vec<Change<T>>, change: Change<T>)
+    requires { vec_len changes.old < vec_capacity changes.old }
+    ensures { changes.new.items ≡ changes.old.items ++ change ∷ [] }
+{
+    changes.push(change).unwrap();
+}

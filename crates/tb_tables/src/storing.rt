@@ -1,0 +1,183 @@
+//! What a transfer changes beside its own row: balances, the status of what it names, and the index of
+//! expiries.
+
+ghost use Rattle.std.specs.Prelude.{◌≡◌, ℕ, List, not, ◌&&◌, ◌||◌, ◌<◌, ◌^◌, OnOk, OnErr, true, Some, length};
+ghost use Rattle.std.specs.List.{AllByRecursion};
+ghost use Rattle.tb_layout.specs.declared.account.Account.{Account as AccountRecord};
+ghost use Rattle.tb_layout.specs.declared.transfer.Transfer.{Transfer as TransferRecord};
+ghost use Rattle.tb_layout.specs.Transfer.{is_pending};
+ghost use Rattle.tb_tables.specs.Facts.{Facts};
+ghost use Rattle.tb_tables.specs.Status.{expires_at as expires_at_of};
+ghost use Rattle.tb_tables.specs.Expiries.{is_indexed, same_pair};
+ghost use Rattle.tb_tables.specs.Kept.{is_timed as is_timed_of, named_by as named_by_of, resolves_at, is_resolved_at, is_pair};
+ghost use Rattle.tb_tables.specs.Storing.{IsPushed, IsStored, IsPopped, Hold, CanForget};
+
+use crate::amounts::{add_amount, post_if, take_amount, unpost_if};
+use crate::change::Change;
+use crate::entries::{pop_transfer, set_status, settled_status, transfer_at};
+use crate::expiries::{put_in, take_out};
+use crate::places::Places;
+use crate::row::Row;
+use crate::status::Status;
+use indexmap::IndexMap;
+use std::collections::BTreeSet;
+use tb_layout::{Account, NoMemory, Transfer};
+
+const NANOSECONDS: u64 = 1_000_000_000;
+
+/// Whether a transfer has a moment at which it expires.
+fn is_timed(transfer: &Transfer) -> bool
+    ensures { result ≡ is_timed_of transfer.now }
+{
+    transfer.is_pending() && transfer.timeout != 0
+}
+
+/// When it expires.
+fn expires_at(transfer: &Transfer) -> u64
+    requires { expires_at_of transfer.now < 2 ^ 64 }
+    ensures { result ≡ expires_at_of transfer.now }
+{
+    transfer.timestamp + u64::from(transfer.timeout) * NANOSECONDS
+}
+
+/// Puts the pair of a transfer at a place into the index, where it has one.
+pub fn expect(
+    expiries: &mut BTreeSet<(u64, usize)>,
+    transfer: &Transfer,
+    place: usize,
+) -> Result<(), NoMemory>
+    requires { is_pending transfer.now ≡ true → expires_at_of transfer.now < 2 ^ 64 }
+    ensures ok { OnOk result ((m p : ℕ) → is_indexed expiries.new m p ≡ ((is_timed_of transfer.now && same_pair (expires_at_of transfer.now) place m p) || is_indexed expiries.old m p)) }
+    ensures err { OnErr result (expiries.new.keys ≡ expiries.old.keys) }
+{
+    if is_timed(transfer) {
+        put_in(expiries, expires_at(transfer), place)?;
+    }
+    Ok(())
+}
+
+/// Takes it out again.
+pub fn forget(expiries: &mut BTreeSet<(u64, usize)>, transfer: &Transfer, place: usize)
+    requires { is_pending transfer.now ≡ true → expires_at_of transfer.now < 2 ^ 64 }
+    ensures { (m p : ℕ) → is_indexed expiries.new m p ≡ (not (is_timed_of transfer.now && same_pair (expires_at_of transfer.now) place m p) && is_indexed expiries.old m p) }
+{
+    if is_timed(transfer) {
+        take_out(expiries, expires_at(transfer), place);
+    }
+}
+
+/// What a post or a void changes, once its row is there.
+fn settle(
+    accounts: &mut IndexMap<u128, Account>,
+    transfers: &mut IndexMap<u128, Row>,
+    places: Places,
+    pending: usize,
+    transfer: Transfer,
+)
+    requires names { places.pending ≡ Some pending }
+    requires pushed { (facts : Facts) × (rows : List AccountRecord) × IsPushed facts rows transfer places accounts.old.entries transfers.old.entries }
+    ensures { (facts : Facts) (rows : List AccountRecord) → IsPushed facts rows transfer places accounts.old.entries transfers.old.entries
+        → IsStored facts rows transfer places accounts.new.entries transfers.new.entries }
+{
+    let reserved = transfer_at(transfers, pending).amount;
+    take_amount(accounts, places, true, reserved);
+    post_if(accounts, places, transfer.is_post(), transfer.amount);
+    set_status(transfers, pending, settled_status(transfer.is_post()));
+}
+
+/// What a transfer changes, once its row is there.
+pub fn apply(
+    accounts: &mut IndexMap<u128, Account>,
+    transfers: &mut IndexMap<u128, Row>,
+    places: Places,
+    transfer: Transfer,
+)
+    requires { (facts : Facts) × (rows : List AccountRecord) × IsPushed facts rows transfer places accounts.old.entries transfers.old.entries }
+    ensures { (facts : Facts) (rows : List AccountRecord) → IsPushed facts rows transfer places accounts.old.entries transfers.old.entries
+        → IsStored facts rows transfer places accounts.new.entries transfers.new.entries }
+{
+    match places.pending {
+        None => add_amount(accounts, places, transfer.is_pending(), transfer.amount),
+        Some(pending) => settle(accounts, transfers, places, pending, transfer),
+    }
+}
+
+/// Takes back what a post or a void changed, once its row is off.
+fn unsettle(
+    accounts: &mut IndexMap<u128, Account>,
+    transfers: &mut IndexMap<u128, Row>,
+    places: Places,
+    pending: usize,
+    transfer: Transfer,
+)
+    requires names { places.pending ≡ Some pending }
+    requires popped { (facts : Facts) × (rows : List AccountRecord) × IsPopped facts rows transfer places accounts.old.entries transfers.old.entries }
+    ensures { (facts : Facts) (rows : List AccountRecord) → IsPopped facts rows transfer places accounts.old.entries transfers.old.entries
+        → Hold facts rows accounts.new.entries transfers.new.entries }
+{
+    let reserved = transfer_at(transfers, pending).amount;
+    unpost_if(accounts, places, transfer.is_post(), transfer.amount);
+    add_amount(accounts, places, true, reserved);
+    set_status(transfers, pending, Status::Pending);
+}
+
+/// Takes the last transfer off, with what it changed.
+pub fn take_back(
+    accounts: &mut IndexMap<u128, Account>,
+    transfers: &mut IndexMap<u128, Row>,
+    expiries: &mut BTreeSet<(u64, usize)>,
+    places: Places,
+)
+    requires { (facts : Facts) × (rows : List AccountRecord) × (transfer : TransferRecord) × IsStored facts rows transfer places accounts.old.entries transfers.old.entries }
+    ensures maps { (facts : Facts) (rows : List AccountRecord) (transfer : TransferRecord) → IsStored facts rows transfer places accounts.old.entries transfers.old.entries
+        → Hold facts rows accounts.new.entries transfers.new.entries }
+    ensures index { (facts : Facts) (rows : List AccountRecord) (transfer : TransferRecord) → IsStored facts rows transfer places accounts.old.entries transfers.old.entries → (m p : ℕ)
+        → is_indexed expiries.new m p ≡ (not (is_timed_of transfer && same_pair (expires_at_of transfer) (length facts.transfers) m p) && is_indexed expiries.old m p) }
+{
+    let transfer = pop_transfer(transfers);
+    forget(expiries, &transfer, transfers.len());
+    match places.pending {
+        None => take_amount(accounts, places, transfer.is_pending(), transfer.amount),
+        Some(pending) => unsettle(accounts, transfers, places, pending, transfer),
+    }
+}
+
+/// The place of the transfer that a change resolved.
+fn named_by(change: &Change<Places>) -> Option<usize>
+    ensures { result ≡ named_by_of change.now }
+{
+    match change {
+        Change::Transfer(places) => places.pending,
+        Change::Account | Change::Failed => None,
+    }
+}
+
+/// Takes the pair of the transfer that a change resolved out of the index.
+fn forget_change(
+    expiries: &mut BTreeSet<(u64, usize)>,
+    transfers: &IndexMap<u128, Row>,
+    change: &Change<Places>,
+)
+    requires { (facts : Facts) × CanForget facts change.now transfers.now.entries }
+    ensures { (facts : Facts) → CanForget facts change.now transfers.now.entries → (m p : ℕ)
+        → is_indexed expiries.new m p ≡ (not (resolves_at p change.now && is_pair facts m p) && is_indexed expiries.old m p) }
+{
+    if let Some(place) = named_by(change) {
+        forget(expiries, &transfer_at(transfers, place), place);
+    }
+}
+
+/// Takes the pairs of the transfers that some changes resolved out of the index.
+pub fn forget_resolved(
+    expiries: &mut BTreeSet<(u64, usize)>,
+    transfers: &IndexMap<u128, Row>,
+    changes: &[Change<Places>],
+)
+    requires { (facts : Facts) × AllByRecursion (λ change. CanForget facts change transfers.now.entries) changes.now }
+    ensures { (facts : Facts) → AllByRecursion (λ change. CanForget facts change transfers.now.entries) changes.now → (m p : ℕ)
+        → is_indexed expiries.new m p ≡ (not (is_resolved_at p changes.now && is_pair facts m p) && is_indexed expiries.old m p) }
+{
+    for change in changes {
+        forget_change(expiries, transfers, change);
+    }
+}
