@@ -70,8 +70,11 @@ pub fn resolved(pending: &Transfer, event: &Transfer) -> Transfer
 pub fn resolved_by(tables: &Tables, pending_id: u128, event: &Transfer) -> Transfer
     ensures { result ≡ spec.resolved_by (transfer_with tables.now.now pending_id) event.now }
 {
+    if !is_resolving(event) {
+        return *event;
+    }
     match tables.transfer(pending_id) {
-        Some(pending) if is_resolving(event) => resolved(&pending, event),
-        _ => *event,
+        Some(pending) => resolved(&pending, event),
+        None => *event,
     }
 }

@@ -1,10 +1,13 @@
 //! What no clause says: each call once with ample memory, and commits with each growth refused.
 
+use crate::Machine;
 use std::alloc::AllocError;
+use std::test::Fail;
 use tb_layout::{Account, Transfer, write_account, write_transfer};
 
 mod calls;
 mod memory;
+mod running;
 
 const MOST: u128 = u128::MAX;
 
@@ -70,4 +73,22 @@ fn transfers_body(rt: &HostRuntime, events: &[Transfer]) -> Result<Vec<u8>, Allo
         body.extend_from_slice(&write_transfer(event))?;
     }
     Ok(body)
+}
+
+/// Whether a packet was committed, as it is unless memory is wanting.
+fn commits(rt: &HostRuntime, machine: &mut Machine, operation: u8, body: &[u8]) -> bool {
+    if operation != 129 && operation != 130 || body.len() % 128 != 0 || body.len() / 128 > 8190 {
+        return false;
+    }
+    let Ok(mut out) = Vec::with_capacity(rt.alloc(), body.len() / 128) else {
+        return false;
+    };
+    machine.commit(operation, body, &mut out).is_ok() && out.is_empty()
+}
+
+fn holds(fact: bool) -> Result<(), Fail> {
+    if !fact {
+        Err("something doesn't hold")?;
+    }
+    Ok(())
 }
