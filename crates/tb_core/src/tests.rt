@@ -43,6 +43,13 @@ fn counts(rt: &HostRuntime, parcels: &[Parcel]) -> Result<Vec<usize>, Fail> {
     Ok(counts)
 }
 
+fn holds(fact: bool) -> Result<(), Fail> {
+    if !fact {
+        Err("something doesn't hold")?;
+    }
+    Ok(())
+}
+
 #[test]
 fn openings(rt: HostRuntime) -> Result<(), Fail> {
     assert_eq!(rt; Front::new(rt.alloc(), 0, 3).err(), Some(Refusal::BadLimit));

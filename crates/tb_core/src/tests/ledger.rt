@@ -2,6 +2,7 @@
 
 ghost use Rattle.std.specs.Prelude.{◌≡◌, ◌≤◌, IfOk};
 
+use super::holds;
 use crate::{Cause, Entry, Front, Ledger, Outcomes, Parcel};
 use std::alloc::AllocError;
 use std::test::Fail;
@@ -160,88 +161,96 @@ fn found(reply: &Reply) -> Option<(u64, usize, Account)> {
 fn pulse_between_batches(rt: HostRuntime) -> Result<(), Fail> {
     let mut front = Front::new(rt.alloc(), 4, 1).ok().ok_or("bad opening")?;
     let mut ledger = Ledger::new(rt.alloc(), 0);
+    pulse_between(&rt, &mut front, &mut ledger)
+}
+
+fn pulse_between(rt: &HostRuntime, front: &mut Front, ledger: &mut Ledger) -> Result<(), Fail>
+    requires { 1 ≤ front.old.submitters }
+{
     let mut places = Vec::new(rt.alloc());
-    feed(&mut front, &mut ledger, ticket(&rt, 1)?, &mut places)?;
-    feed(&mut front, &mut ledger, ticket(&rt, 2)?, &mut places)?;
-    assert!(rt; places.is_empty());
+    feed(front, ledger, ticket(rt, 1)?, &mut places)?;
+    feed(front, ledger, ticket(rt, 2)?, &mut places)?;
+    holds(places.is_empty())?;
     let pulse = Ticket {
         sender: 1,
         item: Item::Pulse(Moment::new(5)),
     };
-    feed(&mut front, &mut ledger, pulse, &mut places)?;
-    assert_eq!(rt; places.as_slice(), [0, 1].as_slice());
-    feed(&mut front, &mut ledger, ticket(&rt, 3)?, &mut places)?;
-    feed(&mut front, &mut ledger, ticket(&rt, 4)?, &mut places)?;
-    feed(&mut front, &mut ledger, ticket(&rt, 5)?, &mut places)?;
-    feed(&mut front, &mut ledger, ticket(&rt, 6)?, &mut places)?;
-    assert!(rt; !front.finished());
+    feed(front, ledger, pulse, &mut places)?;
+    holds(places.as_slice() == [0, 1].as_slice())?;
+    feed(front, ledger, ticket(rt, 3)?, &mut places)?;
+    feed(front, ledger, ticket(rt, 4)?, &mut places)?;
+    feed(front, ledger, ticket(rt, 5)?, &mut places)?;
+    feed(front, ledger, ticket(rt, 6)?, &mut places)?;
+    holds(!front.finished())?;
     let batch = front.idle().ok_or("nothing held")?;
-    assert!(rt; front.idle().is_none());
+    holds(front.idle().is_none())?;
     tell(ledger.apply(Parcel::Batch(batch)), &mut places)?;
-    assert_eq!(rt; places.as_slice(), [0, 1, 3, 4, 5, 6].as_slice());
-    assert_eq!(rt;
-        packets(&rt, ledger.journal())?.as_slice(),
-        [2, 0, 4].as_slice()
-    );
-    assert_eq!(rt; ledger.places(), 7);
-    assert_eq!(rt; ledger.opening(), 0);
-    assert_eq!(rt; ledger.machine().clock(), 9);
-    assert_eq!(rt; ledger.machine().accounts(), 6);
-    assert!(rt; !ledger.stopped());
+    holds(places.as_slice() == [0, 1, 3, 4, 5, 6].as_slice())?;
+    holds(packets(rt, ledger.journal())?.as_slice() == [2, 0, 4].as_slice())?;
+    holds(ledger.places() == 7)?;
+    holds(ledger.opening() == 0)?;
+    holds(ledger.machine().clock() == 9)?;
+    holds(ledger.machine().accounts() == 6)?;
+    holds(!ledger.stopped())?;
     Ok(())
 }
 
 #[test]
 fn found_by_a_lookup(rt: HostRuntime) -> Result<(), Fail> {
     let mut ledger = Ledger::new(rt.alloc(), 3);
-    let made = create(&rt, 1)
-        .and_then(|job| alone(&rt, job))
+    lookup_behind_a_batch(&rt, &mut ledger)
+}
+
+fn lookup_behind_a_batch(rt: &HostRuntime, ledger: &mut Ledger) -> Result<(), Fail> {
+    let made = create(rt, 1)
+        .and_then(|job| alone(rt, job))
         .ok_or("no memory")?;
-    let asked = look_up(&rt, [1, 2])
-        .and_then(|job| alone(&rt, job))
+    let asked = look_up(rt, [1, 2])
+        .and_then(|job| alone(rt, job))
         .ok_or("no memory")?;
     let mut places = Vec::new(rt.alloc());
     tell(ledger.apply(Parcel::Batch(made)), &mut places)?;
     let reply = only_reply(ledger.apply(Parcel::Batch(asked))).ok_or("no reply")?;
     let (place, count, first) = found(&reply).ok_or("no lookup's answer")?;
-    assert_eq!(rt; place, 1);
-    assert_eq!(rt; count, 1);
+    holds(place == 1)?;
+    holds(count == 1)?;
     let wanted = Account {
         timestamp: 4,
         ..account(1)
     };
-    assert_eq!(rt; first, wanted);
-    assert_eq!(rt; ledger.machine().clock(), 4);
-    assert_eq!(rt;
-        packets(&rt, ledger.journal())?.as_slice(),
-        [1, 1].as_slice()
-    );
+    holds(first == wanted)?;
+    holds(ledger.machine().clock() == 4)?;
+    holds(packets(rt, ledger.journal())?.as_slice() == [1, 1].as_slice())?;
     Ok(())
 }
 
 #[test]
 fn refused_commit(rt: HostRuntime) -> Result<(), Fail> {
     let mut ledger = Ledger::new(rt.alloc(), 0);
+    behind_a_refusal(&rt, &mut ledger)
+}
+
+fn behind_a_refusal(rt: &HostRuntime, ledger: &mut Ledger) -> Result<(), Fail> {
     let mut places = Vec::new(rt.alloc());
-    let first = create(&rt, 1)
-        .and_then(|job| alone(&rt, job))
+    let first = create(rt, 1)
+        .and_then(|job| alone(rt, job))
         .ok_or("no memory")?;
-    let second = create(&rt, 2)
-        .and_then(|job| alone(&rt, job))
+    let second = create(rt, 2)
+        .and_then(|job| alone(rt, job))
         .ok_or("no memory")?;
-    let behind = create(&rt, 3).ok_or("no memory")?;
+    let behind = create(rt, 3).ok_or("no memory")?;
     tell(ledger.apply_as_refused(Parcel::Batch(first)), &mut places)?;
-    assert!(rt; ledger.stopped());
+    holds(ledger.stopped())?;
     tell(ledger.apply(Parcel::Batch(second)), &mut places)?;
     tell(ledger.apply(Parcel::Pulse(Moment::new(5))), &mut places)?;
     tell(
         ledger.apply(Parcel::Return(behind, Cause::Shutdown)),
         &mut places,
     )?;
-    assert!(rt; matches!(ledger.apply(Parcel::Last), Outcomes::Last));
-    assert_eq!(rt; places.as_slice(), [STOPPED, STOPPED, SHUT].as_slice());
-    assert!(rt; ledger.journal().is_empty());
-    assert_eq!(rt; ledger.places(), 0);
-    assert_eq!(rt; ledger.machine().clock(), 0);
+    holds(matches!(ledger.apply(Parcel::Last), Outcomes::Last))?;
+    holds(places.as_slice() == [STOPPED, STOPPED, SHUT].as_slice())?;
+    holds(ledger.journal().is_empty())?;
+    holds(ledger.places() == 0)?;
+    holds(ledger.machine().clock() == 0)?;
     Ok(())
 }

@@ -1,7 +1,8 @@
 //! A list of items, by worked examples.
 
+use super::holds;
 use super::ledger::{create, packets, place_of};
-use crate::run_list;
+use crate::{Listed, run_list};
 use std::alloc::AllocError;
 use std::test::Fail;
 use tb_work::{Item, Moment, Reply};
@@ -19,6 +20,20 @@ fn places(rt: &HostRuntime, replies: &[Reply]) -> Result<Vec<u64>, AllocError> {
     Ok(places)
 }
 
+/// Whether a list came to these places of its replies, these numbers of packets in its journal, and this
+/// clock.
+fn came_to(
+    rt: &HostRuntime,
+    listed: &Listed,
+    wanted: &[u64],
+    numbers: &[usize],
+    clock: u64,
+) -> Result<(), Fail> {
+    holds(places(rt, &listed.replies)?.as_slice() == wanted)?;
+    holds(packets(rt, listed.ledger.journal())?.as_slice() == numbers)?;
+    holds(!listed.ledger.stopped() && listed.ledger.machine().clock() == clock)
+}
+
 #[test]
 fn pulse_between_batches(rt: HostRuntime) -> Result<(), Fail> {
     let mut items = Vec::new(rt.alloc());
@@ -31,16 +46,13 @@ fn pulse_between_batches(rt: HostRuntime) -> Result<(), Fail> {
     items.push(packet(&rt, 6)?)?;
     items.push(Item::End)?;
     let listed = run_list(rt.alloc(), 0, 4, items).ok().ok_or("no memory")?;
-    assert_eq!(rt;
-        places(&rt, &listed.replies)?.as_slice(),
-        [0, 1, 3, 4, 5, 6].as_slice()
-    );
-    assert_eq!(rt;
-        packets(&rt, listed.ledger.journal())?.as_slice(),
-        [2, 0, 4].as_slice()
-    );
-    assert_eq!(rt; listed.ledger.machine().clock(), 9);
-    Ok(())
+    came_to(
+        &rt,
+        &listed,
+        [0, 1, 3, 4, 5, 6].as_slice(),
+        [2, 0, 4].as_slice(),
+        9,
+    )
 }
 
 #[test]
@@ -51,12 +63,5 @@ fn packet_behind_shut(rt: HostRuntime) -> Result<(), Fail> {
     items.push(packet(&rt, 2)?)?;
     items.push(Item::Pulse(Moment::new(5)))?;
     let listed = run_list(rt.alloc(), 0, 4, items).ok().ok_or("no memory")?;
-    assert_eq!(rt;
-        places(&rt, &listed.replies)?.as_slice(),
-        [0, 1007].as_slice()
-    );
-    assert_eq!(rt; listed.ledger.machine().clock(), 1);
-    assert_eq!(rt; listed.ledger.machine().accounts(), 1);
-    assert!(rt; !listed.ledger.stopped());
-    Ok(())
+    came_to(&rt, &listed, [0, 1007].as_slice(), [1].as_slice(), 1)
 }
