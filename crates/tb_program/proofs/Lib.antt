@@ -3,3 +3,4 @@ pub mod Numbers
 pub mod Scripts
 pub mod Lines
 pub mod Spelled
+pub mod Printed

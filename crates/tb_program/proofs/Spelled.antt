@@ -1,7 +1,7 @@
 -- What is spelled is read.
 use Rattle.std.proofs.Common.{◌≡◌, ℕ, suc, ◌+◌, ◌-◌, ◌/◌, ◌%◌, ◌^◌, ◌<◌, ◌≤◌, Bool, true, false, List, [], ◌∷◌, ◌++◌, length, map, refl, sym, ap, ◌∙◌, arith, Some, None, Option, Ok, Err, Result, length-append, subst, append_assoc, lt-ltb, le-ltb, zero, append-nil}
 use Rattle.std.specs.Prelude.{◌==◌, ◌&&◌, nat_le, nat_lt, filter, codes, decimal, slice_index, All, IfSome, unwrap_or}
-use Rattle.std.specs.List.{list_all, flat_map, AllByRecursion}
+use Rattle.std.specs.List.{list_all, flat_map}
 use Rattle.std.specs.Char.{is_ascii_digit}
 use Rattle.std.proofs.lemmas.List.Folds.{list_all-append}
 use Rattle.std.proofs.lemmas.List.Elements.{All-nil, All-cons, All-head, All-tail}
@@ -17,15 +17,15 @@ use Rattle.tb_program.specs.declared.keyword.Keyword.TheVariants as word
 use Rattle.tb_program.specs.declared.item.Settings.{Settings}
 use Rattle.tb_program.specs.declared.item.Submission.{Submission}
 use Rattle.tb_program.specs.declared.item.Item.{Item}
-use Rattle.tb_program.specs.declared.item.Item.TheVariants.{Packet, Pulse}
+use Rattle.tb_program.specs.declared.item.Item.TheVariants.{Packet, Pulse, Shut}
 use Rattle.tb_program.specs.declared.fault.Fault.{Fault}
 use Rattle.tb_program.specs.Text.{lines_of, words_of}
 use Rattle.tb_program.specs.Number.{number_of, number_within}
 use Rattle.tb_program.specs.Steps.{◌>>=◌}
 use Rattle.tb_program.specs.Keyword.{keyword_of}
 use Rattle.tb_program.specs.Event.{hex_bytes}
-use Rattle.tb_program.specs.Script.{Said, nothing_said, items_of, is_in_place, is_text, with_words, with_line, with_packet, with_pulse, after_line, after_lines, at_line}
-use Rattle.tb_program.specs.Spelling.{spaced, ended, setting_lines, settings_lines, byte_line, packet_lines, item_lines, CanBeSet, CanBeSubmitted, CanBeSaid}
+use Rattle.tb_program.specs.Script.{Said, nothing_said, items_of, is_in_place, is_text, with_words, with_line, with_packet, with_pulse, with_close, after_line, after_lines, at_line}
+use Rattle.tb_program.specs.Spelling.{spaced, ended, setting_lines, settings_lines, byte_line, packet_lines, item_lines, CanBeSet, CanBeSubmitted, CanBeSaid, CanAllBeSaid, shut_by}
 use Rattle.tb_program.specs.Laws.{SpelledScriptsAreRead}
 use Rattle.tb_program.proofs.Numbers.{own}
 
@@ -174,6 +174,7 @@ given clock limit capacity credit submitters = record {
   settings = record { clock = clock; limit = limit; capacity = capacity; credit = credit; submitters = submitters };
   items = [];
   packet = None;
+  shut = false;
 }
 
 says_clock : (clock : Option ℕ) → IfSome clock (λ n. n < 2 ^ 63) → Says nothing_said (setting_lines (codes "clock") clock) (given clock None None None None)
@@ -233,28 +234,28 @@ one_byte : (byte : ℕ) → byte < 256 → hex_bytes (encode_lower (byte ∷ [])
 unfolding hex_bytes
 one_byte byte h = rw (decode_of-encode_lower (byte ∷ []) (one_is_bytes byte h)) refl
 
-abbrev adding : Settings → List Item → Submission → Said
-adding settings items packet = record { settings = settings; items = items; packet = Some packet }
+abbrev adding : Settings → Bool → List Item → Submission → Said
+adding settings shut items packet = record { settings = settings; items = items; packet = Some packet; shut = shut }
 
-says_byte : (settings : Settings) (items : List Item) (packet : Submission) (byte : ℕ) → byte < 256 →
-    after_line (adding settings items packet) (byte_line byte) ≡ Ok (adding settings items (record packet { bytes = packet.bytes ++ byte ∷ [] }))
+says_byte : (settings : Settings) (shut : Bool) (items : List Item) (packet : Submission) (byte : ℕ) → byte < 256 →
+    after_line (adding settings shut items packet) (byte_line byte) ≡ Ok (adding settings shut items (record packet { bytes = packet.bytes ++ byte ∷ [] }))
 unfolding with_line keyword_of
-says_byte settings items packet byte h =
-    keyword_line (adding settings items packet) word.Hex (codes "hex") (encode_lower (byte ∷ []) ∷ []) (rw (encoded_is_word byte h) refl) (omega (arith, length-encoded byte)) refl refl refl
+says_byte settings shut items packet byte h =
+    keyword_line (adding settings shut items packet) word.Hex (codes "hex") (encode_lower (byte ∷ []) ∷ []) (rw (encoded_is_word byte h) refl) (omega (arith, length-encoded byte)) refl refl refl
     ∙ rw (one_byte byte h) refl
 
 byte_line_is_text : (byte : ℕ) → byte < 256 → is_text (byte_line byte) ≡ true
 byte_line_is_text byte h = is_text-spaced (codes "hex" ∷ encode_lower (byte ∷ []) ∷ []) (rw (encoded_is_word byte h) refl)
 
-says_bytes : (settings : Settings) (items : List Item) (packet : Submission) (bytes : List ℕ) → All (λ byte. byte < 256) bytes →
-    Says (adding settings items packet) (map byte_line bytes) (adding settings items (record packet { bytes = packet.bytes ++ bytes }))
-says_bytes settings items packet [] h = subst (λ bs. Says (adding settings items packet) [] (adding settings items (record packet { bytes = bs }))) (sym (append-nil packet.bytes)) (says_nothing _)
-says_bytes settings items packet (byte ∷ bytes) h =
+says_bytes : (settings : Settings) (shut : Bool) (items : List Item) (packet : Submission) (bytes : List ℕ) → All (λ byte. byte < 256) bytes →
+    Says (adding settings shut items packet) (map byte_line bytes) (adding settings shut items (record packet { bytes = packet.bytes ++ bytes }))
+says_bytes settings shut items packet [] h = subst (λ bs. Says (adding settings shut items packet) [] (adding settings shut items (record packet { bytes = bs }))) (sym (append-nil packet.bytes)) (says_nothing _)
+says_bytes settings shut items packet (byte ∷ bytes) h =
     let small = All-head (λ b. b < 256) byte bytes h in
     let more = record packet { bytes = packet.bytes ++ byte ∷ [] } in
-    says_more _ (adding settings items more) _ _ _ (byte_line_is_text byte small) (says_byte settings items packet byte small)
-    (subst (λ bs. Says (adding settings items more) (map byte_line bytes) (adding settings items (record packet { bytes = bs }))) (append_assoc packet.bytes (byte ∷ []) bytes)
-    (says_bytes settings items more bytes (All-tail (λ b. b < 256) byte bytes h)))
+    says_more _ (adding settings shut items more) _ _ _ (byte_line_is_text byte small) (says_byte settings shut items packet byte small)
+    (subst (λ bs. Says (adding settings shut items more) (map byte_line bytes) (adding settings shut items (record packet { bytes = bs }))) (append_assoc packet.bytes (byte ∷ []) bytes)
+    (says_bytes settings shut items more bytes (All-tail (λ b. b < 256) byte bytes h)))
 
 abbrev packet_words : Submission → List (List ℕ)
 packet_words packet = codes "packet" ∷ decimal packet.submitter ∷ decimal packet.operation ∷ []
@@ -276,39 +277,54 @@ says_packet_line said packet few h =
     ∙ rw (number_within-decimal 0 (unwrap_or said.settings.submitters 2 - 1) packet.submitter (omega arith) (omega (arith, h.submitter)) submitter, number_within-decimal 0 255 packet.operation (omega arith) (omega (arith, h.operation)) operation) refl
 
 -- a pulse's line says its pulse
-says_pulse : (said : Said) (moment : ℕ) → moment < 2 ^ 64 → Says said (item_lines (Pulse moment)) (with_pulse said moment)
+says_pulse : (said : Said) (moment : ℕ) → said.shut ≡ false → moment < 2 ^ 64 → Says said (item_lines (Pulse moment)) (with_pulse said moment)
 unfolding with_line keyword_of
-says_pulse said moment h =
+says_pulse said moment unshut h =
     let words : list_all is_word (codes "pulse" ∷ decimal moment ∷ []) ≡ true = rw (decimal_is_word moment h) refl in
     let short : length (spaced (codes "pulse" ∷ decimal moment ∷ [])) ≤ 65536 = omega (arith, length-decimal moment h) in
-    let line = keyword_line said word.Pulse (codes "pulse") (decimal moment ∷ []) words short refl refl refl ∙ rw (number_within-decimal 0 (2 ^ 64 - 1) moment (omega arith) (omega arith) h) refl in
+    let line = keyword_line said word.Pulse (codes "pulse") (decimal moment ∷ []) words short refl refl (rw unshut refl) ∙ rw (number_within-decimal 0 (2 ^ 64 - 1) moment (omega arith) (omega arith) h) refl in
     says_more said (with_pulse said moment) (with_pulse said moment) _ [] (is_text-spaced (codes "pulse" ∷ decimal moment ∷ []) words) line (says_nothing (with_pulse said moment))
+
+-- the line of the Close says it
+says_close : (said : Said) → said.shut ≡ false → Says said (item_lines Shut) (with_close said)
+unfolding with_line keyword_of
+says_close said unshut =
+    says_more said (with_close said) (with_close said) _ [] refl (keyword_line said word.Shut (codes "shut") [] refl (omega arith) refl refl (rw unshut refl)) (says_nothing (with_close said))
 
 -- a packet's lines say the packet
 says_packet : (said : Said) (packet : Submission) → unwrap_or said.settings.submitters 2 ≤ 16 → CanBeSubmitted (unwrap_or said.settings.submitters 2) packet →
-    Says said (packet_lines packet) (adding said.settings (items_of said) packet)
+    Says said (packet_lines packet) (adding said.settings said.shut (items_of said) packet)
 says_packet said packet few h =
-    let started = adding said.settings (items_of said) (record packet { bytes = [] }) in
+    let started = adding said.settings said.shut (items_of said) (record packet { bytes = [] }) in
     let words = packet_words_are_words packet (unwrap_or said.settings.submitters 2) few h in
-    says_more said started (adding said.settings (items_of said) packet) _ (map byte_line packet.bytes) (is_text-spaced (packet_words packet) words) (says_packet_line said packet few h)
-    (says_bytes said.settings (items_of said) (record packet { bytes = [] }) packet.bytes h.bytes)
+    says_more said started (adding said.settings said.shut (items_of said) packet) _ (map byte_line packet.bytes) (is_text-spaced (packet_words packet) words) (says_packet_line said packet few h)
+    (says_bytes said.settings said.shut (items_of said) (record packet { bytes = [] }) packet.bytes h.bytes)
 
 -- one item behind those that were said
 abbrev with_item : Said → Item → Said
-with_item said (Packet packet) = adding said.settings (items_of said) packet
+with_item said (Packet packet) = adding said.settings said.shut (items_of said) packet
 with_item said (Pulse moment) = with_pulse said moment
+with_item said Shut = with_close said
 
-says_item : (said : Said) (item : Item) → unwrap_or said.settings.submitters 2 ≤ 16 → CanBeSaid (unwrap_or said.settings.submitters 2) item → Says said (item_lines item) (with_item said item)
+says_item : (said : Said) (item : Item) → unwrap_or said.settings.submitters 2 ≤ 16 → CanBeSaid (unwrap_or said.settings.submitters 2) said.shut item → Says said (item_lines item) (with_item said item)
 says_item said (Packet packet) few h = says_packet said packet few h
-says_item said (Pulse moment) few h = says_pulse said moment h
+says_item said (Pulse moment) few h = says_pulse said moment h.0 h.1
+says_item said Shut few h = says_close said h
 
 settings_stay : (said : Said) (item : Item) → (with_item said item).settings ≡ said.settings
 settings_stay said (Packet packet) = refl
 settings_stay said (Pulse moment) = refl
+settings_stay said Shut = refl
+
+shut_after : (said : Said) (item : Item) → (with_item said item).shut ≡ shut_by said.shut item
+shut_after said (Packet packet) = refl
+shut_after said (Pulse moment) = refl
+shut_after said Shut = refl
 
 item_is_last : (said : Said) (item : Item) → items_of (with_item said item) ≡ items_of said ++ item ∷ []
 item_is_last said (Packet packet) = refl
 item_is_last said (Pulse moment) = append-nil (items_of said ++ Pulse moment ∷ [])
+item_is_last said Shut = append-nil (items_of said ++ Shut ∷ [])
 
 -- the items behind those that were said
 record SaysItems (said : Said) (items : List Item) : Type 0 where
@@ -317,12 +333,13 @@ record SaysItems (said : Said) (items : List Item) : Type 0 where
   settings : next.settings ≡ said.settings
   all : items_of next ≡ items_of said ++ items
 
-says_items : (said : Said) (items : List Item) → unwrap_or said.settings.submitters 2 ≤ 16 → AllByRecursion (CanBeSaid (unwrap_or said.settings.submitters 2)) items → SaysItems said items
+says_items : (said : Said) (items : List Item) → unwrap_or said.settings.submitters 2 ≤ 16 → CanAllBeSaid (unwrap_or said.settings.submitters 2) said.shut items → SaysItems said items
 says_items said [] few all = record { next = said; says = says_nothing said; settings = refl; all = sym (append-nil (items_of said)) }
 says_items said (item ∷ items) few all =
     let between = with_item said item in
     let same = settings_stay said item in
-    let later = says_items between items (subst (λ (s : Settings). unwrap_or s.submitters 2 ≤ 16) (sym same) few) (subst (λ (s : Settings). AllByRecursion (CanBeSaid (unwrap_or s.submitters 2)) items) (sym same) all.1) in
+    let can = subst (λ b. CanAllBeSaid (unwrap_or between.settings.submitters 2) b items) (sym (shut_after said item)) (subst (λ (s : Settings). CanAllBeSaid (unwrap_or s.submitters 2) (shut_by said.shut item) items) (sym same) all.1) in
+    let later = says_items between items (subst (λ (s : Settings). unwrap_or s.submitters 2 ≤ 16) (sym same) few) can in
     record {
       next = later.next;
       says = says_both said between later.next (item_lines item) (flat_map item_lines items) (says_item said item few all.0) later.says;

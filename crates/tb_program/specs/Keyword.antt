@@ -3,7 +3,7 @@ use Rattle.std.specs.Prelude.{ℕ, List, [], ◌∷◌, Option, Result, Ok, Err,
 use Rattle.tb_program.specs.declared.fault.Fault.{Fault}
 use Rattle.tb_program.specs.declared.fault.Fault.TheVariants.{WrongNumberOfWords}
 use Rattle.tb_program.specs.declared.keyword.Keyword.{Keyword}
-use Rattle.tb_program.specs.declared.keyword.Keyword.TheVariants.{Clock, Limit, Capacity, Credit, Submitters, Packet, Account, Transfer, Hex, Pulse}
+use Rattle.tb_program.specs.declared.keyword.Keyword.TheVariants.{Clock, Limit, Capacity, Credit, Submitters, Packet, Account, Transfer, Id, Hex, Pulse, Shut}
 use Rattle.tb_program.specs.Steps.{look_up}
 
 abbrev pub keywords : List (List ℕ × Keyword)
@@ -16,12 +16,18 @@ keywords =
     (codes "packet", Packet) ∷
     (codes "account", Account) ∷
     (codes "transfer", Transfer) ∷
+    (codes "id", Id) ∷
     (codes "hex", Hex) ∷
     (codes "pulse", Pulse) ∷
+    (codes "shut", Shut) ∷
     []
 
 unfoldable pub keyword_of : List ℕ → Option Keyword
 keyword_of word = look_up word keywords
+
+abbrev pub no_word : List (List ℕ) → Result (List ℕ) Fault
+no_word [] = Ok []
+no_word (word ∷ words) = Err WrongNumberOfWords
 
 abbrev pub one_word : List (List ℕ) → Result (List ℕ) Fault
 one_word [] = Err WrongNumberOfWords

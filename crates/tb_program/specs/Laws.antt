@@ -1,11 +1,10 @@
 -- What the definition of a script promises, in the words of its format.
-use Rattle.std.specs.Prelude.{◌≡◌, ℕ, ◌+◌, List, ◌∷◌, ◌++◌, length, Ok, Err, IsOk, unwrap_or}
+use Rattle.std.specs.Prelude.{◌≡◌, ℕ, ◌+◌, false, List, ◌∷◌, ◌++◌, length, Ok, Err, IsOk, unwrap_or}
 use Rattle.tb_program.specs.declared.fault.Fault.{Fault}
-use Rattle.std.specs.List.{AllByRecursion}
 use Rattle.tb_program.specs.declared.item.Settings.{Settings}
 use Rattle.tb_program.specs.declared.item.Item.{Item}
 use Rattle.tb_program.specs.Script.{Said, after_line, after_lines, items_of, script_of}
-use Rattle.tb_program.specs.Spelling.{spelled, CanBeSet, CanBeSaid}
+use Rattle.tb_program.specs.Spelling.{spelled, CanBeSet, CanAllBeSaid}
 
 -- where some lines have no fault and the next has one, that fault decides, whatever follows, with the number of its line
 abbrev pub FirstFaultDecides : Type 0
@@ -30,5 +29,5 @@ IsReadAsSpelled settings items = (said : Said) × (script_of (spelled settings i
 
 abbrev pub SpelledScriptsAreRead : Type 0
 SpelledScriptsAreRead =
-    (settings : Settings) (items : List Item) → CanBeSet settings → AllByRecursion (CanBeSaid (unwrap_or settings.submitters 2)) items →
+    (settings : Settings) (items : List Item) → CanBeSet settings → CanAllBeSaid (unwrap_or settings.submitters 2) false items →
     IsReadAsSpelled settings items

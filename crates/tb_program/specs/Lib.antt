@@ -5,8 +5,8 @@ pub mod Keyword
 pub mod Event
 pub mod Script
 pub mod Parsing
-pub mod Admission
 pub mod Plan
 pub mod Output
+pub mod Printing
 pub mod Spelling
 pub mod Laws

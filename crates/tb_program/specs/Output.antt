@@ -3,16 +3,23 @@ use Rattle.std.specs.Prelude.{◌≡◌, ◌<◌, ◌≤◌, ◌+◌, ℕ, Bool,
 use Rattle.std.specs.declared.alloc.Global.{Global}
 use Rattle.tb_layout.specs.declared.account.Account.{Account}
 use Rattle.tb_layout.specs.declared.failure.Failure.{Failure}
-use Rattle.tb_machine.specs.Replay.{State, opening, failures_of, after_packet, balanced_accounts, pulsed}
-use Rattle.tb_program.specs.Admission.{events_in}
+use Rattle.tb_machine.specs.Replay.{State, balanced_accounts}
+use Rattle.tb_work.specs.Queue.{ahead}
+use Rattle.tb_work.specs.Refusal.{number_of, name_of}
+use Rattle.tb_work.specs.Reply.{Replied, reply_with}
+use Rattle.tb_work.specs.Work.{Work}
+use Rattle.tb_work.specs.declared.answer.Answer.{Answer}
+use Rattle.tb_work.specs.declared.answer.Answer.TheVariants.{Failures, Accounts}
+use Rattle.tb_work.specs.declared.answer.Outcome.{Outcome}
+use Rattle.tb_work.specs.declared.answer.Outcome.TheVariants.{Committed, Shutdown, Stopped}
+use Rattle.tb_work.specs.declared.refusal.Refusal.{Refusal}
+use Rattle.tb_core.specs.Ledger.{state_after}
+use Rattle.tb_core.specs.Passage.{Place, Ahead, Behind, place_behind}
+use Rattle.tb_core.specs.Report.{outcome_at}
 use Rattle.tb_program.specs.declared.fault.Fault.{Fault}
 use Rattle.tb_program.specs.declared.fault.Fault.TheVariants.{LineTooLong, BadByte, UnknownWord, OutOfPlace, WrongNumberOfWords, BadField, BadNumber, BadHex}
-use Rattle.tb_program.specs.declared.admission.Refusal.{Refusal}
-use Rattle.tb_program.specs.declared.admission.Refusal.TheVariants.{InvalidOperation, InvalidDataSize, TooMuchData}
-use Rattle.tb_program.specs.declared.plan.Planned.{Planned}
-use Rattle.tb_program.specs.declared.plan.Planned.TheVariants as plan
 use Rattle.tb_program.specs.Script.{Said, items_of, clock_of, limit_of, script_of}
-use Rattle.tb_program.specs.Plan.{plan_behind}
+use Rattle.tb_program.specs.Plan.{Planned, Packet, Pulse, Close, RefusedPacket, RefusedPulse, queued, queue_of, plan_behind}
 
 abbrev pub fault_text : Fault → List ℕ
 fault_text LineTooLong = codes "line too long"
@@ -27,29 +34,37 @@ fault_text BadHex = codes "bad hex"
 abbrev pub fault_line : ℕ → List ℕ → List ℕ
 fault_line number text = codes "fault " ++ decimal number ++ codes " " ++ text ++ codes "\n"
 
-abbrev pub refusal_number : Refusal → ℕ
-refusal_number InvalidOperation = 1
-refusal_number InvalidDataSize = 2
-refusal_number TooMuchData = 3
-
-abbrev pub refusal_name : Refusal → List ℕ
-refusal_name InvalidOperation = codes "InvalidOperation"
-refusal_name InvalidDataSize = codes "InvalidDataSize"
-refusal_name TooMuchData = codes "TooMuchData"
-
 unfoldable pub refused_line : ℕ → Refusal → List ℕ
 refused_line submitter refusal =
-    codes "packet " ++ decimal submitter ++ codes " refused " ++ decimal (refusal_number refusal) ++ codes " " ++ refusal_name refusal ++ codes "\n"
+    codes "packet " ++ decimal submitter ++ codes " refused " ++ decimal (number_of refusal) ++ codes " " ++ name_of refusal ++ codes "\n"
 
 abbrev pub failure_text : Failure → List ℕ
 failure_text failure = codes " " ++ decimal failure.index ++ codes ":" ++ decimal failure.code
 
-unfoldable pub committed_front : ℕ → ℕ → ℕ → List ℕ
-committed_front submitter number place =
-    codes "packet " ++ decimal submitter ++ codes " " ++ decimal number ++ codes " committed " ++ decimal place
+unfoldable pub found_debits : Account → List ℕ
+found_debits account = codes " " ++ decimal account.id ++ codes ":" ++ decimal account.debits_pending ++ codes ":" ++ decimal account.debits_posted
 
-abbrev pub committed_line : ℕ → ℕ → ℕ → List Failure → List ℕ
-committed_line submitter number place failures = committed_front submitter number place ++ flat_map failure_text failures ++ codes "\n"
+unfoldable pub found_credits : Account → List ℕ
+found_credits account = codes ":" ++ decimal account.credits_pending ++ codes ":" ++ decimal account.credits_posted
+
+abbrev pub found_text : Account → List ℕ
+found_text account = found_debits account ++ found_credits account
+
+abbrev pub answer_text : Answer → List ℕ
+answer_text (Failures failures) = flat_map failure_text failures
+answer_text (Accounts accounts) = flat_map found_text accounts
+
+abbrev pub outcome_text : Outcome → List ℕ
+outcome_text (Committed place answer) = codes " committed " ++ decimal place ++ answer_text answer
+outcome_text Shutdown = codes " shutdown"
+outcome_text Stopped = codes " stopped"
+
+unfoldable pub packet_front : ℕ → ℕ → List ℕ
+packet_front submitter number = codes "packet " ++ decimal submitter ++ codes " " ++ decimal number
+
+-- the line of a packet that was queued
+abbrev pub reply_line : Replied → List ℕ
+reply_line reply = packet_front reply.submitter reply.number ++ outcome_text reply.outcome ++ codes "\n"
 
 unfoldable pub pulse_line : ℕ → List ℕ
 pulse_line place = codes "pulse " ++ decimal place ++ codes "\n"
@@ -71,36 +86,37 @@ balances_text account =
 abbrev pub account_line : Account → List ℕ
 account_line account = account_front account.id account.timestamp ++ balances_text account
 
--- the lines of a plan, one for each item, from a state and a place on: each packet that is queued gives what it gives
--- alone in the state that the packets and pulses before it left
-unfoldable pub plan_text : State → ℕ → List Planned → List ℕ
-plan_text state place [] = []
-plan_text state place (plan.Queued queued ∷ others) =
-    committed_line queued.submitter queued.number place (failures_of state (events_in queued.body))
-    ++ plan_text (after_packet state (events_in queued.body)) (place + 1) others
-plan_text state place (plan.Refused submitter refusal ∷ others) = refused_line submitter refusal ++ plan_text state place others
-plan_text state place (plan.Pulse moment ∷ others) = pulse_line place ++ plan_text (pulsed state moment) (place + 1) others
-plan_text state place (plan.RefusedPulse ∷ others) = refused_pulse_line ++ plan_text state place others
-
--- the state after the packets and pulses of a plan
-unfoldable pub state_after : State → List Planned → State
-state_after state [] = state
-state_after state (plan.Queued queued ∷ others) = state_after (after_packet state (events_in queued.body)) others
-state_after state (plan.Refused submitter refusal ∷ others) = state_after state others
-state_after state (plan.Pulse moment ∷ others) = state_after (pulsed state moment) others
-state_after state (plan.RefusedPulse ∷ others) = state_after state others
-
 -- the clock, and the accounts in order of making
 abbrev pub state_text : State → List ℕ
 state_text state = clock_line state.clock ++ flat_map account_line (balanced_accounts state.facts)
 
-abbrev pub plan_of : Said → List Planned
-plan_of said = plan_behind (limit_of said.settings) [] (items_of said)
+-- ---- the lines of a script
+
+-- a pulse has its place; behind the Close it would have none
+abbrev pub pulse_text : Place → List ℕ
+pulse_text (Ahead place) = pulse_line place
+pulse_text Behind = []
+
+-- the line of an item at its place, with these packets and pulses committed from a clock on
+abbrev pub line_text : ℕ → List Work → Place → Planned → List ℕ
+line_text clock works place (Packet job) = reply_line (reply_with (outcome_at clock works place) job)
+line_text clock works place (Pulse moment) = pulse_text place
+line_text clock works place Close = codes "shut\n"
+line_text clock works place (RefusedPacket submitter refusal) = refused_line submitter refusal
+line_text clock works place RefusedPulse = refused_pulse_line
+
+unfoldable pub lines_from : ℕ → List Work → Place → List Planned → List ℕ
+lines_from clock works place [] = []
+lines_from clock works place (planned ∷ plan) = line_text clock works place planned ++ lines_from clock works (place_behind place (queued planned)) plan
+
+-- all that is queued ahead of the Close is committed
+abbrev pub plan_text : ℕ → List Planned → List ℕ
+plan_text clock plan =
+    let works = ahead (queue_of plan) in
+    lines_from clock works (Ahead 0) plan ++ state_text (state_after clock works)
 
 abbrev pub listing : Said → List ℕ
-listing said =
-    let start = opening (clock_of said.settings) in
-    plan_text start 0 (plan_of said) ++ state_text (state_after start (plan_of said))
+listing said = plan_text (clock_of said.settings) (plan_behind (limit_of said.settings) [] (items_of said))
 
 abbrev pub printed : Result Said (ℕ × Fault) → List ℕ
 printed (Ok said) = listing said

@@ -1,37 +1,87 @@
--- What each item of a script prints: a packet that is queued its reply, a pulse its place, any other a line that the
--- script fixes.
-use Rattle.std.specs.Prelude.{ℕ, ◌==◌, ◌^◌, nat_lt, Bool, List, [], ◌∷◌, ◌++◌, count_by, false, Option, Some, None, if◌then◌else◌}
+-- What each item of a script comes to: a packet that is admitted, a pulse and the Close are queued, and all else is
+-- refused.
+use Rattle.std.specs.Prelude.{ℕ, ◌==◌, ◌^◌, nat_lt, Bool, false, List, [], ◌∷◌, ◌++◌, count_by, map, Result, Ok, Err, if◌then◌else◌}
+use Rattle.std.specs.List.{flat_map}
+use Rattle.tb_work.specs.Admission.{admitted}
+use Rattle.tb_work.specs.Job.{Numbered, numbered}
+use Rattle.tb_work.specs.declared.item.Item as work
+use Rattle.tb_work.specs.declared.item.Item.TheVariants as queue
+use Rattle.tb_work.specs.declared.packet.Packet as packets
+use Rattle.tb_work.specs.declared.refusal.Refusal.{Refusal}
 use Rattle.tb_program.specs.declared.item.Submission.{Submission}
 use Rattle.tb_program.specs.declared.item.Item.{Item}
-use Rattle.tb_program.specs.declared.item.Item.TheVariants.{Packet, Pulse}
-use Rattle.tb_program.specs.declared.admission.Refusal.{Refusal}
-use Rattle.tb_program.specs.declared.plan.Planned.{Planned}
-use Rattle.tb_program.specs.declared.plan.Planned.TheVariants as plan
-use Rattle.tb_program.specs.Admission.{refusal_of}
+use Rattle.tb_program.specs.declared.item.Item.TheVariants as script
+use Rattle.tb_program.specs.declared.plan.Line.{Line}
+use Rattle.tb_program.specs.declared.plan.Line.TheVariants as line
 
-abbrev pub is_of : ℕ → Planned → Bool
-is_of submitter (plan.Queued queued) = queued.submitter == submitter
-is_of submitter (plan.Refused other refusal) = false
-is_of submitter (plan.Pulse moment) = false
-is_of submitter plan.RefusedPulse = false
+pub data Planned : Type 0 where
+  Packet : Numbered → Planned
+  Pulse : (moment : ℕ) → Planned
+  Close : Planned
+  RefusedPacket : (submitter : ℕ) → Refusal → Planned
+  RefusedPulse : Planned
+
+-- what is queued of it
+abbrev pub queued : Planned → List work.Item
+queued (Packet job) = queue.Packet job ∷ []
+queued (Pulse moment) = queue.Pulse moment ∷ []
+queued Close = queue.Close ∷ []
+queued (RefusedPacket submitter refusal) = []
+queued RefusedPulse = []
+
+abbrev pub queue_of : List Planned → List work.Item
+queue_of plan = flat_map queued plan
 
 -- a submitter's queued packets are numbered from 0
-abbrev pub number_in : ℕ → List Planned → ℕ
-number_in submitter planned = count_by (is_of submitter) planned
+abbrev pub is_of : ℕ → work.Item → Bool
+is_of submitter (queue.Packet job) = job.submitter == submitter
+is_of submitter (queue.Pulse moment) = false
+is_of submitter queue.End = false
+is_of submitter queue.Close = false
 
-abbrev pub planned_as : List Planned → Submission → Option Refusal → Planned
-planned_as planned packet None = plan.Queued (record { submitter = packet.submitter; number = number_in packet.submitter planned; body = record { operation = packet.operation; bytes = packet.bytes } })
-planned_as planned packet (Some refusal) = plan.Refused packet.submitter refusal
+abbrev pub number_in : ℕ → List work.Item → ℕ
+number_in submitter items = count_by (is_of submitter) items
+
+-- a script's packets have the user word 0
+abbrev pub packet_of : Submission → packets.Packet
+packet_of submission = record { operation = submission.operation; bytes = submission.bytes; user = 0 }
+
+-- a packet behind what is queued
+abbrev pub packet_as : List work.Item → Submission → Result ℕ Refusal → Planned
+packet_as items submission (Ok count) = Packet (numbered submission.submitter (number_in submission.submitter items) (packet_of submission))
+packet_as items submission (Err refusal) = RefusedPacket submission.submitter refusal
 
 -- a moment above 2^62 is refused
 abbrev pub pulse_as : ℕ → Planned
-pulse_as moment = if nat_lt (2 ^ 62) moment then plan.RefusedPulse else plan.Pulse moment
+pulse_as moment = if nat_lt (2 ^ 62) moment then RefusedPulse else Pulse moment
 
-abbrev pub with_item : ℕ → List Planned → Item → List Planned
-with_item limit planned (Packet packet) = planned ++ planned_as planned packet (refusal_of limit packet.operation packet.bytes) ∷ []
-with_item limit planned (Pulse moment) = planned ++ pulse_as moment ∷ []
+abbrev pub planned_as : ℕ → List work.Item → Item → Planned
+planned_as limit items (script.Packet submission) = packet_as items submission (admitted limit (packet_of submission))
+planned_as limit items (script.Pulse moment) = pulse_as moment
+planned_as limit items script.Shut = Close
 
--- the plan of items behind those that are planned
-unfoldable pub plan_behind : ℕ → List Planned → List Item → List Planned
-plan_behind limit planned [] = planned
-plan_behind limit planned (item ∷ items) = plan_behind limit (with_item limit planned item) items
+-- what a script's items come to behind what is queued, packets being of so many events at most
+unfoldable pub plan_behind : ℕ → List work.Item → List Item → List Planned
+plan_behind limit items [] = []
+plan_behind limit items (item ∷ others) = planned_as limit items item ∷ plan_behind limit (items ++ queued (planned_as limit items item)) others
+
+-- ---- a plan in two lists
+
+-- what is printed of it: the next reply, the place of a pulse, or a line that the script fixes
+abbrev pub line_of : Planned → Line
+line_of (Packet job) = line.Packet
+line_of (Pulse moment) = line.Pulse
+line_of Close = line.Shut
+line_of (RefusedPacket submitter refusal) = line.RefusedPacket submitter refusal
+line_of RefusedPulse = line.RefusedPulse
+
+-- what is queued, and what is printed
+pub record Halves : Type 0 where
+  pub queue : List work.Item
+  pub lines : List Line
+
+abbrev pub with_planned : Halves → Planned → Halves
+with_planned halves planned = record { queue = halves.queue ++ queued planned; lines = halves.lines ++ line_of planned ∷ [] }
+
+abbrev pub halves_of : List Planned → Halves
+halves_of plan = record { queue = queue_of plan; lines = map line_of plan }

@@ -1,6 +1,7 @@
 -- What a script says.
-use Rattle.std.specs.Prelude.{◌<◌, ◌≤◌, ℕ, ◌+◌, ◌-◌, ◌^◌, ◌==◌, Bool, true, not, ◌&&◌, ◌||◌, List, [], ◌∷◌, ◌++◌, length, Option, Some, None, Result, Ok, Err, is_some, is_none, unwrap_or, if◌then◌else◌, nat_lt, nat_le, slice_index}
+use Rattle.std.specs.Prelude.{◌<◌, ◌≤◌, ℕ, ◌+◌, ◌-◌, ◌^◌, ◌==◌, Bool, true, false, not, ◌&&◌, ◌||◌, List, [], ◌∷◌, ◌++◌, length, Option, Some, None, Result, Ok, Err, is_some, is_none, unwrap_or, if◌then◌else◌, nat_lt, nat_le, slice_index}
 use Rattle.std.specs.List.{list_all}
+use Rattle.std.specs.Int.{w128, to_le_bytes}
 use Rattle.tb_program.specs.declared.fault.Fault.{Fault}
 use Rattle.tb_program.specs.declared.fault.Fault.TheVariants.{LineTooLong, BadByte, UnknownWord, OutOfPlace}
 use Rattle.tb_program.specs.declared.keyword.Keyword.{Keyword}
@@ -9,25 +10,27 @@ use Rattle.tb_program.specs.declared.event.Layout.TheVariants.{Account, Transfer
 use Rattle.tb_program.specs.declared.item.Settings.{Settings}
 use Rattle.tb_program.specs.declared.item.Submission.{Submission}
 use Rattle.tb_program.specs.declared.item.Item.{Item}
-use Rattle.tb_program.specs.declared.item.Item.TheVariants.{Packet, Pulse}
+use Rattle.tb_program.specs.declared.item.Item.TheVariants.{Packet, Pulse, Shut}
 use Rattle.tb_program.specs.Text.{lines_of, words_of}
 use Rattle.tb_program.specs.Number.{number_within}
 use Rattle.tb_program.specs.Steps.{◌>>=◌}
-use Rattle.tb_program.specs.Keyword.{keyword_of, one_word, two_words}
+use Rattle.tb_program.specs.Keyword.{keyword_of, no_word, one_word, two_words}
 use Rattle.tb_program.specs.Event.{event_of, hex_bytes}
 
--- what the lines so far say: the settings that stood, the items that are whole, and the packet to which lines of
--- events still add
+-- what the lines so far say: the settings that stood, the items that are whole, the packet to which lines of events
+-- still add, and whether a Close stood
 pub record Said : Type 0 where
   pub settings : Settings
   pub items : List Item
   pub packet : Option Submission
+  pub shut : Bool
 
 abbrev pub nothing_said : Said
 nothing_said = record {
   settings = record { clock = None; limit = None; capacity = None; credit = None; submitters = None };
   items = [];
   packet = None;
+  shut = false;
 }
 
 abbrev pub packet_items : Option Submission → List Item
@@ -55,8 +58,10 @@ is_in_place said word.Submitters = may_set said said.settings.submitters
 is_in_place said word.Packet = true
 is_in_place said word.Account = is_some said.packet
 is_in_place said word.Transfer = is_some said.packet
+is_in_place said word.Id = is_some said.packet
 is_in_place said word.Hex = is_some said.packet
-is_in_place said word.Pulse = true
+is_in_place said word.Pulse = not said.shut
+is_in_place said word.Shut = not said.shut
 
 abbrev pub set_to : Said → Settings → Said
 set_to said settings = record said { settings = settings }
@@ -69,6 +74,9 @@ with_packet said submitter operation = record said {
 
 abbrev pub with_pulse : Said → ℕ → Said
 with_pulse said moment = record said { items = items_of said ++ Pulse moment ∷ []; packet = None }
+
+abbrev pub with_close : Said → Said
+with_close said = record said { items = items_of said ++ Shut ∷ []; packet = None; shut = true }
 
 abbrev pub more_bytes : Option Submission → List ℕ → Option Submission
 more_bytes None bytes = None
@@ -110,6 +118,10 @@ with_line said word.Account words = do
 with_line said word.Transfer words = do
   bytes ← event_of Transfer words
   Ok (with_bytes said bytes)
+with_line said word.Id words = do
+  text ← one_word words
+  id ← number_within 0 (2 ^ 128 - 1) text
+  Ok (with_bytes said (to_le_bytes w128 id))
 with_line said word.Hex words = do
   text ← one_word words
   bytes ← hex_bytes text
@@ -118,6 +130,9 @@ with_line said word.Pulse words = do
   text ← one_word words
   moment ← number_within 0 (2 ^ 64 - 1) text
   Ok (with_pulse said moment)
+with_line said word.Shut words = do
+  none ← no_word words
+  Ok (with_close said)
 
 abbrev pub with_keyword : Said → Option Keyword → List (List ℕ) → Result Said Fault
 with_keyword said None words = Err UnknownWord

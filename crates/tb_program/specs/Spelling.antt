@@ -1,11 +1,11 @@
 -- A script spelled from settings and items.
-use Rattle.std.specs.Prelude.{ℕ, ◌<◌, ◌≤◌, ◌^◌, List, [], ◌∷◌, ◌++◌, map, All, Option, Some, None, codes, decimal, IfSome}
+use Rattle.std.specs.Prelude.{◌≡◌, ℕ, ◌<◌, ◌≤◌, ◌^◌, Bool, true, false, List, [], ◌∷◌, ◌++◌, map, All, Option, Some, None, codes, decimal, IfSome}
 use Rattle.std.specs.List.{flat_map}
 use Rattle.hex.specs.Hex.{encode_lower}
 use Rattle.tb_program.specs.declared.item.Settings.{Settings}
 use Rattle.tb_program.specs.declared.item.Submission.{Submission}
 use Rattle.tb_program.specs.declared.item.Item.{Item}
-use Rattle.tb_program.specs.declared.item.Item.TheVariants.{Packet, Pulse}
+use Rattle.tb_program.specs.declared.item.Item.TheVariants.{Packet, Pulse, Shut}
 
 -- words with a space between them
 abbrev pub spaced : List (List ℕ) → List ℕ
@@ -40,6 +40,7 @@ packet_lines packet = spaced (codes "packet" ∷ decimal packet.submitter ∷ de
 abbrev pub item_lines : Item → List (List ℕ)
 item_lines (Packet packet) = packet_lines packet
 item_lines (Pulse moment) = spaced (codes "pulse" ∷ decimal moment ∷ []) ∷ []
+item_lines Shut = codes "shut" ∷ []
 
 abbrev pub spelled : Settings → List Item → List ℕ
 spelled settings items = ended (settings_lines settings ++ flat_map item_lines items)
@@ -58,6 +59,17 @@ pub record CanBeSubmitted (submitters : ℕ) (packet : Submission) : Type 0 wher
   pub operation : packet.operation < 256
   pub bytes : All (λ byte. byte < 256) packet.bytes
 
-abbrev pub CanBeSaid : ℕ → Item → Type 0
-CanBeSaid submitters (Packet packet) = CanBeSubmitted submitters packet
-CanBeSaid submitters (Pulse moment) = moment < 2 ^ 64
+-- behind the Close there is no pulse, and no other Close
+abbrev pub CanBeSaid : ℕ → Bool → Item → Type 0
+CanBeSaid submitters shut (Packet packet) = CanBeSubmitted submitters packet
+CanBeSaid submitters shut (Pulse moment) = (shut ≡ false) × (moment < 2 ^ 64)
+CanBeSaid submitters shut Shut = shut ≡ false
+
+abbrev pub shut_by : Bool → Item → Bool
+shut_by shut (Packet packet) = shut
+shut_by shut (Pulse moment) = shut
+shut_by shut Shut = true
+
+abbrev pub CanAllBeSaid : ℕ → Bool → List Item → Type 0
+CanAllBeSaid submitters shut [] = Unit {0}
+CanAllBeSaid submitters shut (item ∷ items) = CanBeSaid submitters shut item × CanAllBeSaid submitters (shut_by shut item) items

@@ -36,6 +36,13 @@ impl Bytes {
         Ok(())
     }
 
+    /// The bytes with their memory.
+    pub fn into_vec(self) -> Vec<u8>
+        ensures { result.items ≡ self }
+    {
+        self.bytes
+    }
+
     /// All bytes.
     pub fn as_slice(&self) -> &[u8]
         ensures { result.now ≡ self.now }

@@ -19,6 +19,8 @@ pub enum Item {
     Packet(Submission),
     /// A pulse with its moment, in nanoseconds, which may be too large.
     Pulse(u64),
+    /// The Close.
+    Shut,
 }
 
 /// A packet, as its submitter hands it in.

@@ -14,8 +14,10 @@ pub enum Keyword {
     Packet,
     Account,
     Transfer,
+    Id,
     Hex,
     Pulse,
+    Shut,
 }
 
 /// The keyword that a word spells.
@@ -39,10 +41,14 @@ pub fn keyword_of(word: &[u8]) -> Option<Keyword>
         Some(Keyword::Account)
     } else if word == b"transfer".as_slice() {
         Some(Keyword::Transfer)
+    } else if word == b"id".as_slice() {
+        Some(Keyword::Id)
     } else if word == b"hex".as_slice() {
         Some(Keyword::Hex)
     } else if word == b"pulse".as_slice() {
         Some(Keyword::Pulse)
+    } else if word == b"shut".as_slice() {
+        Some(Keyword::Shut)
     } else {
         None
     }

@@ -1,105 +1,101 @@
-//! The lines of `list`, made while the machine runs.
+//! The lines of `list`.
 
-ghost use Rattle.std.specs.Prelude.{◌≡◌, ◌≤◌, ◌<◌, ◌^◌, ◌++◌, ◌∷◌, ◌+◌, List, IfOk, OnOk, string_bytes};
+ghost use Rattle.std.specs.Prelude.{◌≡◌, ◌≤◌, ◌<◌, ◌^◌, ◌++◌, ◌∷◌, ℕ, IfSome, OnOk, List, Some, map, string_bytes};
 ghost use Rattle.std.specs.List.{flat_map};
-ghost use Rattle.tb_machine.specs.Replay.{opening, failures_of, after_packet, balanced_accounts};
-ghost use Rattle.tb_program.specs.Admission.{events_in};
-ghost use Rattle.tb_machine.specs.Clock.{clock_max};
-ghost use Rattle.tb_program.specs.declared.plan.Planned.{Planned as PlannedValue};
-ghost use Rattle.tb_program.specs.Output.{account_line, committed_line, plan_text, state_after, state_text};
+ghost use Rattle.tb_machine.specs.Replay.{balanced_accounts};
+ghost use Rattle.tb_core.specs.Report.{IsListed};
+ghost use Rattle.tb_program.specs.Plan.{Planned, queue_of, line_of};
+ghost use Rattle.tb_program.specs.Output.{account_line, reply_line, pulse_line, plan_text};
+ghost use Rattle.tb_program.specs.Printing.{one_further, first_text, behind_line, pending, printed_from};
 
-use crate::body::Body;
 use crate::output::{
-    put_account, put_clock, put_committed, put_pulse, put_refused, put_refused_pulse,
+    put_account, put_clock, put_close, put_pulse, put_refused, put_refused_pulse, put_reply,
 };
-use crate::plan::{Planned, Queued};
-use std::alloc::Global;
-use tb_layout::{Failure, NoMemory};
+use crate::plan::Line;
+use std::alloc::AllocError;
+use tb_core::Listed;
 use tb_machine::Machine;
+use tb_work::Reply;
 
-const EVENT_SIZE: usize = 128;
-
-/// Commits a packet, and gives its failures.
-fn commit(alloc: Global, machine: &mut Machine, body: &Body) -> Result<Vec<Failure>, NoMemory>
-    ensures state { OnOk result (machine.new ≡ after_packet machine.old (events_in body.now)) }
-    ensures failures { IfOk result (λ failures. failures.items ≡ failures_of machine.old (events_in body.now)) }
-{
-    let bytes = body.as_slice();
-    let mut failures = Vec::with_capacity(alloc, bytes.len() / EVENT_SIZE)?;
-    machine.commit(body.operation(), bytes, &mut failures)?;
-    Ok(failures)
+/// What is still to be printed: the replies, and the place of the next packet or pulse, which has none
+/// behind the Close.
+#[derive(Drop)]
+struct Pending<'a> {
+    place: Option<u64>,
+    replies: &'a [Reply],
 }
 
-fn put_queued(
-    alloc: Global,
-    out: &mut String,
-    machine: &mut Machine,
-    place: u64,
-    queued: &Queued,
-) -> Result<(), NoMemory>
-    ensures state { OnOk result (machine.new ≡ after_packet machine.old (events_in queued.now.body)) }
-    ensures line { OnOk result (string_bytes out.new ≡ string_bytes out.old ++ committed_line queued.now.submitter queued.now.number place (failures_of machine.old (events_in queued.now.body))) }
-{
-    let failures = commit(alloc, machine, &queued.body)?;
-    put_committed(out, queued.submitter.get(), queued.number, place, &failures)?;
-    Ok(())
-}
+impl<'a> Pending<'a> {
+    fn go_on(&mut self)
+        requires { IfSome self.old.place (λ place. place < 2 ^ 63) }
+        ensures place { self.new.place ≡ one_further self.old.place }
+        ensures replies { self.new.replies.now ≡ self.old.replies.now }
+    {
+        if let Some(place) = self.place {
+            self.place = Some(place + 1);
+        }
+    }
 
-/// The line of one item.
-#[tactic(auto, unfolding(crate::specs::Output::plan_text, crate::specs::Output::state_after))]
-fn put_planned(
-    alloc: Global,
-    out: &mut String,
-    machine: &mut Machine,
-    place: u64,
-    planned: &Planned,
-) -> Result<u64, NoMemory>
-    requires { place < 2 ^ 63 }
-    ensures lines { IfOk result (λ next. (others : List PlannedValue) →
-        string_bytes out.old ++ plan_text machine.old place (planned.now ∷ others) ≡ string_bytes out.new ++ plan_text machine.new next others) }
-    ensures states { OnOk result ((others : List PlannedValue) → state_after machine.old (planned.now ∷ others) ≡ state_after machine.new others) }
-    ensures bound { IfOk result (λ next. next ≤ place + 1) }
-{
-    match planned {
-        Planned::Queued(queued) => {
-            put_queued(alloc, out, machine, place, queued)?;
-            Ok(place + 1)
+    /// The next reply.
+    fn put_packet(&mut self, out: &mut String) -> Result<(), AllocError>
+        requires { IfSome self.old.place (λ place. place < 2 ^ 63) }
+        ensures text { OnOk result (string_bytes out.new ≡ string_bytes out.old ++ first_text Line.Packet self.old.place self.old.replies.now) }
+        ensures rest { OnOk result (pending self.new.place self.new.replies.now ≡ behind_line Line.Packet self.old.place self.old.replies.now) }
+    {
+        if let Some((reply, replies)) = self.replies.split_first() {
+            put_reply(out, reply)?;
+            self.replies = replies;
         }
-        Planned::Refused(submitter, refusal) => {
-            put_refused(out, submitter.get(), *refusal)?;
-            Ok(place)
-        }
-        Planned::Pulse(moment) => {
-            machine.pulse(moment.get());
+        self.go_on();
+        Ok(())
+    }
+
+    fn put_pulse(&mut self, out: &mut String) -> Result<(), AllocError>
+        requires { IfSome self.old.place (λ place. place < 2 ^ 63) }
+        ensures text { OnOk result (string_bytes out.new ≡ string_bytes out.old ++ first_text Line.Pulse self.old.place self.old.replies.now) }
+        ensures rest { OnOk result (pending self.new.place self.new.replies.now ≡ behind_line Line.Pulse self.old.place self.old.replies.now) }
+    {
+        if let Some(place) = self.place {
             put_pulse(out, place)?;
-            Ok(place + 1)
         }
-        Planned::RefusedPulse => {
-            put_refused_pulse(out)?;
-            Ok(place)
+        self.go_on();
+        Ok(())
+    }
+
+    fn put_line(&mut self, out: &mut String, line: Line) -> Result<(), AllocError>
+        requires { IfSome self.old.place (λ place. place < 2 ^ 63) }
+        ensures text { OnOk result (string_bytes out.new ≡ string_bytes out.old ++ first_text line self.old.place self.old.replies.now) }
+        ensures rest { OnOk result (pending self.new.place self.new.replies.now ≡ behind_line line self.old.place self.old.replies.now) }
+    {
+        match line {
+            Line::Packet => self.put_packet(out),
+            Line::Pulse => self.put_pulse(out),
+            Line::Shut => {
+                self.place = None;
+                put_close(out)
+            }
+            Line::RefusedPacket(submitter, refusal) => put_refused(out, submitter.get(), refusal),
+            Line::RefusedPulse => put_refused_pulse(out),
         }
     }
 }
 
-/// The lines of a plan, and the state that its packets and pulses leave.
-#[tactic(auto, unfolding(crate::specs::Output::plan_text, crate::specs::Output::state_after))]
-fn put_plan(
-    alloc: Global,
-    out: &mut String,
-    machine: &mut Machine,
-    plan: &[Planned],
-) -> Result<(), NoMemory>
-    ensures lines { OnOk result (string_bytes out.new ≡ string_bytes out.old ++ plan_text machine.old 0 plan.now) }
-    ensures state { OnOk result (machine.new ≡ state_after machine.old plan.now) }
+/// The lines of all items, in the order of the script.
+#[tactic(auto, unfolding(crate::specs::Printing::printed_from))]
+fn put_lines(out: &mut String, lines: &[Line], replies: &[Reply]) -> Result<(), AllocError>
+    ensures { OnOk result (string_bytes out.new ≡ string_bytes out.old ++ printed_from (Some 0) replies.now lines.now) }
 {
-    let mut place = 0;
-    for planned in plan {
-        place = put_planned(alloc, out, machine, place, planned)?;
+    let mut pending = Pending {
+        place: Some(0),
+        replies,
+    };
+    for line in lines {
+        pending.put_line(out, *line)?;
     }
     Ok(())
 }
 
-fn put_accounts(out: &mut String, machine: &Machine) -> Result<(), NoMemory>
+fn put_accounts(out: &mut String, machine: &Machine) -> Result<(), AllocError>
     ensures { OnOk result (string_bytes out.new ≡ string_bytes out.old ++ flat_map account_line (balanced_accounts machine.now.facts)) }
 {
     for place in 0..machine.accounts() {
@@ -109,18 +105,13 @@ fn put_accounts(out: &mut String, machine: &Machine) -> Result<(), NoMemory>
     Ok(())
 }
 
-/// All lines for a plan: those of its items, the clock after them and the accounts.
-pub fn put_listing(
-    alloc: Global,
-    out: &mut String,
-    clock: u64,
-    plan: &[Planned],
-) -> Result<(), NoMemory>
-    requires { clock ≤ clock_max }
-    ensures { OnOk result (string_bytes out.new ≡ string_bytes out.old ++ plan_text (opening clock) 0 plan.now ++ state_text (state_after (opening clock) plan.now)) }
+/// All lines of a plan that was listed: those of its items, the clock after them and the accounts.
+pub fn put_listing(out: &mut String, lines: &[Line], listed: &Listed) -> Result<(), AllocError>
+    ensures { (clock : ℕ) (plan : List Planned) → lines.now ≡ map line_of plan → IsListed clock (queue_of plan) listed.now.ledger listed.now.replies.items
+        → OnOk result (string_bytes out.new ≡ string_bytes out.old ++ plan_text clock plan) }
 {
-    let mut machine = Machine::new(alloc, clock);
-    put_plan(alloc, out, &mut machine, plan)?;
+    put_lines(out, lines, &listed.replies)?;
+    let machine = listed.ledger.machine();
     put_clock(out, machine.clock())?;
-    put_accounts(out, &machine)
+    put_accounts(out, machine)
 }

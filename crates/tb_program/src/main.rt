@@ -5,8 +5,6 @@
 //! memory ran out.
 #![tactic(auto)]
 
-mod admission;
-mod body;
 mod bytes;
 mod event;
 mod fault;

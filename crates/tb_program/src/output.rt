@@ -1,13 +1,13 @@
 //! The lines of the output.
 
-ghost use Rattle.std.specs.Prelude.{◌≡◌, ◌++◌, OnOk, string_bytes};
+ghost use Rattle.std.specs.Prelude.{◌≡◌, ◌++◌, OnOk, codes, string_bytes};
 ghost use Rattle.std.specs.List.{flat_map};
-ghost use Rattle.tb_program.specs.Output.{fault_text, fault_line, refused_line, failure_text, committed_front, committed_line, pulse_line, refused_pulse_line, clock_line, account_front, balances_text, account_line};
+ghost use Rattle.tb_program.specs.Output.{fault_text, fault_line, refused_line, failure_text, found_debits, found_credits, found_text, answer_text, outcome_text, packet_front, reply_line, pulse_line, refused_pulse_line, clock_line, account_front, balances_text, account_line};
 
-use crate::admission::Refusal;
 use crate::fault::Fault;
 use std::alloc::AllocError;
 use tb_layout::{Account, Failure};
+use tb_work::{Answer, Outcome, Refusal, Reply};
 
 impl Fault {
     /// What is printed of the fault, behind the number of its line.
@@ -54,30 +54,70 @@ fn put_failures(out: &mut String, failures: &[Failure]) -> Result<(), AllocError
     Ok(())
 }
 
-#[tactic(auto, unfolding(crate::specs::Output::committed_front))]
-fn put_committed_front(
-    out: &mut String,
-    submitter: u32,
-    number: u64,
-    place: u64,
-) -> Result<(), AllocError>
-    ensures { OnOk result (string_bytes out.new ≡ string_bytes out.old ++ committed_front submitter number place) }
+#[tactic(auto, unfolding(crate::specs::Output::found_debits))]
+fn put_found_debits(out: &mut String, account: &Account) -> Result<(), AllocError>
+    ensures { OnOk result (string_bytes out.new ≡ string_bytes out.old ++ found_debits account.now) }
 {
-    write!(out, "packet {submitter} {number} committed {place}")
+    let id = account.id;
+    let pending = account.debits_pending;
+    let posted = account.debits_posted;
+    write!(out, " {id}:{pending}:{posted}")
 }
 
-/// The line of a packet that was committed.
-pub fn put_committed(
-    out: &mut String,
-    submitter: u32,
-    number: u64,
-    place: u64,
-    failures: &[Failure],
-) -> Result<(), AllocError>
-    ensures { OnOk result (string_bytes out.new ≡ string_bytes out.old ++ committed_line submitter number place failures.now) }
+#[tactic(auto, unfolding(crate::specs::Output::found_credits))]
+fn put_found_credits(out: &mut String, account: &Account) -> Result<(), AllocError>
+    ensures { OnOk result (string_bytes out.new ≡ string_bytes out.old ++ found_credits account.now) }
 {
-    put_committed_front(out, submitter, number, place)?;
-    put_failures(out, failures)?;
+    let pending = account.credits_pending;
+    let posted = account.credits_posted;
+    write!(out, ":{pending}:{posted}")
+}
+
+fn put_all_found(out: &mut String, accounts: &[Account]) -> Result<(), AllocError>
+    ensures { OnOk result (string_bytes out.new ≡ string_bytes out.old ++ flat_map found_text accounts.now) }
+{
+    for account in accounts {
+        put_found_debits(out, account)?;
+        put_found_credits(out, account)?;
+    }
+    Ok(())
+}
+
+fn put_answer(out: &mut String, answer: &Answer) -> Result<(), AllocError>
+    ensures { OnOk result (string_bytes out.new ≡ string_bytes out.old ++ answer_text answer.now) }
+{
+    match answer {
+        Answer::Failures(failures) => put_failures(out, failures.as_slice()),
+        Answer::Accounts(accounts) => put_all_found(out, accounts.as_slice()),
+    }
+}
+
+fn put_outcome(out: &mut String, outcome: &Outcome) -> Result<(), AllocError>
+    ensures { OnOk result (string_bytes out.new ≡ string_bytes out.old ++ outcome_text outcome.now) }
+{
+    match outcome {
+        Outcome::Committed { place, answer } => {
+            write!(out, " committed {place}")?;
+            put_answer(out, answer)
+        }
+        Outcome::Shutdown => out.push_str(" shutdown"),
+        Outcome::Stopped => out.push_str(" stopped"),
+    }
+}
+
+#[tactic(auto, unfolding(crate::specs::Output::packet_front))]
+fn put_packet_front(out: &mut String, submitter: u32, number: u64) -> Result<(), AllocError>
+    ensures { OnOk result (string_bytes out.new ≡ string_bytes out.old ++ packet_front submitter number) }
+{
+    write!(out, "packet {submitter} {number}")
+}
+
+/// The line of a packet that was queued.
+pub fn put_reply(out: &mut String, reply: &Reply) -> Result<(), AllocError>
+    ensures { OnOk result (string_bytes out.new ≡ string_bytes out.old ++ reply_line reply.now) }
+{
+    put_packet_front(out, reply.submitter, reply.number)?;
+    put_outcome(out, &reply.outcome)?;
     out.push_str("\n")
 }
 
@@ -94,6 +134,13 @@ pub fn put_refused_pulse(out: &mut String) -> Result<(), AllocError>
     ensures { OnOk result (string_bytes out.new ≡ string_bytes out.old ++ refused_pulse_line) }
 {
     out.push_str("pulse refused 12 MomentTooLarge\n")
+}
+
+/// The line of the Close.
+pub fn put_close(out: &mut String) -> Result<(), AllocError>
+    ensures { OnOk result (string_bytes out.new ≡ string_bytes out.old ++ codes "shut\n") }
+{
+    out.push_str("shut\n")
 }
 
 /// The line of the clock.

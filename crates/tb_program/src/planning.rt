@@ -1,128 +1,146 @@
 //! The plan of a script's items.
 
-ghost use Rattle.std.specs.Prelude.{◌≡◌, ◌≤◌, ◌<◌, ℕ, List, [], ◌∷◌, ◌++◌, get_or, OnOk, IfOk};
-ghost use Rattle.tb_program.specs.Plan.{number_in, pulse_as, with_item, plan_behind};
+ghost use Rattle.std.specs.Prelude.{◌≡◌, ◌<◌, ◌≤◌, [], ℕ, get_or, OnOk, IfOk};
+ghost use Rattle.tb_program.specs.Plan.{Packet as PacketPlanned, Pulse as PulsePlanned, Close as ClosePlanned, RefusedPacket as RefusedPacketPlanned, RefusedPulse as RefusedPulsePlanned, number_in, pulse_as, planned_as, plan_behind, with_planned, halves_of};
 ghost use Rattle.tb_program.specs.declared.item.Item.TheVariants.{Packet as PacketItem};
-ghost use Rattle.tb_program.specs.declared.plan.Planned.{Planned};
-ghost use Rattle.tb_program.specs.declared.plan.Planned.TheVariants.{Queued as QueuedPlanned, Refused as RefusedPlanned};
 
-use crate::admission::{Refusal, refusal_of};
-use crate::body::Body;
 use crate::item::{Item, Submission};
-use crate::plan::{Planned, Queued};
+use crate::plan::Line;
 use crate::submitter_number::SubmitterNumber;
 use std::alloc::Global;
 use std::marker::Model;
 use tb_layout::NoMemory;
-use tb_work::Moment;
+use tb_work::{Bytes, Job, Moment, Packet, Refusal};
 
 const GREATEST_MOMENT: u64 = 1 << 62;
 
-/// The items planned so far, and the next number of each submitter.
+/// What the items so far queue, and what is printed of each.
 #[derive(Drop)]
 pub struct Plan {
-    planned: Vec<Planned>,
+    queue: Vec<tb_work::Item>,
+    lines: Vec<Line>,
     numbers: [u64; 16],
 }
 
 impl Model for Plan {
-    ghost Value = { List Planned };
+    ghost use Rattle.std.specs.Prelude.{◌≡◌, ◌<◌, ℕ, get_or};
+    ghost use Rattle.tb_program.specs.Plan.{Halves, number_in};
 
-    ghost view = { λ plan. plan.planned.items };
+    ghost Value = { Halves };
 
-    ghost invariant = { λ plan. (submitter : ℕ) → submitter < 16 → get_or plan.numbers submitter 0 ≡ number_in submitter plan.planned.items };
+    ghost view = { λ plan. record { queue = plan.queue.items; lines = plan.lines.items } };
+
+    ghost invariant = { λ plan. (submitter : ℕ) → submitter < 16 → get_or plan.numbers submitter 0 ≡ number_in submitter plan.queue.items };
 }
 
 impl Plan {
     fn new(alloc: Global) -> Plan
-        ensures { result ≡ [] }
+        ensures { result ≡ record { queue = []; lines = [] } }
     {
         Plan {
-            planned: Vec::new(alloc),
+            queue: Vec::new(alloc),
+            lines: Vec::new(alloc),
             numbers: [0; 16],
         }
     }
 
-    /// Plans a packet that is admitted behind the items so far, with its submitter's next number.
-    fn queue(&mut self, submitter: SubmitterNumber, body: Body) -> Result<(), NoMemory>
-        ensures { OnOk result (self.new ≡ self.old ++ QueuedPlanned (record { submitter = submitter; number = number_in submitter self.old; body = body }) ∷ []) }
+    /// Queues a packet with its submitter's next number.
+    fn queue_packet(&mut self, job: Job) -> Result<(), NoMemory>
+        requires few { job.submitter < 16 }
+        requires number { job.number ≡ number_in job.submitter self.old.queue }
+        ensures { OnOk result (self.new ≡ with_planned self.old (PacketPlanned job)) }
     {
-        let place = submitter.get() as usize;
-        let number = self.numbers[place];
-        self.planned.push(Planned::Queued(Queued {
-            submitter,
-            number,
-            body,
-        }))?;
-        self.numbers[place] = number + 1;
+        let submitter = job.stub().submitter as usize;
+        self.lines.push(Line::Packet)?;
+        self.queue.push(tb_work::Item::Packet(job))?;
+        self.numbers[submitter] += 1;
         Ok(())
     }
 
-    /// Plans the line of a packet that is not admitted.
-    fn refuse(&mut self, submitter: SubmitterNumber, refusal: Refusal) -> Result<(), NoMemory>
-        ensures { OnOk result (self.new ≡ self.old ++ RefusedPlanned submitter refusal ∷ []) }
-    {
-        self.planned.push(Planned::Refused(submitter, refusal))?;
-        Ok(())
-    }
-
-    /// Plans a packet behind the items so far.
-    fn add_packet(&mut self, limit: u32, packet: Submission) -> Result<(), NoMemory>
+    /// A packet behind the items so far.
+    fn add_packet(
+        &mut self,
+        alloc: Global,
+        limit: u32,
+        submission: Submission,
+    ) -> Result<(), NoMemory>
         requires { limit ≤ 8190 }
-        ensures { OnOk result (self.new ≡ with_item limit self.old (PacketItem packet)) }
+        ensures { OnOk result (self.new ≡ with_planned self.old (planned_as limit self.old.queue (PacketItem submission))) }
     {
         let Submission {
             submitter,
             operation,
             bytes,
-        } = packet;
-        match refusal_of(limit, operation, bytes.as_slice()) {
-            Some(refusal) => self.refuse(submitter, refusal),
-            None => self.queue(submitter, Body::new(operation, bytes)),
+        } = submission;
+        let packet = Packet {
+            operation,
+            bytes: Bytes::from_vec(bytes.into_vec()),
+            user: 0,
+        };
+        let number = self.numbers[submitter.get() as usize];
+        match Job::new(alloc, submitter.get(), number, limit, packet) {
+            Ok(job) => self.queue_packet(job),
+            Err((_, Refusal::NoMemory)) => Err(NoMemory),
+            Err((_, refusal)) => {
+                self.lines.push(Line::RefusedPacket(submitter, refusal))?;
+                Ok(())
+            }
         }
     }
 
-    /// Plans a pulse behind the items so far.
+    /// A pulse behind the items so far.
     fn add_pulse(&mut self, moment: u64) -> Result<(), NoMemory>
-        ensures { OnOk result (self.new ≡ self.old ++ pulse_as moment ∷ []) }
+        ensures { OnOk result (self.new ≡ with_planned self.old (pulse_as moment)) }
     {
-        let planned = if moment > GREATEST_MOMENT {
-            Planned::RefusedPulse
-        } else {
-            Planned::Pulse(Moment::new(moment))
-        };
-        self.planned.push(planned)?;
+        if moment > GREATEST_MOMENT {
+            self.lines.push(Line::RefusedPulse)?;
+            return Ok(());
+        }
+        self.lines.push(Line::Pulse)?;
+        self.queue.push(tb_work::Item::Pulse(Moment::new(moment)))?;
         Ok(())
     }
 
-    /// Plans an item behind those so far.
-    fn add(&mut self, limit: u32, item: Item) -> Result<(), NoMemory>
+    /// The Close behind the items so far.
+    fn add_close(&mut self) -> Result<(), NoMemory>
+        ensures { OnOk result (self.new ≡ with_planned self.old ClosePlanned) }
+    {
+        self.lines.push(Line::Shut)?;
+        self.queue.push(tb_work::Item::Close)?;
+        Ok(())
+    }
+
+    /// An item behind those so far.
+    fn add(&mut self, alloc: Global, limit: u32, item: Item) -> Result<(), NoMemory>
         requires { limit ≤ 8190 }
-        ensures { OnOk result (self.new ≡ with_item limit self.old item) }
+        ensures { OnOk result (self.new ≡ with_planned self.old (planned_as limit self.old.queue item)) }
     {
         match item {
-            Item::Packet(packet) => self.add_packet(limit, packet),
+            Item::Packet(submission) => self.add_packet(alloc, limit, submission),
             Item::Pulse(moment) => self.add_pulse(moment),
+            Item::Shut => self.add_close(),
         }
     }
 
-    /// The plan, item by item.
-    pub fn as_slice(&self) -> &[Planned]
-        ensures { result.now ≡ self.now }
+    /// What is queued, and what is printed.
+    pub fn into_halves(self) -> (Vec<tb_work::Item>, Vec<Line>)
+        ensures queue { result.0.items ≡ self.queue }
+        ensures lines { result.1.items ≡ self.lines }
     {
-        self.planned.as_slice()
+        (self.queue, self.lines)
     }
 }
 
-/// The plan of items in order.
+/// The plan of a script's items. A packet is moved into its job, with room for its failures; none of its bytes is
+/// copied.
 #[tactic(auto, unfolding(crate::specs::Plan::plan_behind))]
 pub fn plan_all(alloc: Global, limit: u32, items: Vec<Item>) -> Result<Plan, NoMemory>
     requires { limit ≤ 8190 }
-    ensures { IfOk result (λ plan. plan ≡ plan_behind limit [] items.items) }
+    ensures { IfOk result (λ plan. plan ≡ halves_of (plan_behind limit [] items.items)) }
 {
     let mut plan = Plan::new(alloc);
     for item in items {
-        plan.add(limit, item)?;
+        plan.add(alloc, limit, item)?;
     }
     Ok(plan)
 }

@@ -1,35 +1,55 @@
 //! `tbpipe list`.
 
-ghost use Rattle.std.specs.Prelude.{◌≡◌, IfOk, IfSome, IsErrOf, string_bytes};
+ghost use Rattle.std.specs.Prelude.{◌≡◌, ◌≤◌, List, map, IfOk, IfSome, IsErrOf, string_bytes};
 ghost use Rattle.std.specs.Io.KnownBytes.{Appends, Keeps};
 ghost use Rattle.tb_program.specs.Script.{script_of};
-ghost use Rattle.tb_program.specs.Output.{listing, printed, is_ok_script, out, is_faultless};
+ghost use Rattle.tb_program.specs.Output.{plan_text, listing, printed, is_ok_script, out, is_faultless};
+ghost use Rattle.tb_machine.specs.Clock.{clock_max};
+ghost use Rattle.tb_program.specs.Plan.{Planned, queue_of, line_of};
 
 use crate::listing::put_listing;
 use crate::output::put_fault;
 use crate::parse::{ScriptError, parse};
+use crate::plan::Line;
 use crate::planning::plan_all;
 use crate::program_fault::ProgramFault;
 use crate::read::read_script;
 use crate::script::Script;
 use std::alloc::Global;
 use std::io::{Read, Write};
+use tb_core::run_list;
 use tb_layout::NoMemory;
+use tb_work::Item;
+
+/// The lines of a plan whose queue is listed.
+fn listed(
+    alloc: Global,
+    clock: u64,
+    limit: u32,
+    items: Vec<Item>,
+    lines: &[Line],
+) -> Result<String, NoMemory>
+    requires clock { clock ≤ clock_max }
+    requires least { 1 ≤ limit }
+    requires most { limit ≤ 8190 }
+    ensures { (plan : List Planned) → items.items ≡ queue_of plan → lines.now ≡ map line_of plan
+        → IfOk result (λ text. string_bytes text ≡ plan_text clock plan) }
+{
+    let listed = run_list(alloc, clock, limit, items)?;
+    let mut out = String::new(alloc);
+    put_listing(&mut out, lines, &listed)?;
+    Ok(out)
+}
 
 /// The output for a script that has no fault.
-fn listed(alloc: Global, script: Script) -> Result<String, NoMemory>
+fn output_for(alloc: Global, script: Script) -> Result<String, NoMemory>
     ensures { IfOk result (λ text. string_bytes text ≡ listing script) }
 {
     let (settings, items) = script.finish()?;
-    let plan = plan_all(alloc, settings.limit.unwrap_or(8190), items)?;
-    let mut out = String::new(alloc);
-    put_listing(
-        alloc,
-        &mut out,
-        settings.clock.unwrap_or(0),
-        plan.as_slice(),
-    )?;
-    Ok(out)
+    let clock = settings.clock.unwrap_or(0);
+    let limit = settings.limit.unwrap_or(8190);
+    let (queue, lines) = plan_all(alloc, limit, items)?.into_halves();
+    listed(alloc, clock, limit, queue, &lines)
 }
 
 /// The output for the text of a script, and whether the script has no fault.
@@ -37,7 +57,7 @@ fn output(alloc: Global, text: &[u8]) -> Result<(String, bool), NoMemory>
     ensures { IfOk result (λ both. (string_bytes both.0 ≡ printed (script_of text.now)) × (both.1 ≡ is_ok_script (script_of text.now))) }
 {
     match parse(alloc, text) {
-        Ok(script) => Ok((listed(alloc, script)?, true)),
+        Ok(script) => Ok((output_for(alloc, script)?, true)),
         Err(ScriptError::NoMemory) => Err(NoMemory),
         Err(ScriptError::Faulty(line, fault)) => {
             let mut out = String::new(alloc);

@@ -1,10 +1,10 @@
 //! A script, line after line.
 
-ghost use Rattle.std.specs.Prelude.{◌≡◌, ◌++◌, List, IfOk, OnOk};
+ghost use Rattle.std.specs.Prelude.{◌≡◌, ◌++◌, List, [], IfOk, OnOk};
 ghost use Rattle.tb_program.specs.Text.{words_of};
 ghost use Rattle.tb_program.specs.Steps.{Gives, Tells, Leaves};
-ghost use Rattle.tb_program.specs.Keyword.{one_word, two_words};
-ghost use Rattle.tb_program.specs.Script.{Said, nothing_said, items_of, has_begun, is_in_place, with_packet, with_pulse, with_bytes, set_to, with_line, with_keyword, with_words, is_text, after_line, InBounds};
+ghost use Rattle.tb_program.specs.Keyword.{no_word, one_word, two_words};
+ghost use Rattle.tb_program.specs.Script.{Said, nothing_said, items_of, has_begun, is_in_place, with_packet, with_pulse, with_close, with_bytes, set_to, with_line, with_keyword, with_words, is_text, after_line, InBounds};
 
 use crate::bytes::Bytes;
 use crate::event::{Layout, event_of, hex_bytes};
@@ -36,14 +36,25 @@ pub struct Script {
     settings: Settings,
     items: Vec<Item>,
     packet: Option<Submission>,
+    shut: bool,
 }
 
 impl Model for Script {
     ghost Value = { Said };
 
-    ghost view = { λ script. record { settings = script.settings; items = script.items.items; packet = script.packet } };
+    ghost view = { λ script. record { settings = script.settings; items = script.items.items; packet = script.packet; shut = script.shut } };
 
     ghost invariant = { λ script. InBounds script.settings };
+}
+
+fn no_word(words: Words) -> Result<(), Fault>
+    ensures { Tells (λ _. []) result (no_word (words_of words.entry.rest.now)) }
+{
+    let mut words = words;
+    match words.next() {
+        None => Ok(()),
+        Some(_) => Err(Fault::WrongNumberOfWords),
+    }
 }
 
 fn one_word(words: Words) -> Result<&[u8], Fault>
@@ -87,6 +98,7 @@ impl Script {
             },
             items: Vec::new(alloc),
             packet: None,
+            shut: false,
         }
     }
 
@@ -105,8 +117,11 @@ impl Script {
             Keyword::Capacity => !self.has_begun() && self.settings.capacity.is_none(),
             Keyword::Credit => !self.has_begun() && self.settings.credit.is_none(),
             Keyword::Submitters => !self.has_begun() && self.settings.submitters.is_none(),
-            Keyword::Packet | Keyword::Pulse => true,
-            Keyword::Account | Keyword::Transfer | Keyword::Hex => self.packet.is_some(),
+            Keyword::Packet => true,
+            Keyword::Account | Keyword::Transfer | Keyword::Id | Keyword::Hex => {
+                self.packet.is_some()
+            }
+            Keyword::Pulse | Keyword::Shut => !self.shut,
         }
     }
 
@@ -142,6 +157,15 @@ impl Script {
     {
         self.end_packet()?;
         self.items.push(Item::Pulse(moment))?;
+        Ok(())
+    }
+
+    fn add_close(&mut self) -> Result<(), NoMemory>
+        ensures { OnOk result (self.new ≡ with_close self.old) }
+    {
+        self.end_packet()?;
+        self.items.push(Item::Shut)?;
+        self.shut = true;
         Ok(())
     }
 
@@ -232,6 +256,15 @@ impl Script {
     }
 
     #[tactic(auto, unfolding(crate::specs::Script::with_line))]
+    fn take_id(&mut self, words: Words) -> Result<(), LineError>
+        ensures { Leaves result self.new (with_line self.old Keyword.Id (words_of words.entry.rest.now)) }
+    {
+        let id = number_within(one_word(words)?, 0, u128::MAX)?;
+        self.add_bytes(&id.to_le_bytes())?;
+        Ok(())
+    }
+
+    #[tactic(auto, unfolding(crate::specs::Script::with_line))]
     fn take_pulse(&mut self, words: Words) -> Result<(), LineError>
         ensures { Leaves result self.new (with_line self.old Keyword.Pulse (words_of words.entry.rest.now)) }
     {
@@ -249,6 +282,15 @@ impl Script {
         Ok(())
     }
 
+    #[tactic(auto, unfolding(crate::specs::Script::with_line))]
+    fn take_close(&mut self, words: Words) -> Result<(), LineError>
+        ensures { Leaves result self.new (with_line self.old Keyword.Shut (words_of words.entry.rest.now)) }
+    {
+        no_word(words)?;
+        self.add_close()?;
+        Ok(())
+    }
+
     /// A line in its place, with the words behind its first.
     fn take_line(&mut self, alloc: Global, keyword: Keyword, words: Words) -> Result<(), LineError>
         ensures { Leaves result self.new (with_line self.old keyword (words_of words.entry.rest.now)) }
@@ -262,8 +304,10 @@ impl Script {
             Keyword::Packet => self.take_packet(alloc, words),
             Keyword::Account => self.take_account(words),
             Keyword::Transfer => self.take_transfer(words),
+            Keyword::Id => self.take_id(words),
             Keyword::Hex => self.take_hex(alloc, words),
             Keyword::Pulse => self.take_pulse(words),
+            Keyword::Shut => self.take_close(words),
         }
     }
 

@@ -1,0 +1,58 @@
+-- What is printed from the two halves of a plan is the text of the plan.
+use Rattle.std.proofs.Common.{◌≡◌, ℕ, ◌+◌, List, [], ◌∷◌, ◌++◌, map, refl, sym, ap, ◌∙◌, Option, Some, None, append_assoc}
+use Rattle.std.specs.Prelude.{Result, Ok, Err, OnOk, IsOk, codes}
+use Rattle.std.specs.List.{flat_map}
+use Rattle.tb_machine.specs.Replay.{State, balanced_accounts}
+use Rattle.tb_work.specs.Job.{numbered}
+use Rattle.tb_work.specs.Queue.{ahead}
+use Rattle.tb_work.specs.Reply.{Replied, reply_with}
+use Rattle.tb_work.specs.Work.{Work}
+use Rattle.tb_work.specs.declared.item.Item as work
+use Rattle.tb_work.specs.declared.refusal.Refusal.{Refusal}
+use Rattle.tb_core.specs.Ledger.{LedgerState, works, state_after}
+use Rattle.tb_core.specs.Passage.{Ahead, Behind}
+use Rattle.tb_core.specs.Report.{IsListed, all_due_from, outcome_at}
+use Rattle.tb_program.specs.declared.item.Submission.{Submission}
+use Rattle.tb_program.specs.declared.plan.Line.{Line}
+use Rattle.tb_program.specs.Plan.{Planned, Packet, Pulse, Close, RefusedPacket, RefusedPulse, queue_of, line_of, number_in, packet_of, packet_as}
+use Rattle.tb_program.specs.Output.{reply_line, pulse_line, refused_line, refused_pulse_line, clock_line, account_line, lines_from, plan_text}
+use Rattle.tb_program.specs.Printing.{as_place, printed_from}
+
+pub admitted_is_queued : (items : List work.Item) (submission : Submission) (r : Result ℕ Refusal) → IsOk r →
+    packet_as items submission r ≡ Packet (numbered submission.submitter (number_in submission.submitter items) (packet_of submission))
+admitted_is_queued items submission (Ok count) is = refl
+admitted_is_queued items submission (Err refusal) is = cc
+
+printed : (clock : ℕ) (committed : List Work) (place : Option ℕ) (plan : List Planned) →
+    printed_from place (all_due_from clock committed (as_place place) (queue_of plan)) (map line_of plan) ≡ lines_from clock committed (as_place place) plan
+unfolding printed_from lines_from
+printed clock committed place [] = refl
+printed clock committed None (Packet job ∷ plan) = ap (λ text. reply_line (reply_with (outcome_at clock committed Behind) job) ++ text) (printed clock committed None plan)
+printed clock committed (Some k) (Packet job ∷ plan) = ap (λ text. reply_line (reply_with (outcome_at clock committed (Ahead k)) job) ++ text) (printed clock committed (Some (k + 1)) plan)
+printed clock committed None (Pulse moment ∷ plan) = printed clock committed None plan
+printed clock committed (Some k) (Pulse moment ∷ plan) = ap (λ text. pulse_line k ++ text) (printed clock committed (Some (k + 1)) plan)
+printed clock committed None (Close ∷ plan) = ap (λ text. codes "shut\n" ++ text) (printed clock committed None plan)
+printed clock committed (Some k) (Close ∷ plan) = ap (λ text. codes "shut\n" ++ text) (printed clock committed None plan)
+printed clock committed place (RefusedPacket submitter refusal ∷ plan) = ap (λ text. refused_line submitter refusal ++ text) (printed clock committed place plan)
+printed clock committed place (RefusedPulse ∷ plan) = ap (λ text. refused_pulse_line ++ text) (printed clock committed place plan)
+
+pub on_ok : {A E : Type 0} {P Q : Type 0} (r : Result A E) → (P → Q) → OnOk r P → OnOk r Q
+on_ok (Ok x) f holds = f holds
+on_ok (Err e) f holds = tt
+
+-- the lines, the clock and the accounts
+pub whole : (clock time : ℕ) (plan : List Planned) (lines : List Line) (ledger : LedgerState) (replies : List Replied) (state : State) (out with_lines with_clock with_accounts : List ℕ) →
+    lines ≡ map line_of plan → IsListed clock (queue_of plan) ledger replies → state ≡ state_after ledger.opening (works ledger) → time ≡ state.clock →
+    with_lines ≡ out ++ printed_from (Some 0) replies lines → with_clock ≡ with_lines ++ clock_line time →
+    with_accounts ≡ with_clock ++ flat_map account_line (balanced_accounts state.facts) → with_accounts ≡ out ++ plan_text clock plan
+whole clock time plan lines ledger replies state out with_lines with_clock with_accounts lines_are is state_is time_is first second third =
+    let committed = ahead (queue_of plan) in
+    let after : state ≡ state_after clock committed = state_is ∙ ap (λ start. state_after start (works ledger)) is.from ∙ ap (state_after clock) is.committed in
+    let text : printed_from (Some 0) replies lines ≡ lines_from clock committed (Ahead 0) plan =
+    ap (printed_from (Some 0) replies) lines_are ∙ ap (λ rs. printed_from (Some 0) rs (map line_of plan)) is.replied ∙ printed clock committed (Some 0) plan in
+    let begun : with_clock ≡ (out ++ lines_from clock committed (Ahead 0) plan) ++ clock_line (state_after clock committed).clock =
+    second ∙ ap (λ t. t ++ clock_line time) (first ∙ ap (λ t. out ++ t) text) ∙ ap (λ n. (out ++ lines_from clock committed (Ahead 0) plan) ++ clock_line n) (time_is ∙ ap (λ (s : State). s.clock) after) in
+    third ∙ ap (λ t. t ++ flat_map account_line (balanced_accounts state.facts)) begun
+    ∙ ap (λ (s : State). ((out ++ lines_from clock committed (Ahead 0) plan) ++ clock_line (state_after clock committed).clock) ++ flat_map account_line (balanced_accounts s.facts)) after
+    ∙ append_assoc (out ++ lines_from clock committed (Ahead 0) plan) (clock_line (state_after clock committed).clock) (flat_map account_line (balanced_accounts (state_after clock committed).facts))
+    ∙ append_assoc out (lines_from clock committed (Ahead 0) plan) (clock_line (state_after clock committed).clock ++ flat_map account_line (balanced_accounts (state_after clock committed).facts))
