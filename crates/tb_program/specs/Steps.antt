@@ -20,6 +20,11 @@ abbrev pub Tells : {X Y E : Type 0} → (X → Y) → Result X E → Result Y E 
 Tells view (Ok x) told = told ≡ Ok (view x)
 Tells view (Err e) told = told ≡ Err e
 
+-- what a call left behind is what is told
+abbrev pub Makes : {X Y : Type 0} → Result X Fault → Y → Result Y Fault → Type 0
+Makes (Ok x) new told = told ≡ Ok new
+Makes (Err e) new told = told ≡ Err e
+
 -- the same, unless memory ran out
 abbrev pub Fails : {Y : Type 0} → LineError → Result Y Fault → Type 0
 Fails errors.NoMemory told = Unit {0}

@@ -2,7 +2,7 @@
 
 ghost use Rattle.std.specs.Prelude.{◌≡◌, ◌≤◌, ◌<◌, ◌+◌, ◌-◌, ◌^◌, ◌⊎◌, IfSome, IfOk};
 ghost use Rattle.tb_program.specs.Text.{words_of};
-ghost use Rattle.tb_program.specs.Steps.{Gives, Tells, look_up};
+ghost use Rattle.tb_program.specs.Steps.{Gives, Makes, Tells, look_up};
 ghost use Rattle.tb_program.specs.Event.{Lies, field as field_at, field_of, account_fields, transfer_fields, greatest, sides_of, new_field, written, assigned, all_assigned, blank, event_of, hex_bytes};
 
 use crate::fault::{Fault, LineError};
@@ -153,15 +153,13 @@ fn new_field(draft: &Draft, found: Option<Field>) -> Result<Field, Fault>
 }
 
 /// The number put into the field's bytes.
-fn written(draft: Draft, f: Field, n: u128) -> Draft
+fn write(draft: &mut Draft, f: Field, n: u128)
     requires { Lies f }
-    ensures { result ≡ written draft f n }
+    ensures { draft.new ≡ written draft.old f n }
 {
-    let mut draft = draft;
     let bytes = n.to_le_bytes();
     draft.bytes[f.offset..f.offset + f.size].copy_from_slice(&bytes[..f.size]);
     draft.given[f.place] = true;
-    draft
 }
 
 /// The name before the first `=`, and the number behind it.
@@ -178,13 +176,14 @@ fn sides_of(word: &[u8]) -> Result<(&[u8], &[u8]), Fault>
 
 /// One word NAME=N.
 #[tactic(auto, unfolding(crate::specs::Event::assigned))]
-fn assigned(layout: Layout, draft: Draft, word: &[u8]) -> Result<Draft, Fault>
-    ensures { result ≡ assigned layout draft word.now }
+fn assign(layout: Layout, draft: &mut Draft, word: &[u8]) -> Result<(), Fault>
+    ensures { Makes result draft.new (assigned layout draft.old word.now) }
 {
     let (name, number) = sides_of(word)?;
-    let f = new_field(&draft, field_of(layout, name))?;
+    let f = new_field(draft, field_of(layout, name))?;
     let n = number_within(number, 0, greatest(f.size))?;
-    Ok(written(draft, f, n))
+    write(draft, f, n);
+    Ok(())
 }
 
 /// All words of a line.
@@ -197,7 +196,7 @@ fn all_assigned(layout: Layout, words: Words) -> Result<Draft, Fault>
         given: [false; 13],
     };
     for word in words {
-        draft = assigned(layout, draft, word)?;
+        assign(layout, &mut draft, word)?;
     }
     Ok(draft)
 }

@@ -9,6 +9,8 @@ use std::test::Fail;
 mod codes;
 mod examples;
 mod faults;
+mod lookups;
+mod queued;
 mod streams;
 mod transfers;
 
@@ -18,4 +20,16 @@ fn listed(rt: &HostRuntime, script: &str) -> Result<String, Fail> {
     let mut out = Vec::new(rt.alloc());
     let _ = run_script(rt.alloc(), &mut reader, &mut out)?;
     Ok(String::from_utf8(out).ok().ok_or("no text")?)
+}
+
+/// Whether `list` writes this output for a script without fault, and `run_list` gives its replies and its
+/// clock.
+fn shows(rt: &HostRuntime, script: &str, output: &str) -> Result<(), Fail> {
+    if listed(rt, script)?.as_str() != output {
+        return Err("another output")?;
+    }
+    if queued::told_by_run_list(rt, script)?.as_slice() != queued::told_by(rt, output)?.as_slice() {
+        return Err("other replies")?;
+    }
+    Ok(())
 }

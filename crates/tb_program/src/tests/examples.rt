@@ -1,49 +1,36 @@
-use super::listed;
+use super::{listed, shows};
 use std::test::Fail;
 
 #[test]
 fn empty_script(rt: HostRuntime) -> Result<(), Fail> {
-    assert_eq!(rt; listed(&rt, "")?.as_str(), "clock 0\n");
-    Ok(())
+    shows(&rt, "", "clock 0\n")
 }
 
 #[test]
 fn first_run(rt: HostRuntime) -> Result<(), Fail> {
-    assert_eq!(rt;
-        listed(
-            &rt,
-            "packet 0 129\naccount id=1 ledger=1 code=1\naccount id=2 ledger=1 code=1\n"
-        )?
-        .as_str(),
-        "packet 0 0 committed 0\nclock 2\naccount 1 1 0 0 0 0\naccount 2 2 0 0 0 0\n"
-    );
-    Ok(())
+    shows(
+        &rt,
+        "packet 0 129\naccount id=1 ledger=1 code=1\naccount id=2 ledger=1 code=1\n",
+        "packet 0 0 committed 0\nclock 2\naccount 1 1 0 0 0 0\naccount 2 2 0 0 0 0\n",
+    )
 }
 
 #[test]
 fn two_submitters_joined(rt: HostRuntime) -> Result<(), Fail> {
-    assert_eq!(rt;
-        listed(
-            &rt,
-            "limit 4\npacket 0 129\naccount id=1 ledger=1 code=1\naccount id=2 ledger=1 code=1\npacket 1 129\naccount id=1 ledger=1 code=1\naccount id=3 code=1\n"
-        )?
-        .as_str(),
-        "packet 0 0 committed 0\npacket 1 0 committed 1 0:21 1:13\nclock 4\naccount 1 1 0 0 0 0\naccount 2 2 0 0 0 0\n"
-    );
-    Ok(())
+    shows(
+        &rt,
+        "limit 4\npacket 0 129\naccount id=1 ledger=1 code=1\naccount id=2 ledger=1 code=1\npacket 1 129\naccount id=1 ledger=1 code=1\naccount id=3 code=1\n",
+        "packet 0 0 committed 0\npacket 1 0 committed 1 0:21 1:13\nclock 4\naccount 1 1 0 0 0 0\naccount 2 2 0 0 0 0\n",
+    )
 }
 
 #[test]
 fn accounts_around_an_empty_packet(rt: HostRuntime) -> Result<(), Fail> {
-    assert_eq!(rt;
-        listed(
-            &rt,
-            "limit 4\npacket 0 129\naccount id=1 ledger=1 code=1\npacket 0 129\npacket 0 129\naccount id=2 ledger=1 code=1\n"
-        )?
-        .as_str(),
-        "packet 0 0 committed 0\npacket 0 1 committed 1\npacket 0 2 committed 2\nclock 2\naccount 1 1 0 0 0 0\naccount 2 2 0 0 0 0\n"
-    );
-    Ok(())
+    shows(
+        &rt,
+        "limit 4\npacket 0 129\naccount id=1 ledger=1 code=1\npacket 0 129\npacket 0 129\naccount id=2 ledger=1 code=1\n",
+        "packet 0 0 committed 0\npacket 0 1 committed 1\npacket 0 2 committed 2\nclock 2\naccount 1 1 0 0 0 0\naccount 2 2 0 0 0 0\n",
+    )
 }
 
 const FULL_BATCH: &str = "limit 4
@@ -65,11 +52,11 @@ packet 0 129
 
 #[test]
 fn full_batch_then_overflow(rt: HostRuntime) -> Result<(), Fail> {
-    assert_eq!(rt;
-        listed(&rt, FULL_BATCH)?.as_str(),
-        "packet 0 0 committed 0\npacket 0 1 committed 1\npacket 0 refused 3 TooMuchData\npacket 0 2 committed 2\nclock 5\naccount 1 1 0 0 0 0\naccount 2 2 0 0 0 0\naccount 3 3 0 0 0 0\naccount 4 4 0 0 0 0\naccount 5 5 0 0 0 0\n"
-    );
-    Ok(())
+    shows(
+        &rt,
+        FULL_BATCH,
+        "packet 0 0 committed 0\npacket 0 1 committed 1\npacket 0 refused 3 TooMuchData\npacket 0 2 committed 2\nclock 5\naccount 1 1 0 0 0 0\naccount 2 2 0 0 0 0\naccount 3 3 0 0 0 0\naccount 4 4 0 0 0 0\naccount 5 5 0 0 0 0\n",
+    )
 }
 
 #[test]
@@ -77,76 +64,56 @@ fn refused_sizes_and_operations(rt: HostRuntime) -> Result<(), Fail> {
     let data = "00".repeat(rt.alloc(), 127)?;
     let bytes = data.as_str();
     let script = format!(in rt.alloc(); "packet 0 129\nhex {bytes}\npacket 0 200\nhex {bytes}\n")?;
-    assert_eq!(rt;
-        listed(&rt, script.as_str())?.as_str(),
-        "packet 0 refused 2 InvalidDataSize\npacket 0 refused 1 InvalidOperation\nclock 0\n"
-    );
-    Ok(())
+    shows(
+        &rt,
+        script.as_str(),
+        "packet 0 refused 2 InvalidDataSize\npacket 0 refused 1 InvalidOperation\nclock 0\n",
+    )
 }
 
 #[test]
 fn open_packet_alone(rt: HostRuntime) -> Result<(), Fail> {
-    assert_eq!(rt;
-        listed(
-            &rt,
-            "limit 4\npacket 0 129\naccount id=1 ledger=1 code=1\npacket 0 129\naccount id=2 ledger=1 code=1 flags=1\npacket 0 129\naccount id=3 ledger=1 code=1\n"
-        )?
-        .as_str(),
-        "packet 0 0 committed 0\npacket 0 1 committed 1 0:2\npacket 0 2 committed 2\nclock 3\naccount 1 1 0 0 0 0\naccount 3 3 0 0 0 0\n"
-    );
-    Ok(())
+    shows(
+        &rt,
+        "limit 4\npacket 0 129\naccount id=1 ledger=1 code=1\npacket 0 129\naccount id=2 ledger=1 code=1 flags=1\npacket 0 129\naccount id=3 ledger=1 code=1\n",
+        "packet 0 0 committed 0\npacket 0 1 committed 1 0:2\npacket 0 2 committed 2\nclock 3\naccount 1 1 0 0 0 0\naccount 3 3 0 0 0 0\n",
+    )
 }
 
 #[test]
 fn broken_chain(rt: HostRuntime) -> Result<(), Fail> {
-    assert_eq!(rt;
-        listed(
-            &rt,
-            "limit 4\npacket 0 129\naccount id=1 ledger=1 code=1 flags=1\naccount ledger=1 code=1 flags=1\naccount id=2 ledger=1 code=1\naccount id=3 ledger=1 code=1\n"
-        )?
-        .as_str(),
-        "packet 0 0 committed 0 0:1 1:6 2:1\nclock 4\naccount 3 4 0 0 0 0\n"
-    );
-    Ok(())
+    shows(
+        &rt,
+        "limit 4\npacket 0 129\naccount id=1 ledger=1 code=1 flags=1\naccount ledger=1 code=1 flags=1\naccount id=2 ledger=1 code=1\naccount id=3 ledger=1 code=1\n",
+        "packet 0 0 committed 0 0:1 1:6 2:1\nclock 4\naccount 3 4 0 0 0 0\n",
+    )
 }
 
 #[test]
 fn broken_and_open_chain(rt: HostRuntime) -> Result<(), Fail> {
-    assert_eq!(rt;
-        listed(
-            &rt,
-            "limit 4\npacket 0 129\naccount id=1 ledger=1 code=1 flags=1\naccount ledger=1 code=1 flags=1\naccount id=2 ledger=1 code=1 flags=1\n"
-        )?
-        .as_str(),
-        "packet 0 0 committed 0 0:1 1:6 2:2\nclock 3\n"
-    );
-    Ok(())
+    shows(
+        &rt,
+        "limit 4\npacket 0 129\naccount id=1 ledger=1 code=1 flags=1\naccount ledger=1 code=1 flags=1\naccount id=2 ledger=1 code=1 flags=1\n",
+        "packet 0 0 committed 0 0:1 1:6 2:2\nclock 3\n",
+    )
 }
 
 #[test]
 fn clock_exhausted(rt: HostRuntime) -> Result<(), Fail> {
-    assert_eq!(rt;
-        listed(
-            &rt,
-            "clock 9223372036854775806\nlimit 4\npacket 0 129\naccount id=1 ledger=1 code=1\npacket 0 129\naccount id=2 ledger=1 code=1\n"
-        )?
-        .as_str(),
-        "packet 0 0 committed 0\npacket 0 1 committed 1 0:201\nclock 9223372036854775807\naccount 1 9223372036854775807 0 0 0 0\n"
-    );
-    Ok(())
+    shows(
+        &rt,
+        "clock 9223372036854775806\nlimit 4\npacket 0 129\naccount id=1 ledger=1 code=1\npacket 0 129\naccount id=2 ledger=1 code=1\n",
+        "packet 0 0 committed 0\npacket 0 1 committed 1 0:201\nclock 9223372036854775807\naccount 1 9223372036854775807 0 0 0 0\n",
+    )
 }
 
 #[test]
 fn bad_account_fields(rt: HostRuntime) -> Result<(), Fail> {
-    assert_eq!(rt;
-        listed(
-            &rt,
-            "limit 4\npacket 0 129\naccount id=1 ledger=1 code=1 timestamp=5\naccount id=2 ledger=1 code=1 flags=6\naccount id=3 ledger=1 code=1 flags=16\n"
-        )?
-        .as_str(),
-        "packet 0 0 committed 0 0:3 1:8 2:5\nclock 3\n"
-    );
-    Ok(())
+    shows(
+        &rt,
+        "limit 4\npacket 0 129\naccount id=1 ledger=1 code=1 timestamp=5\naccount id=2 ledger=1 code=1 flags=6\naccount id=3 ledger=1 code=1 flags=16\n",
+        "packet 0 0 committed 0 0:3 1:8 2:5\nclock 3\n",
+    )
 }
 
 #[test]
@@ -154,11 +121,11 @@ fn hostile_bytes(rt: HostRuntime) -> Result<(), Fail> {
     let data = "fF".repeat(rt.alloc(), 256)?;
     let bytes = data.as_str();
     let script = format!(in rt.alloc(); "limit 4\npacket 0 129\nhex {bytes}\n")?;
-    assert_eq!(rt;
-        listed(&rt, script.as_str())?.as_str(),
-        "packet 0 0 committed 0 0:3 1:2\nclock 2\n"
-    );
-    Ok(())
+    shows(
+        &rt,
+        script.as_str(),
+        "packet 0 0 committed 0 0:3 1:2\nclock 2\n",
+    )
 }
 
 /// Each field of an account, with the code that tells that it stood in its place.

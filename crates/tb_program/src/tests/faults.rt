@@ -8,7 +8,6 @@ fn first_faults(rt: HostRuntime) -> Result<(), Fail> {
         ("limit 0\n", "fault 1 bad number\n"),
         ("packet 0 129\nhex 0\n", "fault 2 bad hex\n"),
         ("account id=1\n", "fault 1 out of place\n"),
-        ("submitters 1\npacket 1 129\n", "fault 2 bad number\n"),
         (
             "# comment\n\n   \nclock\n",
             "fault 4 wrong number of words\n",
@@ -62,11 +61,34 @@ fn first_faults(rt: HostRuntime) -> Result<(), Fail> {
         ("pulse 1 2\n", "fault 1 wrong number of words\n"),
         ("pulse x\n", "fault 1 bad number\n"),
         ("pulse 18446744073709551616\n", "fault 1 bad number\n"),
-        ("shut\n", "fault 1 unknown word\n"),
-        ("packet 0 129\nid 1\n", "fault 2 unknown word\n"),
+        ("shut 1\n", "fault 1 wrong number of words\n"),
+        ("shut\nshut\n", "fault 2 out of place\n"),
+        ("shut\npulse 1\n", "fault 2 out of place\n"),
+        ("shut\npacket 0 129\npulse 1\n", "fault 3 out of place\n"),
+        ("shut\nclock 1\n", "fault 2 out of place\n"),
+        ("shut\naccount\n", "fault 2 out of place\n"),
+        ("packet 0 129\nshut\nid 1\n", "fault 3 out of place\n"),
+        ("id 1\n", "fault 1 out of place\n"),
+        ("pulse 1\nid 1\n", "fault 2 out of place\n"),
+        ("packet 0 131\nid\n", "fault 2 wrong number of words\n"),
+        ("packet 0 131\nid 1 2\n", "fault 2 wrong number of words\n"),
+        ("packet 0 131\nid x\n", "fault 2 bad number\n"),
+        (
+            "packet 0 131\nid 340282366920938463463374607431768211456\n",
+            "fault 2 bad number\n",
+        ),
     ] {
         assert_eq!(rt; listed(&rt, script)?.as_str(), line, "at {script:?}");
     }
+    Ok(())
+}
+
+#[test]
+fn submitter_out_of_bounds(rt: HostRuntime) -> Result<(), Fail> {
+    assert_eq!(rt;
+        listed(&rt, "submitters 1\npacket 1 129\n")?.as_str(),
+        "fault 2 bad number\n"
+    );
     Ok(())
 }
 

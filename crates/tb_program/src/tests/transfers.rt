@@ -1,22 +1,21 @@
-use super::listed;
+use super::shows;
 use std::test::Fail;
 
 /// The packet of accounts 1 and 2, which have ledger and code 1.
 const TWO_ACCOUNTS: &str =
     "packet 0 129\naccount id=1 ledger=1 code=1\naccount id=2 ledger=1 code=1\n";
 
-/// What `list` writes for a script behind the packet of accounts 1 and 2.
-fn listed_behind(rt: &HostRuntime, script: &str) -> Result<String, Fail> {
+/// As `shows`, for a script behind the packet of accounts 1 and 2.
+fn shows_behind(rt: &HostRuntime, script: &str, output: &str) -> Result<(), Fail> {
     let text = format!(in rt.alloc(); "{TWO_ACCOUNTS}{script}")?;
-    listed(rt, text.as_str())
+    shows(rt, text.as_str(), output)
 }
 
 #[test]
 fn chains_of_transfers_joined(rt: HostRuntime) -> Result<(), Fail> {
-    assert_eq!(rt;
-        listed(
-            &rt,
-            "limit 4
+    shows(
+        &rt,
+        "limit 4
 packet 0 129
 account id=1 ledger=1 code=1
 account id=2 ledger=1 code=1 flags=2
@@ -27,9 +26,7 @@ transfer id=2 debit_account_id=2 credit_account_id=3 amount=10 ledger=1 code=1 f
 transfer id=3 debit_account_id=1 credit_account_id=3 amount=10 ledger=0 code=1
 packet 0 130
 transfer id=2 debit_account_id=2 credit_account_id=3 amount=10 ledger=1 code=1
-"
-        )?
-        .as_str(),
+",
         "packet 0 0 committed 0
 packet 0 1 committed 1 0:1 1:1 2:19
 packet 0 2 committed 2 0:54
@@ -37,25 +34,21 @@ clock 7
 account 1 1 0 0 0 0
 account 2 2 0 0 0 0
 account 3 3 0 0 0 0
-"
-    );
-    Ok(())
+",
+    )
 }
 
 #[test]
 fn post_then_void(rt: HostRuntime) -> Result<(), Fail> {
-    assert_eq!(rt;
-        listed_behind(
-            &rt,
-            "packet 0 130
+    shows_behind(
+        &rt,
+        "packet 0 130
 transfer id=1 debit_account_id=1 credit_account_id=2 amount=100 ledger=1 code=1 flags=2
 packet 0 130
 transfer id=2 amount=340282366920938463463374607431768211455 pending_id=1 flags=4
 packet 0 130
 transfer id=3 amount=0 pending_id=1 flags=8
-"
-        )?
-        .as_str(),
+",
         "packet 0 0 committed 0
 packet 0 1 committed 1
 packet 0 2 committed 2
@@ -63,9 +56,8 @@ packet 0 3 committed 3 0:33
 clock 5
 account 1 1 0 100 0 0
 account 2 2 0 0 0 100
-"
-    );
-    Ok(())
+",
+    )
 }
 
 const LATE_POST: &str = "packet 0 130
@@ -78,8 +70,9 @@ transfer id=2 amount=340282366920938463463374607431768211455 pending_id=1 flags=
 #[test]
 fn late_post_then_pulse(rt: HostRuntime) -> Result<(), Fail> {
     let script = format!(in rt.alloc(); "{LATE_POST}pulse 0\n")?;
-    assert_eq!(rt;
-        listed_behind(&rt, script.as_str())?.as_str(),
+    shows_behind(
+        &rt,
+        script.as_str(),
         "packet 0 0 committed 0
 packet 0 1 committed 1
 pulse 2
@@ -88,15 +81,15 @@ pulse 4
 clock 1000000003
 account 1 1 0 0 0 0
 account 2 2 0 0 0 0
-"
-    );
-    Ok(())
+",
+    )
 }
 
 #[test]
 fn late_post_without_the_last_pulse(rt: HostRuntime) -> Result<(), Fail> {
-    assert_eq!(rt;
-        listed_behind(&rt, LATE_POST)?.as_str(),
+    shows_behind(
+        &rt,
+        LATE_POST,
         "packet 0 0 committed 0
 packet 0 1 committed 1
 pulse 2
@@ -104,54 +97,45 @@ packet 0 2 committed 3 0:35
 clock 1000000003
 account 1 1 100 0 0 0
 account 2 2 0 0 100 0
-"
-    );
-    Ok(())
+",
+    )
 }
 
 #[test]
 fn overflowing_pending_sums(rt: HostRuntime) -> Result<(), Fail> {
-    assert_eq!(rt;
-        listed_behind(
-            &rt,
-            "packet 0 130
+    shows_behind(
+        &rt,
+        "packet 0 130
 transfer id=1 debit_account_id=1 credit_account_id=2 amount=340282366920938463463374607431768211455 ledger=1 code=1 flags=2
 transfer id=2 debit_account_id=1 credit_account_id=2 amount=1 ledger=1 code=1 flags=2
 transfer id=3 debit_account_id=1 credit_account_id=2 amount=1 ledger=1 code=1
-"
-        )?
-        .as_str(),
+",
         "packet 0 0 committed 0
 packet 0 1 committed 1 1:47 2:51
 clock 5
 account 1 1 340282366920938463463374607431768211455 0 0 0
 account 2 2 0 0 340282366920938463463374607431768211455 0
-"
-    );
-    Ok(())
+",
+    )
 }
 
 #[test]
 fn repeated_post(rt: HostRuntime) -> Result<(), Fail> {
-    assert_eq!(rt;
-        listed_behind(
-            &rt,
-            "packet 0 130
+    shows_behind(
+        &rt,
+        "packet 0 130
 transfer id=1 debit_account_id=1 credit_account_id=2 amount=100 ledger=1 code=1 flags=2
 transfer id=2 amount=40 pending_id=1 flags=4
 transfer id=2 amount=40 pending_id=1 flags=4
 transfer id=2 amount=340282366920938463463374607431768211455 pending_id=1 flags=4
-"
-        )?
-        .as_str(),
+",
         "packet 0 0 committed 0
 packet 0 1 committed 1 2:46 3:39
 clock 6
 account 1 1 0 40 0 0
 account 2 2 0 0 0 40
-"
-    );
-    Ok(())
+",
+    )
 }
 
 #[test]
@@ -162,57 +146,50 @@ fn timeout_overflows(rt: HostRuntime) -> Result<(), Fail> {
 transfer id=1 debit_account_id=1 credit_account_id=2 amount=1 timeout=1 ledger=1 code=1 flags=2
 "
     )?;
-    assert_eq!(rt;
-        listed(&rt, script.as_str())?.as_str(),
+    shows(
+        &rt,
+        script.as_str(),
         "packet 0 0 committed 0
 packet 0 1 committed 1 0:53
 clock 9223372036854775003
 account 1 9223372036854775001 0 0 0 0
 account 2 9223372036854775002 0 0 0 0
-"
-    );
-    Ok(())
+",
+    )
 }
 
 #[test]
 fn transfer_refusals(rt: HostRuntime) -> Result<(), Fail> {
-    assert_eq!(rt;
-        listed_behind(
-            &rt,
-            "packet 0 130
+    shows_behind(
+        &rt,
+        "packet 0 130
 transfer id=1 debit_account_id=1 credit_account_id=2 amount=30 ledger=1 code=1
 transfer id=1 debit_account_id=1 credit_account_id=2 amount=30 ledger=1 code=1
 transfer id=2 debit_account_id=1 credit_account_id=1 amount=1 ledger=1 code=1
 transfer id=3 debit_account_id=1 credit_account_id=9 amount=1 ledger=1 code=1
 transfer id=0 debit_account_id=1 credit_account_id=2 amount=1 ledger=1 code=1
-"
-        )?
-        .as_str(),
+",
         "packet 0 0 committed 0
 packet 0 1 committed 1 1:46 2:12 3:22 4:5
 clock 7
 account 1 1 0 30 0 0
 account 2 2 0 0 0 30
-"
-    );
-    Ok(())
+",
+    )
 }
 
 #[test]
 fn expiry_void_and_untimed(rt: HostRuntime) -> Result<(), Fail> {
-    assert_eq!(rt;
-        listed_behind(
-            &rt,
-            "packet 0 130
+    shows_behind(
+        &rt,
+        "packet 0 130
 transfer id=1 debit_account_id=1 credit_account_id=2 amount=100 timeout=1 ledger=1 code=1 flags=2
 transfer id=2 debit_account_id=1 credit_account_id=2 amount=50 timeout=1 ledger=1 code=1 flags=2
 transfer id=3 debit_account_id=1 credit_account_id=2 amount=7 ledger=1 code=1 flags=2
 packet 0 130
 transfer id=4 amount=0 pending_id=2 flags=8
 pulse 2000000000
-"
-        )?
-        .as_str(),
+",
         "packet 0 0 committed 0
 packet 0 1 committed 1
 packet 0 2 committed 2
@@ -220,9 +197,8 @@ pulse 3
 clock 2000000000
 account 1 1 7 0 0 0
 account 2 2 0 0 7 0
-"
-    );
-    Ok(())
+",
+    )
 }
 
 const EXPIRY_ORDER: &str = "packet 0 130
@@ -245,24 +221,19 @@ pulse 3
     let first = format!(in rt.alloc();
         "{committed}clock 1000000004\naccount 1 1 40 0 0 0\naccount 2 2 0 0 40 0\n"
     )?;
-    assert_eq!(rt; listed_behind(&rt, EXPIRY_ORDER)?.as_str(), first.as_str());
+    shows_behind(&rt, EXPIRY_ORDER, first.as_str())?;
     let script = format!(in rt.alloc(); "{EXPIRY_ORDER}pulse 1000000005\n")?;
     let second = format!(in rt.alloc();
         "{committed}pulse 4\nclock 1000000005\naccount 1 1 10 0 0 0\naccount 2 2 0 0 10 0\n"
     )?;
-    assert_eq!(rt;
-        listed_behind(&rt, script.as_str())?.as_str(),
-        second.as_str()
-    );
-    Ok(())
+    shows_behind(&rt, script.as_str(), second.as_str())
 }
 
 #[test]
 fn id_already_failed(rt: HostRuntime) -> Result<(), Fail> {
-    assert_eq!(rt;
-        listed_behind(
-            &rt,
-            "packet 0 130
+    shows_behind(
+        &rt,
+        "packet 0 130
 transfer id=1 debit_account_id=1 credit_account_id=2 amount=5 ledger=1 code=1 flags=1
 transfer id=2 debit_account_id=1 credit_account_id=9 amount=5 ledger=1 code=1
 packet 0 130
@@ -273,9 +244,7 @@ transfer id=3 amount=340282366920938463463374607431768211455 pending_id=8 flags=
 packet 0 130
 transfer id=3 debit_account_id=1 credit_account_id=2 amount=1 ledger=1 code=1
 transfer id=2 debit_account_id=1 credit_account_id=2 amount=1 ledger=1 code=1 flags=6
-"
-        )?
-        .as_str(),
+",
         "packet 0 0 committed 0
 packet 0 1 committed 1 0:1 1:22
 packet 0 2 committed 2 1:68
@@ -284,22 +253,17 @@ packet 0 4 committed 4 0:68 1:68
 clock 9
 account 1 1 0 5 0 0
 account 2 2 0 0 0 5
-"
-    );
-    Ok(())
+",
+    )
 }
 
 #[test]
 fn moment_too_large(rt: HostRuntime) -> Result<(), Fail> {
-    assert_eq!(rt;
-        listed(
-            &rt,
-            "pulse 4611686018427387904\npulse 4611686018427387905\n"
-        )?
-        .as_str(),
-        "pulse 0\npulse refused 12 MomentTooLarge\nclock 4611686018427387904\n"
-    );
-    Ok(())
+    shows(
+        &rt,
+        "pulse 4611686018427387904\npulse 4611686018427387905\n",
+        "pulse 0\npulse refused 12 MomentTooLarge\nclock 4611686018427387904\n",
+    )
 }
 
 #[test]
@@ -307,9 +271,9 @@ fn hostile_bytes_of_transfers(rt: HostRuntime) -> Result<(), Fail> {
     let bytes = "ff".repeat(rt.alloc(), 256)?;
     let digits = bytes.as_str();
     let script = format!(in rt.alloc(); "packet 0 130\nhex {digits}\n")?;
-    assert_eq!(rt;
-        listed(&rt, script.as_str())?.as_str(),
-        "packet 0 0 committed 0 0:3 1:2\nclock 2\n"
-    );
-    Ok(())
+    shows(
+        &rt,
+        script.as_str(),
+        "packet 0 0 committed 0 0:3 1:2\nclock 2\n",
+    )
 }
