@@ -180,7 +180,7 @@ here clock place state before job rest place_is state_is =
     ∙ ap (λ found. committed_as place (answer_to (replay clock items) found)) (at_seam items (item_of (work_of job)) (map item_of rest))
     ∙ ap (λ s. outcome.Committed place (answer_as (answer_of s (events_in job.packet)))) (sym state_is)
 
-due_ahead : (clock place : ℕ) (state : State) (committed before : List Work) (items : List Item) → committed ≡ before ++ ahead items → place ≡ length before → state ≡ state_after clock before →
+pub due_ahead : (clock place : ℕ) (state : State) (committed before : List Work) (items : List Item) → committed ≡ before ++ ahead items → place ≡ length before → state ≡ state_after clock before →
     all_due_from clock committed (Ahead place) items ≡ answered_from place state (passed_from None (Ahead place) items)
 due_ahead clock place state committed before [] all place_is state_is = refl
 due_ahead clock place state committed before (item.Packet job ∷ items) all place_is state_is =

@@ -7,3 +7,4 @@ mod Recording
 mod Growing
 mod Examples
 mod Answering
+pub mod Lawful

@@ -1,6 +1,6 @@
 -- What a run that has ended reports: it is said of single packets and pulses, and no batch is in it.
-use Rattle.std.specs.Prelude.{◌≡◌, ℕ, ◌==◌, ◌<◌, ◌≤◌, Bool, true, false, List, [], ◌∷◌, ◌++◌, map, Option, Some, None, if◌then◌else◌}
-use Rattle.std.specs.List.{list_any}
+use Rattle.std.specs.Prelude.{◌≡◌, ℕ, ◌==◌, ◌<◌, ◌≤◌, Bool, true, false, List, [], ◌∷◌, ◌++◌, map, filter, Option, Some, None, if◌then◌else◌}
+use Rattle.std.specs.List.{list_any, AllByRecursion}
 use Rattle.tb_machine.specs.Replay.{State, Answer, reply_at}
 use Rattle.tb_work.specs.Queue.{part, ahead}
 use Rattle.tb_work.specs.Reply.{Replied, reply_with}
@@ -50,6 +50,9 @@ due clock queue works sender = due_from clock works sender (Ahead 0) queue
 
 -- ---- the report
 
+abbrev pub items_in : List Ticket → List Item
+items_in queue = map (λ (ticket : Ticket). ticket.item) queue
+
 abbrev pub is_stopped : Outcome → Bool
 is_stopped (Committed place answer) = false
 is_stopped Shutdown = false
@@ -65,7 +68,7 @@ pub record NothingStopped (submitters : ℕ) (stopped : Bool) (replies : ℕ →
 pub record LawfulReport (clock submitters : ℕ) (queue : List Ticket) (queued : ℕ → List Item) (works : List Work) (state : State) (stopped : Bool) (replies : ℕ → List Replied) : Type 0 where
   pub parts : (sender : ℕ) → sender ≤ submitters → part sender queue ≡ queued sender
   pub behind : List Work
-  pub committed : works ++ behind ≡ ahead (map (λ (ticket : Ticket). ticket.item) queue)
+  pub committed : works ++ behind ≡ ahead (items_in queue)
   pub whole : NothingStopped submitters stopped replies → behind ≡ []
   pub unstopped : behind ≡ [] → NothingStopped submitters stopped replies
   pub state_is : state ≡ state_after clock works
@@ -79,3 +82,21 @@ pub record IsListed (clock : ℕ) (items : List Item) (ledger : LedgerState) (re
   pub goes_on : ledger.stopped ≡ false
   pub committed : works ledger ≡ ahead items
   pub replied : replies ≡ all_due clock items (ahead items)
+
+-- a packet of a queue is its sender's own
+abbrev pub IsOwn : ℕ → Item → Type 0
+IsOwn sender (item.Packet job) = job.submitter ≡ sender
+IsOwn sender (item.Pulse moment) = Unit {0}
+IsOwn sender item.End = Unit {0}
+IsOwn sender item.Close = Unit {0}
+
+abbrev pub replies_to : List Replied → ℕ → List Replied
+replies_to replies submitter = filter (λ (reply : Replied). reply.submitter == submitter) replies
+
+-- Where the items of a queue, each packet its sender's own, were listed, the report is lawful: the replies to each submitter
+-- are those among all that carry its number.
+abbrev pub ListIsLawful : Type 0
+ListIsLawful =
+    (clock submitters : ℕ) (queue : List Ticket) (ledger : LedgerState) (replies : List Replied) →
+    AllByRecursion (λ (ticket : Ticket). IsOwn ticket.sender ticket.item) queue → IsListed clock (items_in queue) ledger replies →
+    LawfulReport clock submitters queue (λ sender. part sender queue) (works ledger) (state_after ledger.opening (works ledger)) ledger.stopped (replies_to replies)

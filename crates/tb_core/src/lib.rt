@@ -3,6 +3,7 @@
 
 mod front;
 mod journal;
+mod laws;
 mod ledger;
 mod list;
 mod parcel;
@@ -11,6 +12,7 @@ mod tests;
 
 pub use front::Front;
 pub use journal::{Entry, Outcomes};
+pub use laws::list_is_lawful;
 pub use ledger::Ledger;
 pub use list::{Listed, run_list};
 pub use parcel::{Cause, Parcel};
