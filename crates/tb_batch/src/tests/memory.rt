@@ -2,7 +2,7 @@ use crate::{Batcher, Offered};
 use std::test::Fail;
 use tb_work::{Bytes, Job, Packet};
 
-/// What is tried with each allocation refused in turn, by `rt try --test --fail-alloc N`.
+/// What is tried with each allocation refused in turn, by `tools/refuse-each-growth`.
 #[test]
 fn offer_refused_memory(rt: HostRuntime) -> Result<(), Fail> {
     let mut batcher = Batcher::new(rt.alloc(), 4).ok().ok_or("bad limit")?;

@@ -1,4 +1,4 @@
-//! What is tried with each allocation refused in turn, by `rt try --test --fail-alloc N`.
+//! What is tried with each allocation refused in turn, by `tools/refuse-each-growth`.
 
 use super::{MOST, account, accounts_body, holds, resolving, transfer, transfers_body};
 use crate::Machine;

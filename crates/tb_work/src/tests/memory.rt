@@ -1,7 +1,7 @@
 use crate::{Bytes, Job, Packet, Refusal};
 use std::test::Fail;
 
-/// What is tried with each allocation refused in turn, by `rt try --test --fail-alloc N`.
+/// What is tried with each allocation refused in turn, by `tools/refuse-each-growth`.
 #[test]
 fn job_refused_memory(rt: HostRuntime) -> Result<(), Fail> {
     let mut bytes = Vec::new(rt.alloc());
