@@ -12,14 +12,14 @@ use hex::FromHexError;
 use std::alloc::Global;
 
 /// What an event asks for, and so what its fields are.
-#[derive(Clone, Copy, Debug, PartialEq, Eq)]
+#[derive(Clone, Copy)]
 pub enum Layout {
     Account,
     Transfer,
 }
 
 /// A field: its place among the fields, and its bytes in the event.
-#[derive(Clone, Copy, Debug, PartialEq, Eq)]
+#[derive(Clone, Copy)]
 pub struct Field {
     pub place: usize,
     pub offset: usize,
@@ -27,7 +27,7 @@ pub struct Field {
 }
 
 /// An event so far: its bytes, and which of its fields were given.
-#[derive(Clone, Copy, Debug, PartialEq, Eq)]
+#[derive(Clone, Copy)]
 pub struct Draft {
     pub bytes: [u8; 128],
     pub given: [bool; 13],

@@ -7,7 +7,7 @@ use std::alloc::AllocError;
 use tb_layout::NoMemory;
 
 /// What is wrong with a line: the first that applies.
-#[derive(Clone, Copy, Debug, PartialEq, Eq)]
+#[derive(Clone, Copy)]
 pub enum Fault {
     LineTooLong,
     BadByte,
@@ -20,7 +20,7 @@ pub enum Fault {
 }
 
 /// Why a line could not be taken.
-#[derive(Clone, Copy, Debug, PartialEq, Eq)]
+#[derive(Clone, Copy)]
 pub enum LineError {
     NoMemory,
     Fault(Fault),

@@ -4,7 +4,7 @@ use crate::bytes::Bytes;
 use crate::submitter_number::SubmitterNumber;
 
 /// The settings that the script gives.
-#[derive(Clone, Copy, Debug, PartialEq, Eq)]
+#[derive(Clone, Copy)]
 pub struct Settings {
     pub clock: Option<u64>,
     pub limit: Option<u32>,

@@ -10,7 +10,7 @@ use crate::text::split_line;
 use std::alloc::Global;
 
 /// Why a script could not be read.
-#[derive(Clone, Copy, Debug, PartialEq, Eq)]
+#[derive(Clone, Copy)]
 pub enum ScriptError {
     NoMemory,
     /// The number of the first faulty line, counted from 1, and its fault.

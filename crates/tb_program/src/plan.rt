@@ -5,7 +5,7 @@ use tb_work::Refusal;
 
 /// What an item prints: a packet that is queued its reply, a pulse its place, any other a line that
 /// the script fixes.
-#[derive(Clone, Copy, Debug)]
+#[derive(Clone, Copy)]
 pub enum Line {
     Packet,
     Pulse,

@@ -5,7 +5,7 @@ ghost use Rattle.std.specs.Prelude.{◌≡◌, ◌<◌, ℕ};
 use std::marker::Model;
 
 /// A submitter's number, which is below 16.
-#[derive(Clone, Copy, Debug)]
+#[derive(Clone, Copy)]
 pub struct SubmitterNumber {
     number: u32,
 }

@@ -75,29 +75,33 @@ fn account(id: u128) -> Account {
     }
 }
 
-/// A packet that creates an account; None where memory is refused.
-pub(super) fn create(rt: &HostRuntime, id: u128) -> Option<Job> {
-    let mut bytes = Vec::new(rt.alloc());
-    bytes.extend_from_slice(&write_account(&account(id))).ok()?;
+/// A packet of submitter 0; None where memory is refused.
+fn job(rt: &HostRuntime, operation: u8, bytes: Vec<u8>) -> Option<Job> {
     let packet = Packet {
-        operation: 129,
+        operation,
         bytes: Bytes::from_vec(bytes),
         user: 7,
     };
     Job::new(rt.alloc(), 0, 0, 8190, packet).ok()
 }
 
-/// A packet that looks up two ids; None where memory is refused.
-fn look_up(rt: &HostRuntime, ids: [u128; 2]) -> Option<Job> {
+fn bytes_of(rt: &HostRuntime, bytes: &[u8]) -> Option<Vec<u8>> {
+    let mut owned = Vec::new(rt.alloc());
+    owned.extend_from_slice(bytes).ok()?;
+    Some(owned)
+}
+
+/// A packet that creates an account; None where memory is refused.
+pub(super) fn create(rt: &HostRuntime, id: u128) -> Option<Job> {
+    job(rt, 129, bytes_of(rt, &write_account(&account(id)))?)
+}
+
+/// A packet that looks up an id, and id 0; None where memory is refused.
+fn look_up(rt: &HostRuntime, id: u8) -> Option<Job> {
     let mut bytes = Vec::new(rt.alloc());
-    bytes.extend_from_slice(&ids[0].to_le_bytes()).ok()?;
-    bytes.extend_from_slice(&ids[1].to_le_bytes()).ok()?;
-    let packet = Packet {
-        operation: 131,
-        bytes: Bytes::from_vec(bytes),
-        user: 7,
-    };
-    Job::new(rt.alloc(), 0, 0, 8190, packet).ok()
+    bytes.push(id).ok()?;
+    bytes.resize(32, 0).ok()?;
+    job(rt, 131, bytes)
 }
 
 /// The job as a batch; None where memory is refused.
@@ -205,7 +209,7 @@ fn lookup_behind_a_batch(rt: &HostRuntime, ledger: &mut Ledger) -> Result<(), Fa
     let made = create(rt, 1)
         .and_then(|job| alone(rt, job))
         .ok_or("no memory")?;
-    let asked = look_up(rt, [1, 2])
+    let asked = look_up(rt, 1)
         .and_then(|job| alone(rt, job))
         .ok_or("no memory")?;
     let mut places = Vec::new(rt.alloc());
