@@ -11,7 +11,7 @@ use Rattle.tb_layout.specs.declared.transfer_code.TransferCode.{TransferCode}
 use Rattle.tb_layout.specs.declared.transfer_code.TransferCode.TheVariants.{Exists, Ok}
 use Rattle.tb_layout.specs.TransferCode.{number_of}
 use Rattle.tb_layout.specs.Transfer.{is_pending, is_post, is_void, is_resolving}
-use Rattle.tb_tables.specs.Facts.{Facts, account_with, transfer_with}
+use Rattle.tb_tables.specs.Facts.{Facts, account_with, IsPlaceOf, transfer_with}
 use Rattle.tb_tables.specs.Balances.{balanced_account, with_balances, debits, credits}
 use Rattle.tb_tables.specs.Status.{status_of, is_due}
 use Rattle.tb_tables.specs.declared.status.Status.{Status}
@@ -118,13 +118,28 @@ resolves_nothing : (found : Option Transfer) (event : Transfer) → is_resolving
 resolves_nothing None event plain = refl
 resolves_nothing (Some pending) event plain = ap (λ b. if b then resolved pending event else event) plain
 
+-- a plain or pending transfer whose checks find nothing is between two accounts
+stands_between : (facts : Facts) (timestamp : ℕ) (event : Transfer) → number_of (transfer_verdict facts timestamp event) ≡ 0 → is_resolving event ≡ false → IsBetween facts timestamp event
+stands_between facts timestamp event ok plain =
+    is_between facts timestamp event
+    (sym (ap (λ b. number_of (if b then resolving_verdict facts timestamp event else moving_verdict facts timestamp event)) plain) ∙ (is_new facts timestamp event ok).rest)
+
+-- so that each has a place
+pub has_debit : (facts : Facts) (timestamp : ℕ) (event : Transfer) → number_of (transfer_verdict facts timestamp event) ≡ 0 → is_resolving event ≡ false →
+    (place : Option ℕ) → place ≡ None → IsPlaceOf facts event.debit_account_id place → ⊥
+has_debit facts timestamp event ok plain None is none = let there = (stands_between facts timestamp event ok plain).debit_there in cc
+has_debit facts timestamp event ok plain (Some place) is at = cc
+
+pub has_credit : (facts : Facts) (timestamp : ℕ) (event : Transfer) → number_of (transfer_verdict facts timestamp event) ≡ 0 → is_resolving event ≡ false →
+    (place : Option ℕ) → place ≡ None → IsPlaceOf facts event.credit_account_id place → ⊥
+has_credit facts timestamp event ok plain None is none = let there = (stands_between facts timestamp event ok plain).credit_there in cc
+has_credit facts timestamp event ok plain (Some place) is at = cc
+
 pub may_add : (facts : Facts) (timestamp : ℕ) (event : Transfer) → timestamp ≤ clock_max → number_of (transfer_verdict facts timestamp event) ≡ 0 → is_resolving event ≡ false →
     MayAdd facts (stored_by facts timestamp event)
 may_add facts timestamp event clock ok plain =
     let id = is_new facts timestamp event ok in
-    let verdict : number_of (moving_verdict facts timestamp event) ≡ 0 =
-    sym (ap (λ b. number_of (if b then resolving_verdict facts timestamp event else moving_verdict facts timestamp event)) plain) ∙ id.rest in
-    let found = is_between facts timestamp event verdict in
+    let found = stands_between facts timestamp event ok plain in
     let debit_id = found-id (λ (account : Account). account.id) event.debit_account_id facts.accounts found.debit found.debit_there in
     let credit_id = found-id (λ (account : Account). account.id) event.credit_account_id facts.accounts found.credit found.credit_there in
     let stored : stored_by facts timestamp event ≡ record event { timestamp = timestamp } = ap (λ (e : Transfer). record e { timestamp = timestamp }) (resolves_nothing (transfer_with facts event.pending_id) event plain) in

@@ -2,6 +2,7 @@ pub mod Clock
 pub mod Table
 pub mod AccountVerdict
 pub mod TransferVerdict
+pub mod Sides
 pub mod Chain
 pub mod Packet
 pub mod Operations

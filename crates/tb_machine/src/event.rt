@@ -9,10 +9,12 @@ ghost use Rattle.tb_tables.specs.History.{changed, Extends};
 ghost use Rattle.tb_machine.specs.Clock.{clock_max};
 ghost use Rattle.tb_machine.specs.Chain.{Operation};
 ghost use Rattle.tb_machine.specs.TransferVerdict.{stored_by, transfer_verdict as verdict_of};
+ghost use Rattle.tb_machine.specs.Sides.{AreSides};
 ghost use Rattle.tb_machine.specs.Operations.{create_accounts, create_transfers};
 
 use crate::account_verdict::account_verdict;
 use crate::resolved::{is_resolving, resolved_by};
+use crate::sides::Sides;
 use crate::transfer_verdict::transfer_verdict;
 use tb_layout::{Account, NoMemory, Transfer, read_account, read_transfer};
 use tb_tables::Tables;
@@ -83,9 +85,10 @@ impl Event for Transfer {
     }
 
     fn examine(&self, tables: &mut Tables, timestamp: u64) -> Result<u32, NoMemory> {
-        let code = transfer_verdict(tables, timestamp, self).number();
+        let sides = Sides::of(tables, self);
+        let code = transfer_verdict(tables, sides, timestamp, self).number();
         if code == 0 {
-            store(tables, timestamp, self)?;
+            store(tables, sides, timestamp, self)?;
         }
         Ok(code)
     }
@@ -99,7 +102,13 @@ impl Event for Transfer {
 }
 
 /// Stores a transfer whose checks find nothing.
-fn store(tables: &mut Tables, timestamp: u64, event: &Transfer) -> Result<(), NoMemory>
+fn store(
+    tables: &mut Tables,
+    sides: Sides,
+    timestamp: u64,
+    event: &Transfer,
+) -> Result<(), NoMemory>
+    requires sides { AreSides tables.old.now event.now sides }
     requires clock { timestamp ≤ clock_max }
     requires ok { number_of (verdict_of tables.old.now timestamp event.now) ≡ 0 }
     ensures ok { OnOk result (tables.new ≡ changed tables.old (add_transfer tables.old.now (stored_by tables.old.now timestamp event.now))) }
@@ -110,8 +119,13 @@ fn store(tables: &mut Tables, timestamp: u64, event: &Transfer) -> Result<(), No
         ..resolved_by(tables, event.pending_id, event)
     };
     if is_resolving(event) {
-        tables.resolve(transfer)
-    } else {
-        tables.add_transfer(transfer)
+        return tables.resolve(transfer);
     }
+    let Some(debit) = sides.debit else {
+        unreachable!()
+    };
+    let Some(credit) = sides.credit else {
+        unreachable!()
+    };
+    tables.add_transfer_between(transfer, debit, credit)
 }

@@ -18,6 +18,7 @@ mod moving_verdict;
 mod report;
 mod resolved;
 mod resolving_verdict;
+mod sides;
 #[cfg(test)]
 mod tests;
 mod transfer_verdict;

@@ -1,10 +1,12 @@
 //! The checks of a plain or pending transfer, in their order.
 
 ghost use Rattle.std.specs.Prelude.{◌≡◌, ◌+◌, nat_lt};
+ghost use Rattle.tb_tables.specs.Facts.{IsPlaceOf};
 ghost use Rattle.tb_tables.specs.Balances.{balanced_account};
 ghost use Rattle.tb_machine.specs.TransferVerdict as spec;
 
 use crate::clock::{CLOCK_MAX, expires_at};
+use crate::sides::{Sides, account_at};
 use tb_layout::{Account, Transfer, TransferCode};
 use tb_tables::Tables;
 
@@ -88,20 +90,29 @@ fn between(timestamp: u64, debit: &Account, credit: &Account, event: &Transfer) 
     TransferCode::Ok
 }
 
-fn between_found(tables: &Tables, timestamp: u64, event: &Transfer) -> TransferCode
+fn between_found(tables: &Tables, sides: Sides, timestamp: u64, event: &Transfer) -> TransferCode
+    requires debit { IsPlaceOf tables.now.now event.now.debit_account_id sides.debit }
+    requires credit { IsPlaceOf tables.now.now event.now.credit_account_id sides.credit }
     ensures { result ≡ spec.between_found timestamp (balanced_account tables.now.now event.now.debit_account_id) (balanced_account tables.now.now event.now.credit_account_id) event.now }
 {
-    let Some(debit) = tables.account(event.debit_account_id) else {
+    let Some(debit) = account_at(tables, sides.debit) else {
         return TransferCode::DebitAccountNotFound;
     };
-    let Some(credit) = tables.account(event.credit_account_id) else {
+    let Some(credit) = account_at(tables, sides.credit) else {
         return TransferCode::CreditAccountNotFound;
     };
     between(timestamp, &debit, &credit, event)
 }
 
 /// The first check that a plain or pending transfer fails, or Ok.
-pub fn moving_verdict(tables: &Tables, timestamp: u64, event: &Transfer) -> TransferCode
+pub fn moving_verdict(
+    tables: &Tables,
+    sides: Sides,
+    timestamp: u64,
+    event: &Transfer,
+) -> TransferCode
+    requires debit { IsPlaceOf tables.now.now event.now.debit_account_id sides.debit }
+    requires credit { IsPlaceOf tables.now.now event.now.credit_account_id sides.credit }
     ensures { result ≡ spec.moving_verdict tables.now.now timestamp event.now }
 {
     if event.debit_account_id == 0 {
@@ -131,5 +142,5 @@ pub fn moving_verdict(tables: &Tables, timestamp: u64, event: &Transfer) -> Tran
     if event.code == 0 {
         return TransferCode::CodeMustNotBeZero;
     }
-    between_found(tables, timestamp, event)
+    between_found(tables, sides, timestamp, event)
 }

@@ -2,10 +2,12 @@
 
 ghost use Rattle.std.specs.Prelude.{◌≡◌};
 ghost use Rattle.tb_machine.specs.TransferVerdict as spec;
+ghost use Rattle.tb_machine.specs.Sides.{AreSides};
 
 use crate::moving_verdict::moving_verdict;
 use crate::resolved::{is_resolving, resolved_by};
 use crate::resolving_verdict::resolving_verdict;
+use crate::sides::Sides;
 use tb_layout::{Transfer, TransferCode};
 use tb_tables::Tables;
 
@@ -57,7 +59,8 @@ fn has_exclusive_flags(event: &Transfer) -> bool
         || event.is_post() && event.is_void()
 }
 
-fn of_new_id(tables: &Tables, timestamp: u64, event: &Transfer) -> TransferCode
+fn of_new_id(tables: &Tables, sides: Sides, timestamp: u64, event: &Transfer) -> TransferCode
+    requires { AreSides tables.now.now event.now sides }
     ensures { result ≡ spec.of_new_id tables.now.now timestamp event.now }
 {
     if tables.failed(event.id) {
@@ -69,12 +72,18 @@ fn of_new_id(tables: &Tables, timestamp: u64, event: &Transfer) -> TransferCode
     if is_resolving(event) {
         resolving_verdict(tables, timestamp, event)
     } else {
-        moving_verdict(tables, timestamp, event)
+        moving_verdict(tables, sides, timestamp, event)
     }
 }
 
 /// The first check that the event fails, or Ok.
-pub fn transfer_verdict(tables: &Tables, timestamp: u64, event: &Transfer) -> TransferCode
+pub fn transfer_verdict(
+    tables: &Tables,
+    sides: Sides,
+    timestamp: u64,
+    event: &Transfer,
+) -> TransferCode
+    requires { AreSides tables.now.now event.now sides }
     ensures { result ≡ spec.transfer_verdict tables.now.now timestamp event.now }
 {
     if event.timestamp != 0 {
@@ -91,6 +100,6 @@ pub fn transfer_verdict(tables: &Tables, timestamp: u64, event: &Transfer) -> Tr
     }
     match tables.transfer(event.id) {
         Some(stored) => against_stored(&stored, &resolved_by(tables, stored.pending_id, event)),
-        None => of_new_id(tables, timestamp, event),
+        None => of_new_id(tables, sides, timestamp, event),
     }
 }

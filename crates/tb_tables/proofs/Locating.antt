@@ -1,13 +1,14 @@
 -- Look-ups in the maps.
-use Rattle.std.proofs.Common.{refl, sym, ap, subst, ◌∙◌, ◌≡◌, ℕ, Bool, true, false, cond, List, [], ◌∷◌, map, nat_eq, slice_get, length, zero, suc}
-use Rattle.std.specs.Prelude.{◌==◌, ◌||◌, Option, Some, None, IsSome, find}
+use Rattle.std.proofs.Common.{refl, sym, ap, subst, ◌∙◌, ◌≡◌, ℕ, Bool, true, false, cond, List, [], ◌∷◌, map, nat_eq, slice_get, length, zero, suc, arith, ◌+◌, ◌<◌, lt-ltb, le-ltb, not}
+use Rattle.std.specs.Prelude.{◌==◌, ◌||◌, Option, Some, None, IsSome, find, nat_lt}
+use Rattle.std.specs.List.{position, position_or_len}
 use Rattle.std.specs.Option.{option_map}
 use Rattle.std.specs.Map.{keys_of, lookup}
 use Rattle.std.proofs.lemmas.Bool.{eqb-true, eq-eqb}
 use Rattle.std.proofs.lemmas.List.{length-map}
 use Rattle.tb_layout.specs.declared.account.Account.{Account}
 use Rattle.tb_layout.specs.declared.transfer.Transfer.{Transfer}
-use Rattle.tb_tables.specs.Facts.{Facts, account_with, transfer_with}
+use Rattle.tb_tables.specs.Facts.{Facts, account_with, IsPlaceOf, transfer_with}
 use Rattle.tb_tables.specs.Status.{status_if_pending, status_with}
 use Rattle.tb_tables.specs.Conditions.{MayResolve}
 use Rattle.tb_tables.specs.Lawful.{has_id, ids_distinct}
@@ -18,6 +19,7 @@ use Rattle.tb_tables.specs.declared.places.Places.{Places}
 use Rattle.tb_tables.specs.declared.row.Row.{Row}
 use Rattle.tb_tables.specs.declared.status.Status.{Status}
 use Rattle.tb_tables.proofs.Sums.{not_and-left, not_and-right}
+use Rattle.tb_tables.proofs.Laws.{==_swap}
 use Rattle.tb_tables.proofs.Stored.{lookup-rows, made-at}
 use Rattle.tb_tables.proofs.Grounding.{all-found}
 use Rattle.tb_tables.specs.Kept.{has_account, IsGrounded}
@@ -46,6 +48,30 @@ found-at id (y ∷ xs) (suc place) x p distinct at is found = by (y.id == id) re
         let no : true ≡ false = sym there ∙ not_and-left (has_id y.id xs) (ids_distinct xs) distinct in cc
     by false e rest f = rest f
 
+-- so many accounts stand in front of the one that is found, or all
+abbrev AtPlace : Option Account → List Account → ℕ → Type 0
+AtPlace None xs n = n ≡ length xs
+AtPlace (Some a) xs n = (slice_get xs n ≡ Some a) × (n < length xs)
+
+abbrev in-front : ℕ → List Account → ℕ
+in-front id xs = position_or_len (nat_eq id) (map (λ (a : Account). a.id) xs)
+
+at-place : (id : ℕ) (xs : List Account) → AtPlace (find (λ (a : Account). a.id == id) xs) xs (in-front id xs)
+at-place id [] = refl
+at-place id (x ∷ xs) =
+    subst (λ b. AtPlace (cond b (Some x) (find (λ (a : Account). a.id == id) xs)) (x ∷ xs) (cond (not (nat_eq id x.id)) (1 + in-front id xs) 0)) (==_swap id x.id)
+    (by (nat_eq id x.id) (find (λ (a : Account). a.id == id) xs) (in-front id xs) (at-place id xs))
+  where
+    by : (b : Bool) (rest : Option Account) (n : ℕ) → AtPlace rest xs n → AtPlace (cond b (Some x) rest) (x ∷ xs) (cond (not b) (1 + n) 0)
+    by true rest n at = (refl, omega arith)
+    by false None n at = omega (arith, at)
+    by false (Some a) n at = let one : 1 + n ≡ suc n = omega arith in (ap (λ k. slice_get (x ∷ xs) k) one ∙ at.0, omega (arith, at.1))
+
+-- the place, as the map tells it
+place-told : (facts : Facts) (id n count : ℕ) (found : Option Account) → count ≡ length facts.accounts → account_with facts id ≡ found → AtPlace found facts.accounts n → IsPlaceOf facts id (cond (nat_lt n count) (Some n) None)
+place-told facts id n count None all found at = subst (λ b. IsPlaceOf facts id (cond b (Some n) None)) (sym (le-ltb n count (omega (arith, all, at)))) found
+place-told facts id n count (Some a) all found at = subst (λ b. IsPlaceOf facts id (cond b (Some n) None)) (sym (lt-ltb n count (omega (arith, all, at.1)))) (a, at.0, found)
+
 abbrev pub row_status : Option Row → Option Status
 row_status None = None
 row_status (Some row) = row.status
@@ -56,6 +82,13 @@ module _ (old : Stored) (kept : IsKept old) where
 
   pub account-found : (id : ℕ) → lookup (nat_eq id) old.accounts ≡ option_map (with_sums (sums_of facts)) (account_with facts id)
   account-found id = ap (lookup (nat_eq id)) kept.accounts ∙ lookup-rows (λ (a : Account). a.id) (with_sums (sums_of facts)) id (lists_of old).accounts
+
+  pub account-placed : (id : ℕ) (place : Option ℕ) → place ≡ position (nat_eq id) (keys_of old.accounts) → IsPlaceOf facts id place
+  account-placed id place is =
+      let keys = ap keys_of kept.accounts ∙ keys-map (λ (a : Account). a.id) (with_sums (sums_of facts)) (lists_of old).accounts in
+      let accounts = (lists_of old).accounts in
+      subst (IsPlaceOf facts id) (sym (is ∙ ap (position (nat_eq id)) keys))
+      (place-told facts id (in-front id accounts) (length (map (λ (a : Account). a.id) accounts)) (account_with facts id) (length-map accounts (λ (a : Account). a.id)) refl (at-place id accounts))
 
   pub row-found : (id : ℕ) → lookup (nat_eq id) old.transfers ≡ option_map (row_in facts) (transfer_with facts id)
   row-found id = ap (lookup (nat_eq id)) kept.transfers ∙ lookup-rows (λ (t : Transfer). t.id) (row_in facts) id facts.transfers

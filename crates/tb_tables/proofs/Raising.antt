@@ -10,7 +10,8 @@ use Rattle.tb_layout.specs.declared.account.Account.{Account}
 use Rattle.tb_tables.specs.Sums.{Sums, HasRoom, HasAmount, debits_in, credits_in, balance_of, more_at, raised, raise_balance, lower_balance, with_sums, account_rows}
 use Rattle.tb_tables.specs.declared.balance.Balance.{Balance}
 use Rattle.tb_tables.specs.declared.balance.Balance.TheVariants.{DebitsPending, DebitsPosted, CreditsPending, CreditsPosted}
-use Rattle.tb_tables.proofs.Stored.{==_swap, made-at, rows-set, slice_get-map}
+use Rattle.tb_tables.proofs.Laws.{==_swap}
+use Rattle.tb_tables.proofs.Stored.{made-at, rows-set, slice_get-map}
 
 more_here : (id amount : ℕ) (sum : ℕ → ℕ) → more_at id amount sum id ≡ sum id + amount
 more_here id amount sum = ap (λ b. sum id + (if b then amount else 0)) (eq-eqb id id refl)

@@ -21,8 +21,8 @@ use Rattle.tb_tables.specs.declared.places.Places.{Places}
 use Rattle.tb_tables.specs.declared.row.Row.{Row}
 use Rattle.tb_tables.specs.declared.status.Status.TheVariants.{Pending}
 use Rattle.tb_tables.proofs.Finding.{found-id}
-use Rattle.tb_tables.proofs.Stored.{==_swap, rows-set, map-same}
-use Rattle.tb_tables.proofs.Laws.{find-none}
+use Rattle.tb_tables.proofs.Stored.{rows-set, map-same}
+use Rattle.tb_tables.proofs.Laws.{==_swap, find-none}
 use Rattle.tb_tables.proofs.Added.{rows-same, status_in-add, status-add, status-fresh, sums-add}
 use Rattle.tb_tables.proofs.Resolving.{left, sums-release, sums-post, status-other, status-named, reserved-resolve}
 

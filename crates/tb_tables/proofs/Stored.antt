@@ -5,14 +5,11 @@ use Rattle.std.specs.Option.{option_map}
 use Rattle.std.specs.List.{list_any, AllByRecursion, IsDistinct}
 use Rattle.std.specs.Map.{keys_of, lookup, lookup_key}
 use Rattle.std.proofs.lemmas.Bool.{eqb-true}
-use Rattle.std.proofs.lemmas.Bool.Decides.{nat_tests}
 use Rattle.std.proofs.lemmas.List.{length-map}
 use Rattle.std.proofs.lemmas.Map.Keys.{IsDistinct-head, IsDistinct-tail}
 use Rattle.indexmap.specs.IndexMap.{set_value_at}
 use Rattle.indexmap.proofs.MapLemmas.{Found-position}
-
-pub ==_swap : (a b : ℕ) → (a == b) ≡ (b == a)
-==_swap a b = grind (arith, nat_tests)
+use Rattle.tb_tables.proofs.Laws.{==_swap}
 
 -- each under its key, with what is made of it
 abbrev pub rows : {X V : Type 0} → (X → ℕ) → (X → V) → List X → List (ℕ × V)

@@ -1,5 +1,5 @@
 -- What the state machine knows.
-use Rattle.std.specs.Prelude.{ℕ, ◌==◌, Bool, List, [], ◌∷◌, ◌++◌, Option, find}
+use Rattle.std.specs.Prelude.{◌≡◌, ℕ, ◌==◌, Bool, List, [], ◌∷◌, ◌++◌, Option, Some, None, find, slice_get}
 use Rattle.std.specs.List.{list_any}
 use Rattle.tb_layout.specs.declared.account.Account.{Account}
 use Rattle.tb_layout.specs.declared.transfer.Transfer.{Transfer}
@@ -22,6 +22,11 @@ account_with facts id = find (λ account. account.id == id) facts.accounts
 
 abbrev pub transfer_with : Facts → ℕ → Option Transfer
 transfer_with facts id = find (λ transfer. transfer.id == id) facts.transfers
+
+-- where the account with this id stands, if it is there
+abbrev pub IsPlaceOf : Facts → ℕ → Option ℕ → Type 0
+IsPlaceOf facts id None = account_with facts id ≡ None
+IsPlaceOf facts id (Some place) = (account : Account) × (slice_get facts.accounts place ≡ Some account) × (account_with facts id ≡ Some account)
 
 abbrev pub is_expired : Facts → ℕ → Bool
 is_expired facts id = list_any (λ expired. expired == id) facts.expired

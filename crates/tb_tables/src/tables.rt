@@ -1,6 +1,6 @@
 //! The tables.
 
-ghost use Rattle.std.specs.Prelude.{◌≡◌, ◌<◌, ◌≤◌, None, [], OnOk, OnErr, false, length, slice_get};
+ghost use Rattle.std.specs.Prelude.{◌≡◌, ◌<◌, ◌≤◌, Some, None, [], OnOk, OnErr, false, length, slice_get};
 ghost use Rattle.std.specs.Option.{option_map};
 
 use crate::change::Change;
@@ -48,7 +48,7 @@ impl Model for Tables {
 }
 
 impl Tables {
-    ghost use Rattle.tb_tables.specs.Facts.{no_facts, account_with, transfer_with, is_failed, add_account as with_account, add_transfer as with_transfer, add_failed as with_failed};
+    ghost use Rattle.tb_tables.specs.Facts.{no_facts, account_with, IsPlaceOf, transfer_with, is_failed, add_account as with_account, add_transfer as with_transfer, add_failed as with_failed};
     ghost use Rattle.tb_tables.specs.Status.{status_with, expire_due as with_due_expired};
     ghost use Rattle.tb_tables.specs.Balances.{with_balances as balanced, balanced_account};
     ghost use Rattle.tb_tables.specs.Conditions.{HasNoBalances, MayAdd, MayResolve};
@@ -126,6 +126,28 @@ impl Tables {
         self.store(transfer, places)
     }
 
+    /// Adds a plain or pending transfer behind those that are there, between the accounts at two places. No account
+    /// is looked up by its id.
+    pub fn add_transfer_between(
+        &mut self,
+        transfer: Transfer,
+        debit: usize,
+        credit: usize,
+    ) -> Result<(), NoMemory>
+        requires may { MayAdd self.old.now transfer }
+        requires debit { IsPlaceOf self.old.now transfer.debit_account_id (Some debit) }
+        requires credit { IsPlaceOf self.old.now transfer.credit_account_id (Some credit) }
+        ensures ok { OnOk result (self.new ≡ changed self.old (with_transfer self.old.now transfer)) }
+        ensures err { OnErr result (self.new ≡ self.old) }
+    {
+        let places = Places {
+            debit,
+            credit,
+            pending: None,
+        };
+        self.store(transfer, places)
+    }
+
     /// Adds a post or a void, with its resolved fields. The transfer that it names is pending no more.
     pub fn resolve(&mut self, transfer: Transfer) -> Result<(), NoMemory>
         requires { MayResolve self.old.now transfer }
@@ -145,6 +167,13 @@ impl Tables {
         ensures { result ≡ balanced_account self.now.now id }
     {
         self.accounts.get(&id).copied()
+    }
+
+    /// The place in the order of making of the account with this id, counted from 0.
+    pub fn place(&self, id: u128) -> Option<usize>
+        ensures { IsPlaceOf self.now.now id result }
+    {
+        self.accounts.get_index_of(&id)
     }
 
     /// The account at a place in the order of making, counted from 0, with its balances.

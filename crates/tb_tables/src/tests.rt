@@ -115,5 +115,7 @@ fn each_other_call(rt: HostRuntime) -> Result<(), Fail> {
     assert_eq!(rt; tables.accounts(), 1);
     assert_eq!(rt; tables.account_at(0), Some(account(1)));
     assert_eq!(rt; tables.account_at(1), None);
+    assert_eq!(rt; tables.place(1), Some(0));
+    assert_eq!(rt; tables.place(2), None);
     Ok(())
 }
