@@ -1,11 +1,11 @@
 -- What a list came to is a lawful report.
-use Rattle.std.proofs.Common.{◌≡◌, ℕ, ◌+◌, Bool, true, false, List, [], ◌∷◌, ◌++◌, map, refl, sym, ap, ◌∙◌, Option, Some, None, append-nil}
-use Rattle.std.specs.Prelude.{◌==◌, ◌<◌, ◌||◌, filter, if◌then◌else◌}
+use Rattle.std.proofs.Common.{◌≡◌, ℕ, ◌+◌, Bool, true, false, List, [], ◌∷◌, ◌++◌, refl, sym, ap, ◌∙◌, None, append-nil}
+use Rattle.std.specs.Prelude.{◌==◌, ◌||◌, filter, if◌then◌else◌}
 use Rattle.std.specs.List.{list_any, AllByRecursion}
 use Rattle.std.proofs.lemmas.List.Elements.{filter-append}
-use Rattle.tb_machine.specs.Replay.{State, opening, answer_of, after_packet, pulsed}
+use Rattle.tb_machine.specs.Replay.{State, opening, after_packet, pulsed}
 use Rattle.tb_work.specs.Job.{events_in}
-use Rattle.tb_work.specs.Queue.{part, ahead}
+use Rattle.tb_work.specs.Queue.{ahead}
 use Rattle.tb_work.specs.Reply.{Replied, reply_with}
 use Rattle.tb_work.specs.Work.{Work}
 use Rattle.tb_work.specs.declared.answer.Outcome.{Outcome}
@@ -14,7 +14,7 @@ use Rattle.tb_work.specs.declared.item.Item.TheVariants as item
 use Rattle.tb_work.specs.declared.item.Ticket.{Ticket}
 use Rattle.tb_core.specs.declared.parcel.Cause.TheVariants.{Shutdown, Stopped}
 use Rattle.tb_core.specs.Answering.{answered_from}
-use Rattle.tb_core.specs.Ledger.{LedgerState, works, state_after}
+use Rattle.tb_core.specs.Ledger.{works, state_after}
 use Rattle.tb_core.specs.Passage.{Passage, Admitted, Pulsed, Returned, Place, Ahead, Behind, next_place, passed_from, is_stopped}
 use Rattle.tb_core.specs.Report.{IsListed, IsOwn, ListIsLawful, NothingStopped, outcome_at, reply_due, all_due_from, all_due, due_from, items_in, replies_to}
 use Rattle.tb_core.specs.Report as report

@@ -1,5 +1,5 @@
 -- What is printed from the two halves of a plan is the text of the plan.
-use Rattle.std.proofs.Common.{◌≡◌, ℕ, ◌+◌, List, [], ◌∷◌, ◌++◌, map, refl, sym, ap, ◌∙◌, Option, Some, None, append_assoc}
+use Rattle.std.proofs.Common.{◌≡◌, ℕ, ◌+◌, List, [], ◌∷◌, ◌++◌, map, refl, ap, ◌∙◌, Option, Some, None, append_assoc}
 use Rattle.std.specs.Prelude.{Result, Ok, Err, OnOk, IsOk, codes}
 use Rattle.std.specs.List.{flat_map}
 use Rattle.tb_machine.specs.Replay.{State, balanced_accounts}

@@ -1,5 +1,5 @@
 -- The lines of a plan, printed from its two halves.
-use Rattle.std.specs.Prelude.{ℕ, ◌+◌, ◌<◌, List, [], ◌∷◌, ◌++◌, Option, Some, None, codes}
+use Rattle.std.specs.Prelude.{ℕ, ◌+◌, List, [], ◌∷◌, ◌++◌, Option, Some, None, codes}
 use Rattle.tb_work.specs.Reply.{Replied}
 use Rattle.tb_core.specs.Passage.{Place, Ahead, Behind}
 use Rattle.tb_program.specs.declared.plan.Line.{Line}

@@ -8,7 +8,7 @@ use indexmap::IndexMap;
 use tb_layout::Account;
 
 /// Which of an account's balances.
-#[derive(Clone, Copy, Debug, PartialEq, Eq)]
+#[derive(Clone, Copy)]
 pub enum Balance {
     DebitsPending,
     DebitsPosted,

@@ -1,5 +1,5 @@
 /// What a change added; for a transfer, with what else is told of it.
-#[derive(Clone, Copy, Debug, PartialEq, Eq)]
+#[derive(Clone, Copy)]
 pub enum Change<T> {
     Account,
     Transfer(T),

@@ -1,6 +1,6 @@
 /// Where the rows stand that a transfer changes: its two accounts, and the pending transfer that a post
 /// or a void names.
-#[derive(Clone, Copy, Debug, PartialEq, Eq)]
+#[derive(Clone, Copy)]
 pub struct Places {
     pub debit: usize,
     pub credit: usize,

@@ -2,7 +2,7 @@ use crate::status::Status;
 use tb_layout::Transfer;
 
 /// A transfer, and its status where it is a pending one.
-#[derive(Clone, Copy, Debug, PartialEq, Eq)]
+#[derive(Clone, Copy)]
 pub struct Row {
     pub transfer: Transfer,
     pub status: Option<Status>,

@@ -1,7 +1,7 @@
 use Rattle.std.proofs.Common.{◌∙◌, sym, ap, subst}
 use Rattle.tb_layout.specs.declared.transfer.Transfer.{Transfer}
 use Rattle.tb_tables.specs.Conditions.{MayAdd, MayResolve}
-use Rattle.tb_machine.proofs.Storing.{may_add, may_resolve, has_debit, has_credit}
+use Rattle.tb_machine.proofs.Storing.{may_add, may_resolve, has_debit}
 use Rattle.tb_machine.proofs.event.store.Goals as goal
 
 pub resolve-requires : goal.resolve-requires

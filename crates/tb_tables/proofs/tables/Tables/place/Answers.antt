@@ -1,4 +1,3 @@
-use Rattle.std.proofs.Common.{◌∙◌}
 use Rattle.tb_tables.specs.Expiries.{is_indexed}
 use Rattle.tb_tables.specs.Kept.{Stored}
 use Rattle.tb_tables.proofs.Locating.{account-placed}
