@@ -1,6 +1,7 @@
 //! What no clause says: each call once with ample memory.
 
-ghost use Rattle.std.specs.Prelude.{◌≡◌};
+ghost use Rattle.std.specs.Prelude.{◌≡◌, []};
+ghost use Rattle.tb_tables.specs.Facts.{no_facts};
 
 mod plain;
 
@@ -83,39 +84,58 @@ fn debits(tables: &Tables) -> Option<(u128, u128)> {
     Some((account.debits_pending, account.debits_posted))
 }
 
-#[test]
-fn undo_a_post(rt: HostRuntime) -> Result<(), Fail> {
-    let mut tables = Tables::new(rt.alloc());
+/// Whether a fact holds.
+fn holds(fact: bool) -> Result<(), Fail> {
+    if fact {
+        Ok(())
+    } else {
+        Err("it doesn't hold")?
+    }
+}
+
+fn posts_and_undoes(tables: &mut Tables) -> Result<(), Fail>
+    requires { tables.old ≡ record { now = no_facts; past = [] } }
+{
     tables.add_account(account(1))?;
     tables.add_account(account(2))?;
     tables.add_transfer(transfer(1, 100, 0, 2))?;
     tables.keep();
     let mark = tables.mark();
     tables.resolve(transfer(2, 40, 1, 4))?;
-    assert_eq!(rt; tables.status(1), Some(Status::Posted));
-    assert_eq!(rt; debits(&tables), Some((0, 40)));
+    holds(tables.status(1) == Some(Status::Posted))?;
+    holds(debits(tables) == Some((0, 40)))?;
     tables.undo_to(mark);
-    assert_eq!(rt; tables.status(1), Some(Status::Pending));
-    assert_eq!(rt; debits(&tables), Some((100, 0)));
-    assert_eq!(rt; tables.transfer(2), None);
-    Ok(())
+    holds(tables.status(1) == Some(Status::Pending))?;
+    holds(debits(tables) == Some((100, 0)))?;
+    holds(tables.transfer(2).is_none())
+}
+
+#[test]
+fn undo_a_post(rt: HostRuntime) -> Result<(), Fail> {
+    let mut tables = Tables::new(rt.alloc());
+    posts_and_undoes(&mut tables)
+}
+
+fn makes_each_other_call(tables: &mut Tables) -> Result<(), Fail>
+    requires { tables.old ≡ record { now = no_facts; past = [] } }
+{
+    tables.add_account(account(1))?;
+    let mark = tables.mark();
+    tables.add_failed(7)?;
+    holds(tables.failed(7))?;
+    tables.undo_to(mark);
+    holds(!tables.failed(7))?;
+    tables.keep();
+    tables.expire_due(5);
+    holds(tables.accounts() == 1)?;
+    holds(tables.account_at(0) == Some(account(1)))?;
+    holds(tables.account_at(1).is_none())?;
+    holds(tables.place(1) == Some(0))?;
+    holds(tables.place(2).is_none())
 }
 
 #[test]
 fn each_other_call(rt: HostRuntime) -> Result<(), Fail> {
     let mut tables = Tables::new(rt.alloc());
-    tables.add_account(account(1))?;
-    let mark = tables.mark();
-    tables.add_failed(7)?;
-    assert!(rt; tables.failed(7));
-    tables.undo_to(mark);
-    assert!(rt; !tables.failed(7));
-    tables.keep();
-    tables.expire_due(5);
-    assert_eq!(rt; tables.accounts(), 1);
-    assert_eq!(rt; tables.account_at(0), Some(account(1)));
-    assert_eq!(rt; tables.account_at(1), None);
-    assert_eq!(rt; tables.place(1), Some(0));
-    assert_eq!(rt; tables.place(2), None);
-    Ok(())
+    makes_each_other_call(&mut tables)
 }

@@ -1,19 +1,19 @@
 use Rattle.std.proofs.Common.{refl, arith}
 use Rattle.tb_layout.specs.declared.transfer.Transfer.{Transfer}
-use Rattle.tb_tables.proofs.tests.undo_a_post.Goals as goal
+use Rattle.tb_tables.proofs.tests.posts_and_undoes.Goals as goal
 
 pub add_account-requires-clause-no_balances : goal.add_account-requires-clause-no_balances
-add_account-requires-clause-no_balances g c = rw c.account.ensures (record { debits_pending = refl; debits_posted = refl; credits_pending = refl; credits_posted = refl })
+add_account-requires-clause-no_balances c = rw c.account.ensures (record { debits_pending = refl; debits_posted = refl; credits_pending = refl; credits_posted = refl })
 
 pub add_account-requires-2-clause-new : goal.add_account-requires-2-clause-new
-add_account-requires-2-clause-new g c = rw (c.in_ok-add_account.ensures.ok, c.new-tables.ensures, c.account-2.ensures, c.account.ensures) refl
+add_account-requires-2-clause-new c = rw (c.in_ok-add_account.ensures.ok, c.requires, c.account-2.ensures, c.account.ensures) refl
 
 pub add_account-requires-2-clause-no_balances : goal.add_account-requires-2-clause-no_balances
-add_account-requires-2-clause-no_balances g c = rw c.account-2.ensures (record { debits_pending = refl; debits_posted = refl; credits_pending = refl; credits_posted = refl })
+add_account-requires-2-clause-no_balances c = rw c.account-2.ensures (record { debits_pending = refl; debits_posted = refl; credits_pending = refl; credits_posted = refl })
 
 pub add_transfer-requires : goal.add_transfer-requires
-add_transfer-requires g c =
-    rw (c.in_ok-add_account-2.ensures.ok, c.in_ok-add_account.ensures.ok, c.new-tables.ensures, c.account-2.ensures, c.account.ensures, c.transfer.ensures)
+add_transfer-requires c =
+    rw (c.in_ok-add_account-2.ensures.ok, c.in_ok-add_account.ensures.ok, c.requires, c.account-2.ensures, c.account.ensures, c.transfer.ensures)
     (record {
       new = refl;
       not_post = refl;
@@ -26,7 +26,7 @@ add_transfer-requires g c =
     })
 
 pub resolve-requires : goal.resolve-requires
-resolve-requires g c =
+resolve-requires c =
     let pending : Transfer = record {
       id = 1;
       debit_account_id = 1;
@@ -42,7 +42,7 @@ resolve-requires g c =
       flags = 2;
       timestamp = 3;
     } in
-    rw (c.keep.ensures, c.in_ok-add_transfer.ensures.ok, c.in_ok-add_account-2.ensures.ok, c.in_ok-add_account.ensures.ok, c.new-tables.ensures, c.account-2.ensures, c.account.ensures, c.transfer.ensures, c.transfer-2.ensures)
+    rw (c.keep.ensures, c.in_ok-add_transfer.ensures.ok, c.in_ok-add_account-2.ensures.ok, c.in_ok-add_account.ensures.ok, c.requires, c.account-2.ensures, c.account.ensures, c.transfer.ensures, c.transfer-2.ensures)
     (record {
       new = refl;
       post_or_void = refl;
