@@ -1,5 +1,5 @@
 use super::job_of;
-use crate::{Batch, Batcher, Offered};
+use crate::{Batch, Batcher, Offered, Parts};
 use std::test::Fail;
 use tb_work::Refusal;
 
@@ -17,20 +17,37 @@ fn limits(rt: HostRuntime) -> Result<(), Fail> {
     Ok(())
 }
 
+/// Offers packets of accounts with these flags.
+fn offer_all(rt: &HostRuntime, batcher: &mut Batcher, packets: &[&[u8]]) -> Result<(), Fail> {
+    for flags in packets {
+        let _ = batcher.offer(job_of(rt, 0, 129, *flags)?);
+    }
+    Ok(())
+}
+
+/// A batch of two packets, of two events and of one.
+fn batch_of_two(rt: &HostRuntime) -> Result<Batch, Fail> {
+    let mut batcher = Batcher::new(rt.alloc(), 4).ok().ok_or("bad limit")?;
+    let packets: [&[u8]; 2] = [[0, 0].as_slice(), [0].as_slice()];
+    offer_all(rt, &mut batcher, packets.as_slice())?;
+    Ok(batcher.seal().ok_or("nothing held")?)
+}
+
+fn is_of_two(batch: &Batch) -> bool {
+    batch.operation() == 129 && batch.jobs().len() == 2 && batch.stubs().len() == 2
+}
+
+fn have_room(parts: &Parts) -> bool {
+    parts.body.len() == 384 && parts.failures.capacity() >= 3
+}
+
 #[test]
 fn a_batch_and_its_parts(rt: HostRuntime) -> Result<(), Fail> {
-    let mut batcher = Batcher::new(rt.alloc(), 4).ok().ok_or("bad limit")?;
-    let _ = batcher.offer(job_of(&rt, 0, 129, [0, 0].as_slice())?);
-    let _ = batcher.offer(job_of(&rt, 1, 129, [0].as_slice())?);
-    let batch = batcher.seal().ok_or("nothing held")?;
-    assert_eq!(rt; batch.operation(), 129);
-    assert_eq!(rt; batch.stubs().len(), 2);
-    assert_eq!(rt; batch.stubs()[1].count, 1);
+    let batch = batch_of_two(&rt)?;
+    assert!(rt; is_of_two(&batch));
     let parts = batch.into_parts();
-    assert_eq!(rt; parts.body.len(), 384);
-    assert!(rt; parts.failures.capacity() >= 3);
-    let batch = Batch::whole(parts);
-    assert_eq!(rt; batch.jobs().len(), 2);
+    assert!(rt; have_room(&parts));
+    assert!(rt; is_of_two(&Batch::whole(parts)));
     Ok(())
 }
 

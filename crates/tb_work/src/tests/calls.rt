@@ -4,7 +4,7 @@ use crate::{
     Ticket,
 };
 use std::test::Fail;
-use tb_layout::Failure;
+use tb_layout::{Account, Failure};
 
 /// The job of a packet with ample memory.
 fn job_of(rt: &HostRuntime, number: u64, packet: Packet) -> Result<Job, Fail> {
@@ -73,23 +73,39 @@ fn a_committed_reply(rt: HostRuntime) -> Result<(), Fail> {
 }
 
 #[test]
-fn replies_with_an_outcome(rt: HostRuntime) -> Result<(), Fail> {
+fn a_stopped_reply(rt: HostRuntime) -> Result<(), Fail> {
     let reply = Reply::of(job_of(&rt, 5, packet_of(&rt, 129, 0)?)?, Outcome::Stopped);
     assert!(rt; matches!(&reply.outcome, Outcome::Stopped));
-    let job = job_of(&rt, 6, packet_of(&rt, 131, 16)?)?;
-    assert!(rt; job.packet().operation == 131);
-    assert!(rt; job.stub().count == 1);
-    let mut found = Vec::new(rt.alloc());
-    found.push(account(1, 0))?;
-    let answer = Answer::Accounts(Accounts::from_vec(found));
-    let reply = Reply::of(job, Outcome::Committed { place: 0, answer });
+    Ok(())
+}
+
+/// The accounts that a reply tells.
+fn found(reply: &Reply) -> &[Account] {
     match &reply.outcome {
         Outcome::Committed {
             place: _,
             answer: Answer::Accounts(accounts),
-        } => assert_eq!(rt; accounts.as_slice(), [account(1, 0)].as_slice()),
-        _ => assert!(rt; false),
+        } => accounts.as_slice(),
+        _ => &[],
     }
+}
+
+/// The reply to a lookup of an id that finds an account.
+fn reply_to_a_lookup(rt: &HostRuntime) -> Result<Reply, Fail> {
+    let job = job_of(rt, 6, packet_of(rt, 131, 16)?)?;
+    if job.packet().operation != 131 || job.stub().count != 1 {
+        Err("another packet")?;
+    }
+    let mut accounts = Vec::new(rt.alloc());
+    accounts.push(account(1, 0))?;
+    let answer = Answer::Accounts(Accounts::from_vec(accounts));
+    Ok(Reply::of(job, Outcome::Committed { place: 0, answer }))
+}
+
+#[test]
+fn a_lookups_reply(rt: HostRuntime) -> Result<(), Fail> {
+    let reply = reply_to_a_lookup(&rt)?;
+    assert_eq!(rt; found(&reply), [account(1, 0)].as_slice());
     Ok(())
 }
 
