@@ -114,7 +114,7 @@ expires_by timestamp timeout h check = by (timeout == 0) refl check
         omega arith
     by false is check = at_most clock_max (timestamp + timeout * 1000000000) check
 
-resolves_nothing : (found : Option Transfer) (event : Transfer) → is_resolving event ≡ false → resolved_by found event ≡ event
+pub resolves_nothing : (found : Option Transfer) (event : Transfer) → is_resolving event ≡ false → resolved_by found event ≡ event
 resolves_nothing None event plain = refl
 resolves_nothing (Some pending) event plain = ap (λ b. if b then resolved pending event else event) plain
 
@@ -191,6 +191,23 @@ post_or_void false false false h k = cc
 
 equal : (a b : ℕ) → not (a == b) ≡ false → a ≡ b
 equal a b h = eqb-true a b (not_not (a == b) h)
+
+-- resolving leaves the ids
+pub same_id : (found : Option Transfer) (event : Transfer) → (resolved_by found event).id ≡ event.id
+same_id None event = refl
+same_id (Some pending) event = by (is_resolving event)
+  where
+    by : (b : Bool) → (if b then resolved pending event else event).id ≡ event.id
+    by true = refl
+    by false = refl
+
+pub same_pending_id : (found : Option Transfer) (event : Transfer) → (resolved_by found event).pending_id ≡ event.pending_id
+same_pending_id None event = refl
+same_pending_id (Some pending) event = by (is_resolving event)
+  where
+    by : (b : Bool) → (if b then resolved pending event else event).pending_id ≡ event.pending_id
+    by true = refl
+    by false = refl
 
 pub may_resolve : (facts : Facts) (timestamp : ℕ) (event : Transfer) → number_of (transfer_verdict facts timestamp event) ≡ 0 → is_resolving event ≡ true → MayResolve facts (stored_by facts timestamp event)
 may_resolve facts timestamp event ok resolves =

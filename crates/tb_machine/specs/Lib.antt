@@ -2,7 +2,7 @@ pub mod Clock
 pub mod Table
 pub mod AccountVerdict
 pub mod TransferVerdict
-pub mod Sides
+pub mod Prefetch
 pub mod Chain
 pub mod Packet
 pub mod Operations

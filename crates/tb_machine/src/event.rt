@@ -9,15 +9,16 @@ ghost use Rattle.tb_tables.specs.History.{changed, Extends};
 ghost use Rattle.tb_machine.specs.Clock.{clock_max};
 ghost use Rattle.tb_machine.specs.Chain.{Operation};
 ghost use Rattle.tb_machine.specs.TransferVerdict.{stored_by, transfer_verdict as verdict_of};
-ghost use Rattle.tb_machine.specs.Sides.{AreSides};
+ghost use Rattle.tb_machine.specs.Prefetch.{IsTarget, IsPrefetched};
+ghost use Rattle.tb_machine.specs.declared.prefetch.Target.TheVariants.{Between, Named};
 ghost use Rattle.tb_machine.specs.Operations.{create_accounts, create_transfers};
 
 use crate::account_verdict::account_verdict;
-use crate::resolved::{is_resolving, resolved_by};
-use crate::sides::Sides;
+use crate::prefetch::{Prefetch, Sides, Target};
+use crate::resolved::resolved_under;
 use crate::transfer_verdict::transfer_verdict;
 use tb_layout::{Account, NoMemory, Transfer, read_account, read_transfer};
-use tb_tables::Tables;
+use tb_tables::{Key, Tables};
 
 /// An event of an operation.
 pub trait Event: Copy {
@@ -85,47 +86,87 @@ impl Event for Transfer {
     }
 
     fn examine(&self, tables: &mut Tables, timestamp: u64) -> Result<u32, NoMemory> {
-        let sides = Sides::of(tables, self);
-        let code = transfer_verdict(tables, sides, timestamp, self).number();
+        let prefetch = Prefetch::of(tables, self);
+        let code = transfer_verdict(tables, &prefetch, timestamp, self).number();
         if code == 0 {
-            store(tables, sides, timestamp, self)?;
+            store(tables, &prefetch, timestamp, self)?;
         }
         Ok(code)
     }
 
     fn remember(&self, tables: &mut Tables, code: u32) -> Result<(), NoMemory> {
-        if matches!(code, 21 | 22 | 25 | 54 | 55) && !tables.failed(self.id) {
-            tables.add_failed(self.id)?;
+        let key = Key::of(self.id);
+        if matches!(code, 21 | 22 | 25 | 54 | 55) && !tables.failed_under(key) {
+            tables.add_failed_under(key)?;
         }
         Ok(())
     }
 }
 
-/// Stores a transfer whose checks find nothing.
-fn store(
+/// Stores a plain or pending transfer whose checks find nothing.
+fn store_between(
     tables: &mut Tables,
+    key: Key,
     sides: Sides,
     timestamp: u64,
     event: &Transfer,
 ) -> Result<(), NoMemory>
-    requires sides { AreSides tables.old.now event.now sides }
+    requires key { key ≡ event.now.id }
+    requires target { IsTarget tables.old.now event.now (Between sides) }
     requires clock { timestamp ≤ clock_max }
     requires ok { number_of (verdict_of tables.old.now timestamp event.now) ≡ 0 }
     ensures ok { OnOk result (tables.new ≡ changed tables.old (add_transfer tables.old.now (stored_by tables.old.now timestamp event.now))) }
     ensures err { OnErr result (tables.new ≡ tables.old) }
 {
-    let transfer = Transfer {
-        timestamp,
-        ..resolved_by(tables, event.pending_id, event)
-    };
-    if is_resolving(event) {
-        return tables.resolve(transfer);
-    }
     let Some(debit) = sides.debit else {
         unreachable!()
     };
     let Some(credit) = sides.credit else {
         unreachable!()
     };
-    tables.add_transfer_between(transfer, debit, credit)
+    let transfer = Transfer {
+        timestamp,
+        ..*event
+    };
+    tables.add_transfer_between(key, transfer, debit, credit)
+}
+
+/// Stores a post or a void whose checks find nothing.
+fn store_resolved(
+    tables: &mut Tables,
+    key: Key,
+    pending: Key,
+    timestamp: u64,
+    event: &Transfer,
+) -> Result<(), NoMemory>
+    requires key { key ≡ event.now.id }
+    requires target { IsTarget tables.old.now event.now (Named pending) }
+    requires ok { number_of (verdict_of tables.old.now timestamp event.now) ≡ 0 }
+    ensures ok { OnOk result (tables.new ≡ changed tables.old (add_transfer tables.old.now (stored_by tables.old.now timestamp event.now))) }
+    ensures err { OnErr result (tables.new ≡ tables.old) }
+{
+    let transfer = Transfer {
+        timestamp,
+        ..resolved_under(tables, pending, event)
+    };
+    tables.resolve_under(key, pending, transfer)
+}
+
+/// Stores a transfer whose checks find nothing.
+fn store(
+    tables: &mut Tables,
+    prefetch: &Prefetch,
+    timestamp: u64,
+    event: &Transfer,
+) -> Result<(), NoMemory>
+    requires prefetch { IsPrefetched tables.old.now event.now prefetch.now }
+    requires clock { timestamp ≤ clock_max }
+    requires ok { number_of (verdict_of tables.old.now timestamp event.now) ≡ 0 }
+    ensures ok { OnOk result (tables.new ≡ changed tables.old (add_transfer tables.old.now (stored_by tables.old.now timestamp event.now))) }
+    ensures err { OnErr result (tables.new ≡ tables.old) }
+{
+    match prefetch.target {
+        Target::Between(sides) => store_between(tables, prefetch.key, sides, timestamp, event),
+        Target::Named(pending) => store_resolved(tables, prefetch.key, pending, timestamp, event),
+    }
 }

@@ -15,10 +15,10 @@ mod joining;
 mod lookup;
 mod machine;
 mod moving_verdict;
+mod prefetch;
 mod report;
 mod resolved;
 mod resolving_verdict;
-mod sides;
 #[cfg(test)]
 mod tests;
 mod transfer_verdict;

@@ -1,12 +1,12 @@
 //! The checks of a plain or pending transfer, in their order.
 
 ghost use Rattle.std.specs.Prelude.{◌≡◌, ◌+◌, nat_lt};
-ghost use Rattle.tb_tables.specs.Facts.{IsPlaceOf};
 ghost use Rattle.tb_tables.specs.Balances.{balanced_account};
+ghost use Rattle.tb_machine.specs.Prefetch.{AreSides};
 ghost use Rattle.tb_machine.specs.TransferVerdict as spec;
 
 use crate::clock::{CLOCK_MAX, expires_at};
-use crate::sides::{Sides, account_at};
+use crate::prefetch::{Sides, account_at};
 use tb_layout::{Account, Transfer, TransferCode};
 use tb_tables::Tables;
 
@@ -91,8 +91,7 @@ fn between(timestamp: u64, debit: &Account, credit: &Account, event: &Transfer) 
 }
 
 fn between_found(tables: &Tables, sides: Sides, timestamp: u64, event: &Transfer) -> TransferCode
-    requires debit { IsPlaceOf tables.now.now event.now.debit_account_id sides.debit }
-    requires credit { IsPlaceOf tables.now.now event.now.credit_account_id sides.credit }
+    requires { AreSides tables.now.now event.now sides }
     ensures { result ≡ spec.between_found timestamp (balanced_account tables.now.now event.now.debit_account_id) (balanced_account tables.now.now event.now.credit_account_id) event.now }
 {
     let Some(debit) = account_at(tables, sides.debit) else {
@@ -111,8 +110,7 @@ pub fn moving_verdict(
     timestamp: u64,
     event: &Transfer,
 ) -> TransferCode
-    requires debit { IsPlaceOf tables.now.now event.now.debit_account_id sides.debit }
-    requires credit { IsPlaceOf tables.now.now event.now.credit_account_id sides.credit }
+    requires { AreSides tables.now.now event.now sides }
     ensures { result ≡ spec.moving_verdict tables.now.now timestamp event.now }
 {
     if event.debit_account_id == 0 {

@@ -1,12 +1,12 @@
 //! What a post or a void leaves to the transfer that it names.
 
-ghost use Rattle.std.specs.Prelude.{◌≡◌};
+ghost use Rattle.std.specs.Prelude.{◌≡◌, true};
 ghost use Rattle.tb_layout.specs.Transfer.{is_resolving as is_resolving_event};
 ghost use Rattle.tb_tables.specs.Facts.{transfer_with};
 ghost use Rattle.tb_machine.specs.TransferVerdict as spec;
 
 use tb_layout::Transfer;
-use tb_tables::Tables;
+use tb_tables::{Key, Tables};
 
 fn unless_zero_u128(field: u128, otherwise: u128) -> u128
     ensures { result ≡ spec.unless_zero field otherwise }
@@ -66,15 +66,24 @@ pub fn resolved(pending: &Transfer, event: &Transfer) -> Transfer
     }
 }
 
+/// A post or a void with its fields resolved against the transfer under a key.
+pub fn resolved_under(tables: &Tables, pending: Key, event: &Transfer) -> Transfer
+    requires { is_resolving_event event.now ≡ true }
+    ensures { result ≡ spec.resolved_by (transfer_with tables.now.now pending) event.now }
+{
+    match tables.transfer_under(pending) {
+        Some(pending) => resolved(&pending, event),
+        None => *event,
+    }
+}
+
 /// An event with its fields resolved against the transfer with an id, where it is a post or a void.
 pub fn resolved_by(tables: &Tables, pending_id: u128, event: &Transfer) -> Transfer
     ensures { result ≡ spec.resolved_by (transfer_with tables.now.now pending_id) event.now }
 {
-    if !is_resolving(event) {
-        return *event;
-    }
-    match tables.transfer(pending_id) {
-        Some(pending) => resolved(&pending, event),
-        None => *event,
+    if is_resolving(event) {
+        resolved_under(tables, Key::of(pending_id), event)
+    } else {
+        *event
     }
 }

@@ -9,7 +9,7 @@ ghost use Rattle.tb_machine.specs.TransferVerdict as spec;
 use crate::clock::expires_at;
 use crate::resolved::resolved;
 use tb_layout::{Transfer, TransferCode};
-use tb_tables::{Status, Tables};
+use tb_tables::{Key, Status, Tables};
 
 /// Whether a transfer has a timeout that is over at a clock.
 fn is_due(clock: u64, transfer: &Transfer) -> bool
@@ -18,12 +18,12 @@ fn is_due(clock: u64, transfer: &Transfer) -> bool
     transfer.timeout != 0 && expires_at(transfer.timestamp, transfer.timeout) <= u128::from(clock)
 }
 
-fn against_status(tables: &Tables, pending: &Transfer, due: bool) -> TransferCode
-    requires there { transfer_with tables.now.now pending.now.id ≡ Some pending.now }
+fn against_status(tables: &Tables, key: Key, pending: &Transfer, due: bool) -> TransferCode
+    requires there { transfer_with tables.now.now key ≡ Some pending.now }
     requires pending { is_pending pending.now ≡ true }
     ensures { result ≡ spec.against_status (status_of tables.now.now pending.now.id) due }
 {
-    match tables.status(pending.id) {
+    match tables.status_under(key) {
         Some(Status::Posted) => TransferCode::PendingTransferAlreadyPosted,
         Some(Status::Voided) => TransferCode::PendingTransferAlreadyVoided,
         Some(Status::Expired) => TransferCode::PendingTransferExpired,
@@ -39,11 +39,12 @@ fn against_status(tables: &Tables, pending: &Transfer, due: bool) -> TransferCod
 
 fn against_pending(
     tables: &Tables,
+    key: Key,
     timestamp: u64,
     pending: &Transfer,
     event: &Transfer,
 ) -> TransferCode
-    requires { transfer_with tables.now.now pending.now.id ≡ Some pending.now }
+    requires { transfer_with tables.now.now key ≡ Some pending.now }
     ensures { result ≡ spec.against_pending tables.now.now timestamp pending.now event.now }
 {
     if !pending.is_pending() {
@@ -67,11 +68,17 @@ fn against_pending(
     if event.is_void() && event.amount < pending.amount {
         return TransferCode::PendingTransferHasDifferentAmount;
     }
-    against_status(tables, pending, is_due(timestamp, pending))
+    against_status(tables, key, pending, is_due(timestamp, pending))
 }
 
 /// The first check that a post or a void fails, or Ok.
-pub fn resolving_verdict(tables: &Tables, timestamp: u64, event: &Transfer) -> TransferCode
+pub fn resolving_verdict(
+    tables: &Tables,
+    pending: Key,
+    timestamp: u64,
+    event: &Transfer,
+) -> TransferCode
+    requires { pending ≡ event.now.pending_id }
     ensures { result ≡ spec.resolving_verdict tables.now.now timestamp event.now }
 {
     if event.pending_id == 0 {
@@ -86,8 +93,14 @@ pub fn resolving_verdict(tables: &Tables, timestamp: u64, event: &Transfer) -> T
     if event.timeout != 0 {
         return TransferCode::TimeoutReservedForPendingTransfer;
     }
-    match tables.transfer(event.pending_id) {
-        Some(pending) => against_pending(tables, timestamp, &pending, &resolved(&pending, event)),
+    match tables.transfer_under(pending) {
+        Some(named) => against_pending(
+            tables,
+            pending,
+            timestamp,
+            &named,
+            &resolved(&named, event),
+        ),
         None => TransferCode::PendingTransferNotFound,
     }
 }

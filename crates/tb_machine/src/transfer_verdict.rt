@@ -2,12 +2,12 @@
 
 ghost use Rattle.std.specs.Prelude.{◌≡◌};
 ghost use Rattle.tb_machine.specs.TransferVerdict as spec;
-ghost use Rattle.tb_machine.specs.Sides.{AreSides};
+ghost use Rattle.tb_machine.specs.Prefetch.{IsPrefetched};
 
 use crate::moving_verdict::moving_verdict;
-use crate::resolved::{is_resolving, resolved_by};
+use crate::prefetch::{Prefetch, Target};
+use crate::resolved::resolved_by;
 use crate::resolving_verdict::resolving_verdict;
-use crate::sides::Sides;
 use tb_layout::{Transfer, TransferCode};
 use tb_tables::Tables;
 
@@ -59,31 +59,30 @@ fn has_exclusive_flags(event: &Transfer) -> bool
         || event.is_post() && event.is_void()
 }
 
-fn of_new_id(tables: &Tables, sides: Sides, timestamp: u64, event: &Transfer) -> TransferCode
-    requires { AreSides tables.now.now event.now sides }
+fn of_new_id(tables: &Tables, prefetch: &Prefetch, timestamp: u64, event: &Transfer) -> TransferCode
+    requires { IsPrefetched tables.now.now event.now prefetch.now }
     ensures { result ≡ spec.of_new_id tables.now.now timestamp event.now }
 {
-    if tables.failed(event.id) {
+    if tables.failed_under(prefetch.key) {
         return TransferCode::IdAlreadyFailed;
     }
     if has_exclusive_flags(event) {
         return TransferCode::FlagsAreMutuallyExclusive;
     }
-    if is_resolving(event) {
-        resolving_verdict(tables, timestamp, event)
-    } else {
-        moving_verdict(tables, sides, timestamp, event)
+    match prefetch.target {
+        Target::Between(sides) => moving_verdict(tables, sides, timestamp, event),
+        Target::Named(pending) => resolving_verdict(tables, pending, timestamp, event),
     }
 }
 
 /// The first check that the event fails, or Ok.
 pub fn transfer_verdict(
     tables: &Tables,
-    sides: Sides,
+    prefetch: &Prefetch,
     timestamp: u64,
     event: &Transfer,
 ) -> TransferCode
-    requires { AreSides tables.now.now event.now sides }
+    requires { IsPrefetched tables.now.now event.now prefetch.now }
     ensures { result ≡ spec.transfer_verdict tables.now.now timestamp event.now }
 {
     if event.timestamp != 0 {
@@ -98,8 +97,8 @@ pub fn transfer_verdict(
     if event.id == u128::MAX {
         return TransferCode::IdMustNotBeIntMax;
     }
-    match tables.transfer(event.id) {
+    match tables.transfer_under(prefetch.key) {
         Some(stored) => against_stored(&stored, &resolved_by(tables, stored.pending_id, event)),
-        None => of_new_id(tables, sides, timestamp, event),
+        None => of_new_id(tables, prefetch, timestamp, event),
     }
 }

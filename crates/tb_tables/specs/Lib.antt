@@ -1,4 +1,6 @@
 pub mod Facts
+pub mod Key
+pub mod Handed
 pub mod Status
 pub mod Balances
 pub mod Conditions

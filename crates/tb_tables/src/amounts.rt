@@ -5,8 +5,8 @@ ghost use Rattle.tb_layout.specs.declared.account.Account.{Account as AccountRec
 ghost use Rattle.tb_tables.specs.Sums.{Sums, AreAt, CanAdd, CanTake, with_amount, posted_if, account_rows, debits_in as debits_of, credits_in as credits_of};
 
 use crate::balance::{Balance, lower_at, raise_at};
+use crate::by_id::ById;
 use crate::places::Places;
-use indexmap::IndexMap;
 use tb_layout::Account;
 
 fn debits_in(pending: bool) -> Balance
@@ -30,12 +30,7 @@ fn credits_in(pending: bool) -> Balance
 }
 
 /// Adds an amount to what is pending, or to what is posted.
-pub fn add_amount(
-    accounts: &mut IndexMap<u128, Account>,
-    places: Places,
-    pending: bool,
-    amount: u128,
-)
+pub fn add_amount(accounts: &mut ById<Account>, places: Places, pending: bool, amount: u128)
     requires { CanAdd accounts.old.entries places pending amount }
     ensures { (sums : Sums) (rows : List AccountRecord) (debit credit : ℕ) → AreAt rows places debit credit
         → accounts.old.entries ≡ account_rows sums rows → accounts.new.entries ≡ account_rows (with_amount pending debit credit amount sums) rows }
@@ -45,12 +40,7 @@ pub fn add_amount(
 }
 
 /// Takes an amount out again.
-pub fn take_amount(
-    accounts: &mut IndexMap<u128, Account>,
-    places: Places,
-    pending: bool,
-    amount: u128,
-)
+pub fn take_amount(accounts: &mut ById<Account>, places: Places, pending: bool, amount: u128)
     requires { CanTake accounts.old.entries places pending amount }
     ensures { (sums : Sums) (rows : List AccountRecord) (debit credit : ℕ) → AreAt rows places debit credit
         → accounts.old.entries ≡ account_rows (with_amount pending debit credit amount sums) rows → accounts.new.entries ≡ account_rows sums rows }
@@ -60,7 +50,7 @@ pub fn take_amount(
 }
 
 /// Adds what a post posts, where it is a post.
-pub fn post_if(accounts: &mut IndexMap<u128, Account>, places: Places, is_post: bool, amount: u128)
+pub fn post_if(accounts: &mut ById<Account>, places: Places, is_post: bool, amount: u128)
     requires { is_post ≡ true → CanAdd accounts.old.entries places false amount }
     ensures { (sums : Sums) (rows : List AccountRecord) (debit credit : ℕ) → AreAt rows places debit credit
         → accounts.old.entries ≡ account_rows sums rows → accounts.new.entries ≡ account_rows (posted_if is_post debit credit amount sums) rows }
@@ -71,12 +61,7 @@ pub fn post_if(accounts: &mut IndexMap<u128, Account>, places: Places, is_post: 
 }
 
 /// Takes out what a post posted, where it is a post.
-pub fn unpost_if(
-    accounts: &mut IndexMap<u128, Account>,
-    places: Places,
-    is_post: bool,
-    amount: u128,
-)
+pub fn unpost_if(accounts: &mut ById<Account>, places: Places, is_post: bool, amount: u128)
     requires { is_post ≡ true → CanTake accounts.old.entries places false amount }
     ensures { (sums : Sums) (rows : List AccountRecord) (debit credit : ℕ) → AreAt rows places debit credit
         → accounts.old.entries ≡ account_rows (posted_if is_post debit credit amount sums) rows → accounts.new.entries ≡ account_rows sums rows }

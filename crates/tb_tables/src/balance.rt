@@ -4,7 +4,7 @@ ghost use Rattle.std.specs.Prelude.{◌≡◌, ◌<◌, ◌≤◌, ◌+◌, ◌^
 ghost use Rattle.tb_layout.specs.declared.account.Account.{Account as AccountRecord};
 ghost use Rattle.tb_tables.specs.Sums.{Sums, HasRoom, HasAmount, balance_of, raise_balance as raise, lower_balance as lower, raised, account_rows};
 
-use indexmap::IndexMap;
+use crate::by_id::ById;
 use tb_layout::Account;
 
 /// Which of an account's balances.
@@ -43,12 +43,7 @@ fn lower_balance(account: &mut Account, balance: Balance, amount: u128)
 }
 
 /// Raises a balance of the account at a place.
-pub fn raise_at(
-    accounts: &mut IndexMap<u128, Account>,
-    place: usize,
-    balance: Balance,
-    amount: u128,
-)
+pub fn raise_at(accounts: &mut ById<Account>, place: usize, balance: Balance, amount: u128)
     requires { HasRoom accounts.old.entries place balance amount }
     ensures { (sums : Sums) (rows : List AccountRecord) (account : AccountRecord) → slice_get rows place ≡ Some account
         → accounts.old.entries ≡ account_rows sums rows → accounts.new.entries ≡ account_rows (raised balance account.id amount sums) rows }
@@ -58,12 +53,7 @@ pub fn raise_at(
 }
 
 /// Lowers a balance of the account at a place.
-pub fn lower_at(
-    accounts: &mut IndexMap<u128, Account>,
-    place: usize,
-    balance: Balance,
-    amount: u128,
-)
+pub fn lower_at(accounts: &mut ById<Account>, place: usize, balance: Balance, amount: u128)
     requires { HasAmount accounts.old.entries place balance amount }
     ensures { (sums : Sums) (rows : List AccountRecord) (account : AccountRecord) → slice_get rows place ≡ Some account
         → accounts.old.entries ≡ account_rows (raised balance account.id amount sums) rows → accounts.new.entries ≡ account_rows sums rows }

@@ -7,30 +7,30 @@ ghost use Rattle.tb_tables.specs.declared.row.Row.{Row as RowRecord};
 ghost use Rattle.tb_tables.specs.Changes.{without_last};
 ghost use Rattle.tb_tables.specs.Storing.{new_row, settled};
 
+use crate::by_id::{ById, Ids};
+use crate::key::Key;
 use crate::row::Row;
 use crate::status::Status;
-use indexmap::{IndexMap, IndexSet};
 use tb_layout::{Account, NoMemory, Transfer};
 
 /// Puts a new account behind the others.
-pub fn push_account(
-    accounts: &mut IndexMap<u128, Account>,
-    account: Account,
-) -> Result<(), NoMemory>
+pub fn push_account(accounts: &mut ById<Account>, account: Account) -> Result<(), NoMemory>
     requires { get nat_eq accounts.old account.id ≡ None }
     ensures ok { OnOk result (accounts.new.entries ≡ accounts.old.entries ++ (account.id, account) ∷ []) }
     ensures err { OnErr result (accounts.new.entries ≡ accounts.old.entries) }
 {
-    accounts.insert(account.id, account)?;
+    accounts.insert(Key::of(account.id), account)?;
     Ok(())
 }
 
-/// Puts a new transfer behind the others.
+/// Puts a new transfer behind the others, under its id's key.
 pub fn push_transfer(
-    transfers: &mut IndexMap<u128, Row>,
+    transfers: &mut ById<Row>,
+    key: Key,
     transfer: Transfer,
 ) -> Result<(), NoMemory>
-    requires { get nat_eq transfers.old transfer.id ≡ None }
+    requires key { key ≡ transfer.id }
+    requires new { get nat_eq transfers.old transfer.id ≡ None }
     ensures ok { OnOk result (transfers.new.entries ≡ transfers.old.entries ++ (transfer.id, new_row transfer) ∷ []) }
     ensures err { OnErr result (transfers.new.entries ≡ transfers.old.entries) }
 {
@@ -39,44 +39,52 @@ pub fn push_transfer(
     } else {
         None
     };
-    transfers.insert(transfer.id, Row { transfer, status })?;
+    transfers.insert(key, Row { transfer, status })?;
     Ok(())
 }
 
 /// Puts a new failed id behind the others.
-pub fn push_failed(failed: &mut IndexSet<u128>, id: u128) -> Result<(), NoMemory>
-    requires { list_any (λ other. other == id) failed.old.keys ≡ false }
-    ensures ok { OnOk result (failed.new.keys ≡ failed.old.keys ++ id ∷ []) }
+pub fn push_failed(failed: &mut Ids, key: Key) -> Result<(), NoMemory>
+    requires { list_any (λ other. other == key) failed.old.keys ≡ false }
+    ensures ok { OnOk result (failed.new.keys ≡ failed.old.keys ++ key ∷ []) }
     ensures err { OnErr result (failed.new.keys ≡ failed.old.keys) }
 {
-    failed.insert(id)?;
+    failed.insert(key)?;
     Ok(())
 }
 
 /// Takes the last account off.
-pub fn pop_account(accounts: &mut IndexMap<u128, Account>)
+pub fn pop_account(accounts: &mut ById<Account>)
     ensures { accounts.new.entries ≡ without_last accounts.old.entries }
 {
     accounts.truncate(accounts.len().saturating_sub(1));
 }
 
 /// Takes the last failed id off.
-pub fn pop_failed(failed: &mut IndexSet<u128>)
+pub fn pop_failed(failed: &mut Ids)
     ensures { failed.new.keys ≡ without_last failed.old.keys }
 {
     failed.truncate(failed.len().saturating_sub(1));
 }
 
 /// The place of the entry with this id.
-pub fn place_of<V: Drop>(entries: &IndexMap<u128, V>, id: u128) -> usize
+pub fn place_of<V: Drop>(entries: &ById<V>, id: u128) -> usize
     requires { IsSome (get nat_eq entries.now id) }
     ensures { slice_get (keys entries.now) result ≡ Some id }
 {
-    entries.get_index_of(&id).unwrap()
+    place_under(entries, Key::of(id))
+}
+
+/// The place of the entry under this key.
+pub fn place_under<V: Drop>(entries: &ById<V>, key: Key) -> usize
+    requires { IsSome (get nat_eq entries.now key) }
+    ensures { slice_get (keys entries.now) result ≡ Some key }
+{
+    entries.get_index_of(&key).unwrap()
 }
 
 /// The transfer at a place.
-pub fn transfer_at(transfers: &IndexMap<u128, Row>, place: usize) -> Transfer
+pub fn transfer_at(transfers: &ById<Row>, place: usize) -> Transfer
     requires { IsSome (slice_get transfers.now.entries place) }
     ensures { (id : ℕ) (row : RowRecord) → slice_get transfers.now.entries place ≡ Some (id, row) → result ≡ row.transfer }
 {
@@ -85,7 +93,7 @@ pub fn transfer_at(transfers: &IndexMap<u128, Row>, place: usize) -> Transfer
 }
 
 /// Takes the last transfer off.
-pub fn pop_transfer(transfers: &mut IndexMap<u128, Row>) -> Transfer
+pub fn pop_transfer(transfers: &mut ById<Row>) -> Transfer
     requires { 0 < index_map_len transfers.old }
     ensures { (id : ℕ) (row : RowRecord) (others : List (ℕ × RowRecord)) → transfers.old.entries ≡ others ++ (id, row) ∷ []
         → (result ≡ row.transfer) × (transfers.new.entries ≡ others) }
@@ -95,7 +103,7 @@ pub fn pop_transfer(transfers: &mut IndexMap<u128, Row>) -> Transfer
 }
 
 /// Sets the status of the transfer at a place.
-pub fn set_status(transfers: &mut IndexMap<u128, Row>, place: usize, status: Status)
+pub fn set_status(transfers: &mut ById<Row>, place: usize, status: Status)
     requires { IsSome (slice_get transfers.old.entries place) }
     ensures entries { (id : ℕ) (row : RowRecord) → slice_get transfers.old.entries place ≡ Some (id, row)
         → transfers.new.entries ≡ set_value_at transfers.old.entries place (record row { status = Some status }) }

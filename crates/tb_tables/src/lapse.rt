@@ -9,17 +9,17 @@ ghost use Rattle.tb_tables.specs.Status.{expires_at};
 ghost use Rattle.tb_tables.specs.Storing.{CanLapse, HasLapsed};
 
 use crate::amounts::take_amount;
+use crate::by_id::ById;
 use crate::entries::{place_of, set_status, transfer_at};
 use crate::expiries::take_due;
 use crate::places::Places;
 use crate::row::Row;
 use crate::status::Status;
-use indexmap::IndexMap;
 use std::collections::BTreeSet;
 use tb_layout::Account;
 
 /// Lets the transfer at a place expire: its amount is reserved no more.
-fn expire(accounts: &mut IndexMap<u128, Account>, transfers: &mut IndexMap<u128, Row>, place: usize)
+fn expire(accounts: &mut ById<Account>, transfers: &mut ById<Row>, place: usize)
     requires { (failed : List ℕ) × (indexed : ℕ → ℕ → Bool)
         × CanLapse (record { accounts = accounts.old.entries; transfers = transfers.old.entries; failed = failed; changes = []; is_indexed = indexed }) place }
     ensures { (failed : List ℕ) (indexed next : ℕ → ℕ → Bool)
@@ -40,8 +40,8 @@ fn expire(accounts: &mut IndexMap<u128, Account>, transfers: &mut IndexMap<u128,
 
 /// Lets each transfer expire whose pair is due at a clock. Costs as much as what expires.
 pub fn expire_all(
-    accounts: &mut IndexMap<u128, Account>,
-    transfers: &mut IndexMap<u128, Row>,
+    accounts: &mut ById<Account>,
+    transfers: &mut ById<Row>,
     expiries: &mut BTreeSet<(u64, usize)>,
     clock: u64,
 )

@@ -9,9 +9,12 @@
 
 mod amounts;
 mod balance;
+mod by_id;
 mod change;
 mod entries;
 mod expiries;
+mod handed;
+mod key;
 mod lapse;
 mod mark;
 mod note;
@@ -23,6 +26,7 @@ mod tables;
 #[cfg(test)]
 mod tests;
 
+pub use key::Key;
 pub use mark::Mark;
 pub use status::Status;
 pub use tables::Tables;

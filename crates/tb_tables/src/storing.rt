@@ -13,13 +13,13 @@ ghost use Rattle.tb_tables.specs.Kept.{is_timed as is_timed_of, named_by as name
 ghost use Rattle.tb_tables.specs.Storing.{IsPushed, IsStored, IsPopped, Hold, CanForget};
 
 use crate::amounts::{add_amount, post_if, take_amount, unpost_if};
+use crate::by_id::ById;
 use crate::change::Change;
 use crate::entries::{pop_transfer, set_status, settled_status, transfer_at};
 use crate::expiries::{put_in, take_out};
 use crate::places::Places;
 use crate::row::Row;
 use crate::status::Status;
-use indexmap::IndexMap;
 use std::collections::BTreeSet;
 use tb_layout::{Account, NoMemory, Transfer};
 
@@ -68,8 +68,8 @@ pub fn forget(expiries: &mut BTreeSet<(u64, usize)>, transfer: &Transfer, place:
 
 /// What a post or a void changes, once its row is there.
 fn settle(
-    accounts: &mut IndexMap<u128, Account>,
-    transfers: &mut IndexMap<u128, Row>,
+    accounts: &mut ById<Account>,
+    transfers: &mut ById<Row>,
     places: Places,
     pending: usize,
     transfer: Transfer,
@@ -87,8 +87,8 @@ fn settle(
 
 /// What a transfer changes, once its row is there.
 pub fn apply(
-    accounts: &mut IndexMap<u128, Account>,
-    transfers: &mut IndexMap<u128, Row>,
+    accounts: &mut ById<Account>,
+    transfers: &mut ById<Row>,
     places: Places,
     transfer: Transfer,
 )
@@ -104,8 +104,8 @@ pub fn apply(
 
 /// Takes back what a post or a void changed, once its row is off.
 fn unsettle(
-    accounts: &mut IndexMap<u128, Account>,
-    transfers: &mut IndexMap<u128, Row>,
+    accounts: &mut ById<Account>,
+    transfers: &mut ById<Row>,
     places: Places,
     pending: usize,
     transfer: Transfer,
@@ -123,8 +123,8 @@ fn unsettle(
 
 /// Takes the last transfer off, with what it changed.
 pub fn take_back(
-    accounts: &mut IndexMap<u128, Account>,
-    transfers: &mut IndexMap<u128, Row>,
+    accounts: &mut ById<Account>,
+    transfers: &mut ById<Row>,
     expiries: &mut BTreeSet<(u64, usize)>,
     places: Places,
 )
@@ -155,7 +155,7 @@ fn named_by(change: &Change<Places>) -> Option<usize>
 /// Takes the pair of the transfer that a change resolved out of the index.
 fn forget_change(
     expiries: &mut BTreeSet<(u64, usize)>,
-    transfers: &IndexMap<u128, Row>,
+    transfers: &ById<Row>,
     change: &Change<Places>,
 )
     requires { (facts : Facts) × CanForget facts change.now transfers.now.entries }
@@ -170,7 +170,7 @@ fn forget_change(
 /// Takes the pairs of the transfers that some changes resolved out of the index.
 pub fn forget_resolved(
     expiries: &mut BTreeSet<(u64, usize)>,
-    transfers: &IndexMap<u128, Row>,
+    transfers: &ById<Row>,
     changes: &[Change<Places>],
 )
     requires { (facts : Facts) × AllByRecursion (λ change. CanForget facts change transfers.now.entries) changes.now }

@@ -3,8 +3,12 @@
 ghost use Rattle.std.specs.Prelude.{◌≡◌, ◌<◌, ◌≤◌, Some, None, [], OnOk, OnErr, false, length, slice_get};
 ghost use Rattle.std.specs.Option.{option_map};
 
+use crate::by_id::{ById, Ids};
 use crate::change::Change;
-use crate::entries::{place_of, pop_account, pop_failed, push_account, push_failed, push_transfer};
+use crate::entries::{
+    place_of, place_under, pop_account, pop_failed, push_account, push_failed, push_transfer,
+};
+use crate::key::Key;
 use crate::lapse::expire_all;
 use crate::mark::Mark;
 use crate::note::note;
@@ -12,18 +16,18 @@ use crate::places::Places;
 use crate::row::Row;
 use crate::status::Status;
 use crate::storing::{apply, expect, forget, forget_resolved, take_back};
-use indexmap::{IndexMap, IndexSet};
 use std::alloc::Global;
 use std::collections::BTreeSet;
+use std::hash::BuildHasherDefault;
 use std::marker::Model;
 use tb_layout::{Account, NoMemory, Transfer};
 
 /// The facts of a ledger: accounts and transfers in order of making, under their ids.
 #[derive(Drop)]
 pub struct Tables {
-    accounts: IndexMap<u128, Account>,
-    transfers: IndexMap<u128, Row>,
-    failed: IndexSet<u128>,
+    accounts: ById<Account>,
+    transfers: ById<Row>,
+    failed: Ids,
     changes: Vec<Change<Places>>,
     expiries: BTreeSet<(u64, usize)>,
 }
@@ -60,9 +64,9 @@ impl Tables {
         ensures { result ≡ record { now = no_facts; past = [] } }
     {
         Tables {
-            accounts: IndexMap::new(alloc),
-            transfers: IndexMap::new(alloc),
-            failed: IndexSet::new(alloc),
+            accounts: ById::with_hasher(alloc, BuildHasherDefault::new()),
+            transfers: ById::with_hasher(alloc, BuildHasherDefault::new()),
+            failed: Ids::with_hasher(alloc, BuildHasherDefault::new()),
             changes: Vec::new(alloc),
             expiries: BTreeSet::new(alloc),
         }
@@ -87,14 +91,24 @@ impl Tables {
         ensures ok { OnOk result (self.new ≡ changed self.old (with_failed self.old.now id)) }
         ensures err { OnErr result (self.new ≡ self.old) }
     {
+        self.add_failed_under(Key::of(id))
+    }
+
+    /// Adds an id, here its key, to those that failed. No id is hashed.
+    pub fn add_failed_under(&mut self, key: Key) -> Result<(), NoMemory>
+        requires { is_failed self.old.now key ≡ false }
+        ensures ok { OnOk result (self.new ≡ changed self.old (with_failed self.old.now key)) }
+        ensures err { OnErr result (self.new ≡ self.old) }
+    {
         self.changes.reserve(1)?;
-        push_failed(&mut self.failed, id)?;
+        push_failed(&mut self.failed, key)?;
         note(&mut self.changes, Change::Failed);
         Ok(())
     }
 
-    /// Adds a transfer whose accounts, and whose pending transfer, have these places.
-    fn store(&mut self, transfer: Transfer, places: Places) -> Result<(), NoMemory>
+    /// Adds a transfer, under its id's key, whose accounts, and whose pending transfer, have these places.
+    fn store(&mut self, key: Key, transfer: Transfer, places: Places) -> Result<(), NoMemory>
+        requires key { key ≡ transfer.id }
         requires at { HavePlaces self.old.now transfer places }
         requires may { MayStore self.old.now transfer places.pending }
         ensures ok { OnOk result (self.new ≡ changed self.old (with_transfer self.old.now transfer)) }
@@ -103,7 +117,7 @@ impl Tables {
         let place = self.transfers.len();
         self.changes.reserve(1)?;
         expect(&mut self.expiries, &transfer, place)?;
-        if let Err(refused) = push_transfer(&mut self.transfers, transfer) {
+        if let Err(refused) = push_transfer(&mut self.transfers, key, transfer) {
             forget(&mut self.expiries, &transfer, place);
             return Err(refused);
         }
@@ -123,29 +137,34 @@ impl Tables {
             credit: place_of(&self.accounts, transfer.credit_account_id),
             pending: None,
         };
-        self.store(transfer, places)
+        self.store(Key::of(transfer.id), transfer, places)
     }
 
-    /// Adds a plain or pending transfer behind those that are there, between the accounts at two places. No account
-    /// is looked up by its id.
+    /// Adds a plain or pending transfer behind those that are there, under its id's key and between the accounts at
+    /// two places. No id is hashed.
     pub fn add_transfer_between(
         &mut self,
+        key: Key,
         transfer: Transfer,
         debit: usize,
         credit: usize,
     ) -> Result<(), NoMemory>
+        requires key { key ≡ transfer.id }
         requires may { MayAdd self.old.now transfer }
         requires debit { IsPlaceOf self.old.now transfer.debit_account_id (Some debit) }
         requires credit { IsPlaceOf self.old.now transfer.credit_account_id (Some credit) }
         ensures ok { OnOk result (self.new ≡ changed self.old (with_transfer self.old.now transfer)) }
         ensures err { OnErr result (self.new ≡ self.old) }
     {
-        let places = Places {
-            debit,
-            credit,
-            pending: None,
-        };
-        self.store(transfer, places)
+        self.store(
+            key,
+            transfer,
+            Places {
+                debit,
+                credit,
+                pending: None,
+            },
+        )
     }
 
     /// Adds a post or a void, with its resolved fields. The transfer that it names is pending no more.
@@ -154,26 +173,43 @@ impl Tables {
         ensures ok { OnOk result (self.new ≡ changed self.old (with_transfer self.old.now transfer)) }
         ensures err { OnErr result (self.new ≡ self.old) }
     {
+        self.resolve_under(Key::of(transfer.id), Key::of(transfer.pending_id), transfer)
+    }
+
+    /// Adds a post or a void, with its resolved fields, under its id's key; the transfer that it names, and that is
+    /// pending no more, has a key too. Neither id is hashed.
+    pub fn resolve_under(
+        &mut self,
+        key: Key,
+        pending: Key,
+        transfer: Transfer,
+    ) -> Result<(), NoMemory>
+        requires key { key ≡ transfer.id }
+        requires pending { pending ≡ transfer.pending_id }
+        requires may { MayResolve self.old.now transfer }
+        ensures ok { OnOk result (self.new ≡ changed self.old (with_transfer self.old.now transfer)) }
+        ensures err { OnErr result (self.new ≡ self.old) }
+    {
         let places = Places {
             debit: place_of(&self.accounts, transfer.debit_account_id),
             credit: place_of(&self.accounts, transfer.credit_account_id),
-            pending: Some(place_of(&self.transfers, transfer.pending_id)),
+            pending: Some(place_under(&self.transfers, pending)),
         };
-        self.store(transfer, places)
+        self.store(key, transfer, places)
     }
 
     /// The account with this id, with its balances.
     pub fn account(&self, id: u128) -> Option<Account>
         ensures { result ≡ balanced_account self.now.now id }
     {
-        self.accounts.get(&id).copied()
+        self.accounts.get(&Key::of(id)).copied()
     }
 
     /// The place in the order of making of the account with this id, counted from 0.
     pub fn place(&self, id: u128) -> Option<usize>
         ensures { IsPlaceOf self.now.now id result }
     {
-        self.accounts.get_index_of(&id)
+        self.accounts.get_index_of(&Key::of(id))
     }
 
     /// The account at a place in the order of making, counted from 0, with its balances.
@@ -195,7 +231,14 @@ impl Tables {
     pub fn transfer(&self, id: u128) -> Option<Transfer>
         ensures { result ≡ transfer_with self.now.now id }
     {
-        let row = self.transfers.get(&id)?;
+        self.transfer_under(Key::of(id))
+    }
+
+    /// The transfer under this key. No id is hashed.
+    pub fn transfer_under(&self, key: Key) -> Option<Transfer>
+        ensures { result ≡ transfer_with self.now.now key }
+    {
+        let row = self.transfers.get(&key)?;
         Some(row.transfer)
     }
 
@@ -203,14 +246,28 @@ impl Tables {
     pub fn status(&self, id: u128) -> Option<Status>
         ensures { result ≡ status_with self.now.now id }
     {
-        self.transfers.get(&id)?.status
+        self.status_under(Key::of(id))
+    }
+
+    /// What became of the pending transfer under this key. No id is hashed.
+    pub fn status_under(&self, key: Key) -> Option<Status>
+        ensures { result ≡ status_with self.now.now key }
+    {
+        self.transfers.get(&key)?.status
     }
 
     /// Whether an id is among those that failed.
     pub fn failed(&self, id: u128) -> bool
         ensures { result ≡ is_failed self.now.now id }
     {
-        self.failed.contains(&id)
+        self.failed_under(Key::of(id))
+    }
+
+    /// Whether an id, here its key, is among those that failed. No id is hashed.
+    pub fn failed_under(&self, key: Key) -> bool
+        ensures { result ≡ is_failed self.now.now key }
+    {
+        self.failed.contains(&key)
     }
 
     /// The present moment, to go back to. It is spent by `keep` and by going back past it.

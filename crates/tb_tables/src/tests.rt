@@ -5,7 +5,7 @@ ghost use Rattle.tb_tables.specs.Facts.{no_facts};
 
 mod plain;
 
-use crate::{Status, Tables};
+use crate::{Key, Status, Tables};
 use std::test::Fail;
 use tb_layout::{Account, Transfer};
 
@@ -138,4 +138,26 @@ fn makes_each_other_call(tables: &mut Tables) -> Result<(), Fail>
 fn each_other_call(rt: HostRuntime) -> Result<(), Fail> {
     let mut tables = Tables::new(rt.alloc());
     makes_each_other_call(&mut tables)
+}
+
+fn calls_by_keys(tables: &mut Tables) -> Result<(), Fail>
+    requires { tables.old ≡ record { now = no_facts; past = [] } }
+{
+    tables.add_account(account(1))?;
+    tables.add_account(account(2))?;
+    let (one, two) = (Key::of(1), Key::of(2));
+    tables.add_transfer_between(one, transfer(1, 100, 0, 2), 0, 1)?;
+    holds(tables.transfer_under(one) == Some(transfer(1, 100, 0, 2)))?;
+    holds(tables.transfer_under(two).is_none())?;
+    tables.resolve_under(two, one, transfer(2, 100, 1, 8))?;
+    holds(tables.status_under(one) == Some(Status::Voided))?;
+    tables.add_failed_under(Key::of(3))?;
+    holds(tables.failed_under(Key::of(3)))?;
+    holds(!tables.failed_under(two))
+}
+
+#[test]
+fn each_call_by_keys(rt: HostRuntime) -> Result<(), Fail> {
+    let mut tables = Tables::new(rt.alloc());
+    calls_by_keys(&mut tables)
 }

@@ -13,5 +13,5 @@ returns-clause-ok c =
       | then-is_pending w ↦ w.status-is ∙ ap (λ b. if b then Some Pending else None) (sym (sym c.is_pending.ensures ∙ w.if-is_pending.true))
       | else-is_pending w ↦ w.status-is ∙ ap (λ b. if b then Some Pending else None) (sym (sym c.is_pending.ensures ∙ w.if-is_pending.false))
     ] in
-    c.in_ok-insert.ensures.entries ∙ insert_entry-new nat_eq c.args.transfers.now t.id (record { transfer = t; status = c.if-is_pending.status }) c.requires
+    rw (c.requires.key) at c.in_ok-insert.ensures.entries ∙ insert_entry-new nat_eq c.args.transfers.now t.id (record { transfer = t; status = c.if-is_pending.status }) c.requires.new
     ∙ ap (λ s. c.args.transfers.now.entries ++ (t.id, record { transfer = t; status = s }) ∷ []) status

@@ -8,4 +8,4 @@ pub returns : goal.returns
 returns c =
     let o = c.self.inside in
     let old : Stored = record { accounts = o.accounts.entries; transfers = o.transfers.entries; failed = o.failed.keys; changes = o.changes.items; is_indexed = is_indexed o.expiries } in
-    rw (← c.self.view_is) (c.copied.ensures ∙ c.get.ensures.value ∙ account-found old c.self.invariant c.args.id)
+    rw (← c.self.view_is) (c.copied.ensures ∙ rw (c.of.ensures) at c.get.ensures.value ∙ account-found old c.self.invariant c.args.id)

@@ -7,4 +7,4 @@ pub returns : goal.returns
 returns c =
     let o = c.self.inside in
     let old : Stored = record { accounts = o.accounts.entries; transfers = o.transfers.entries; failed = o.failed.keys; changes = o.changes.items; is_indexed = is_indexed o.expiries } in
-    rw (← c.self.view_is) (account-placed old c.self.invariant c.args.id c.get_index_of.result c.get_index_of.ensures.index)
+    rw (← c.self.view_is) (account-placed old c.self.invariant c.args.id c.get_index_of.result (rw (c.of.ensures) at c.get_index_of.ensures.index))

@@ -23,7 +23,10 @@ push_transfer-requires c =
     let o = c.self.inside in
     let old : Stored = record { accounts = o.accounts.entries; transfers = o.transfers.entries; failed = o.failed.keys; changes = o.changes.items; is_indexed = is_indexed o.expiries } in
     let r = rw (← c.self.view_is) at c.requires in
-    row-found old c.self.invariant c.args.transfer.id ∙ ap (option_map (row_in (facts_of (lists_of old)))) (stepping.no-other (facts_of (lists_of old)) c.args.transfer c.args.places.pending r.may)
+    record {
+      key = c.requires.key;
+      new = row-found old c.self.invariant c.args.transfer.id ∙ ap (option_map (row_in (facts_of (lists_of old)))) (stepping.no-other (facts_of (lists_of old)) c.args.transfer c.args.places.pending r.may);
+    }
 
 pub invariant_of-self-in-Err : goal.invariant_of-self-in-Err
 invariant_of-self-in-Err c =

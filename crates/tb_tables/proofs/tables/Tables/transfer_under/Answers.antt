@@ -4,18 +4,18 @@ use Rattle.tb_tables.specs.Expiries.{is_indexed}
 use Rattle.tb_tables.specs.Kept.{Stored}
 use Rattle.tb_tables.specs.declared.row.Row.{Row}
 use Rattle.tb_tables.proofs.Locating.{transfer-found}
-use Rattle.tb_tables.proofs.tables.Tables.transfer.Goals as goal
+use Rattle.tb_tables.proofs.tables.Tables.transfer_under.Goals as goal
 
 pub returns-in_err-row : goal.returns-in_err-row
 returns-in_err-row c =
     let o = c.self.inside in
     let old : Stored = record { accounts = o.accounts.entries; transfers = o.transfers.entries; failed = o.failed.keys; changes = o.changes.items; is_indexed = is_indexed o.expiries } in
     let none = sym c.get.ensures.value ∙ ap option_copied c.in_err-row.was in
-    rw (← c.self.view_is) (c.from_residual.ensures ∙ sym (transfer-found old c.self.invariant c.args.id ∙ ap (option_map (λ (row : Row). row.transfer)) none))
+    rw (← c.self.view_is) (c.from_residual.ensures ∙ sym (transfer-found old c.self.invariant c.args.key ∙ ap (option_map (λ (row : Row). row.transfer)) none))
 
 pub returns : goal.returns
 returns c =
     let o = c.self.inside in
     let old : Stored = record { accounts = o.accounts.entries; transfers = o.transfers.entries; failed = o.failed.keys; changes = o.changes.items; is_indexed = is_indexed o.expiries } in
     let some = sym c.get.ensures.value ∙ ap option_copied c.in_ok-row.was in
-    rw (← c.self.view_is) (sym (transfer-found old c.self.invariant c.args.id ∙ ap (option_map (λ (row : Row). row.transfer)) some))
+    rw (← c.self.view_is) (sym (transfer-found old c.self.invariant c.args.key ∙ ap (option_map (λ (row : Row). row.transfer)) some))
