@@ -11,4 +11,5 @@ pub mod Expiring
 pub mod Sums
 pub mod Expiries
 pub mod Kept
+pub mod Held
 pub mod Storing

@@ -60,6 +60,10 @@ pub record CanForget (facts : Facts) (change : Change Places) (transfer_entries 
   pub transfers_are : transfer_entries ≡ transfer_rows facts facts.transfers
   pub there : (place : ℕ) → resolves_at place change ≡ true → (transfer : Transfer) × (slice_get facts.transfers place ≡ Some transfer) × (is_pending transfer ≡ true → expires_at transfer < 2 ^ 64)
 
+-- what stands in the maps and in the index where nothing can be taken back
+abbrev pub stored_for_good : List (ℕ × Account) → List (ℕ × Row) → List ℕ → (ℕ → ℕ → Bool) → Stored
+stored_for_good accounts transfers failed indexed = record { accounts = accounts; transfers = transfers; failed = failed; changes = []; is_indexed = indexed }
+
 -- the transfer at a place reserves its amount, and nothing can be taken back
 pub record CanLapse (stored : Stored) (place : ℕ) : Type 0 where
   pub kept : IsKept stored

@@ -6,7 +6,7 @@ ghost use Rattle.tb_tables.specs.Expiring.{with_lapses};
 ghost use Rattle.tb_tables.specs.Expiries.{is_indexed, same_pair};
 ghost use Rattle.tb_tables.specs.Kept.{row_of, lists_in, IsKept};
 ghost use Rattle.tb_tables.specs.Status.{expires_at};
-ghost use Rattle.tb_tables.specs.Storing.{CanLapse, HasLapsed};
+ghost use Rattle.tb_tables.specs.Storing.{stored_for_good, CanLapse, HasLapsed};
 
 use crate::amounts::take_amount;
 use crate::by_id::ById;
@@ -21,12 +21,12 @@ use tb_layout::Account;
 /// Lets the transfer at a place expire: its amount is reserved no more.
 fn expire(accounts: &mut ById<Account>, transfers: &mut ById<Row>, place: usize)
     requires { (failed : List ℕ) × (indexed : ℕ → ℕ → Bool)
-        × CanLapse (record { accounts = accounts.old.entries; transfers = transfers.old.entries; failed = failed; changes = []; is_indexed = indexed }) place }
+        × CanLapse (stored_for_good accounts.old.entries transfers.old.entries failed indexed) place }
     ensures { (failed : List ℕ) (indexed next : ℕ → ℕ → Bool)
-        (can : CanLapse (record { accounts = accounts.old.entries; transfers = transfers.old.entries; failed = failed; changes = []; is_indexed = indexed }) place)
+        (can : CanLapse (stored_for_good accounts.old.entries transfers.old.entries failed indexed) place)
         → ((m p : ℕ) → next m p ≡ (not (same_pair (expires_at can.transfer) place m p) && indexed m p))
-        → HasLapsed (record { accounts = accounts.old.entries; transfers = transfers.old.entries; failed = failed; changes = []; is_indexed = indexed })
-        (record { accounts = accounts.new.entries; transfers = transfers.new.entries; failed = failed; changes = []; is_indexed = next }) place can.transfer }
+        → HasLapsed (stored_for_good accounts.old.entries transfers.old.entries failed indexed)
+        (stored_for_good accounts.new.entries transfers.new.entries failed next) place can.transfer }
 {
     let transfer = transfer_at(transfers, place);
     let places = Places {
@@ -45,10 +45,10 @@ pub fn expire_all(
     expiries: &mut BTreeSet<(u64, usize)>,
     clock: u64,
 )
-    requires { (failed : List ℕ) × IsKept (record { accounts = accounts.old.entries; transfers = transfers.old.entries; failed = failed; changes = []; is_indexed = is_indexed expiries.old }) }
-    ensures kept { (failed : List ℕ) → IsKept (record { accounts = accounts.old.entries; transfers = transfers.old.entries; failed = failed; changes = []; is_indexed = is_indexed expiries.old })
-        → IsKept (record { accounts = accounts.new.entries; transfers = transfers.new.entries; failed = failed; changes = []; is_indexed = is_indexed expiries.new }) }
-    ensures lists { (failed : List ℕ) → IsKept (record { accounts = accounts.old.entries; transfers = transfers.old.entries; failed = failed; changes = []; is_indexed = is_indexed expiries.old })
+    requires { (failed : List ℕ) × IsKept (stored_for_good accounts.old.entries transfers.old.entries failed (is_indexed expiries.old)) }
+    ensures kept { (failed : List ℕ) → IsKept (stored_for_good accounts.old.entries transfers.old.entries failed (is_indexed expiries.old))
+        → IsKept (stored_for_good accounts.new.entries transfers.new.entries failed (is_indexed expiries.new)) }
+    ensures lists { (failed : List ℕ) → IsKept (stored_for_good accounts.old.entries transfers.old.entries failed (is_indexed expiries.old))
         → lists_in accounts.new.entries transfers.new.entries failed
         ≡ record (lists_in accounts.old.entries transfers.old.entries failed) { rows = with_lapses clock (transfers_in (map row_of transfers.old.entries)) (map row_of transfers.old.entries) } }
 {

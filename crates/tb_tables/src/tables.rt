@@ -35,20 +35,15 @@ pub struct Tables {
 impl Model for Tables {
     ghost use Rattle.tb_tables.specs.History.{History};
     ghost use Rattle.tb_tables.specs.Changes.{history_of};
-    ghost use Rattle.tb_tables.specs.Expiries.{is_indexed};
-    ghost use Rattle.tb_tables.specs.Kept.{lists_in, IsKept};
+    ghost use Rattle.tb_tables.specs.Kept.{lists_of, IsKept};
 
     ghost Value = { History };
 
-    ghost view = { λ tables. history_of tables.changes.items (lists_in tables.accounts.entries tables.transfers.entries tables.failed.keys) };
+    ghost use Rattle.tb_tables.specs.Held.{stored_in};
 
-    ghost invariant = { λ tables. IsKept (record {
-      accounts = tables.accounts.entries;
-      transfers = tables.transfers.entries;
-      failed = tables.failed.keys;
-      changes = tables.changes.items;
-      is_indexed = is_indexed tables.expiries;
-    }) };
+    ghost view = { λ tables. history_of tables.changes.items (lists_of (stored_in tables)) };
+
+    ghost invariant = { λ tables. IsKept (stored_in tables) };
 }
 
 impl Tables {

@@ -1,6 +1,6 @@
-use Rattle.std.proofs.Common.{◌∙◌, refl, []}
+use Rattle.std.proofs.Common.{◌∙◌, refl}
 use Rattle.tb_tables.specs.Expiries.{is_indexed}
-use Rattle.tb_tables.specs.Kept.{Stored}
+use Rattle.tb_tables.specs.Storing.{stored_for_good}
 use Rattle.tb_tables.proofs.Indexing.{same-keys}
 use Rattle.tb_tables.proofs.Due.{due-one, still-due, none-due}
 use Rattle.tb_tables.proofs.lapse.expire_all.Goals as goal
@@ -8,16 +8,16 @@ use Rattle.tb_tables.proofs.lapse.expire_all.Goals as goal
 pub expire-requires : goal.expire-requires
 expire-requires c =
     let failed = c.requires.0 in
-    let now : Stored = record { accounts = c.loop-place.accounts.entries; transfers = c.loop-place.transfers.entries; failed = failed; changes = []; is_indexed = is_indexed c.loop-place.expiries } in
+    let now = stored_for_good c.loop-place.accounts.entries c.loop-place.transfers.entries failed (is_indexed c.loop-place.expiries) in
     let due = c.loop-place.invariant failed c.requires.1 in
     let d = c.in-Some.ensures.due in
     (failed, is_indexed c.loop-place.expiries, (due-one now due.kept refl d.0 c.in-Some.place d.2).0)
 
 pub loop-place-preserved : goal.loop-place-preserved
 loop-place-preserved c = λ failed kept.
-    let old : Stored = record { accounts = c.args.accounts.now.entries; transfers = c.args.transfers.now.entries; failed = failed; changes = []; is_indexed = is_indexed c.args.expiries.now } in
-    let now : Stored = record { accounts = c.loop-place.accounts.entries; transfers = c.loop-place.transfers.entries; failed = failed; changes = []; is_indexed = is_indexed c.loop-place.expiries } in
-    let new : Stored = record { accounts = c.expire.new.accounts.entries; transfers = c.expire.new.transfers.entries; failed = failed; changes = []; is_indexed = is_indexed c.take_due.new.expiries } in
+    let old = stored_for_good c.args.accounts.now.entries c.args.transfers.now.entries failed (is_indexed c.args.expiries.now) in
+    let now = stored_for_good c.loop-place.accounts.entries c.loop-place.transfers.entries failed (is_indexed c.loop-place.expiries) in
+    let new = stored_for_good c.expire.new.accounts.entries c.expire.new.transfers.entries failed (is_indexed c.take_due.new.expiries) in
     let due = c.loop-place.invariant failed kept in
     let d = c.in-Some.ensures.due in
     let one = due-one now due.kept refl d.0 c.in-Some.place d.2 in
@@ -31,6 +31,6 @@ returns-clause-kept c = λ failed kept.
 
 pub returns-clause-lists : goal.returns-clause-lists
 returns-clause-lists c = λ failed kept.
-    let old : Stored = record { accounts = c.args.accounts.now.entries; transfers = c.args.transfers.now.entries; failed = failed; changes = []; is_indexed = is_indexed c.args.expiries.now } in
-    let now : Stored = record { accounts = c.loop-place.accounts.entries; transfers = c.loop-place.transfers.entries; failed = failed; changes = []; is_indexed = is_indexed c.loop-place.expiries } in
+    let old = stored_for_good c.args.accounts.now.entries c.args.transfers.now.entries failed (is_indexed c.args.expiries.now) in
+    let now = stored_for_good c.loop-place.accounts.entries c.loop-place.transfers.entries failed (is_indexed c.loop-place.expiries) in
     none-due c.args.clock old now (c.loop-place.invariant failed kept) c.in_default.ensures.later

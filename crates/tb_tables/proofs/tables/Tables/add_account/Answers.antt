@@ -1,30 +1,27 @@
 use Rattle.std.proofs.Common.{◌∙◌, ap}
 use Rattle.std.specs.Option.{option_map}
-use Rattle.tb_tables.specs.Expiries.{is_indexed}
 use Rattle.tb_tables.specs.Sums.{with_sums, sums_of}
 use Rattle.tb_tables.specs.Changes.{facts_of}
-use Rattle.tb_tables.specs.Kept.{Stored, lists_of}
+use Rattle.tb_tables.specs.Kept.{lists_of}
+use Rattle.tb_tables.specs.Held.{stored_in}
 use Rattle.tb_tables.proofs.Locating.{account-found}
 use Rattle.tb_tables.proofs.Opening.{kept-account}
 use Rattle.tb_tables.proofs.tables.Tables.add_account.Goals as goal
 
 pub push_account-requires : goal.push_account-requires
 push_account-requires c =
-    let o = c.self.inside in
-    let old : Stored = record { accounts = o.accounts.entries; transfers = o.transfers.entries; failed = o.failed.keys; changes = o.changes.items; is_indexed = is_indexed o.expiries } in
+    let old = stored_in c.self.inside in
     let none = rw (← c.self.view_is) at c.requires.new in
     account-found old c.self.invariant c.args.account.id ∙ ap (option_map (with_sums (sums_of (facts_of (lists_of old))))) none
 
 pub invariant_of-self-2 : goal.invariant_of-self-2
 invariant_of-self-2 c =
-    let o = c.self.inside in
-    let old : Stored = record { accounts = o.accounts.entries; transfers = o.transfers.entries; failed = o.failed.keys; changes = o.changes.items; is_indexed = is_indexed o.expiries } in
+    let old = stored_in c.self.inside in
     let none = rw (← c.self.view_is) at c.requires.new in
     rw (c.in_ok-push_account.ensures.ok, c.note.ensures, c.reserve.ensures.items) (kept-account old c.self.invariant c.args.account none c.requires.no_balances).0
 
 pub returns-clause-ok : goal.returns-clause-ok
 returns-clause-ok c =
-    let o = c.self.inside in
-    let old : Stored = record { accounts = o.accounts.entries; transfers = o.transfers.entries; failed = o.failed.keys; changes = o.changes.items; is_indexed = is_indexed o.expiries } in
+    let old = stored_in c.self.inside in
     let none = rw (← c.self.view_is) at c.requires.new in
     rw (← c.self.view_is, c.in_ok-push_account.ensures.ok, c.note.ensures, c.reserve.ensures.items) (kept-account old c.self.invariant c.args.account none c.requires.no_balances).1

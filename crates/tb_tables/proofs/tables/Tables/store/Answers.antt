@@ -5,6 +5,7 @@ use Rattle.tb_tables.specs.Status.{expires_at}
 use Rattle.tb_tables.specs.declared.change.Change.TheVariants.{Transfer as Noted}
 use Rattle.tb_tables.specs.Changes.{facts_of}
 use Rattle.tb_tables.specs.Kept.{Stored, lists_of, is_timed, row_in}
+use Rattle.tb_tables.specs.Held.{stored_in}
 use Rattle.tb_tables.proofs.Locating.{row-found, transfers-length}
 use Rattle.tb_tables.proofs.Stepping as stepping
 use Rattle.tb_tables.proofs.Settling as settling
@@ -12,16 +13,14 @@ use Rattle.tb_tables.proofs.tables.Tables.store.Goals as goal
 
 pub expect-requires : goal.expect-requires
 expect-requires c =
-    let o = c.self.inside in
-    let old : Stored = record { accounts = o.accounts.entries; transfers = o.transfers.entries; failed = o.failed.keys; changes = o.changes.items; is_indexed = is_indexed o.expiries } in
+    let old = stored_in c.self.inside in
     let r = rw (← c.self.view_is) at c.requires in
     let pushed = stepping.pushed old c.self.invariant c.args.transfer c.args.places r.at.are_at r.may _ refl in
     settling.expiry-fits (facts_of (lists_of old)) (lists_of old).accounts c.args.transfer c.args.places pushed.allow
 
 pub push_transfer-requires : goal.push_transfer-requires
 push_transfer-requires c =
-    let o = c.self.inside in
-    let old : Stored = record { accounts = o.accounts.entries; transfers = o.transfers.entries; failed = o.failed.keys; changes = o.changes.items; is_indexed = is_indexed o.expiries } in
+    let old = stored_in c.self.inside in
     let r = rw (← c.self.view_is) at c.requires in
     record {
       key = c.requires.key;
@@ -30,8 +29,7 @@ push_transfer-requires c =
 
 pub invariant_of-self-in-Err : goal.invariant_of-self-in-Err
 invariant_of-self-in-Err c =
-    let o = c.self.inside in
-    let old : Stored = record { accounts = o.accounts.entries; transfers = o.transfers.entries; failed = o.failed.keys; changes = o.changes.items; is_indexed = is_indexed o.expiries } in
+    let old = stored_in c.self.inside in
     let r = rw (← c.self.view_is) at c.requires in
     let place = c.len-place.ensures.len ∙ transfers-length old c.self.invariant in
     let put = rw place at c.in_ok-expect.ensures.ok in
@@ -45,15 +43,14 @@ invariant_of-self-in-Err c =
 
 pub apply-requires : goal.apply-requires
 apply-requires c =
-    let o = c.self.inside in
-    let old : Stored = record { accounts = o.accounts.entries; transfers = o.transfers.entries; failed = o.failed.keys; changes = o.changes.items; is_indexed = is_indexed o.expiries } in
+    let old = stored_in c.self.inside in
     let r = rw (← c.self.view_is) at c.requires in
     (facts_of (lists_of old), (lists_of old).accounts, stepping.pushed old c.self.invariant c.args.transfer c.args.places r.at.are_at r.may c.push_transfer.new.transfers.entries c.in_default.ensures.ok)
 
 pub invariant_of-self-2 : goal.invariant_of-self-2
 invariant_of-self-2 c =
     let o = c.self.inside in
-    let old : Stored = record { accounts = o.accounts.entries; transfers = o.transfers.entries; failed = o.failed.keys; changes = o.changes.items; is_indexed = is_indexed o.expiries } in
+    let old = stored_in c.self.inside in
     let r = rw (← c.self.view_is) at c.requires in
     let n = c.apply.new in
     let new : Stored = record { accounts = n.accounts.entries; transfers = n.transfers.entries; failed = o.failed.keys; changes = c.note.new.changes.items; is_indexed = is_indexed c.expect.new.expiries } in
@@ -65,7 +62,7 @@ invariant_of-self-2 c =
 pub returns-clause-ok : goal.returns-clause-ok
 returns-clause-ok c =
     let o = c.self.inside in
-    let old : Stored = record { accounts = o.accounts.entries; transfers = o.transfers.entries; failed = o.failed.keys; changes = o.changes.items; is_indexed = is_indexed o.expiries } in
+    let old = stored_in c.self.inside in
     let r = rw (← c.self.view_is) at c.requires in
     let n = c.apply.new in
     let new : Stored = record { accounts = n.accounts.entries; transfers = n.transfers.entries; failed = o.failed.keys; changes = c.note.new.changes.items; is_indexed = is_indexed c.expect.new.expiries } in

@@ -1,21 +1,18 @@
 use Rattle.std.proofs.Common.{◌∙◌, sym, ap}
 use Rattle.std.specs.Option.{option_copied, option_map}
-use Rattle.tb_tables.specs.Expiries.{is_indexed}
-use Rattle.tb_tables.specs.Kept.{Stored}
+use Rattle.tb_tables.specs.Held.{stored_in}
 use Rattle.tb_tables.specs.declared.row.Row.{Row}
 use Rattle.tb_tables.proofs.Locating.{transfer-found}
 use Rattle.tb_tables.proofs.tables.Tables.transfer_under.Goals as goal
 
 pub returns-in_err-row : goal.returns-in_err-row
 returns-in_err-row c =
-    let o = c.self.inside in
-    let old : Stored = record { accounts = o.accounts.entries; transfers = o.transfers.entries; failed = o.failed.keys; changes = o.changes.items; is_indexed = is_indexed o.expiries } in
+    let old = stored_in c.self.inside in
     let none = sym c.get.ensures.value ∙ ap option_copied c.in_err-row.was in
     rw (← c.self.view_is) (c.from_residual.ensures ∙ sym (transfer-found old c.self.invariant c.args.key ∙ ap (option_map (λ (row : Row). row.transfer)) none))
 
 pub returns : goal.returns
 returns c =
-    let o = c.self.inside in
-    let old : Stored = record { accounts = o.accounts.entries; transfers = o.transfers.entries; failed = o.failed.keys; changes = o.changes.items; is_indexed = is_indexed o.expiries } in
+    let old = stored_in c.self.inside in
     let some = sym c.get.ensures.value ∙ ap option_copied c.in_ok-row.was in
     rw (← c.self.view_is) (sym (transfer-found old c.self.invariant c.args.key ∙ ap (option_map (λ (row : Row). row.transfer)) some))

@@ -1,7 +1,8 @@
 use Rattle.std.proofs.Common.{◌≡◌, ◌∙◌, ap, refl, ◌++◌, ◌∷◌, []}
 use Rattle.tb_tables.specs.Expiries.{is_indexed}
 use Rattle.tb_tables.specs.Changes.{facts_of, before}
-use Rattle.tb_tables.specs.Kept.{Stored, lists_of}
+use Rattle.tb_tables.specs.Kept.{lists_of}
+use Rattle.tb_tables.specs.Held.{stored_in}
 use Rattle.tb_tables.specs.declared.change.Change.TheVariants.{Account, Transfer, Failed}
 use Rattle.tb_tables.proofs.Opening.{kept-unaccount, kept-unfailed}
 use Rattle.tb_tables.proofs.Stepping as stepping
@@ -10,7 +11,7 @@ use Rattle.tb_tables.proofs.tables.Tables.undo_last.Goals as goal
 pub invariant_of-self-in-Some-Account : goal.invariant_of-self-in-Some-Account
 invariant_of-self-in-Some-Account c =
     let o = c.self.inside in
-    let old : Stored = record { accounts = o.accounts.entries; transfers = o.transfers.entries; failed = o.failed.keys; changes = o.changes.items; is_indexed = is_indexed o.expiries } in
+    let old = stored_in c.self.inside in
     let changes = c.pop.new.self.items in
     let popped : o.changes.items ≡ changes ++ Account ∷ [] = c.in-Some-Account.ensures.items ∙ ap (λ change. changes ++ change ∷ []) c.in-Some-Account.field-0-is in
     rw c.pop_account.ensures (kept-unaccount old c.self.invariant changes popped).0
@@ -18,7 +19,7 @@ invariant_of-self-in-Some-Account c =
 pub returns-in-Some-Account : goal.returns-in-Some-Account
 returns-in-Some-Account c =
     let o = c.self.inside in
-    let old : Stored = record { accounts = o.accounts.entries; transfers = o.transfers.entries; failed = o.failed.keys; changes = o.changes.items; is_indexed = is_indexed o.expiries } in
+    let old = stored_in c.self.inside in
     let changes = c.pop.new.self.items in
     let popped : o.changes.items ≡ changes ++ Account ∷ [] = c.in-Some-Account.ensures.items ∙ ap (λ change. changes ++ change ∷ []) c.in-Some-Account.field-0-is in
     rw (← c.self.view_is, c.pop_account.ensures) (kept-unaccount old c.self.invariant changes popped).1
@@ -26,7 +27,7 @@ returns-in-Some-Account c =
 pub invariant_of-self-in-Some-Failed : goal.invariant_of-self-in-Some-Failed
 invariant_of-self-in-Some-Failed c =
     let o = c.self.inside in
-    let old : Stored = record { accounts = o.accounts.entries; transfers = o.transfers.entries; failed = o.failed.keys; changes = o.changes.items; is_indexed = is_indexed o.expiries } in
+    let old = stored_in c.self.inside in
     let changes = c.pop.new.self.items in
     let popped : o.changes.items ≡ changes ++ Failed ∷ [] = c.in-Some-Failed.ensures.items ∙ ap (λ change. changes ++ change ∷ []) c.in-Some-Failed.field-0-is in
     rw c.pop_failed.ensures (kept-unfailed old c.self.invariant changes popped).0
@@ -34,7 +35,7 @@ invariant_of-self-in-Some-Failed c =
 pub returns-in-Some-Failed : goal.returns-in-Some-Failed
 returns-in-Some-Failed c =
     let o = c.self.inside in
-    let old : Stored = record { accounts = o.accounts.entries; transfers = o.transfers.entries; failed = o.failed.keys; changes = o.changes.items; is_indexed = is_indexed o.expiries } in
+    let old = stored_in c.self.inside in
     let changes = c.pop.new.self.items in
     let popped : o.changes.items ≡ changes ++ Failed ∷ [] = c.in-Some-Failed.ensures.items ∙ ap (λ change. changes ++ change ∷ []) c.in-Some-Failed.field-0-is in
     rw (← c.self.view_is, c.pop_failed.ensures) (kept-unfailed old c.self.invariant changes popped).1
@@ -42,7 +43,7 @@ returns-in-Some-Failed c =
 pub take_back-requires : goal.take_back-requires
 take_back-requires c =
     let o = c.self.inside in
-    let old : Stored = record { accounts = o.accounts.entries; transfers = o.transfers.entries; failed = o.failed.keys; changes = o.changes.items; is_indexed = is_indexed o.expiries } in
+    let old = stored_in c.self.inside in
     let changes = c.pop.new.self.items in
     let places = c.in-Some-Transfer.places in
     let popped : o.changes.items ≡ changes ++ Transfer places ∷ [] = c.in-Some-Transfer.ensures.items ∙ ap (λ change. changes ++ change ∷ []) c.in-Some-Transfer.field-0-is in
@@ -51,7 +52,7 @@ take_back-requires c =
 pub invariant_of-self-in-Some-Transfer : goal.invariant_of-self-in-Some-Transfer
 invariant_of-self-in-Some-Transfer c =
     let o = c.self.inside in
-    let old : Stored = record { accounts = o.accounts.entries; transfers = o.transfers.entries; failed = o.failed.keys; changes = o.changes.items; is_indexed = is_indexed o.expiries } in
+    let old = stored_in c.self.inside in
     let changes = c.pop.new.self.items in
     let places = c.in-Some-Transfer.places in
     let popped : o.changes.items ≡ changes ++ Transfer places ∷ [] = c.in-Some-Transfer.ensures.items ∙ ap (λ change. changes ++ change ∷ []) c.in-Some-Transfer.field-0-is in
@@ -64,7 +65,7 @@ invariant_of-self-in-Some-Transfer c =
 pub returns-in-Some-Transfer : goal.returns-in-Some-Transfer
 returns-in-Some-Transfer c =
     let o = c.self.inside in
-    let old : Stored = record { accounts = o.accounts.entries; transfers = o.transfers.entries; failed = o.failed.keys; changes = o.changes.items; is_indexed = is_indexed o.expiries } in
+    let old = stored_in c.self.inside in
     let changes = c.pop.new.self.items in
     let places = c.in-Some-Transfer.places in
     let popped : o.changes.items ≡ changes ++ Transfer places ∷ [] = c.in-Some-Transfer.ensures.items ∙ ap (λ change. changes ++ change ∷ []) c.in-Some-Transfer.field-0-is in
