@@ -2,11 +2,12 @@
 
 ghost use Rattle.std.specs.Prelude.{◌≡◌, ◌≤◌, ◌<◌, ◌+◌, ◌-◌, ◌^◌, ◌⊎◌, IfSome, IfOk};
 ghost use Rattle.tb_program.specs.Text.{words_of};
-ghost use Rattle.tb_program.specs.Steps.{Gives, Makes, Tells, look_up};
-ghost use Rattle.tb_program.specs.Event.{Lies, field as field_at, field_of, account_fields, transfer_fields, greatest, sides_of, new_field, written, assigned, all_assigned, blank, event_of, hex_bytes};
+ghost use Rattle.tb_program.specs.Steps.{Gives, Makes, Tells};
+ghost use Rattle.tb_program.specs.Event.{Lies, field_of, greatest, sides_of, new_field, written, assigned, all_assigned, blank, event_of, hex_bytes};
 
 use crate::fault::{Fault, LineError};
 use crate::number::number_within;
+use crate::table::look_up;
 use crate::text::{Words, length_before};
 use hex::FromHexError;
 use std::alloc::Global;
@@ -33,85 +34,48 @@ pub struct Draft {
     pub given: [bool; 13],
 }
 
-fn lying_at(place: usize, offset: usize, size: usize) -> Field
-    ensures { result ≡ field_at place offset size }
-{
-    Field {
-        place,
-        offset,
-        size,
-    }
+/// A field at a place among the fields and at an offset, with a size in bytes.
+macro_rules! lying_at {
+    ($place:expr, $offset:expr, $size:expr) => {
+        Field {
+            place: $place,
+            offset: $offset,
+            size: $size,
+        }
+    };
 }
 
-fn account_field(name: &[u8]) -> Option<Field>
-    ensures row { result ≡ look_up name.now account_fields }
-    ensures lies { IfSome result Lies }
-{
-    if name == b"id".as_slice() {
-        Some(lying_at(0, 0, 16))
-    } else if name == b"debits_pending".as_slice() {
-        Some(lying_at(1, 16, 16))
-    } else if name == b"debits_posted".as_slice() {
-        Some(lying_at(2, 32, 16))
-    } else if name == b"credits_pending".as_slice() {
-        Some(lying_at(3, 48, 16))
-    } else if name == b"credits_posted".as_slice() {
-        Some(lying_at(4, 64, 16))
-    } else if name == b"user_data_128".as_slice() {
-        Some(lying_at(5, 80, 16))
-    } else if name == b"user_data_64".as_slice() {
-        Some(lying_at(6, 96, 8))
-    } else if name == b"user_data_32".as_slice() {
-        Some(lying_at(7, 104, 4))
-    } else if name == b"reserved".as_slice() {
-        Some(lying_at(8, 108, 4))
-    } else if name == b"ledger".as_slice() {
-        Some(lying_at(9, 112, 4))
-    } else if name == b"code".as_slice() {
-        Some(lying_at(10, 116, 2))
-    } else if name == b"flags".as_slice() {
-        Some(lying_at(11, 118, 2))
-    } else if name == b"timestamp".as_slice() {
-        Some(lying_at(12, 120, 8))
-    } else {
-        None
-    }
-}
+const ACCOUNT_FIELDS: [(&[u8], Field); 13] = [
+    (b"id", lying_at!(0, 0, 16)),
+    (b"debits_pending", lying_at!(1, 16, 16)),
+    (b"debits_posted", lying_at!(2, 32, 16)),
+    (b"credits_pending", lying_at!(3, 48, 16)),
+    (b"credits_posted", lying_at!(4, 64, 16)),
+    (b"user_data_128", lying_at!(5, 80, 16)),
+    (b"user_data_64", lying_at!(6, 96, 8)),
+    (b"user_data_32", lying_at!(7, 104, 4)),
+    (b"reserved", lying_at!(8, 108, 4)),
+    (b"ledger", lying_at!(9, 112, 4)),
+    (b"code", lying_at!(10, 116, 2)),
+    (b"flags", lying_at!(11, 118, 2)),
+    (b"timestamp", lying_at!(12, 120, 8)),
+];
 
-fn transfer_field(name: &[u8]) -> Option<Field>
-    ensures row { result ≡ look_up name.now transfer_fields }
-    ensures lies { IfSome result Lies }
-{
-    if name == b"id".as_slice() {
-        Some(lying_at(0, 0, 16))
-    } else if name == b"debit_account_id".as_slice() {
-        Some(lying_at(1, 16, 16))
-    } else if name == b"credit_account_id".as_slice() {
-        Some(lying_at(2, 32, 16))
-    } else if name == b"amount".as_slice() {
-        Some(lying_at(3, 48, 16))
-    } else if name == b"pending_id".as_slice() {
-        Some(lying_at(4, 64, 16))
-    } else if name == b"user_data_128".as_slice() {
-        Some(lying_at(5, 80, 16))
-    } else if name == b"user_data_64".as_slice() {
-        Some(lying_at(6, 96, 8))
-    } else if name == b"user_data_32".as_slice() {
-        Some(lying_at(7, 104, 4))
-    } else if name == b"timeout".as_slice() {
-        Some(lying_at(8, 108, 4))
-    } else if name == b"ledger".as_slice() {
-        Some(lying_at(9, 112, 4))
-    } else if name == b"code".as_slice() {
-        Some(lying_at(10, 116, 2))
-    } else if name == b"flags".as_slice() {
-        Some(lying_at(11, 118, 2))
-    } else if name == b"timestamp".as_slice() {
-        Some(lying_at(12, 120, 8))
-    } else {
-        None
-    }
-}
+const TRANSFER_FIELDS: [(&[u8], Field); 13] = [
+    (b"id", lying_at!(0, 0, 16)),
+    (b"debit_account_id", lying_at!(1, 16, 16)),
+    (b"credit_account_id", lying_at!(2, 32, 16)),
+    (b"amount", lying_at!(3, 48, 16)),
+    (b"pending_id", lying_at!(4, 64, 16)),
+    (b"user_data_128", lying_at!(5, 80, 16)),
+    (b"user_data_64", lying_at!(6, 96, 8)),
+    (b"user_data_32", lying_at!(7, 104, 4)),
+    (b"timeout", lying_at!(8, 108, 4)),
+    (b"ledger", lying_at!(9, 112, 4)),
+    (b"code", lying_at!(10, 116, 2)),
+    (b"flags", lying_at!(11, 118, 2)),
+    (b"timestamp", lying_at!(12, 120, 8)),
+];
 
 #[tactic(auto, unfolding(crate::specs::Event::field_of))]
 fn field_of(layout: Layout, name: &[u8]) -> Option<Field>
@@ -119,8 +83,8 @@ fn field_of(layout: Layout, name: &[u8]) -> Option<Field>
     ensures lies { IfSome result Lies }
 {
     match layout {
-        Layout::Account => account_field(name),
-        Layout::Transfer => transfer_field(name),
+        Layout::Account => look_up(&ACCOUNT_FIELDS, name),
+        Layout::Transfer => look_up(&TRANSFER_FIELDS, name),
     }
 }
 

@@ -22,6 +22,7 @@ mod program_fault;
 mod read;
 mod script;
 mod submitter_number;
+mod table;
 #[cfg(test)]
 mod tests;
 mod text;
