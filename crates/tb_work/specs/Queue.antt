@@ -1,6 +1,6 @@
--- Queues of tickets: each sender's part, what is ahead of the close, and lists that an end closes.
-use Rattle.std.specs.Prelude.{◌≡◌, ℕ, ◌==◌, Bool, true, false, not, List, [], ◌∷◌, ◌++◌, map, filter}
-use Rattle.std.specs.List.{list_all}
+-- Queues of tickets: each sender's part, what is ahead of the Close, and what is known of them once all have ended.
+use Rattle.std.specs.Prelude.{◌≡◌, ◌<◌, ◌≤◌, ℕ, ◌+◌, ◌==◌, Bool, true, false, not, List, [], ◌∷◌, ◌++◌, map, filter}
+use Rattle.std.specs.List.{list_all, AllByRecursion}
 use Rattle.tb_work.specs.declared.item.Item.{Item}
 use Rattle.tb_work.specs.declared.item.Item.TheVariants.{Packet, Pulse, End, Close}
 use Rattle.tb_work.specs.declared.item.Ticket.{Ticket}
@@ -40,3 +40,34 @@ pub record IsEnded (items : List Item) : Type 0 where
   pub parts : items ≡ body ++ last ∷ []
   pub unended : IsUnended body
   pub ends : is_end last ≡ true
+
+-- the items of a queue, without their senders
+abbrev pub items_in : List Ticket → List Item
+items_in queue = map (λ (ticket : Ticket). ticket.item) queue
+
+-- a packet is its sender's own, and that sender is one of so many submitters
+abbrev pub IsSubmitted : ℕ → ℕ → Item → Type 0
+IsSubmitted submitters sender (Packet job) = (job.submitter ≡ sender) × (sender < submitters)
+IsSubmitted submitters sender (Pulse moment) = Unit {0}
+IsSubmitted submitters sender End = Unit {0}
+IsSubmitted submitters sender Close = Unit {0}
+
+abbrev pub AreSubmitted : ℕ → List Ticket → Type 0
+AreSubmitted submitters queue = AllByRecursion (λ (ticket : Ticket). IsSubmitted submitters ticket.sender ticket.item) queue
+
+-- a sender's packets are its own, and numbered from a number on
+abbrev pub AreNumbered : ℕ → ℕ → List Item → Type 0
+AreNumbered sender number [] = Unit {0}
+AreNumbered sender number (Packet job ∷ items) = (job.submitter ≡ sender) × (job.number ≡ number) × AreNumbered sender (number + 1) items
+AreNumbered sender number (Pulse moment ∷ items) = AreNumbered sender number items
+AreNumbered sender number (End ∷ items) = AreNumbered sender number items
+AreNumbered sender number (Close ∷ items) = AreNumbered sender number items
+
+-- A queue as its senders filled it: senders 0 to `submitters` (the last is the control) put in it just what each of them
+-- queued, in order and with its end last; each packet is its submitter's own, and numbered from 0; nobody else is in it.
+pub record IsQueueOf (submitters : ℕ) (queue : List Ticket) (queued : ℕ → List Item) : Type 0 where
+  pub parts : (sender : ℕ) → sender ≤ submitters → part sender queue ≡ queued sender
+  pub strangers : (sender : ℕ) → submitters < sender → part sender queue ≡ []
+  pub submitted : AreSubmitted submitters queue
+  pub numbered : (sender : ℕ) → sender ≤ submitters → AreNumbered sender 0 (queued sender)
+  pub ended : (sender : ℕ) → sender ≤ submitters → IsEnded (queued sender)
