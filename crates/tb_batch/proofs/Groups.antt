@@ -1,6 +1,6 @@
 -- One packet more in a group.
-use Rattle.std.proofs.Common.{refl, sym, ap, ◌∙◌, arith, ◌≡◌, ◌==◌, ℕ, ◌+◌, ◌<◌, ◌≤◌, Bool, true, false, nat_le, List, [], ◌∷◌, ◌++◌, ◌&&◌, length, map, append_assoc, append-nil, length-append}
-use Rattle.std.specs.Prelude.{Result, Ok, Err, OnOk, OnErr}
+use Rattle.std.proofs.Common.{refl, sym, ap, subst, ◌∙◌, arith, ◌≡◌, ◌==◌, ℕ, ◌+◌, ◌<◌, ◌≤◌, Bool, true, false, nat_le, List, [], ◌∷◌, ◌++◌, ◌&&◌, length, map, append_assoc, append-nil, length-append}
+use Rattle.std.specs.Prelude.{Result, Ok, Err, OnOk, OnErr, IsOk}
 use Rattle.std.specs.Result.{is_err}
 use Rattle.std.specs.List.{list_all}
 use Rattle.std.proofs.lemmas.Bool.{and_parts, eqb-true}
@@ -8,12 +8,15 @@ use Rattle.std.proofs.lemmas.Bool.Decides.{nat_tests}
 use Rattle.std.proofs.lemmas.List.{map-append}
 use Rattle.std.proofs.lemmas.List.Folds.{list_all-append}
 use Rattle.std.proofs.lemmas.Grind.{flat_map-append}
-use Rattle.tb_work.specs.Admission.{count_of}
+use Rattle.tb_work.specs.Admission.{count_of, admitted}
 use Rattle.tb_work.specs.Job.{Numbered, count_of_all, stub_of}
 use Rattle.tb_batch.specs.declared.parts.Parts.{Parts}
 use Rattle.tb_batch.specs.Grouping.{can_share, are_of, joins, is_taken, join_in_turn, IsGroup}
-use Rattle.tb_batch.specs.Held.{IsHeld}
-use Rattle.tb_batch.specs.Batch.{HasRoom, IsGroupOf, body_of}
+use Rattle.tb_batch.specs.declared.offered.Offered.{Offered}
+use Rattle.tb_batch.specs.declared.offered.Offered.TheVariants.{Joined, Sealed, Refused}
+use Rattle.tb_batch.specs.Held.{Held, IsHeld}
+use Rattle.tb_batch.specs.Offering.{Offers}
+use Rattle.tb_batch.specs.Batch.{HasRoom, IsGroupOf, AreAdmitted, body_of}
 
 count_of_all-push : (jobs : List Numbered) (job : Numbered) → count_of_all (jobs ++ job ∷ []) ≡ count_of_all jobs + count_of job.packet
 count_of_all-push [] job = omega arith
@@ -58,6 +61,12 @@ pub group_more : (limit : ℕ) (jobs : List Numbered) (job : Numbered) → IsGro
 group_more limit [] job h j = refl
 group_more limit (first ∷ jobs) job h j = joined_behind limit (first ∷ []) jobs job h j
 
+-- what is held after an offer is a group
+pub offered_group : (old new : Held) (job : Numbered) (offered : Offered) → IsGroup old.limit old.jobs → Offers old job offered new → IsGroup new.limit new.jobs
+offered_group old new job Joined group is = rw is.0 (group_more old.limit old.jobs job group is.1)
+offered_group old new job (Sealed batch) group is = rw is.1 refl
+offered_group old new job (Refused back refused) group is = rw is.1 group
+
 -- a group joined by a packet, or left as it was, is held
 pub still_held : {E : Type 0} (result : Result (Unit {0}) E) (limit : ℕ) (old new : List Numbered) (job : Numbered) → IsHeld limit old → is_taken limit old job ≡ true →
     OnOk result (new ≡ old ++ job ∷ []) → OnErr result (new ≡ old) → IsHeld limit new
@@ -85,11 +94,15 @@ pub given : {T E : Type 0} (r : Result T E) (P : Type 0) → is_err r ≡ false 
 given (Ok x) P h p = p
 given (Err e) P h p = cc
 
+admitted-push : (jobs : List Numbered) (job : Numbered) → AreAdmitted jobs → IsOk (admitted 8190 job.packet) → AreAdmitted (jobs ++ job ∷ [])
+admitted-push [] job all ok = (ok, tt)
+admitted-push (first ∷ jobs) job all ok = (all.0, admitted-push jobs job all.1 ok)
+
 -- one job more, for which there was room
 pub batch_more : (old new : Parts) (shares : Bool) (events limit : ℕ) (job : Numbered) → IsGroupOf old shares events → limit ≤ 8190 → is_taken limit old.jobs.items job ≡ true →
-    new.operation ≡ old.operation → new.jobs.items ≡ old.jobs.items ++ job ∷ [] → new.stubs.items ≡ old.stubs.items ++ stub_of job ∷ [] → new.body.items ≡ old.body.items ++ job.packet.bytes →
+    IsOk (admitted 8190 job.packet) → new.operation ≡ old.operation → new.jobs.items ≡ old.jobs.items ++ job ∷ [] → new.stubs.items ≡ old.stubs.items ++ stub_of job ∷ [] → new.body.items ≡ old.body.items ++ job.packet.bytes →
     HasRoom old.operation (events + count_of job.packet) new.failures new.accounts → IsGroupOf new shares (events + count_of job.packet)
-batch_more old new shares events limit job h few taken operation jobs stubs body room =
+batch_more old new shares events limit job h few taken ok operation jobs stubs body room =
     let known = both_true shares (can_share job) (old.operation == job.packet.operation) (nat_le (events + count_of job.packet) limit) (sym (taken_by old shares events limit job h) ∙ taken) in
     let lawful = h.whole.lawful in
     let count : count_of_all new.jobs.items ≡ events + count_of job.packet = ap count_of_all jobs ∙ count_of_all-push old.jobs.items job ∙ ap (λ n. n + count_of job.packet) (sym h.counted) in
@@ -102,6 +115,7 @@ batch_more old new shares events limit job h few taken operation jobs stubs body
       whole = record {
         lawful = record {
           some = omega (arith, ap length jobs, length-append old.jobs.items (job ∷ []));
+          all_admitted = subst AreAdmitted (sym jobs) (admitted-push old.jobs.items job lawful.all_admitted ok);
           one_operation = ap (are_of new.operation) jobs ∙ list_all-append (λ (j : Numbered). j.packet.operation == new.operation) old.jobs.items (job ∷ []) ∙ one_operation;
           few = omega (arith, count, le_true (events + count_of job.packet) limit known.3);
           alone = λ _. all_share;

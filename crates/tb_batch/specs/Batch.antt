@@ -1,9 +1,10 @@
 -- A batch.
-use Rattle.std.specs.Prelude.{◌≡◌, ◌==◌, ◌<◌, ◌≤◌, ℕ, Bool, true, false, List, [], ◌∷◌, length, map, Vec, vec_capacity}
-use Rattle.std.specs.List.{flat_map, list_all}
+use Rattle.std.specs.Prelude.{◌≡◌, ◌==◌, ◌<◌, ◌≤◌, ℕ, Bool, true, false, List, [], ◌∷◌, length, map, IsOk, Vec, vec_capacity}
+use Rattle.std.specs.List.{flat_map, list_all, AllByRecursion}
 use Rattle.std.specs.declared.alloc.Global.{Global}
 use Rattle.tb_layout.specs.declared.account.Account.{Account}
 use Rattle.tb_layout.specs.declared.failure.Failure.{Failure}
+use Rattle.tb_work.specs.Admission.{admitted}
 use Rattle.tb_work.specs.Job.{Numbered, count_of_all, stub_of}
 use Rattle.tb_batch.specs.declared.parts.Parts.{Parts}
 use Rattle.tb_batch.specs.Grouping.{can_share, are_of}
@@ -12,9 +13,14 @@ use Rattle.tb_batch.specs.Grouping.{can_share, are_of}
 abbrev pub body_of : List Numbered → List ℕ
 body_of jobs = flat_map (λ job. job.packet.bytes) jobs
 
--- some packets of one operation, of at most 8190 events together; one that can't share its batch is alone
+-- each packet was admitted
+abbrev pub AreAdmitted : List Numbered → Type 0
+AreAdmitted jobs = AllByRecursion (λ job. IsOk (admitted 8190 job.packet)) jobs
+
+-- some admitted packets of one operation, of at most 8190 events together; one that can't share its batch is alone
 pub record IsLawful (operation : ℕ) (jobs : List Numbered) : Type 0 where
   pub some : 0 < length jobs
+  pub all_admitted : AreAdmitted jobs
   pub one_operation : are_of operation jobs ≡ true
   pub few : count_of_all jobs ≤ 8190
   pub alone : 1 < length jobs → list_all can_share jobs ≡ true

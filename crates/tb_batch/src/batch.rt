@@ -26,7 +26,7 @@ impl Model for Batch {
 }
 
 impl Batch {
-    ghost use Rattle.tb_batch.specs.Batch.{body_of, operation_of, AreParts, IsLawful};
+    ghost use Rattle.tb_batch.specs.Batch.{body_of, operation_of, AreAdmitted, AreParts, IsLawful};
 
     /// The batch of these parts, as after a commit that was refused. Takes no memory.
     pub fn whole(parts: Parts) -> Batch
@@ -53,7 +53,7 @@ impl Batch {
     /// Its jobs in order.
     pub fn jobs(&self) -> &[Job]
         ensures jobs { result.now ≡ self.now }
-        ensures some { 0 < length self.now }
+        ensures some { (0 < length self.now) × AreAdmitted self.now }
     {
         self.parts.jobs.as_slice()
     }

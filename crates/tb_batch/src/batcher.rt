@@ -1,6 +1,6 @@
 //! The batcher.
 
-ghost use Rattle.std.specs.Prelude.{◌≡◌, ◌<◌, ◌≤◌, ◌∷◌, [], IfOk, IfErr, IsOk, IfSome, IfNone, true, false};
+ghost use Rattle.std.specs.Prelude.{◌≡◌, ◌<◌, ◌≤◌, ◌∷◌, [], length, IfOk, IfErr, IsOk, IfSome, IfNone, true, false};
 ghost use Rattle.tb_work.specs.declared.refusal.Refusal.TheVariants.{BadLimit};
 
 use crate::batch::Batch;
@@ -104,6 +104,7 @@ impl Batcher {
     pub fn offer(&mut self, job: Job) -> Offered
         ensures offers { Offers self.old job result self.new }
         ensures lawful { IsGroup self.old.limit self.old.jobs }
+        ensures stays_lawful { IsGroup self.new.limit self.new.jobs }
     {
         if self.takes(&job) {
             self.join(job)
@@ -115,7 +116,7 @@ impl Batcher {
     /// The group held, which is then no longer held; None where nothing was. Takes no memory.
     pub fn seal(&mut self) -> Option<Batch>
         ensures left { self.new ≡ holding self.old [] }
-        ensures some { IfSome result (λ batch. batch ≡ self.old.jobs) }
+        ensures some { IfSome result (λ batch. (batch ≡ self.old.jobs) × (0 < length self.old.jobs)) }
         ensures none { IfNone result (self.old.jobs ≡ []) }
         ensures lawful { IsGroup self.old.limit self.old.jobs }
     {

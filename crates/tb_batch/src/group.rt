@@ -1,6 +1,6 @@
 //! The group that a batcher holds.
 
-ghost use Rattle.std.specs.Prelude.{◌≡◌, ◌<◌, ◌≤◌, ◌++◌, ◌∷◌, [], IfOk, IfErr, OnOk, OnErr};
+ghost use Rattle.std.specs.Prelude.{◌≡◌, ◌<◌, ◌≤◌, ◌++◌, ◌∷◌, [], length, IfOk, IfErr, OnOk, OnErr};
 ghost use Rattle.tb_work.specs.Admission.{count_of};
 ghost use Rattle.tb_work.specs.Job.{is_lookup};
 ghost use Rattle.std.specs.Prelude.{true};
@@ -96,7 +96,8 @@ impl Group {
 
     /// The group as a batch, to which nothing joins any more.
     pub(crate) fn seal(self) -> Batch
-        ensures { result ≡ self }
+        ensures batch { result ≡ self }
+        ensures some { 0 < length self }
     {
         Batch::whole(self.parts)
     }

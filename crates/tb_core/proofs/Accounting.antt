@@ -1,17 +1,25 @@
 -- What a front hands out and then holds is what it held, followed by what the ticket comes to.
-use Rattle.std.proofs.Common.{refl, sym, ap, subst, ◌∙◌, ◌≡◌, ℕ, Bool, true, false, List, [], ◌∷◌, ◌++◌, map, append-nil, append_assoc}
-use Rattle.std.specs.Prelude.{◌||◌, if◌then◌else◌}
-use Rattle.std.proofs.lemmas.List.{map-append}
+use Rattle.std.proofs.Common.{refl, sym, ap, subst, ◌∙◌, arith, ◌≡◌, ◌≢◌, ◌<◌, ◌≤◌, ℕ, Bool, true, false, List, [], ◌∷◌, ◌++◌, length, map, get_or, append-nil, append_assoc}
+use Rattle.std.specs.Prelude.{◌||◌, ◌==◌, filter, slice_set, if◌then◌else◌}
+use Rattle.std.specs.List.{list_any}
+use Rattle.std.proofs.lemmas.Bool.{eqb-true}
+use Rattle.std.proofs.lemmas.Bool.Decides.{nat_tests}
+use Rattle.std.proofs.lemmas.List.{map-append, get_or-set_same, get_or-set_other}
+use Rattle.std.proofs.lemmas.List.Elements.{filter-append}
+use Rattle.std.proofs.lemmas.List.Folds.{list_any-append}
 use Rattle.std.proofs.lemmas.Grind.{flat_map-append}
 use Rattle.tb_work.specs.Job.{Numbered}
+use Rattle.tb_work.specs.Queue.{part, is_end}
 use Rattle.tb_work.specs.declared.item.Item.{Item}
+use Rattle.tb_work.specs.declared.item.Ticket.{Ticket}
 use Rattle.tb_work.specs.declared.item.Item.TheVariants as item
-use Rattle.tb_batch.specs.Grouping.{is_taken}
+use Rattle.tb_batch.specs.Grouping.{is_taken, IsGroup}
 use Rattle.tb_core.specs.declared.parcel.Cause.TheVariants.{Shutdown, Stopped}
 use Rattle.tb_core.specs.declared.parcel.Parcel.{Parcel}
 use Rattle.tb_core.specs.declared.parcel.Parcel.TheVariants.{Pulse, Return}
 use Rattle.tb_core.specs.Passage.{Passage, Admitted, Returned, passed, Passes, is_close, stops_at}
-use Rattle.tb_core.specs.Front.{FrontState, Taken, IsFront, handing, holding, sealed, with_end, all_ended, took, took_packet, took_pulse, spelled, spelled_one, held_by}
+use Rattle.tb_core.specs.Front.{FrontState, Taken, IsFront, handing, holding, sealed, with_end, all_ended, ended_after, KnowsEnds, took, took_packet, took_pulse, spelled, spelled_one, held_by}
+use Rattle.tb_core.specs.Grouping.{AreJoinedParcels}
 use Rattle.tb_core.proofs.Passing.{passes_more}
 
 abbrev pub IsAccounted : FrontState → Item → Taken → Type 0
@@ -113,7 +121,91 @@ goes_on front next sender x parcels took_is going =
     none item.End = refl
     none item.Close = refl
 
--- ---- the queue with the ticket behind it
+-- ---- what stays, and who has ended then
+
+limit_then : (refused : Bool) (front : FrontState) (sender : ℕ) (x : Item) → (took refused front sender x).front.limit ≡ front.limit
+limit_then refused front sender (item.Packet job) =
+    let limit : Taken → ℕ = λ taken. taken.front.limit in
+    either_same limit front.closed _ _ front.limit refl
+    (either_same limit front.stopped _ _ front.limit refl (either_same limit refused _ _ front.limit refl (either_same limit (is_taken front.limit front.held job) _ _ front.limit refl refl)))
+limit_then refused front sender (item.Pulse moment) = either_same (λ taken. taken.front.limit) (front.closed || front.stopped) _ _ front.limit refl refl
+limit_then refused front sender item.End = either_same (λ taken. taken.front.limit) (all_ended (with_end front sender)) _ _ front.limit refl refl
+limit_then refused front sender item.Close = refl
+
+submitters_then : (refused : Bool) (front : FrontState) (sender : ℕ) (x : Item) → (took refused front sender x).front.submitters ≡ front.submitters
+submitters_then refused front sender (item.Packet job) =
+    let submitters : Taken → ℕ = λ taken. taken.front.submitters in
+    either_same submitters front.closed _ _ front.submitters refl
+    (either_same submitters front.stopped _ _ front.submitters refl
+    (either_same submitters refused _ _ front.submitters refl (either_same submitters (is_taken front.limit front.held job) _ _ front.submitters refl refl)))
+submitters_then refused front sender (item.Pulse moment) = either_same (λ taken. taken.front.submitters) (front.closed || front.stopped) _ _ front.submitters refl refl
+submitters_then refused front sender item.End = either_same (λ taken. taken.front.submitters) (all_ended (with_end front sender)) _ _ front.submitters refl refl
+submitters_then refused front sender item.Close = refl
+
+ended_then : (refused : Bool) (front : FrontState) (sender : ℕ) (x : Item) → (took refused front sender x).front.ended ≡ ended_after front.ended sender x
+ended_then refused front sender (item.Packet job) =
+    let ended : Taken → List Bool = λ taken. taken.front.ended in
+    either_same ended front.closed _ _ front.ended refl
+    (either_same ended front.stopped _ _ front.ended refl (either_same ended refused _ _ front.ended refl (either_same ended (is_taken front.limit front.held job) _ _ front.ended refl refl)))
+ended_then refused front sender (item.Pulse moment) = either_same (λ taken. taken.front.ended) (front.closed || front.stopped) _ _ front.ended refl refl
+ended_then refused front sender item.End = either_same (λ taken. taken.front.ended) (all_ended (with_end front sender)) _ _ (with_end front sender).ended refl refl
+ended_then refused front sender item.Close = refl
+
+same_number : (n : ℕ) → (n == n) ≡ true
+same_number n = grind (arith, nat_tests)
+
+differ : (a b : ℕ) → (b == a) ≡ false → a ≢ b
+differ a b h e = let f = sym (ap (λ n. b == n) e ∙ same_number b) ∙ h in cc
+
+-- one ticket more in a queue of which it is known who has ended
+ends_more : (ended : List Bool) (queue : List Ticket) (ticket : Ticket) (sender : ℕ) → ticket.sender < length ended → get_or ended sender false ≡ list_any is_end (part sender queue) →
+    get_or (ended_after ended ticket.sender ticket.item) sender false ≡ list_any is_end (part sender (queue ++ ticket ∷ []))
+ends_more ended queue ticket sender within known =
+    by (is_end ticket.item) (ticket.sender == sender) refl refl
+    ∙ sym (ap (list_any is_end) (ap (map item_in) (filter-append is_its queue (ticket ∷ [])) ∙ map-append item_in (filter is_its queue) (filter is_its (ticket ∷ [])))
+    ∙ list_any-append is_end (part sender queue) (map item_in (filter is_its (ticket ∷ []))))
+  where
+    item_in : Ticket → Item
+    item_in ticket = ticket.item
+
+    is_its : Ticket → Bool
+    is_its ticket = ticket.sender == sender
+
+    by : (end its : Bool) → is_end ticket.item ≡ end → (ticket.sender == sender) ≡ its →
+        get_or (if end then slice_set ended ticket.sender true else ended) sender false ≡ (list_any is_end (part sender queue) || list_any is_end (map item_in (if its then ticket ∷ [] else [])))
+    by false false e i = known ∙ sym (or_false _)
+    by false true e i = known ∙ sym (or_false _) ∙ ap (λ b. list_any is_end (part sender queue) || (b || false)) (sym e)
+    by true false e i = get_or-set_other ended ticket.sender sender true false (differ sender ticket.sender i) ∙ known ∙ sym (or_false _)
+    by true true e i =
+        let same = eqb-true ticket.sender sender i in
+        ap (λ n. get_or (slice_set ended ticket.sender true) n false) (sym same) ∙ get_or-set_same ended ticket.sender true false within
+        ∙ sym (ap (λ b. list_any is_end (part sender queue) || (b || false)) e ∙ or_true _)
+
+-- ---- the batches are lawful
+
+sealed_joined : (limit : ℕ) (held : List Numbered) (others : List Parcel) → IsGroup limit held → AreJoinedParcels limit others → AreJoinedParcels limit (sealed held ++ others)
+sealed_joined limit [] others group is = is
+sealed_joined limit (job ∷ jobs) others group is = (group, is)
+
+either_joined : (limit : ℕ) (b : Bool) (x y : Taken) → AreJoinedParcels limit x.parcels → AreJoinedParcels limit y.parcels → AreJoinedParcels limit (if b then x else y).parcels
+either_joined limit true x y one other = one
+either_joined limit false x y one other = other
+
+alone_joined : (limit : ℕ) (held : List Numbered) → IsGroup limit held → AreJoinedParcels limit (sealed held)
+alone_joined limit held group = subst (AreJoinedParcels limit) (append-nil (sealed held)) (sealed_joined limit held [] group tt)
+
+joined_then : (refused : Bool) (front : FrontState) (sender : ℕ) (x : Item) → IsGroup front.limit front.held → AreJoinedParcels front.limit (took refused front sender x).parcels
+joined_then refused front sender (item.Packet job) group =
+    either_joined front.limit front.closed _ _ (tt, tt)
+    (either_joined front.limit front.stopped _ _ (tt, tt)
+    (either_joined front.limit refused _ _ (sealed_joined front.limit front.held (Return job Stopped ∷ []) group (tt, tt))
+    (either_joined front.limit (is_taken front.limit front.held job) _ _ tt (alone_joined front.limit front.held group))))
+joined_then refused front sender (item.Pulse moment) group =
+    either_joined front.limit (front.closed || front.stopped) _ _ tt (sealed_joined front.limit front.held (Pulse moment ∷ []) group (tt, tt))
+joined_then refused front sender item.End group = either_joined front.limit (all_ended (with_end front sender)) _ _ (alone_joined front.limit front.held group) tt
+joined_then refused front sender item.Close group = alone_joined front.limit front.held group
+
+-- ---- the queue with the ticket after it
 
 pub taken_passes : (refused : Bool) (front next : FrontState) (sender : ℕ) (x : Item) (parcels : List Parcel) (items : List Item) (sent : List Passage) → IsFront front → handing next parcels ≡ took refused front sender x →
     Passes items front.closed front.stopped (sent ++ held_by front) → Passes (items ++ x ∷ []) next.closed next.stopped ((sent ++ spelled parcels) ++ held_by next)
@@ -127,3 +219,35 @@ taken_passes refused front next sender x parcels items sent is took_is passes =
     (subst (λ b. Passes (items ++ x ∷ []) b next.stopped ((sent ++ held_by front) ++ passed front.closed next.stopped x)) (sym closed)
     (subst (λ b. Passes (items ++ x ∷ []) (front.closed || is_close x) b ((sent ++ held_by front) ++ passed front.closed b x)) (sym stopped)
     (passes_more refused items front.closed front.stopped (sent ++ held_by front) x passes)))
+
+-- all that holds of a front that took a ticket
+pub record HasTaken (front next : FrontState) (ticket : Ticket) (parcels : List Parcel) : Type 0 where
+  pub accounted : IsAccounted front ticket.item (handing next parcels)
+  pub passes : (items : List Item) (sent : List Passage) → Passes items front.closed front.stopped (sent ++ held_by front) →
+      Passes (items ++ ticket.item ∷ []) next.closed next.stopped ((sent ++ spelled parcels) ++ held_by next)
+  pub lawful : AreJoinedParcels front.limit parcels
+  pub ends : (queue : List Ticket) → KnowsEnds queue front → KnowsEnds (queue ++ ticket ∷ []) next
+  pub same : (next.limit ≡ front.limit) × (next.submitters ≡ front.submitters)
+
+pub has_taken : (refused : Bool) (front next : FrontState) (ticket : Ticket) (parcels : List Parcel) → IsFront front → ticket.sender ≤ front.submitters →
+    handing next parcels ≡ took refused front ticket.sender ticket.item → HasTaken front next ticket parcels
+has_taken refused front next ticket parcels is among took_is =
+    let sender = ticket.sender in
+    let x = ticket.item in
+    let submitters : next.submitters ≡ front.submitters = ap (λ (taken : Taken). taken.front.submitters) took_is ∙ submitters_then refused front sender x in
+    record {
+      accounted = taken_is_accounted refused front next sender x parcels is took_is;
+      passes = λ items sent passes. taken_passes refused front next sender x parcels items sent is took_is passes;
+      lawful = subst (λ (taken : Taken). AreJoinedParcels front.limit taken.parcels) (sym took_is) (joined_then refused front sender x is.group);
+      ends = λ queue knows other below.
+          ap (λ (taken : Taken). get_or taken.front.ended other false) took_is ∙ ap (λ ended. get_or ended other false) (ended_then refused front sender x)
+          ∙ ends_more front.ended queue ticket other (omega (arith, among, is.few, is.places)) (knows other (omega (arith, below, submitters)));
+      same = (ap (λ (taken : Taken). taken.front.limit) took_is ∙ limit_then refused front sender x, submitters);
+    }
+
+-- the same where a growth was refused first, and the ticket came back
+pub has_taken_again : (refused : Bool) (front tried next : FrontState) (ticket back : Ticket) (parcels : List Parcel) → IsFront front → ticket.sender ≤ front.submitters → back ≡ ticket → tried ≡ front →
+    handing next parcels ≡ took refused tried back.sender back.item → HasTaken front next ticket parcels
+has_taken_again refused front tried next ticket back parcels is among same_ticket same_front took_is =
+    has_taken refused front next ticket parcels is among
+    (took_is ∙ ap (λ (t : Ticket). took refused tried t.sender t.item) same_ticket ∙ ap (λ (f : FrontState). took refused f ticket.sender ticket.item) same_front)

@@ -14,29 +14,29 @@ use Rattle.tb_machine.specs.Clock.{clock_max}
 use Rattle.tb_machine.specs.Operations.{create_accounts, create_transfers}
 use Rattle.tb_machine.proofs.Joined.{ArePacketsOf}
 use Rattle.tb_machine.specs.Replay.{State, failures_of, accounts_found, answer_of, after_packet}
-use Rattle.tb_work.specs.declared.answer.Answer.TheVariants.{Accounts as Looked_up}
-use Rattle.tb_work.specs.declared.answer.Outcome.TheVariants.{Committed}
+use Rattle.tb_layout.specs.declared.answer.Answer.TheVariants.{Accounts as Looked_up}
+use Rattle.tb_work.specs.declared.outcome.Outcome.TheVariants.{Committed}
 use Rattle.tb_work.specs.Admission.{event_size, admitted_of_size, count_of, count_of_size}
 use Rattle.tb_work.specs.Job.{Numbered, events_in, count_of_all, is_lookup, stub_of, is_open as is_open_packet}
 use Rattle.tb_work.specs.Reply.{reply_with}
 use Rattle.tb_work.specs.Work.{work_of}
 use Rattle.tb_batch.specs.Grouping.{can_share, are_of}
-use Rattle.tb_batch.specs.Batch.{body_of, IsLawful}
+use Rattle.tb_batch.specs.Batch.{body_of, IsLawful, AreAdmitted}
 use Rattle.tb_demux.specs.Cutting.{replies_from}
-use Rattle.tb_core.specs.Admitted.{AreAdmitted}
-use Rattle.tb_core.specs.Ledger.{answer_as, committed_from, packets_of}
+use Rattle.tb_core.specs.Answered.{committed_from}
+use Rattle.tb_core.specs.Ledger.{packets_of}
 use Rattle.tb_core.proofs.Bodies.{first_is, whole_events, packets_of-jobs}
 use Rattle.tb_core.proofs.Committing.{length-chunks, replies_are, states_are, rise}
 
 -- ---- operations
 
 -- how an operation's events are read
-data Kind (operation : ℕ) : Type 0 where
+pub data Kind (operation : ℕ) : Type 0 where
   OfAccounts : (operation == 129) ≡ true → Kind operation
   OfTransfers : (operation == 129) ≡ false → (operation == 130) ≡ true → Kind operation
   OfIds : (operation == 129) ≡ false → (operation == 130) ≡ false → (operation == 131) ≡ true → Kind operation
 
-kind_of : (operation : ℕ) (bytes : List ℕ) → IsOk (admitted_of_size 8190 bytes (event_size operation)) → Kind operation
+pub kind_of : (operation : ℕ) (bytes : List ℕ) → IsOk (admitted_of_size 8190 bytes (event_size operation)) → Kind operation
 kind_of operation bytes ok = by (operation == 129) (operation == 130) (operation == 131) refl refl refl ok
   where
     by : (a b c : Bool) → (operation == 129) ≡ a → (operation == 130) ≡ b → (operation == 131) ≡ c →
@@ -51,15 +51,15 @@ kind_of_batch operation [] some one all = absurd (omega arith)
 kind_of_batch operation (job ∷ jobs) some one all =
     kind_of operation job.packet.bytes (subst (λ op. IsOk (admitted_of_size 8190 job.packet.bytes (event_size op))) (first_is operation job jobs one).0 all.0)
 
-size_of_accounts : (operation : ℕ) → (operation == 129) ≡ true → event_size operation ≡ Some 128
+pub size_of_accounts : (operation : ℕ) → (operation == 129) ≡ true → event_size operation ≡ Some 128
 size_of_accounts operation is = ap (λ b. if b then Some 128 else if operation == 130 then Some 128 else if operation == 131 then Some 16 else None) is
 
-size_of_transfers : (operation : ℕ) → (operation == 129) ≡ false → (operation == 130) ≡ true → event_size operation ≡ Some 128
+pub size_of_transfers : (operation : ℕ) → (operation == 129) ≡ false → (operation == 130) ≡ true → event_size operation ≡ Some 128
 size_of_transfers operation not_a is =
     ap (λ b. if b then Some 128 else if operation == 130 then Some 128 else if operation == 131 then Some 16 else None) not_a
     ∙ ap (λ b. if b then Some 128 else if operation == 131 then Some 16 else None) is
 
-size_of_ids : (operation : ℕ) → (operation == 129) ≡ false → (operation == 130) ≡ false → (operation == 131) ≡ true → event_size operation ≡ Some 16
+pub size_of_ids : (operation : ℕ) → (operation == 129) ≡ false → (operation == 130) ≡ false → (operation == 131) ≡ true → event_size operation ≡ Some 16
 size_of_ids operation not_a not_b is =
     ap (λ b. if b then Some 128 else if operation == 130 then Some 128 else if operation == 131 then Some 16 else None) not_a
     ∙ ap (λ b. if b then Some 128 else if operation == 131 then Some 16 else None) not_b ∙ ap (λ b. if b then Some 16 else None) is
@@ -204,7 +204,7 @@ gives_one place operation state (job ∷ []) lawful all lookup =
       only = refl;
       lookup = is;
       replies = ap (λ all_ids. reply_with (Committed place (Looked_up (accounts_found state.facts all_ids))) job ∷ []) same
-          ∙ ap (λ es. reply_with (Committed place (answer_as (answer_of state es))) job ∷ []) (sym events);
+          ∙ ap (λ es. reply_with (Committed place (answer_of state es)) job ∷ []) (sym events);
       states = ap (after_packet state) (sym events);
       few = subst (λ all_ids. length (accounts_found state.facts all_ids) ≤ count_of job.packet) (sym same) (omega (arith, found, ids, count));
     }

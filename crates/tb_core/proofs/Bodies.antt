@@ -8,14 +8,14 @@ use Rattle.std.proofs.lemmas.Bool.{eqb-true, and_parts}
 use Rattle.tb_layout.specs.Events.{rows, events_of}
 use Rattle.tb_work.specs.Admission.{event_size, admitted, admitted_of_size, count_of, count_of_size}
 use Rattle.tb_work.specs.Job.{Numbered, stub_of}
-use Rattle.tb_work.specs.Work.{work_of, Packet as Packet_of}
+use Rattle.tb_layout.specs.Work.{Packet as Packet_of}
+use Rattle.tb_work.specs.Work.{work_of}
 use Rattle.tb_work.specs.declared.packet.Packet.{Packet}
 use Rattle.tb_work.specs.declared.refusal.Refusal.{Refusal}
 use Rattle.tb_work.specs.declared.refusal.Refusal.TheVariants.{InvalidDataSize}
 use Rattle.tb_batch.specs.Grouping.{are_of}
-use Rattle.tb_batch.specs.Batch.{body_of}
+use Rattle.tb_batch.specs.Batch.{body_of, AreAdmitted}
 use Rattle.tb_machine.specs.Joining.{laid}
-use Rattle.tb_core.specs.Admitted.{AreAdmitted}
 use Rattle.tb_core.specs.Ledger.{size_of, packets_of}
 
 -- ---- rows

@@ -11,19 +11,18 @@ use Rattle.tb_layout.specs.Failures.{RiseWithin, cut}
 use Rattle.tb_machine.specs.Clock.{clock_max}
 use Rattle.tb_machine.specs.Chain.{Operation, Outcome}
 use Rattle.tb_machine.specs.Packet.{events_outcome, failures_from}
-use Rattle.tb_machine.specs.Replay.{State, Failed, outcome_of, failures_of, answer_of, after_packet}
+use Rattle.tb_machine.specs.Replay.{State, outcome_of, failures_of, answer_of, after_packet}
 use Rattle.tb_machine.specs.Joining.{laid, none_open, cuts, failures_each}
 use Rattle.tb_machine.proofs.Joined.{ArePacketsOf, joining, failures_rise, length-outcome, cut-middle}
-use Rattle.tb_work.specs.declared.answer.Answer.TheVariants.{Failures}
-use Rattle.tb_work.specs.declared.answer.Outcome.TheVariants.{Committed}
+use Rattle.tb_layout.specs.declared.answer.Answer.TheVariants.{Failures}
+use Rattle.tb_work.specs.declared.outcome.Outcome.TheVariants.{Committed}
 use Rattle.tb_work.specs.Admission.{event_size, count_of, count_of_size}
 use Rattle.tb_work.specs.Job.{Numbered, events_in, count_of_all}
 use Rattle.tb_work.specs.Reply.{Replied, reply_with}
 use Rattle.tb_batch.specs.Grouping.{can_share, are_of}
-use Rattle.tb_batch.specs.Batch.{body_of}
+use Rattle.tb_batch.specs.Batch.{body_of, AreAdmitted}
 use Rattle.tb_demux.specs.Cutting.{replies_from}
-use Rattle.tb_core.specs.Admitted.{AreAdmitted}
-use Rattle.tb_core.specs.Ledger.{answer_as, committed_from}
+use Rattle.tb_core.specs.Answered.{committed_from}
 use Rattle.tb_core.proofs.Bodies.{first_is, laid-rows}
 
 -- packets that are answered with these failures
@@ -39,7 +38,7 @@ length-chunks size (suc k) xs = ap suc (length-chunks size k (drop size xs))
 -- for an operation whose events have 128 bytes
 module _ {Event : Type 0} (operation : Operation Event) (number : ℕ) (f : List ℕ → Event) (packet_of : List Event → Events) (are : ArePacketsOf operation packet_of)
     (size : event_size number ≡ Some 128) (events_is : (bytes : List ℕ) → events_of number bytes ≡ packet_of (map f (rows 128 bytes)))
-    (answers : (state : State) (events : List Event) → answer_of state (packet_of events) ≡ Failed (failures_of state (packet_of events)))
+    (answers : (state : State) (events : List Event) → answer_of state (packet_of events) ≡ Failures (failures_of state (packet_of events)))
     (opens : (events : List Event) → is_open (packet_of events) ≡ is_last_linked operation.is_linked events) where
   abbrev own : Numbered → List Event
   own job = map f (rows 128 job.packet.bytes)
@@ -74,8 +73,8 @@ module _ {Event : Type 0} (operation : Operation Event) (number : ℕ) (f : List
   replies_each place state [] one = refl
   replies_each place state (job ∷ jobs) one =
       let first = first_is number job jobs one in
-      ap (λ events. reply_with (Committed place (answer_as (answer_of state events))) job ∷ committed_from (place + 1) (after_packet state events) jobs) (own_is job first.0)
-      ∙ ap (λ answer. reply_with (Committed place (answer_as answer)) job ∷ committed_from (place + 1) (after_packet state (packet_of (own job))) jobs) (answers state (own job))
+      ap (λ events. reply_with (Committed place (answer_of state events)) job ∷ committed_from (place + 1) (after_packet state events) jobs) (own_is job first.0)
+      ∙ ap (λ answer. reply_with (Committed place answer) job ∷ committed_from (place + 1) (after_packet state (packet_of (own job))) jobs) (answers state (own job))
       ∙ ap (λ replies. reply_with (Committed place (Failures (failures_of state (packet_of (own job))))) job ∷ replies) (replies_each (place + 1) (after_packet state (packet_of (own job))) jobs first.1)
 
   states_each : (state : State) (jobs : List Numbered) → are_of number jobs ≡ true → fold after_packet state (map packet_of (map own jobs)) ≡ fold after_packet state (map (λ (job : Numbered). events_in job.packet) jobs)
@@ -133,8 +132,8 @@ module _ {Event : Type 0} (operation : Operation Event) (number : ℕ) (f : List
       let whole = body_alone job is ∙ own_is job is in
       ap (λ events. reply_with (Committed place (Failures (cut 0 (count_of job.packet) (failures_of state events)))) job ∷ []) whole
       ∙ ap (λ failures. reply_with (Committed place (Failures failures)) job ∷ []) (cut_alone state job is)
-      ∙ ap (λ answer. reply_with (Committed place (answer_as answer)) job ∷ []) (sym (answers state (own job)))
-      ∙ ap (λ events. reply_with (Committed place (answer_as (answer_of state events))) job ∷ []) (sym (own_is job is))
+      ∙ ap (λ answer. reply_with (Committed place answer) job ∷ []) (sym (answers state (own job)))
+      ∙ ap (λ events. reply_with (Committed place (answer_of state events)) job ∷ []) (sym (own_is job is))
 
   -- ---- any batch
 

@@ -1,9 +1,9 @@
 -- Worked examples of what is due, computed from the definition.
 use Rattle.std.proofs.Common.{refl, ◌≡◌, ℕ, List, [], ◌∷◌, ◌++◌}
 use Rattle.std.specs.Prelude.{map, replicate}
-use Rattle.tb_work.specs.declared.answer.Answer.TheVariants.{Failures}
-use Rattle.tb_work.specs.declared.answer.Outcome.{Outcome}
-use Rattle.tb_work.specs.declared.answer.Outcome.TheVariants.{Committed, Shutdown, Stopped}
+use Rattle.tb_layout.specs.declared.answer.Answer.TheVariants.{Failures}
+use Rattle.tb_work.specs.declared.outcome.Outcome.{Outcome}
+use Rattle.tb_work.specs.declared.outcome.Outcome.TheVariants.{Committed, Shutdown, Stopped}
 use Rattle.tb_work.specs.declared.item.Item.{Item}
 use Rattle.tb_work.specs.declared.item.Item.TheVariants as item
 use Rattle.tb_work.specs.declared.item.Ticket.{Ticket}
@@ -11,8 +11,8 @@ use Rattle.tb_work.specs.Job.{Numbered, numbered}
 use Rattle.tb_work.specs.Queue.{ahead}
 use Rattle.tb_work.specs.Reply.{Replied}
 use Rattle.tb_work.specs.Work.{work_of}
-use Rattle.tb_core.specs.Ledger.{state_after}
-use Rattle.tb_core.specs.Report.{due}
+use Rattle.tb_machine.specs.Replay.{replay}
+use Rattle.tb_core.specs.Due.{due}
 
 -- an account's event with this id, in ledger 1 with code 1
 abbrev event : ℕ → List ℕ
@@ -46,7 +46,7 @@ shut = packet first ∷ of_control item.Close ∷ packet second ∷ []
 packet_behind_shut : outcomes (due 0 shut (ahead (items shut)) 0) ≡ Committed 0 (Failures []) ∷ Shutdown ∷ []
 packet_behind_shut = refl
 
-packet_behind_shut-clock : (state_after 0 (ahead (items shut))).clock ≡ 1
+packet_behind_shut-clock : (replay 0 (ahead (items shut))).clock ≡ 1
 packet_behind_shut-clock = refl
 
 -- the second commit's growth is refused: neither the pulse nor the packet behind it is committed
@@ -60,7 +60,7 @@ refused_second_commit = refl
 all_committed : outcomes (due 0 pulsed (ahead (items pulsed)) 0) ≡ Committed 0 (Failures []) ∷ Committed 2 (Failures []) ∷ []
 all_committed = refl
 
-all_committed-clock : (state_after 0 (ahead (items pulsed))).clock ≡ 6
+all_committed-clock : (replay 0 (ahead (items pulsed))).clock ≡ 6
 all_committed-clock = refl
 
 -- the same account twice: each reply belongs to its packet

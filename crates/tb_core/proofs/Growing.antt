@@ -2,19 +2,19 @@
 use Rattle.std.proofs.Common.{refl, sym, ap, ◌∙◌, arith, ◌≡◌, ◌≤◌, ℕ, ◌+◌, ◌^◌, Bool, true, false, List, [], ◌∷◌, ◌++◌, map, length, length-append, append-nil}
 use Rattle.std.specs.Prelude.{◌==◌, ◌||◌, nat_lt, fold, Result, Ok, Err, is_err, OnOk}
 use Rattle.std.specs.List.{flat_map}
-use Rattle.std.proofs.lemmas.List.{map-append, length-map}
+use Rattle.std.proofs.lemmas.List.{length-map}
 use Rattle.std.proofs.lemmas.Grind.{flat_map-append}
 use Rattle.std.proofs.lemmas.Bool.{eqb-true}
 use Rattle.std.proofs.lemmas.Bool.Decides.{nat_tests}
 use Rattle.tb_layout.specs.Events.{events_of}
-use Rattle.tb_machine.specs.Replay.{State, after_packet, after_item, opening}
+use Rattle.tb_machine.specs.Replay.{State, after_packet, after_work, opening}
 use Rattle.tb_work.specs.Job.{Numbered, events_in}
-use Rattle.tb_work.specs.Work.{Work, work_of}
+use Rattle.tb_layout.specs.Work.{Work}
+use Rattle.tb_work.specs.Work.{work_of}
 use Rattle.tb_batch.specs.Batch.{body_of}
 use Rattle.tb_batch.specs.declared.parts.Parts.{Parts}
 use Rattle.tb_core.specs.Answered.{AreAnswered}
-use Rattle.tb_core.specs.Journal.{IsLedger}
-use Rattle.tb_core.specs.Ledger.{LedgerState, works, item_of, halts}
+use Rattle.tb_core.specs.Ledger.{LedgerState, IsLedger, works, halts}
 use Rattle.tb_core.proofs.Batches.{gives_each, gives_one}
 
 -- what holds of a call that succeeded
@@ -43,13 +43,13 @@ within refused ledger count goes = by ledger.stopped refused (nat_lt (2 ^ 63) (l
     by false false false is h = at_most (length (works ledger) + count) (2 ^ 63) is
 
 -- the packets of jobs, one by one
-jobs_after : (state : State) (jobs : List Numbered) → fold after_packet state (map (λ (job : Numbered). events_in job.packet) jobs) ≡ fold after_item state (map item_of (map work_of jobs))
+jobs_after : (state : State) (jobs : List Numbered) → fold after_packet state (map (λ (job : Numbered). events_in job.packet) jobs) ≡ fold after_work state (map work_of jobs)
 jobs_after state [] = refl
 jobs_after state (job ∷ jobs) = jobs_after (after_packet state (events_in job.packet)) jobs
 
 -- the state behind a batch
 batch_state : (state : State) (parts : Parts) → AreAnswered state parts →
-    after_packet state (events_of parts.operation parts.body.items) ≡ fold after_item state (map item_of (map work_of parts.jobs.items))
+    after_packet state (events_of parts.operation parts.body.items) ≡ fold after_work state (map work_of parts.jobs.items)
 batch_state state parts answered =
     ap (λ body. after_packet state (events_of parts.operation body)) answered.body ∙ by (parts.operation == 131) refl ∙ jobs_after state parts.jobs.items
   where
@@ -59,8 +59,8 @@ batch_state state parts answered =
     by : (b : Bool) → (parts.operation == 131) ≡ b → after_packet state (events_of parts.operation (body_of parts.jobs.items)) ≡ fold after_packet state (map (λ (job : Numbered). events_in job.packet) parts.jobs.items)
     by true is =
         ap (λ op. after_packet state (events_of op (body_of parts.jobs.items))) (eqb-true parts.operation 131 is)
-        ∙ (gives_one 0 parts.operation state parts.jobs.items answered.lawful answered.admitted is).states
-    by false is = (gives_each 0 parts.operation state parts.jobs.items answered.in_range answered.lawful answered.admitted is).states
+        ∙ (gives_one 0 parts.operation state parts.jobs.items answered.lawful answered.lawful.all_admitted is).states
+    by false is = (gives_each 0 parts.operation state parts.jobs.items answered.in_range answered.lawful answered.lawful.all_admitted is).states
 
 pub batch_entered : (ledger : LedgerState) (state next : State) (places : ℕ) (groups : List (List Work)) (parts : Parts) (count : ℕ) → IsLedger ledger state places → AreAnswered state parts →
     next ≡ after_packet state (events_of parts.operation parts.body.items) → groups ≡ ledger.groups ++ map work_of parts.jobs.items ∷ [] → count ≡ length parts.jobs.items → halts false ledger count ≡ false →
@@ -70,9 +70,9 @@ batch_entered ledger state next places groups parts count is answered next_is gr
     let all : flat_map (λ g. g) groups ≡ works ledger ++ group = ap (flat_map (λ g. g)) groups_is ∙ works-more ledger.groups group in
     let room = within false ledger count goes in
     record {
-      machine = next_is ∙ batch_state state parts answered ∙ ap (λ s. fold after_item s (map item_of group)) is.machine
-          ∙ sym (fold-append after_item (opening ledger.opening) (map item_of (works ledger)) (map item_of group))
-          ∙ ap (fold after_item (opening ledger.opening)) (sym (map-append item_of (works ledger) group) ∙ ap (map item_of) (sym all));
+      machine = next_is ∙ batch_state state parts answered ∙ ap (λ s. fold after_work s group) is.machine
+          ∙ sym (fold-append after_work (opening ledger.opening) (works ledger) group)
+          ∙ ap (fold after_work (opening ledger.opening)) (sym all);
       counted = (let e : places + count ≡ length (works ledger ++ group) = omega (arith, is.counted, count_is, length-append (works ledger) group, length-map parts.jobs.items work_of) in e) ∙ ap length (sym all);
       few = omega (arith, is.counted, room);
       opening = is.opening;

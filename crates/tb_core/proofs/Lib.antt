@@ -5,6 +5,8 @@ mod Committing
 mod Batches
 mod Recording
 mod Growing
+mod Committed
+mod Grouped
+mod Runs
+mod Listing
 mod Examples
-mod Answering
-pub mod Lawful

@@ -5,17 +5,16 @@ use Rattle.std.specs.List.{list_all}
 use Rattle.tb_layout.specs.Failures.{RiseWithin}
 use Rattle.tb_layout.specs.Events.{events_of, ids_of}
 use Rattle.tb_machine.specs.Replay.{State, failures_of, accounts_found}
-use Rattle.tb_work.specs.declared.answer.Answer.{Answer}
-use Rattle.tb_work.specs.declared.answer.Answer.TheVariants.{Failures, Accounts}
-use Rattle.tb_work.specs.declared.answer.Outcome.TheVariants.{Committed}
+use Rattle.tb_layout.specs.declared.answer.Answer.{Answer}
+use Rattle.tb_layout.specs.declared.answer.Answer.TheVariants.{Failures, Accounts}
+use Rattle.tb_work.specs.declared.outcome.Outcome.TheVariants.{Committed}
 use Rattle.tb_work.specs.Admission.{count_of}
 use Rattle.tb_work.specs.Job.{Numbered, is_lookup, count_of_all}
 use Rattle.tb_work.specs.Reply.{reply_with}
 use Rattle.tb_batch.specs.Grouping.{are_of}
 use Rattle.tb_batch.specs.declared.parts.Parts.{Parts}
 use Rattle.tb_demux.specs.Cutting.{replies_to, replies_from, replies_answered, IsOutcomeOfAll, IsAnswerToAll}
-use Rattle.tb_core.specs.Ledger.{committed_from}
-use Rattle.tb_core.specs.Answered.{AreAnswered, answer_in}
+use Rattle.tb_core.specs.Answered.{AreAnswered, answer_in, committed_from}
 use Rattle.tb_core.proofs.Bodies.{first_is}
 use Rattle.tb_core.proofs.Batches.{gives_each, gives_one}
 
@@ -44,13 +43,13 @@ recorded place state parts few answered = by (parts.operation == 131) refl
 
     by : (b : Bool) → (parts.operation == 131) ≡ b → IsRecorded place state parts
     by true is =
-        let gives = gives_one place parts.operation state parts.jobs.items answered.lawful answered.admitted is in
+        let gives = gives_one place parts.operation state parts.jobs.items answered.lawful answered.lawful.all_admitted is in
         let accounts = answered.accounts is ∙ ap (λ body. accounts_found state.facts (ids_of body)) answered.body in
         of_answer true is
         (gives.job, gives.only, gives.lookup, subst (λ found. length found ≤ count_of gives.job.packet) (sym accounts) gives.few)
         (ap (λ found. map (reply_with (Committed place (Accounts found))) parts.jobs.items) accounts ∙ gives.replies)
     by false is =
-        let gives = gives_each place parts.operation state parts.jobs.items answered.in_range answered.lawful answered.admitted is in
+        let gives = gives_each place parts.operation state parts.jobs.items answered.in_range answered.lawful answered.lawful.all_admitted is in
         let failures = answered.failures is ∙ ap (λ body. failures_of state (events_of parts.operation body)) answered.body in
         of_answer false is
         (subst (RiseWithin 0 (count_of_all parts.jobs.items)) (sym failures) gives.rises, no_lookups parts.operation parts.jobs.items is answered.lawful.one_operation)

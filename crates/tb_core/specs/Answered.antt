@@ -1,16 +1,23 @@
 -- The parts of a batch that the machine took.
-use Rattle.std.specs.Prelude.{◌≡◌, ◌≤◌, ℕ, ◌==◌, true, false, List, map, if◌then◌else◌}
+use Rattle.std.specs.Prelude.{◌≡◌, ◌≤◌, ℕ, ◌+◌, ◌==◌, true, false, List, [], ◌∷◌, map, if◌then◌else◌}
 use Rattle.tb_layout.specs.declared.account.Account.{Account}
 use Rattle.tb_layout.specs.declared.failure.Failure.{Failure}
 use Rattle.tb_layout.specs.Events.{events_of, ids_of}
 use Rattle.tb_machine.specs.Clock.{clock_max}
-use Rattle.tb_machine.specs.Replay.{State, failures_of, accounts_found}
-use Rattle.tb_work.specs.Job.{stub_of}
-use Rattle.tb_work.specs.declared.answer.Answer.{Answer}
-use Rattle.tb_work.specs.declared.answer.Answer.TheVariants.{Failures, Accounts}
+use Rattle.tb_machine.specs.Replay.{State, answer_of, after_packet, failures_of, accounts_found}
+use Rattle.tb_work.specs.Job.{Numbered, events_in, stub_of}
+use Rattle.tb_work.specs.Reply.{Replied, reply_with}
+use Rattle.tb_work.specs.declared.outcome.Outcome.TheVariants.{Committed}
+use Rattle.tb_layout.specs.declared.answer.Answer.{Answer}
+use Rattle.tb_layout.specs.declared.answer.Answer.TheVariants.{Failures, Accounts}
 use Rattle.tb_batch.specs.Batch.{body_of, IsLawful}
 use Rattle.tb_batch.specs.declared.parts.Parts.{Parts}
-use Rattle.tb_core.specs.Admitted.{AreAdmitted}
+
+-- packets that are committed, from a place on: each is answered in the state that those before it left
+abbrev pub committed_from : ℕ → State → List Numbered → List Replied
+committed_from place state [] = []
+committed_from place state (job ∷ jobs) =
+    reply_with (Committed place (answer_of state (events_in job.packet))) job ∷ committed_from (place + 1) (after_packet state (events_in job.packet)) jobs
 
 -- accounts answer a lookup, failures all else
 abbrev pub answer_in : ℕ → List Failure → List Account → Answer
@@ -20,7 +27,6 @@ answer_in operation failures accounts = if operation == 131 then Accounts accoun
 pub record AreAnswered (state : State) (parts : Parts) : Type 0 where
   pub in_range : state.clock ≤ clock_max
   pub lawful : IsLawful parts.operation parts.jobs.items
-  pub admitted : AreAdmitted parts.jobs.items
   pub stubs : parts.stubs.items ≡ map stub_of parts.jobs.items
   pub body : parts.body.items ≡ body_of parts.jobs.items
   pub failures : (parts.operation == 131) ≡ false → parts.failures.items ≡ failures_of state (events_of parts.operation parts.body.items)

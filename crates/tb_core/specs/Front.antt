@@ -1,12 +1,14 @@
 -- What a front makes of one ticket.
-use Rattle.std.specs.Prelude.{◌≡◌, ℕ, ◌+◌, ◌≤◌, Bool, true, ◌||◌, if◌then◌else◌, List, [], ◌∷◌, ◌++◌, map, take, slice_set, nat_lt, Option, Some, None}
-use Rattle.std.specs.List.{list_all, flat_map}
+use Rattle.std.specs.Prelude.{◌≡◌, ℕ, ◌+◌, ◌≤◌, Bool, true, false, ◌||◌, if◌then◌else◌, List, [], ◌∷◌, ◌++◌, length, map, take, slice_set, get_or, nat_lt, Option, Some, None}
+use Rattle.std.specs.List.{list_all, list_any, flat_map}
 use Rattle.tb_work.specs.Job.{Numbered}
+use Rattle.tb_work.specs.Queue.{part, is_end}
+use Rattle.tb_work.specs.declared.item.Ticket.{Ticket}
 use Rattle.tb_work.specs.declared.item.Item.{Item}
 use Rattle.tb_work.specs.declared.item.Item.TheVariants as item
 use Rattle.tb_work.specs.declared.refusal.Refusal.{Refusal}
 use Rattle.tb_work.specs.declared.refusal.Refusal.TheVariants.{BadLimit, BadSubmitters}
-use Rattle.tb_batch.specs.Grouping.{is_taken}
+use Rattle.tb_batch.specs.Grouping.{is_taken, IsGroup}
 use Rattle.tb_core.specs.declared.parcel.Cause.TheVariants.{Shutdown, Stopped}
 use Rattle.tb_core.specs.declared.parcel.Parcel.{Parcel}
 use Rattle.tb_core.specs.declared.parcel.Parcel.TheVariants.{Batch, Pulse, Return, Last}
@@ -98,7 +100,28 @@ spelled parcels = flat_map spelled_one parcels
 abbrev pub held_by : FrontState → List Passage
 held_by front = map Admitted front.held
 
--- behind a Close or a stop nothing is held
+-- the group that a batcher gives back, where it gives one
+abbrev pub spelled_batch : Option (List Numbered) → List Passage
+spelled_batch None = []
+spelled_batch (Some jobs) = map Admitted jobs
+
+-- what is held is one group, and behind a Close or a stop nothing is held
 pub record IsFront (front : FrontState) : Type 0 where
   pub few : front.submitters ≤ 16
+  pub places : length front.ended ≡ 17
   pub clear : (front.closed || front.stopped) ≡ true → front.held ≡ []
+  pub group : IsGroup front.limit front.held
+
+-- ---- who has ended
+
+-- of each sender, whether its End or Close was taken, after one ticket more
+abbrev pub ended_after : List Bool → ℕ → Item → List Bool
+ended_after ended sender item = if is_end item then slice_set ended sender true else ended
+
+-- the front knows of each sender whether its End or Close is in this queue
+abbrev pub KnowsEnds : List Ticket → FrontState → Type 0
+KnowsEnds queue front = (sender : ℕ) → sender ≤ front.submitters → get_or front.ended sender false ≡ list_any is_end (part sender queue)
+
+-- an End or Close of each sender is in it
+abbrev pub HaveAllEnded : ℕ → List Ticket → Type 0
+HaveAllEnded submitters queue = (sender : ℕ) → sender ≤ submitters → list_any is_end (part sender queue) ≡ true

@@ -1,26 +1,24 @@
 -- What a ledger makes of one parcel.
-use Rattle.std.specs.Prelude.{ℕ, ◌+◌, ◌*◌, ◌^◌, Bool, true, ◌||◌, nat_lt, List, [], ◌∷◌, ◌++◌, length, map, take, drop, unwrap_or, if◌then◌else◌}
+use Rattle.std.specs.Prelude.{◌≡◌, ◌≤◌, ℕ, ◌+◌, ◌*◌, ◌^◌, Bool, true, ◌||◌, nat_lt, List, [], ◌∷◌, ◌++◌, length, map, take, drop, unwrap_or, if◌then◌else◌}
 use Rattle.std.specs.List.{flat_map}
 use Rattle.tb_layout.specs.Events.{events_of}
-use Rattle.tb_machine.specs.Replay.{State, Item, Answer, Failed, Found, answer_of, after_packet, replay}
-use Rattle.tb_machine.specs.Replay as machine
+use Rattle.tb_layout.specs.Work.{Work, Packet, Pulse}
+use Rattle.tb_machine.specs.Clock.{clock_max}
+use Rattle.tb_machine.specs.Replay.{State, replay}
 use Rattle.tb_work.specs.Admission.{event_size}
-use Rattle.tb_work.specs.Job.{Numbered, events_in}
-use Rattle.tb_work.specs.Reply.{Replied, reply_with}
-use Rattle.tb_work.specs.Work.{Work, Packet, Pulse, work_of}
+use Rattle.tb_work.specs.Job.{Numbered}
+use Rattle.tb_work.specs.Reply.{reply_with}
+use Rattle.tb_work.specs.Work.{work_of}
 use Rattle.tb_work.specs.declared.stub.Stub.{Stub}
-use Rattle.tb_work.specs.declared.answer.Answer as work
-use Rattle.tb_work.specs.declared.answer.Answer.TheVariants.{Failures, Accounts}
-use Rattle.tb_work.specs.declared.answer.Outcome.{Outcome}
-use Rattle.tb_work.specs.declared.answer.Outcome.TheVariants as outcome
-use Rattle.tb_core.specs.declared.parcel.Cause.{Cause}
-use Rattle.tb_core.specs.declared.parcel.Cause.TheVariants as cause
+use Rattle.tb_work.specs.declared.outcome.Outcome.TheVariants as outcome
 use Rattle.tb_core.specs.declared.parcel.Parcel.{Parcel}
 use Rattle.tb_core.specs.declared.parcel.Parcel.TheVariants as parcel
 use Rattle.tb_core.specs.declared.journal.Entry.{Entry}
 use Rattle.tb_core.specs.declared.journal.Entry.TheVariants as entry
-use Rattle.tb_core.specs.declared.journal.Outcomes.{Outcomes}
-use Rattle.tb_core.specs.declared.journal.Outcomes.TheVariants.{Cut, One, Nothing, Last}
+use Rattle.tb_core.specs.declared.outcomes.Outcomes.{Outcomes}
+use Rattle.tb_core.specs.declared.outcomes.Outcomes.TheVariants.{Cut, One, Nothing, Last}
+use Rattle.tb_core.specs.Due.{outcome_of, replies_from}
+use Rattle.tb_core.specs.Passage.{Admitted}
 
 -- ---- the journal
 
@@ -49,30 +47,14 @@ pub record LedgerState : Type 0 where
 abbrev pub works : LedgerState → List Work
 works ledger = flat_map (λ group. group) ledger.groups
 
-abbrev pub item_of : Work → Item
-item_of (Packet submitter number events) = machine.Packet events
-item_of (Pulse moment) = machine.Pulse moment
-
--- the machine's state after some packets and pulses, from a clock
-abbrev pub state_after : ℕ → List Work → State
-state_after clock works = replay clock (map item_of works)
+-- its machine is what its journal gives from its opening clock, and its places are counted
+pub record IsLedger (ledger : LedgerState) (state : State) (places : ℕ) : Type 0 where
+  pub machine : state ≡ replay ledger.opening (works ledger)
+  pub counted : places ≡ length (works ledger)
+  pub few : places ≤ 2 ^ 63
+  pub opening : ledger.opening ≤ clock_max
 
 -- ---- one parcel
-
-abbrev pub answer_as : Answer → work.Answer
-answer_as (Failed failures) = Failures failures
-answer_as (Found accounts) = Accounts accounts
-
--- packets that are committed, from a place on: each is answered in the state that those before it left
-abbrev pub committed_from : ℕ → State → List Numbered → List Replied
-committed_from place state [] = []
-committed_from place state (job ∷ jobs) =
-    reply_with (outcome.Committed place (answer_as (answer_of state (events_in job.packet)))) job
-    ∷ committed_from (place + 1) (after_packet state (events_in job.packet)) jobs
-
-abbrev pub outcome_of : Cause → Outcome
-outcome_of cause.Shutdown = outcome.Shutdown
-outcome_of cause.Stopped = outcome.Stopped
 
 -- a ledger, and what a parcel comes to
 pub record Applied : Type 0 where
@@ -92,11 +74,16 @@ entering ledger group = record ledger { groups = ledger.groups ++ group ∷ [] }
 abbrev pub halts : Bool → LedgerState → ℕ → Bool
 halts refused ledger count = ledger.stopped || (refused || nat_lt (2 ^ 63) (length (works ledger) + count))
 
+-- a batch committed as one entry: each packet is answered by its place in the journal
+abbrev pub committing : LedgerState → List Numbered → Applied
+committing ledger jobs =
+    let next = entering ledger (map work_of jobs) in giving next (Cut (replies_from ledger.opening (works next) (length (works ledger)) (map Admitted jobs)))
+
 -- one parcel applied, where `refused` says that the growth which it needs is refused
 abbrev pub applied : Bool → LedgerState → Parcel → Applied
 applied refused ledger (parcel.Batch jobs) =
     if halts refused ledger (length jobs) then giving (halting ledger) (Cut (map (reply_with outcome.Stopped) jobs))
-    else giving (entering ledger (map work_of jobs)) (Cut (committed_from (length (works ledger)) (state_after ledger.opening (works ledger)) jobs))
+    else committing ledger jobs
 applied refused ledger (parcel.Pulse moment) =
     if halts refused ledger 1 then giving (halting ledger) Nothing else giving (entering ledger (Pulse moment ∷ [])) Nothing
 applied refused ledger (parcel.Return job cause) = giving ledger (One (reply_with (outcome_of cause) job))

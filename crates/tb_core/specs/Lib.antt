@@ -1,8 +1,8 @@
 pub mod Passage
+pub mod Due
 pub mod Front
+pub mod Grouping
 pub mod Ledger
-pub mod Admitted
 pub mod Answered
-pub mod Journal
 pub mod Report
-pub mod Answering
+pub mod Run

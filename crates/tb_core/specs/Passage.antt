@@ -1,6 +1,7 @@
 -- What becomes of packets and pulses on their way to the state machine; no batch is in it.
-use Rattle.std.specs.Prelude.{◌≡◌, ◌<◌, ℕ, ◌+◌, Bool, true, false, not, ◌&&◌, ◌||◌, nat_lt, List, [], ◌∷◌, ◌++◌, length, Option, Some, None, is_some, IfSome, if◌then◌else◌}
-use Rattle.std.specs.List.{list_any}
+use Rattle.std.specs.Prelude.{◌≡◌, ℕ, ◌+◌, Bool, true, false, not, ◌&&◌, ◌||◌, nat_lt, List, [], ◌∷◌, ◌++◌, slice_get, Option, Some, None, is_some, IfSome, if◌then◌else◌}
+use Rattle.tb_layout.specs.Work.{Work}
+use Rattle.tb_layout.specs.Work as work
 use Rattle.tb_work.specs.Job.{Numbered}
 use Rattle.tb_work.specs.Queue.{ahead}
 use Rattle.tb_work.specs.declared.item.Item.{Item}
@@ -65,21 +66,19 @@ passed_from stop place (item ∷ items) = passed_at stop place item ++ passed_fr
 abbrev pub all_passed : Option ℕ → List Item → List Passage
 all_passed stop items = passed_from stop (Ahead 0) items
 
-abbrev pub is_stopped : Passage → Bool
-is_stopped (Admitted job) = false
-is_stopped (Pulsed moment) = false
-is_stopped (Returned job Shutdown) = false
-is_stopped (Returned job Stopped) = true
+abbrev pub IsPacket : Option Work → Type 0
+IsPacket None = ⊥
+IsPacket (Some (work.Packet submitter number events)) = Unit {0}
+IsPacket (Some (work.Pulse moment)) = ⊥
 
 -- the passages are what a front made of the items: it is closed where a Close is among them, and where it stopped, it
--- did so at a packet ahead of the Close, and let no more through
+-- did so at a packet ahead of the Close, and let through just what is in front of that
 pub record Passes (items : List Item) (closed stopped : Bool) (passages : List Passage) : Type 0 where
   pub stop : Option ℕ
   pub all : passages ≡ all_passed stop items
   pub shut : closed ≡ is_behind (place_behind (Ahead 0) items)
   pub stops : stopped ≡ is_some stop
-  pub before : IfSome stop (λ through. through < length (ahead items))
-  pub told : stopped ≡ true → list_any is_stopped passages ≡ true
+  pub at_packet : IfSome stop (λ through. IsPacket (slice_get (ahead items) through))
 
 -- ---- one step of a front
 

@@ -1,6 +1,6 @@
 //! The front: tickets in, batches out.
 
-ghost use Rattle.std.specs.Prelude.{◌≡◌, ◌≤◌, ◌++◌, ◌∷◌, [], true, false, Some, None, IfOk, OnOk, IfErr, IfSome, IfNone};
+ghost use Rattle.std.specs.Prelude.{◌≡◌, ◌<◌, ◌≤◌, ◌++◌, ◌∷◌, [], length, true, false, Some, None, IfOk, OnOk, IfErr, IfSome, IfNone};
 
 use crate::parcel::{Cause, Parcel};
 use arrayvec::ArrayVec;
@@ -50,14 +50,18 @@ impl Front {
     ghost use Rattle.std.specs.Prelude.{Bool, List, replicate};
     ghost use Rattle.tb_batch.specs.Grouping.{IsGroup};
     ghost use Rattle.tb_work.specs.declared.item.Item.{Item as ItemValue};
+    ghost use Rattle.tb_work.specs.declared.item.Ticket.{Ticket as TicketValue};
     ghost use Rattle.tb_core.specs.declared.parcel.Parcel.TheVariants as parcel;
+    ghost use Rattle.tb_core.specs.Grouping.{AreJoinedParcels};
     ghost use Rattle.tb_core.specs.Passage.{Passage, Passes, passed};
-    ghost use Rattle.tb_core.specs.Front.{FrontState, IsFront, opening_refusal, handing, holding, sealed, all_ended, took, took_packet, took_pulse, took_end, took_close, spelled, held_by};
+    ghost use Rattle.tb_core.specs.Front.{FrontState, IsFront, opening_refusal, handing, holding, sealed, all_ended, took, took_packet, took_pulse, took_end, took_close, spelled, spelled_batch, held_by, KnowsEnds, HaveAllEnded};
 
     /// A front that took nothing. The limit is 1 to 8190 events, and there are 1 to 16 submitters; the
     /// limit is looked at first. Takes no memory.
     pub fn new(alloc: Global, limit: u32, submitters: u32) -> Result<Front, Refusal>
         ensures front { IfOk result (λ front. front ≡ record { limit = limit; submitters = submitters; held = []; closed = false; stopped = false; ended = replicate 17 false }) }
+        ensures passes { IfOk result (λ front. Passes [] front.closed front.stopped (held_by front)) }
+        ensures ends { IfOk result (λ front. KnowsEnds [] front) }
         ensures opens { OnOk result (opening_refusal limit submitters ≡ None) }
         ensures refusal { IfErr result (λ refusal. opening_refusal limit submitters ≡ Some refusal) }
     {
@@ -76,7 +80,8 @@ impl Front {
 
     /// Whether an End or Close of each sender was taken.
     pub fn finished(&self) -> bool
-        ensures { result ≡ all_ended self.now }
+        ensures finished { result ≡ all_ended self.now }
+        ensures ends { (queue : List TicketValue) → KnowsEnds queue self.now → (result ≡ true → HaveAllEnded self.now.submitters queue) × (HaveAllEnded self.now.submitters queue → result ≡ true) }
     {
         let ended = &self.ended[..self.submitters as usize + 1];
         ended.iter().all(|ended| *ended)
@@ -85,9 +90,11 @@ impl Front {
     /// The group held, which is then no longer held; None where nothing was. Takes no memory.
     pub fn idle(&mut self) -> Option<Batch>
         ensures left { self.new ≡ holding self.old [] }
-        ensures some { IfSome result (λ batch. batch ≡ self.old.held) }
+        ensures some { IfSome result (λ batch. (batch ≡ self.old.held) × (0 < length self.old.held)) }
         ensures none { IfNone result (self.old.held ≡ []) }
         ensures lawful { IsGroup self.old.limit self.old.held }
+        ensures passes { (items : List ItemValue) (sent : List Passage) → Passes items self.old.closed self.old.stopped (sent ++ held_by self.old)
+            → Passes items self.new.closed self.new.stopped ((sent ++ spelled_batch result) ++ held_by self.new) }
     {
         self.batcher.seal()
     }
@@ -216,8 +223,8 @@ impl Front {
         }
     }
 
-    /// One ticket, as `take` takes it where its growth is refused. Takes no memory.
-    pub fn take_as_refused(&mut self, ticket: Ticket) -> ArrayVec<Parcel, 2>
+    /// One ticket, whose growth is refused.
+    fn step_refused(&mut self, ticket: Ticket) -> ArrayVec<Parcel, 2>
         requires { ticket.sender ≤ self.old.submitters }
         ensures took { handing self.new result.items ≡ took true self.old ticket.sender ticket.item }
         ensures front { IsFront self.old }
@@ -231,20 +238,35 @@ impl Front {
         }
     }
 
+    /// One ticket, as `take` takes it where its growth is refused. Takes no memory.
+    pub fn take_as_refused(&mut self, ticket: Ticket) -> ArrayVec<Parcel, 2>
+        requires { ticket.sender ≤ self.old.submitters }
+        ensures took { handing self.new result.items ≡ took true self.old ticket.sender ticket.item }
+        ensures passes { (items : List ItemValue) (sent : List Passage) → Passes items self.old.closed self.old.stopped (sent ++ held_by self.old)
+            → Passes (items ++ ticket.item ∷ []) self.new.closed self.new.stopped ((sent ++ spelled result.items) ++ held_by self.new) }
+        ensures lawful { AreJoinedParcels self.old.limit result.items }
+        ensures ends { (queue : List TicketValue) → KnowsEnds queue self.old → KnowsEnds (queue ++ ticket ∷ []) self.new }
+        ensures same { (self.new.limit ≡ self.old.limit) × (self.new.submitters ≡ self.old.submitters) }
+    {
+        self.step_refused(ticket)
+    }
+
     /// One ticket. A packet joins the group held, or has that sealed and begins the next one; a pulse, a
     /// Close and the End that makes all ended seal it (batching of tb_client, of neighbours alone). A packet
-    /// behind a Close comes back; so does one whose growth is refused, and each behind that.
+    /// behind a Close comes back; so does one whose growth is refused, and each after that.
     pub fn take(&mut self, ticket: Ticket) -> ArrayVec<Parcel, 2>
         requires { ticket.sender ≤ self.old.submitters }
         ensures took { (refused : Bool) × (handing self.new result.items ≡ took refused self.old ticket.sender ticket.item) }
         ensures accounted { spelled result.items ++ held_by self.new ≡ held_by self.old ++ passed self.old.closed self.new.stopped ticket.item }
         ensures passes { (items : List ItemValue) (sent : List Passage) → Passes items self.old.closed self.old.stopped (sent ++ held_by self.old)
             → Passes (items ++ ticket.item ∷ []) self.new.closed self.new.stopped ((sent ++ spelled result.items) ++ held_by self.new) }
-        ensures same { self.new.submitters ≡ self.old.submitters }
+        ensures lawful { AreJoinedParcels self.old.limit result.items }
+        ensures ends { (queue : List TicketValue) → KnowsEnds queue self.old → KnowsEnds (queue ++ ticket ∷ []) self.new }
+        ensures same { (self.new.limit ≡ self.old.limit) × (self.new.submitters ≡ self.old.submitters) }
     {
         match self.try_take(ticket) {
             Ok(parcels) => parcels,
-            Err(ticket) => self.take_as_refused(ticket),
+            Err(ticket) => self.step_refused(ticket),
         }
     }
 }

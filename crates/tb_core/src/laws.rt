@@ -1,9 +1,9 @@
-//! What a list came to, and what a run reports.
+//! What a run reports.
 
-ghost use Rattle.tb_core.specs.Report.{ListIsLawful};
+ghost use Rattle.tb_core.specs.Run.{RunIsLawful};
 
-/// Where a list of items was run, the report on it is lawful, as that of a run with threads is to be: each
-/// submitter's replies are those that are due to it.
-pub fn list_is_lawful()
-    ensures { ListIsLawful }
+/// Where a front and a ledger took all of a queue, and each submitter got the replies that carry its number, the
+/// report on it is lawful, also where a growth was refused.
+pub fn run_is_lawful()
+    ensures { RunIsLawful }
 {}

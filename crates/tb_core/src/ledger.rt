@@ -4,15 +4,16 @@ ghost use Rattle.std.specs.Prelude.{◌≡◌, ◌==◌, ◌<◌, ◌≤◌, ◌
 ghost use Rattle.tb_layout.specs.Events.{events_of};
 ghost use Rattle.tb_machine.specs.Clock.{clock_max};
 ghost use Rattle.tb_machine.specs.Replay.{State, after_packet};
-ghost use Rattle.tb_batch.specs.Batch.{AreParts};
+ghost use Rattle.tb_batch.specs.Batch.{AreAdmitted, AreParts};
 ghost use Rattle.tb_work.specs.Reply.{reply_with};
 ghost use Rattle.tb_work.specs.Work.{work_of};
-ghost use Rattle.tb_core.specs.Admitted.{AreAdmitted};
-ghost use Rattle.tb_core.specs.Answered.{AreAnswered, answer_in};
-ghost use Rattle.tb_work.specs.declared.answer.Outcome.TheVariants.{Stopped as StoppedOutcome};
-ghost use Rattle.tb_core.specs.Ledger.{group_of, committed_from, outcome_of};
+ghost use Rattle.tb_core.specs.Answered.{AreAnswered, answer_in, committed_from};
+ghost use Rattle.tb_work.specs.declared.outcome.Outcome.TheVariants.{Stopped as StoppedOutcome};
+ghost use Rattle.tb_core.specs.Due.{outcome_of};
+ghost use Rattle.tb_core.specs.Ledger.{group_of};
 
-use crate::journal::{Entry, Outcomes};
+use crate::journal::Entry;
+use crate::outcomes::Outcomes;
 use crate::parcel::{Cause, Parcel};
 use std::alloc::Global;
 use std::marker::Model;
@@ -38,30 +39,13 @@ pub struct Ledger {
 
 impl Model for Ledger {
     ghost use Rattle.std.specs.Prelude.{map};
-    ghost use Rattle.tb_core.specs.Ledger.{LedgerState, group_of};
-    ghost use Rattle.tb_core.specs.Journal.{IsLedger};
+    ghost use Rattle.tb_core.specs.Ledger.{LedgerState, IsLedger, group_of};
 
     ghost Value = { LedgerState };
 
     ghost view = { λ ledger. record { opening = ledger.opening; groups = map group_of ledger.entries.items; stopped = ledger.stopped } };
 
     ghost invariant = { λ ledger. IsLedger (record { opening = ledger.opening; groups = map group_of ledger.entries.items; stopped = ledger.stopped }) ledger.machine ledger.places };
-}
-
-/// Each job's type keeps that its packet was admitted. Nothing is done.
-fn jobs_are_admitted(jobs: &[Job])
-    ensures { AreAdmitted jobs.now }
-{
-    for job in jobs {
-        let _ = job.packet();
-    }
-}
-
-/// The machine's type keeps that its clock is in range. Nothing is done.
-fn clock_is_in_range(machine: &Machine)
-    ensures { machine.now.clock ≤ clock_max }
-{
-    let _ = machine.clock();
 }
 
 /// Lets the machine take a batch. Where memory is refused, it and the parts are as before.
@@ -73,8 +57,6 @@ fn take_batch(machine: &mut Machine, parts: &mut Parts) -> Result<(), NoMemory>
     ensures same { OnErr result (machine.new ≡ machine.old) }
     ensures back { OnErr result (AreParts parts.new) }
 {
-    jobs_are_admitted(&parts.jobs);
-    clock_is_in_range(machine);
     if parts.operation == LOOKUP_ACCOUNTS {
         machine.lookup(&parts.body, &mut parts.accounts);
         Ok(())
@@ -122,7 +104,8 @@ fn record(entries: &mut Vec<Entry>, place: u64, parts: Parts) -> Cutter
 
 /// The replies to a batch that isn't committed.
 fn stopped(batch: Batch) -> Cutter
-    ensures { result ≡ map (reply_with StoppedOutcome) batch }
+    ensures replies { result ≡ map (reply_with StoppedOutcome) batch }
+    ensures some { (0 < length batch) × AreAdmitted batch }
 {
     Cutter::new(batch.into_parts().jobs, Outcome::Stopped)
 }
@@ -140,13 +123,19 @@ fn returned(job: Job, cause: Cause) -> Reply
 impl Ledger {
     ghost use Rattle.tb_machine.specs.Replay.{replay};
     ghost use Rattle.tb_core.specs.declared.parcel.Parcel.TheVariants as parcel;
-    ghost use Rattle.tb_core.specs.declared.journal.Outcomes.TheVariants.{Nothing as NothingComes};
-    ghost use Rattle.tb_core.specs.Ledger.{LedgerState, Applied, works, state_after, giving, halting, entering, halts, applied};
+    ghost use Rattle.tb_core.specs.declared.outcomes.Outcomes.TheVariants.{Nothing as NothingComes};
+    ghost use Rattle.tb_work.specs.Reply.{Replied};
+    ghost use Rattle.tb_core.specs.Front.{spelled_one};
+    ghost use Rattle.tb_core.specs.Grouping.{AreJoined, IsJoinedParcel};
+    ghost use Rattle.tb_core.specs.Passage.{Passage};
+    ghost use Rattle.tb_core.specs.Run.{Commits, HasPackets, replies_in};
+    ghost use Rattle.tb_core.specs.Ledger.{LedgerState, Applied, works, giving, halting, entering, halts, committing, applied};
 
     /// A ledger without entries, whose clock starts at a number. Takes no memory.
     pub fn new(alloc: Global, clock: u64) -> Ledger
         requires { clock ≤ clock_max }
-        ensures { result ≡ record { opening = clock; groups = []; stopped = false } }
+        ensures ledger { result ≡ record { opening = clock; groups = []; stopped = false } }
+        ensures commits { Commits clock [] result [] }
     {
         Ledger {
             opening: clock,
@@ -180,7 +169,7 @@ impl Ledger {
 
     /// The machine, as the journal gives it.
     pub fn machine(&self) -> &Machine
-        ensures { result.now ≡ state_after self.now.opening (works self.now) }
+        ensures { result.now ≡ replay self.now.opening (works self.now) }
     {
         &self.machine
     }
@@ -203,6 +192,7 @@ impl Ledger {
     fn commit(&mut self, batch: Batch) -> Result<Outcomes, Batch>
         ensures ok { IfOk result (λ outcomes. giving self.new outcomes ≡ applied false self.old (parcel.Batch batch)) }
         ensures err { IfErr result (λ back. (back ≡ batch) × (self.new ≡ self.old)) }
+        ensures some { (0 < length batch) × AreAdmitted batch }
     {
         let count = batch.jobs().len();
         if self.halts_at(count) {
@@ -241,6 +231,7 @@ impl Ledger {
     pub(crate) fn try_apply(&mut self, parcel: Parcel) -> Result<Outcomes, Parcel>
         ensures ok { IfOk result (λ outcomes. giving self.new outcomes ≡ applied false self.old parcel) }
         ensures err { IfErr result (λ back. (back ≡ parcel) × (self.new ≡ self.old)) }
+        ensures some { HasPackets parcel }
     {
         match parcel {
             Parcel::Batch(batch) => match self.commit(batch) {
@@ -256,9 +247,10 @@ impl Ledger {
         }
     }
 
-    /// One parcel, as `apply` applies it where its growth is refused. Takes no memory.
-    pub fn apply_as_refused(&mut self, parcel: Parcel) -> Outcomes
-        ensures { giving self.new result ≡ applied true self.old parcel }
+    /// One parcel, whose growth is refused.
+    fn refuse(&mut self, parcel: Parcel) -> Outcomes
+        ensures applied { giving self.new result ≡ applied true self.old parcel }
+        ensures some { HasPackets parcel }
     {
         match parcel {
             Parcel::Batch(batch) => {
@@ -274,16 +266,29 @@ impl Ledger {
         }
     }
 
+    /// One parcel, as `apply` applies it where its growth is refused. Takes no memory.
+    pub fn apply_as_refused(&mut self, parcel: Parcel) -> Outcomes
+        ensures applied { giving self.new result ≡ applied true self.old parcel }
+        ensures commits { (clock : ℕ) (passages : List Passage) (replies : List Replied) → Commits clock passages self.old replies
+            → Commits clock (passages ++ spelled_one parcel) self.new (replies ++ replies_in result) }
+        ensures joined { (limit : ℕ) → IsJoinedParcel limit parcel → AreJoined limit self.old.groups → AreJoined limit self.new.groups }
+    {
+        self.refuse(parcel)
+    }
+
     /// One parcel. A batch is committed as one and each of its packets answered; a pulse is applied; a packet
     /// that comes back is answered with its cause. Where a growth is refused, where it stopped before, or where
     /// there are no places left, nothing is committed, the ledger stops, and each packet of a batch is answered
     /// Stopped. It takes memory for the facts and for the journal.
     pub fn apply(&mut self, parcel: Parcel) -> Outcomes
-        ensures { (refused : Bool) × (giving self.new result ≡ applied refused self.old parcel) }
+        ensures applied { (refused : Bool) × (giving self.new result ≡ applied refused self.old parcel) }
+        ensures commits { (clock : ℕ) (passages : List Passage) (replies : List Replied) → Commits clock passages self.old replies
+            → Commits clock (passages ++ spelled_one parcel) self.new (replies ++ replies_in result) }
+        ensures joined { (limit : ℕ) → IsJoinedParcel limit parcel → AreJoined limit self.old.groups → AreJoined limit self.new.groups }
     {
         match self.try_apply(parcel) {
             Ok(outcomes) => outcomes,
-            Err(parcel) => self.apply_as_refused(parcel),
+            Err(parcel) => self.refuse(parcel),
         }
     }
 }

@@ -6,13 +6,15 @@ mod journal;
 mod laws;
 mod ledger;
 mod list;
+mod outcomes;
 mod parcel;
 #[cfg(test)]
 mod tests;
 
 pub use front::Front;
-pub use journal::{Entry, Outcomes};
-pub use laws::list_is_lawful;
+pub use journal::Entry;
+pub use laws::run_is_lawful;
 pub use ledger::Ledger;
 pub use list::{Listed, run_list};
+pub use outcomes::Outcomes;
 pub use parcel::{Cause, Parcel};

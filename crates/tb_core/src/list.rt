@@ -1,16 +1,18 @@
 //! A list of items through the front and the ledger, in one thread.
 
-ghost use Rattle.std.specs.Prelude.{◌≡◌, ◌≤◌, ◌++◌, ◌∷◌, [], false, ℕ, List, IfOk, OnOk};
+ghost use Rattle.std.specs.Prelude.{◌≡◌, ◌≤◌, ◌++◌, ◌∷◌, [], ℕ, List, IfOk, OnOk};
 ghost use Rattle.tb_machine.specs.Clock.{clock_max};
+ghost use Rattle.tb_work.specs.Queue.{ahead};
 ghost use Rattle.tb_work.specs.declared.item.Item.{Item as ItemValue};
-ghost use Rattle.tb_core.specs.Answering.{HasAnswered, HasRun, replies_in};
 ghost use Rattle.tb_core.specs.Front.{held_by, spelled, spelled_one};
+ghost use Rattle.tb_core.specs.Grouping.{AreWithin, IsGrouping, IsJoinedParcel, AreJoinedParcels};
 ghost use Rattle.tb_core.specs.Passage.{Passage};
 ghost use Rattle.tb_core.specs.Report.{IsListed};
+ghost use Rattle.tb_core.specs.Run.{GoesOn, IsRunning, IsThrough, Ran, replies_in};
 
 use crate::front::Front;
-use crate::journal::Outcomes;
 use crate::ledger::Ledger;
+use crate::outcomes::Outcomes;
 use crate::parcel::Parcel;
 use arrayvec::ArrayVec;
 use std::alloc::Global;
@@ -24,7 +26,7 @@ pub struct Listed {
     pub replies: Vec<Reply>,
 }
 
-/// Puts the replies that a parcel comes to behind the others.
+/// Puts the replies that a parcel comes to after the others.
 fn put(outcomes: Outcomes, replies: &mut Vec<Reply>) -> Result<(), NoMemory>
     ensures { OnOk result (replies.new.items ≡ replies.old.items ++ replies_in outcomes) }
 {
@@ -40,72 +42,88 @@ fn put(outcomes: Outcomes, replies: &mut Vec<Reply>) -> Result<(), NoMemory>
     Ok(())
 }
 
-impl Listed {
-    fn apply(&mut self, parcel: Parcel) -> Result<(), NoMemory>
-        ensures { (clock : ℕ) (sent : List Passage) → HasAnswered clock sent self.old.ledger self.old.replies.items
-            → OnOk result (HasAnswered clock (sent ++ spelled_one parcel) self.new.ledger self.new.replies.items) }
-    {
-        let Ok(outcomes) = self.ledger.try_apply(parcel) else {
-            return Err(NoMemory);
-        };
-        if self.ledger.stopped() {
-            return Err(NoMemory);
-        }
-        put(outcomes, &mut self.replies)
+/// Applies a parcel to a ledger that goes on, and keeps the replies. A ledger that stops is want of memory here.
+fn apply(ledger: &mut Ledger, replies: &mut Vec<Reply>, parcel: Parcel) -> Result<(), NoMemory>
+    ensures { (clock : ℕ) (limit : ℕ) (sent : List Passage) → IsJoinedParcel limit parcel → GoesOn clock limit sent ledger.old replies.old.items
+        → OnOk result (GoesOn clock limit (sent ++ spelled_one parcel) ledger.new replies.new.items) }
+{
+    let Ok(outcomes) = ledger.try_apply(parcel) else {
+        return Err(NoMemory);
+    };
+    if ledger.stopped() {
+        return Err(NoMemory);
     }
+    put(outcomes, replies)
+}
 
-    fn apply_all(&mut self, parcels: ArrayVec<Parcel, 2>) -> Result<(), NoMemory>
-        ensures { (clock : ℕ) (sent : List Passage) → HasAnswered clock sent self.old.ledger self.old.replies.items
-            → OnOk result (HasAnswered clock (sent ++ spelled parcels.items) self.new.ledger self.new.replies.items) }
-    {
-        for parcel in parcels {
-            self.apply(parcel)?;
-        }
-        Ok(())
+/// Applies parcels in order.
+fn apply_all(ledger: &mut Ledger, replies: &mut Vec<Reply>, parcels: ArrayVec<Parcel, 2>) -> Result<(), NoMemory>
+    ensures { (clock : ℕ) (limit : ℕ) (sent : List Passage) → AreJoinedParcels limit parcels.items → GoesOn clock limit sent ledger.old replies.old.items
+        → OnOk result (GoesOn clock limit (sent ++ spelled parcels.items) ledger.new replies.new.items) }
+{
+    for parcel in parcels {
+        apply(ledger, replies, parcel)?;
     }
+    Ok(())
+}
 
-    /// One item. The sender doesn't matter: whether all have ended isn't asked.
-    fn take(&mut self, front: &mut Front, item: Item) -> Result<(), NoMemory>
-        ensures { (clock : ℕ) (items : List ItemValue) → HasRun clock items front.old self.old.ledger self.old.replies.items
-            → OnOk result (HasRun clock (items ++ item ∷ []) front.new self.new.ledger self.new.replies.items) }
+/// A front and a ledger under way, with the replies so far.
+#[derive(Drop)]
+struct Listing {
+    front: Front,
+    ledger: Ledger,
+    replies: Vec<Reply>,
+}
+
+impl Listing {
+    /// Takes one item. Its sender doesn't matter: whether all have ended isn't asked.
+    fn take(&mut self, item: Item) -> Result<(), NoMemory>
+        ensures { (clock : ℕ) (limit : ℕ) (items : List ItemValue) → IsRunning clock limit items self.old.front self.old.ledger self.old.replies.items
+            → OnOk result (IsRunning clock limit (items ++ item ∷ []) self.new.front self.new.ledger self.new.replies.items) }
     {
-        match front.try_take(Ticket { sender: 0, item }) {
-            Ok(parcels) => self.apply_all(parcels),
+        match self.front.try_take(Ticket { sender: 0, item }) {
+            Ok(parcels) => apply_all(&mut self.ledger, &mut self.replies, parcels),
             Err(_) => Err(NoMemory),
         }
     }
 
-    /// The group that the front still holds.
-    fn finish(&mut self, front: &mut Front) -> Result<(), NoMemory>
-        ensures { (clock : ℕ) (sent : List Passage) → HasAnswered clock sent self.old.ledger self.old.replies.items
-            → OnOk result (HasAnswered clock (sent ++ held_by front.old) self.new.ledger self.new.replies.items) }
+    /// Applies the group that the front still holds.
+    fn finish(&mut self) -> Result<(), NoMemory>
+        ensures { (clock : ℕ) (limit : ℕ) (items : List ItemValue) → IsRunning clock limit items self.old.front self.old.ledger self.old.replies.items
+            → OnOk result (IsThrough clock limit items self.new.ledger self.new.replies.items) }
     {
-        match front.idle() {
-            Some(batch) => self.apply(Parcel::Batch(batch)),
+        match self.front.idle() {
+            Some(batch) => apply(&mut self.ledger, &mut self.replies, Parcel::Batch(batch)),
             None => Ok(()),
         }
     }
 }
 
-/// A list of items in order. A packet behind a Close is answered Shutdown, a pulse there has no effect, and an
-/// End has none anywhere. The limit is 1 to 8190 events. It takes memory for all packets at once; where that
-/// is refused nothing is handed out.
+/// Commits a list of items in order. A packet behind a Close is answered Shutdown, a pulse there has no effect, and an
+/// End has none anywhere. The limit is 1 to 8190 events; a packet with more is a batch by itself. It takes
+/// memory for all packets at once; where that is refused nothing is handed out.
 pub fn run_list(alloc: Global, clock: u64, limit: u32, items: Vec<Item>) -> Result<Listed, NoMemory>
     requires clock { clock ≤ clock_max }
     requires least { 1 ≤ limit }
     requires most { limit ≤ 8190 }
-    ensures { IfOk result (λ listed. IsListed clock items.items listed.ledger listed.replies.items) }
+    ensures listed { IfOk result (λ listed. IsListed clock items.items listed.ledger listed.replies.items) }
+    ensures ran { IfOk result (λ listed. Ran clock items.items listed.ledger listed.replies.items) }
+    ensures grouping { AreWithin limit (ahead items.items) → IfOk result (λ listed. IsGrouping limit listed.ledger.groups) }
 {
-    let mut listed = Listed {
+    let Ok(front) = Front::new(alloc, limit, 1) else {
+        unreachable!()
+    };
+    let mut listing = Listing {
+        front,
         ledger: Ledger::new(alloc, clock),
         replies: Vec::new(alloc),
     };
-    let Ok(mut front) = Front::new(alloc, limit, 1) else {
-        unreachable!()
-    };
     for item in items {
-        listed.take(&mut front, item)?;
+        listing.take(item)?;
     }
-    listed.finish(&mut front)?;
-    Ok(listed)
+    listing.finish()?;
+    Ok(Listed {
+        ledger: listing.ledger,
+        replies: listing.replies,
+    })
 }

@@ -9,11 +9,11 @@ use Rattle.tb_layout.specs.Failures.{RiseWithin, is_within, rebased, cut}
 use Rattle.tb_work.specs.Admission.{count_of}
 use Rattle.tb_work.specs.Job.{Numbered, count_of_all, is_lookup}
 use Rattle.tb_work.specs.Reply.{reply_with}
-use Rattle.tb_work.specs.declared.answer.Answer.TheVariants.{Failures}
-use Rattle.tb_work.specs.declared.answer.Outcome.TheVariants.{Committed}
+use Rattle.tb_layout.specs.declared.answer.Answer.TheVariants.{Failures}
+use Rattle.tb_work.specs.declared.outcome.Outcome.TheVariants.{Committed}
 use Rattle.tb_demux.specs.declared.uncut.Uncut.{Uncut}
 use Rattle.tb_demux.specs.Leading.{leading}
-use Rattle.tb_work.specs.declared.answer.Outcome.{Outcome}
+use Rattle.tb_work.specs.declared.outcome.Outcome.{Outcome}
 use Rattle.tb_demux.specs.Left.{left, IsUncut, IsForOne}
 use Rattle.tb_demux.specs.Cutting.{reply_at, replies_from}
 

@@ -3,10 +3,10 @@ use Rattle.std.specs.Prelude.{◌≡◌, ◌≤◌, ◌^◌, ℕ, ◌+◌, true,
 use Rattle.std.specs.List.{list_all}
 use Rattle.tb_layout.specs.declared.failure.Failure.{Failure}
 use Rattle.tb_layout.specs.Failures.{RiseWithin, cut}
-use Rattle.tb_work.specs.declared.answer.Answer.{Answer}
-use Rattle.tb_work.specs.declared.answer.Answer.TheVariants.{Failures, Accounts}
-use Rattle.tb_work.specs.declared.answer.Outcome.{Outcome}
-use Rattle.tb_work.specs.declared.answer.Outcome.TheVariants.{Committed, Shutdown, Stopped}
+use Rattle.tb_layout.specs.declared.answer.Answer.{Answer}
+use Rattle.tb_layout.specs.declared.answer.Answer.TheVariants.{Failures, Accounts}
+use Rattle.tb_work.specs.declared.outcome.Outcome.{Outcome}
+use Rattle.tb_work.specs.declared.outcome.Outcome.TheVariants.{Committed, Shutdown, Stopped}
 use Rattle.tb_work.specs.Admission.{count_of}
 use Rattle.tb_work.specs.Job.{Numbered, count_of_all, is_lookup}
 use Rattle.tb_work.specs.Reply.{Replied, reply_with}

@@ -3,8 +3,8 @@ use Rattle.std.specs.Prelude.{◌≡◌, ◌≤◌, ◌^◌, ◌+◌, true, not,
 use Rattle.std.specs.List.{list_all}
 use Rattle.tb_layout.specs.declared.failure.Failure.{Failure}
 use Rattle.tb_layout.specs.Failures.{RiseWithin}
-use Rattle.tb_work.specs.declared.answer.Outcome.{Outcome}
-use Rattle.tb_work.specs.declared.answer.Outcome.TheVariants.{Shutdown as ShutdownOutcome, Stopped as StoppedOutcome}
+use Rattle.tb_work.specs.declared.outcome.Outcome.{Outcome}
+use Rattle.tb_work.specs.declared.outcome.Outcome.TheVariants.{Shutdown as ShutdownOutcome, Stopped as StoppedOutcome}
 use Rattle.tb_work.specs.Answer.{IsOutcomeOf}
 use Rattle.tb_work.specs.Job.{Numbered, count_of_all, is_lookup}
 use Rattle.tb_work.specs.Reply.{Replied, reply_with}

@@ -5,8 +5,8 @@ ghost use Rattle.tb_layout.specs.Failures.{RiseWithin, cut};
 ghost use Rattle.tb_work.specs.Admission.{count_of};
 ghost use Rattle.tb_work.specs.Job.{is_lookup};
 ghost use Rattle.tb_work.specs.Reply.{reply_with};
-ghost use Rattle.tb_work.specs.declared.answer.Answer.TheVariants.{Failures as FailuresOf};
-ghost use Rattle.tb_work.specs.declared.answer.Outcome.TheVariants.{Committed as CommittedAt};
+ghost use Rattle.tb_layout.specs.declared.answer.Answer.TheVariants.{Failures as FailuresOf};
+ghost use Rattle.tb_work.specs.declared.outcome.Outcome.TheVariants.{Committed as CommittedAt};
 ghost use Rattle.tb_demux.specs.Leading.{leading};
 ghost use Rattle.tb_demux.specs.Left.{left};
 

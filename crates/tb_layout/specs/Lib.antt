@@ -7,3 +7,4 @@ pub mod TransferCode
 pub mod Failure
 pub mod Events
 pub mod Failures
+pub mod Work

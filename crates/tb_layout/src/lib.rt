@@ -6,6 +6,7 @@
 
 mod account;
 mod account_code;
+mod answer;
 mod failure;
 mod id;
 mod no_memory;
@@ -15,6 +16,7 @@ mod transfer_code;
 
 pub use account::{Account, read_account, write_account};
 pub use account_code::AccountCode;
+pub use answer::{Accounts, Answer, Failures};
 pub use failure::{Failure, read_failure, write_failure};
 pub use id::read_id;
 pub use no_memory::NoMemory;

@@ -10,7 +10,9 @@ use Rattle.tb_tables.specs.Facts.{no_facts}
 use Rattle.tb_tables.specs.Balances.{debits_pending, debits_posted, credits_pending, credits_posted}
 use Rattle.tb_tables.specs.Status.{status_with}
 use Rattle.tb_tables.specs.declared.status.Status.TheVariants.{Pending, Voided, Expired}
-use Rattle.tb_machine.specs.Replay.{Item, Packet, Pulse, Failed, Found, replay, reply_at, failures_of}
+use Rattle.tb_layout.specs.declared.answer.Answer.TheVariants as answer
+use Rattle.tb_layout.specs.Work.{Work, Packet, Pulse}
+use Rattle.tb_machine.specs.Replay.{replay, answer_at, failures_of}
 
 abbrev most : ℕ
 most = 340282366920938463463374607431768211455
@@ -67,7 +69,7 @@ failure index code = record { index = index; code = code }
 
 -- ---- accounts
 
-two_submitters_joined : failures_of (replay 0 (Packet (Accounts (account 1 ∷ account 2 ∷ [])) ∷ [])) (Accounts (account 1 ∷ record (account 3) { ledger = 0 } ∷ [])) ≡ failure 0 21 ∷ failure 1 13 ∷ []
+two_submitters_joined : failures_of (replay 0 (Packet 0 0 (Accounts (account 1 ∷ account 2 ∷ [])) ∷ [])) (Accounts (account 1 ∷ record (account 3) { ledger = 0 } ∷ [])) ≡ failure 0 21 ∷ failure 1 13 ∷ []
 two_submitters_joined = refl
 
 abbrev broken : Events
@@ -76,7 +78,7 @@ broken = Accounts (linked 1 ∷ linked 0 ∷ account 2 ∷ account 3 ∷ [])
 broken_chain : failures_of (replay 0 []) broken ≡ failure 0 1 ∷ failure 1 6 ∷ failure 2 1 ∷ []
 broken_chain = refl
 
-broken_chain-timestamps : map (λ (made : Account). made.timestamp) (replay 0 (Packet broken ∷ [])).facts.accounts ≡ 4 ∷ []
+broken_chain-timestamps : map (λ (made : Account). made.timestamp) (replay 0 (Packet 0 0 broken ∷ [])).facts.accounts ≡ 4 ∷ []
 broken_chain-timestamps = refl
 
 abbrev broken_and_open : Events
@@ -85,10 +87,10 @@ broken_and_open = Accounts (linked 1 ∷ linked 0 ∷ linked 2 ∷ [])
 broken_and_open_chain : failures_of (replay 0 []) broken_and_open ≡ failure 0 1 ∷ failure 1 6 ∷ failure 2 2 ∷ []
 broken_and_open_chain = refl
 
-broken_and_open_chain-state : replay 0 (Packet broken_and_open ∷ []) ≡ record { clock = 3; facts = no_facts }
+broken_and_open_chain-state : replay 0 (Packet 0 0 broken_and_open ∷ []) ≡ record { clock = 3; facts = no_facts }
 broken_and_open_chain-state = refl
 
-clock_exhausted : failures_of (replay 9223372036854775806 (Packet (Accounts (account 1 ∷ [])) ∷ [])) (Accounts (account 2 ∷ [])) ≡ failure 0 201 ∷ []
+clock_exhausted : failures_of (replay 9223372036854775806 (Packet 0 0 (Accounts (account 1 ∷ [])) ∷ [])) (Accounts (account 2 ∷ [])) ≡ failure 0 201 ∷ []
 clock_exhausted = refl
 
 bad_account_fields : failures_of (replay 0 []) (Accounts (record (account 1) { timestamp = 5 } ∷ record (account 2) { flags = 6 } ∷ record (account 3) { flags = 16 } ∷ [])) ≡ failure 0 3 ∷ failure 1 8 ∷ failure 2 5 ∷ []
@@ -96,11 +98,11 @@ bad_account_fields = refl
 
 -- ---- transfers, behind accounts 1 and 2
 
-abbrev two_accounts : Item
-two_accounts = Packet (Accounts (account 1 ∷ account 2 ∷ []))
+abbrev two_accounts : Work
+two_accounts = Packet 0 0 (Accounts (account 1 ∷ account 2 ∷ []))
 
-abbrev limited_accounts : Item
-limited_accounts = Packet (Accounts (account 1 ∷ record (account 2) { flags = 2 } ∷ account 3 ∷ []))
+abbrev limited_accounts : Work
+limited_accounts = Packet 0 0 (Accounts (account 1 ∷ record (account 2) { flags = 2 } ∷ account 3 ∷ []))
 
 abbrev chain : Events
 chain = Transfers (record (transfer 1 1 2 10) { flags = 1 } ∷ record (transfer 2 2 3 10) { flags = 1 } ∷ record (transfer 3 1 3 10) { ledger = 0 } ∷ [])
@@ -108,14 +110,14 @@ chain = Transfers (record (transfer 1 1 2 10) { flags = 1 } ∷ record (transfer
 chains_of_transfers_joined : failures_of (replay 0 (limited_accounts ∷ [])) chain ≡ failure 0 1 ∷ failure 1 1 ∷ failure 2 19 ∷ []
 chains_of_transfers_joined = refl
 
-chains_of_transfers_joined-second : failures_of (replay 0 (limited_accounts ∷ Packet chain ∷ [])) (Transfers (transfer 2 2 3 10 ∷ [])) ≡ failure 0 54 ∷ []
+chains_of_transfers_joined-second : failures_of (replay 0 (limited_accounts ∷ Packet 0 0 chain ∷ [])) (Transfers (transfer 2 2 3 10 ∷ [])) ≡ failure 0 54 ∷ []
 chains_of_transfers_joined-second = refl
 
-chains_of_transfers_joined-clock : (replay 0 (limited_accounts ∷ Packet chain ∷ Packet (Transfers (transfer 2 2 3 10 ∷ [])) ∷ [])).clock ≡ 7
+chains_of_transfers_joined-clock : (replay 0 (limited_accounts ∷ Packet 0 0 chain ∷ Packet 0 0 (Transfers (transfer 2 2 3 10 ∷ [])) ∷ [])).clock ≡ 7
 chains_of_transfers_joined-clock = refl
 
-abbrev posted : List Item
-posted = two_accounts ∷ Packet (Transfers (pending 1 100 0 ∷ [])) ∷ Packet (Transfers (post 2 1 most ∷ [])) ∷ []
+abbrev posted : List Work
+posted = two_accounts ∷ Packet 0 0 (Transfers (pending 1 100 0 ∷ [])) ∷ Packet 0 0 (Transfers (post 2 1 most ∷ [])) ∷ []
 
 post_then_void : failures_of (replay 0 posted) (Transfers (void 3 1 0 ∷ [])) ≡ failure 0 33 ∷ []
 post_then_void = refl
@@ -123,13 +125,13 @@ post_then_void = refl
 post_then_void-balance : debits_posted (replay 0 posted).facts 1 ≡ 100
 post_then_void-balance = refl
 
-abbrev late : List Item
-late = two_accounts ∷ Packet (Transfers (pending 1 100 1 ∷ [])) ∷ Pulse 1000000002 ∷ Packet (Transfers (post 2 1 most ∷ [])) ∷ Pulse 0 ∷ []
+abbrev late : List Work
+late = two_accounts ∷ Packet 0 0 (Transfers (pending 1 100 1 ∷ [])) ∷ Pulse 1000000002 ∷ Packet 0 0 (Transfers (post 2 1 most ∷ [])) ∷ Pulse 0 ∷ []
 
-late_post_then_pulse : reply_at 0 late 3 ≡ Some (Failed (failure 0 35 ∷ []))
+late_post_then_pulse : answer_at 0 late 3 ≡ Some (answer.Failures (failure 0 35 ∷ []))
 late_post_then_pulse = refl
 
-late_post_then_pulse-between : debits_pending (replay 0 (two_accounts ∷ Packet (Transfers (pending 1 100 1 ∷ [])) ∷ Pulse 1000000002 ∷ Packet (Transfers (post 2 1 most ∷ [])) ∷ [])).facts 1 ≡ 100
+late_post_then_pulse-between : debits_pending (replay 0 (two_accounts ∷ Packet 0 0 (Transfers (pending 1 100 1 ∷ [])) ∷ Pulse 1000000002 ∷ Packet 0 0 (Transfers (post 2 1 most ∷ [])) ∷ [])).facts 1 ≡ 100
 late_post_then_pulse-between = refl
 
 late_post_then_pulse-behind : debits_pending (replay 0 late).facts 1 ≡ 0
@@ -147,13 +149,13 @@ repeated = Transfers (pending 1 100 0 ∷ post 2 1 40 ∷ post 2 1 40 ∷ post 2
 repeated_post : failures_of (replay 0 (two_accounts ∷ [])) repeated ≡ failure 2 46 ∷ failure 3 39 ∷ []
 repeated_post = refl
 
-repeated_post-pending : debits_pending (replay 0 (two_accounts ∷ Packet repeated ∷ [])).facts 1 ≡ 0
+repeated_post-pending : debits_pending (replay 0 (two_accounts ∷ Packet 0 0 repeated ∷ [])).facts 1 ≡ 0
 repeated_post-pending = refl
 
-repeated_post-posted : debits_posted (replay 0 (two_accounts ∷ Packet repeated ∷ [])).facts 1 ≡ 40
+repeated_post-posted : debits_posted (replay 0 (two_accounts ∷ Packet 0 0 repeated ∷ [])).facts 1 ≡ 40
 repeated_post-posted = refl
 
-repeated_post-clock : (replay 0 (two_accounts ∷ Packet repeated ∷ [])).clock ≡ 6
+repeated_post-clock : (replay 0 (two_accounts ∷ Packet 0 0 repeated ∷ [])).clock ≡ 6
 repeated_post-clock = refl
 
 timeout_overflows : failures_of (replay 9223372036854775000 (two_accounts ∷ [])) (Transfers (pending 1 1 1 ∷ [])) ≡ failure 0 53 ∷ []
@@ -165,15 +167,15 @@ refused = Transfers (transfer 1 1 2 30 ∷ transfer 1 1 2 30 ∷ transfer 2 1 1 
 transfer_refusals : failures_of (replay 0 (two_accounts ∷ [])) refused ≡ failure 1 46 ∷ failure 2 12 ∷ failure 3 22 ∷ failure 4 5 ∷ []
 transfer_refusals = refl
 
-transfer_refusals-debits : debits_posted (replay 0 (two_accounts ∷ Packet refused ∷ [])).facts 1 ≡ 30
+transfer_refusals-debits : debits_posted (replay 0 (two_accounts ∷ Packet 0 0 refused ∷ [])).facts 1 ≡ 30
 transfer_refusals-debits = refl
 
-transfer_refusals-credits : credits_posted (replay 0 (two_accounts ∷ Packet refused ∷ [])).facts 2 ≡ 30
+transfer_refusals-credits : credits_posted (replay 0 (two_accounts ∷ Packet 0 0 refused ∷ [])).facts 2 ≡ 30
 transfer_refusals-credits = refl
 
-abbrev three : List Item
+abbrev three : List Work
 three =
-    two_accounts ∷ Packet (Transfers (pending 1 100 1 ∷ pending 2 50 1 ∷ pending 3 7 0 ∷ [])) ∷ Packet (Transfers (void 4 2 0 ∷ [])) ∷
+    two_accounts ∷ Packet 0 0 (Transfers (pending 1 100 1 ∷ pending 2 50 1 ∷ pending 3 7 0 ∷ [])) ∷ Packet 0 0 (Transfers (void 4 2 0 ∷ [])) ∷
     Pulse 2000000000 ∷ []
 
 expiry_void_and_untimed : credits_pending (replay 0 three).facts 2 ≡ 7
@@ -185,12 +187,12 @@ expiry_void_and_untimed-statuses = refl
 expiry_void_and_untimed-clock : (replay 0 three).clock ≡ 2000000000
 expiry_void_and_untimed-clock = refl
 
-abbrev ordered : List Item
+abbrev ordered : List Work
 ordered =
-    two_accounts ∷ Packet (Transfers (pending 1 10 2 ∷ pending 2 20 1 ∷ pending 3 30 1 ∷ [])) ∷
-    Packet (Transfers (record (post 4 2 most) { flags = 5 } ∷ transfer 0 1 2 0 ∷ [])) ∷ Pulse 1000000004 ∷ Pulse 1000000005 ∷ []
+    two_accounts ∷ Packet 0 0 (Transfers (pending 1 10 2 ∷ pending 2 20 1 ∷ pending 3 30 1 ∷ [])) ∷
+    Packet 0 0 (Transfers (record (post 4 2 most) { flags = 5 } ∷ transfer 0 1 2 0 ∷ [])) ∷ Pulse 1000000004 ∷ Pulse 1000000005 ∷ []
 
-expiry_order : reply_at 0 ordered 2 ≡ Some (Failed (failure 0 1 ∷ failure 1 5 ∷ []))
+expiry_order : answer_at 0 ordered 2 ≡ Some (answer.Failures (failure 0 1 ∷ failure 1 5 ∷ []))
 expiry_order = refl
 
 expiry_order-statuses : map (status_with (replay 0 ordered).facts) (1 ∷ 2 ∷ 3 ∷ []) ≡ Some Pending ∷ Some Expired ∷ Some Expired ∷ []
@@ -199,14 +201,14 @@ expiry_order-statuses = refl
 expiry_order-balance : debits_pending (replay 0 ordered).facts 1 ≡ 10
 expiry_order-balance = refl
 
-abbrev failed : List Item
+abbrev failed : List Work
 failed =
-    two_accounts ∷ Packet (Transfers (record (transfer 1 1 2 5) { flags = 1 } ∷ transfer 2 1 9 5 ∷ [])) ∷
-    Packet (Transfers (transfer 1 1 2 5 ∷ transfer 2 1 2 5 ∷ [])) ∷ Packet (Transfers (post 3 8 most ∷ [])) ∷
-    Packet (Transfers (transfer 3 1 2 1 ∷ record (transfer 2 1 2 1) { flags = 6 } ∷ [])) ∷ []
+    two_accounts ∷ Packet 0 0 (Transfers (record (transfer 1 1 2 5) { flags = 1 } ∷ transfer 2 1 9 5 ∷ [])) ∷
+    Packet 0 0 (Transfers (transfer 1 1 2 5 ∷ transfer 2 1 2 5 ∷ [])) ∷ Packet 0 0 (Transfers (post 3 8 most ∷ [])) ∷
+    Packet 0 0 (Transfers (transfer 3 1 2 1 ∷ record (transfer 2 1 2 1) { flags = 6 } ∷ [])) ∷ []
 
-id_already_failed : map (reply_at 0 failed) (1 ∷ 2 ∷ 3 ∷ 4 ∷ [])
-    ≡ Some (Failed (failure 0 1 ∷ failure 1 22 ∷ [])) ∷ Some (Failed (failure 1 68 ∷ [])) ∷ Some (Failed (failure 0 25 ∷ [])) ∷ Some (Failed (failure 0 68 ∷ failure 1 68 ∷ [])) ∷ []
+id_already_failed : map (answer_at 0 failed) (1 ∷ 2 ∷ 3 ∷ 4 ∷ [])
+    ≡ Some (answer.Failures (failure 0 1 ∷ failure 1 22 ∷ [])) ∷ Some (answer.Failures (failure 1 68 ∷ [])) ∷ Some (answer.Failures (failure 0 25 ∷ [])) ∷ Some (answer.Failures (failure 0 68 ∷ failure 1 68 ∷ [])) ∷ []
 id_already_failed = refl
 
 id_already_failed-clock : (replay 0 failed).clock ≡ 9
@@ -214,9 +216,9 @@ id_already_failed-clock = refl
 
 -- ---- a lookup of accounts 2, 9 and 1
 
-lookup : reply_at 0 (two_accounts ∷ Packet (Transfers (transfer 1 1 2 30 ∷ [])) ∷ Packet (Ids (2 ∷ 9 ∷ 1 ∷ [])) ∷ []) 2
-    ≡ Some (Found (record (account 2) { credits_posted = 30; timestamp = 2 } ∷ record (account 1) { debits_posted = 30; timestamp = 1 } ∷ []))
+lookup : answer_at 0 (two_accounts ∷ Packet 0 0 (Transfers (transfer 1 1 2 30 ∷ [])) ∷ Packet 0 0 (Ids (2 ∷ 9 ∷ 1 ∷ [])) ∷ []) 2
+    ≡ Some (answer.Accounts (record (account 2) { credits_posted = 30; timestamp = 2 } ∷ record (account 1) { debits_posted = 30; timestamp = 1 } ∷ []))
 lookup = refl
 
-lookup-clock : (replay 0 (two_accounts ∷ Packet (Ids (2 ∷ [])) ∷ [])).clock ≡ 2
+lookup-clock : (replay 0 (two_accounts ∷ Packet 0 0 (Ids (2 ∷ [])) ∷ [])).clock ≡ 2
 lookup-clock = refl

@@ -3,7 +3,10 @@ use Rattle.std.specs.Prelude.{ℕ, max, List, [], fold, map, length, take, slice
 use Rattle.std.specs.List.{filter_map}
 use Rattle.tb_layout.specs.declared.account.Account.{Account}
 use Rattle.tb_layout.specs.declared.failure.Failure.{Failure}
+use Rattle.tb_layout.specs.declared.answer.Answer.{Answer}
+use Rattle.tb_layout.specs.declared.answer.Answer.TheVariants as answer
 use Rattle.tb_layout.specs.Events.{Events, Accounts, Transfers, Ids}
+use Rattle.tb_layout.specs.Work.{Work, Packet, Pulse}
 use Rattle.tb_tables.specs.Facts.{Facts, no_facts}
 use Rattle.tb_tables.specs.Status.{expire_due}
 use Rattle.tb_tables.specs.Balances.{with_balances, balanced_account}
@@ -41,14 +44,10 @@ abbrev pub balanced_accounts : Facts → List Account
 balanced_accounts facts = map (with_balances facts) facts.accounts
 
 -- what a packet is answered
-pub data Answer : Type 0 where
-  Failed : List Failure → Answer
-  Found : List Account → Answer
-
 abbrev pub answer_of : State → Events → Answer
-answer_of state (Accounts events) = Failed (failures_of state (Accounts events))
-answer_of state (Transfers events) = Failed (failures_of state (Transfers events))
-answer_of state (Ids ids) = Found (accounts_found state.facts ids)
+answer_of state (Accounts events) = answer.Failures (failures_of state (Accounts events))
+answer_of state (Transfers events) = answer.Failures (failures_of state (Transfers events))
+answer_of state (Ids ids) = answer.Accounts (accounts_found state.facts ids)
 
 -- each event of accounts or transfers raises the clock by one, whatever its result
 abbrev pub after_events : State → ℕ → Facts → State
@@ -68,23 +67,19 @@ pulsed state moment = record { clock = max state.clock moment; facts = expire_du
 
 -- ---- packets and pulses
 
-pub data Item : Type 0 where
-  Packet : Events → Item
-  Pulse : ℕ → Item
+abbrev pub after_work : State → Work → State
+after_work state (Packet submitter number events) = after_packet state events
+after_work state (Pulse moment) = pulsed state moment
 
-abbrev pub after_item : State → Item → State
-after_item state (Packet events) = after_packet state events
-after_item state (Pulse moment) = pulsed state moment
+-- the state after packets and pulses in order, from a clock and no facts
+abbrev pub replay : ℕ → List Work → State
+replay clock works = fold after_work (opening clock) works
 
--- the state after items in order, from a clock and no facts
-abbrev pub replay : ℕ → List Item → State
-replay clock items = fold after_item (opening clock) items
-
-abbrev pub answer_to : State → Option Item → Option Answer
+abbrev pub answer_to : State → Option Work → Option Answer
 answer_to state None = None
 answer_to state (Some (Pulse moment)) = None
-answer_to state (Some (Packet events)) = Some (answer_of state events)
+answer_to state (Some (Packet submitter number events)) = Some (answer_of state events)
 
--- the answer to the packet at a place, in the state that the items before it left
-abbrev pub reply_at : ℕ → List Item → ℕ → Option Answer
-reply_at clock items place = answer_to (replay clock (take place items)) (slice_get items place)
+-- the answer to the packet at a place, in the state that those before it left
+abbrev pub answer_at : ℕ → List Work → ℕ → Option Answer
+answer_at clock works place = answer_to (replay clock (take place works)) (slice_get works place)

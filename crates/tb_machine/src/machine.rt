@@ -64,6 +64,7 @@ impl Machine {
         requires limit { length body.now / 128 ≤ 8190 }
         requires empty { out.old.items ≡ [] }
         requires room { length body.now / 128 ≤ vec_capacity out.old }
+        ensures in_range { self.old.clock ≤ clock_max }
         ensures state { OnOk result (self.new ≡ after_packet self.old (events_of operation body.now)) }
         ensures failures { OnOk result (out.new.items ≡ failures_of self.old (events_of operation body.now)) }
         ensures unchanged { OnErr result (self.new ≡ self.old) }
@@ -86,6 +87,7 @@ impl Machine {
         requires limit { length body.now / 128 ≤ 8190 }
         requires empty { out.old.items ≡ [] }
         requires room { length body.now / 128 ≤ vec_capacity out.old }
+        ensures in_range { self.old.clock ≤ clock_max }
         ensures state { let events = map E.event_of (rows 128 body.now) in
             OnOk result (self.new ≡ after_events self.old (length events) (events_outcome E.operation self.old.clock self.old.facts events).facts) }
         ensures failures { let events = map E.event_of (rows 128 body.now) in
@@ -127,6 +129,7 @@ impl Machine {
         requires limit { length body.now / 16 ≤ 8190 }
         requires empty { out.old.items ≡ [] }
         requires room { length body.now / 16 ≤ vec_capacity out.old }
+        ensures in_range { self.now.clock ≤ clock_max }
         ensures found { out.new.items ≡ accounts_found self.now.facts (ids_of body.now) }
         ensures capacity { vec_capacity out.new ≡ vec_capacity out.old }
     {

@@ -2,16 +2,17 @@
 use Rattle.std.proofs.Common.{◌≡◌, ℕ, ◌+◌, List, [], ◌∷◌, ◌++◌, map, refl, ap, ◌∙◌, Option, Some, None, append_assoc}
 use Rattle.std.specs.Prelude.{Result, Ok, Err, OnOk, IsOk, codes}
 use Rattle.std.specs.List.{flat_map}
-use Rattle.tb_machine.specs.Replay.{State, balanced_accounts}
+use Rattle.tb_machine.specs.Replay.{State, replay, balanced_accounts}
 use Rattle.tb_work.specs.Job.{numbered}
 use Rattle.tb_work.specs.Queue.{ahead}
 use Rattle.tb_work.specs.Reply.{Replied, reply_with}
-use Rattle.tb_work.specs.Work.{Work}
+use Rattle.tb_layout.specs.Work.{Work}
 use Rattle.tb_work.specs.declared.item.Item as work
 use Rattle.tb_work.specs.declared.refusal.Refusal.{Refusal}
-use Rattle.tb_core.specs.Ledger.{LedgerState, works, state_after}
+use Rattle.tb_core.specs.Due.{all_due_from, outcome_at}
+use Rattle.tb_core.specs.Ledger.{LedgerState, works}
 use Rattle.tb_core.specs.Passage.{Ahead, Behind}
-use Rattle.tb_core.specs.Report.{IsListed, all_due_from, outcome_at}
+use Rattle.tb_core.specs.Report.{IsListed}
 use Rattle.tb_program.specs.declared.item.Submission.{Submission}
 use Rattle.tb_program.specs.declared.plan.Line.{Line}
 use Rattle.tb_program.specs.Plan.{Planned, Packet, Pulse, Close, RefusedPacket, RefusedPulse, queue_of, line_of, number_in, packet_of, packet_as}
@@ -42,17 +43,17 @@ on_ok (Err e) f holds = tt
 
 -- the lines, the clock and the accounts
 pub whole : (clock time : ℕ) (plan : List Planned) (lines : List Line) (ledger : LedgerState) (replies : List Replied) (state : State) (out with_lines with_clock with_accounts : List ℕ) →
-    lines ≡ map line_of plan → IsListed clock (queue_of plan) ledger replies → state ≡ state_after ledger.opening (works ledger) → time ≡ state.clock →
+    lines ≡ map line_of plan → IsListed clock (queue_of plan) ledger replies → state ≡ replay ledger.opening (works ledger) → time ≡ state.clock →
     with_lines ≡ out ++ printed_from (Some 0) replies lines → with_clock ≡ with_lines ++ clock_line time →
     with_accounts ≡ with_clock ++ flat_map account_line (balanced_accounts state.facts) → with_accounts ≡ out ++ plan_text clock plan
 whole clock time plan lines ledger replies state out with_lines with_clock with_accounts lines_are is state_is time_is first second third =
     let committed = ahead (queue_of plan) in
-    let after : state ≡ state_after clock committed = state_is ∙ ap (λ start. state_after start (works ledger)) is.from ∙ ap (state_after clock) is.committed in
+    let after : state ≡ replay clock committed = state_is ∙ ap (λ start. replay start (works ledger)) is.from ∙ ap (replay clock) is.committed in
     let text : printed_from (Some 0) replies lines ≡ lines_from clock committed (Ahead 0) plan =
     ap (printed_from (Some 0) replies) lines_are ∙ ap (λ rs. printed_from (Some 0) rs (map line_of plan)) is.replied ∙ printed clock committed (Some 0) plan in
-    let begun : with_clock ≡ (out ++ lines_from clock committed (Ahead 0) plan) ++ clock_line (state_after clock committed).clock =
+    let begun : with_clock ≡ (out ++ lines_from clock committed (Ahead 0) plan) ++ clock_line (replay clock committed).clock =
     second ∙ ap (λ t. t ++ clock_line time) (first ∙ ap (λ t. out ++ t) text) ∙ ap (λ n. (out ++ lines_from clock committed (Ahead 0) plan) ++ clock_line n) (time_is ∙ ap (λ (s : State). s.clock) after) in
     third ∙ ap (λ t. t ++ flat_map account_line (balanced_accounts state.facts)) begun
-    ∙ ap (λ (s : State). ((out ++ lines_from clock committed (Ahead 0) plan) ++ clock_line (state_after clock committed).clock) ++ flat_map account_line (balanced_accounts s.facts)) after
-    ∙ append_assoc (out ++ lines_from clock committed (Ahead 0) plan) (clock_line (state_after clock committed).clock) (flat_map account_line (balanced_accounts (state_after clock committed).facts))
-    ∙ append_assoc out (lines_from clock committed (Ahead 0) plan) (clock_line (state_after clock committed).clock ++ flat_map account_line (balanced_accounts (state_after clock committed).facts))
+    ∙ ap (λ (s : State). ((out ++ lines_from clock committed (Ahead 0) plan) ++ clock_line (replay clock committed).clock) ++ flat_map account_line (balanced_accounts s.facts)) after
+    ∙ append_assoc (out ++ lines_from clock committed (Ahead 0) plan) (clock_line (replay clock committed).clock) (flat_map account_line (balanced_accounts (replay clock committed).facts))
+    ∙ append_assoc out (lines_from clock committed (Ahead 0) plan) (clock_line (replay clock committed).clock ++ flat_map account_line (balanced_accounts (replay clock committed).facts))

@@ -3,19 +3,18 @@ use Rattle.std.specs.Prelude.{◌≡◌, ◌<◌, ◌≤◌, ℕ, Bool, true, fa
 use Rattle.std.specs.declared.alloc.Global.{Global}
 use Rattle.tb_layout.specs.declared.account.Account.{Account}
 use Rattle.tb_layout.specs.declared.failure.Failure.{Failure}
-use Rattle.tb_machine.specs.Replay.{State, balanced_accounts}
+use Rattle.tb_machine.specs.Replay.{State, replay, balanced_accounts}
 use Rattle.tb_work.specs.Queue.{ahead}
 use Rattle.tb_work.specs.Refusal.{number_of, name_of}
 use Rattle.tb_work.specs.Reply.{Replied, reply_with}
-use Rattle.tb_work.specs.Work.{Work}
-use Rattle.tb_work.specs.declared.answer.Answer.{Answer}
-use Rattle.tb_work.specs.declared.answer.Answer.TheVariants.{Failures, Accounts}
-use Rattle.tb_work.specs.declared.answer.Outcome.{Outcome}
-use Rattle.tb_work.specs.declared.answer.Outcome.TheVariants.{Committed, Shutdown, Stopped}
+use Rattle.tb_layout.specs.Work.{Work}
+use Rattle.tb_layout.specs.declared.answer.Answer.{Answer}
+use Rattle.tb_layout.specs.declared.answer.Answer.TheVariants.{Failures, Accounts}
+use Rattle.tb_work.specs.declared.outcome.Outcome.{Outcome}
+use Rattle.tb_work.specs.declared.outcome.Outcome.TheVariants.{Committed, Shutdown, Stopped}
 use Rattle.tb_work.specs.declared.refusal.Refusal.{Refusal}
-use Rattle.tb_core.specs.Ledger.{state_after}
 use Rattle.tb_core.specs.Passage.{Place, Ahead, Behind, place_behind}
-use Rattle.tb_core.specs.Report.{outcome_at}
+use Rattle.tb_core.specs.Due.{outcome_at}
 use Rattle.tb_program.specs.declared.fault.Fault.{Fault}
 use Rattle.tb_program.specs.declared.fault.Fault.TheVariants.{LineTooLong, BadByte, UnknownWord, OutOfPlace, WrongNumberOfWords, BadField, BadNumber, BadHex}
 use Rattle.tb_program.specs.Script.{Said, items_of, clock_of, limit_of, script_of}
@@ -113,7 +112,7 @@ lines_from clock works place (planned ∷ plan) = line_text clock works place pl
 abbrev pub plan_text : ℕ → List Planned → List ℕ
 plan_text clock plan =
     let works = ahead (queue_of plan) in
-    lines_from clock works (Ahead 0) plan ++ state_text (state_after clock works)
+    lines_from clock works (Ahead 0) plan ++ state_text (replay clock works)
 
 abbrev pub listing : Said → List ℕ
 listing said = plan_text (clock_of said.settings) (plan_behind (limit_of said.settings) [] (items_of said))

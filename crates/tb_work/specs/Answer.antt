@@ -2,10 +2,10 @@
 use Rattle.std.specs.Prelude.{◌≡◌, ◌≤◌, true, length}
 use Rattle.tb_layout.specs.Failures.{RiseWithin}
 use Rattle.tb_work.specs.declared.packet.Packet.{Packet}
-use Rattle.tb_work.specs.declared.answer.Answer.{Answer}
-use Rattle.tb_work.specs.declared.answer.Answer.TheVariants.{Failures, Accounts}
-use Rattle.tb_work.specs.declared.answer.Outcome.{Outcome}
-use Rattle.tb_work.specs.declared.answer.Outcome.TheVariants.{Committed, Shutdown, Stopped}
+use Rattle.tb_layout.specs.declared.answer.Answer.{Answer}
+use Rattle.tb_layout.specs.declared.answer.Answer.TheVariants.{Failures, Accounts}
+use Rattle.tb_work.specs.declared.outcome.Outcome.{Outcome}
+use Rattle.tb_work.specs.declared.outcome.Outcome.TheVariants.{Committed, Shutdown, Stopped}
 use Rattle.tb_work.specs.Admission.{count_of}
 use Rattle.tb_work.specs.Job.{is_lookup}
 

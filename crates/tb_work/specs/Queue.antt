@@ -4,8 +4,9 @@ use Rattle.std.specs.List.{list_all, AllByRecursion}
 use Rattle.tb_work.specs.declared.item.Item.{Item}
 use Rattle.tb_work.specs.declared.item.Item.TheVariants.{Packet, Pulse, End, Close}
 use Rattle.tb_work.specs.declared.item.Ticket.{Ticket}
-use Rattle.tb_work.specs.Work.{Work, work_of}
-use Rattle.tb_work.specs.Work as work
+use Rattle.tb_layout.specs.Work.{Work}
+use Rattle.tb_work.specs.Work.{work_of}
+use Rattle.tb_layout.specs.Work as work
 
 -- what a sender has in a queue, in order
 abbrev pub part : ℕ → List Ticket → List Item

@@ -1,7 +1,7 @@
 -- Replies.
 use Rattle.std.specs.Prelude.{ℕ}
 use Rattle.tb_work.specs.declared.packet.Packet.{Packet}
-use Rattle.tb_work.specs.declared.answer.Outcome.{Outcome}
+use Rattle.tb_work.specs.declared.outcome.Outcome.{Outcome}
 use Rattle.tb_work.specs.Job.{Numbered}
 
 -- a packet as it was handed in, with what became of it

@@ -7,11 +7,11 @@
 #![tactic(auto)]
 
 mod admission;
-mod answer;
 mod bytes;
 mod item;
 mod job;
 mod moment;
+mod outcome;
 mod packet;
 mod refusal;
 mod reply;
@@ -20,12 +20,13 @@ mod stub;
 mod tests;
 
 pub use admission::admit;
-pub use answer::{Accounts, Answer, Failures, Outcome};
 pub use bytes::Bytes;
 pub use item::{Item, Ticket};
 pub use job::Job;
 pub use moment::Moment;
+pub use outcome::Outcome;
 pub use packet::Packet;
 pub use refusal::Refusal;
 pub use reply::Reply;
 pub use stub::Stub;
+pub use tb_layout::{Accounts, Answer, Failures};

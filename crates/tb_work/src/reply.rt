@@ -5,14 +5,14 @@ ghost use Rattle.tb_layout.specs.Failures.{RiseWithin, rebased};
 ghost use Rattle.tb_work.specs.Admission.{count_of};
 ghost use Rattle.tb_work.specs.Answer.{IsOutcomeOf};
 ghost use Rattle.tb_work.specs.Job.{is_lookup};
-ghost use Rattle.tb_work.specs.declared.answer.Answer.TheVariants.{Failures as FailuresOf};
-ghost use Rattle.tb_work.specs.declared.answer.Outcome.TheVariants.{Committed as CommittedAt};
+ghost use Rattle.tb_layout.specs.declared.answer.Answer.TheVariants.{Failures as FailuresOf};
+ghost use Rattle.tb_work.specs.declared.outcome.Outcome.TheVariants.{Committed as CommittedAt};
 
-use crate::answer::{Answer, Failures, Outcome};
 use crate::job::Job;
+use crate::outcome::Outcome;
 use crate::packet::Packet;
 use std::marker::Model;
-use tb_layout::Failure;
+use tb_layout::{Answer, Failure, Failures};
 
 /// A packet as it was handed in, with what became of it.
 #[derive(Drop)]

@@ -26,4 +26,4 @@ invariant_of-self-2 c =
       for_accounts = λ lookup. omega (arith, ap (λ (v : Vec Account Global). vec_capacity v) put.answer.1, counted, given c.reserve_for.result _ succeeded room.room_for_accounts lookup);
     } in
     rw c.stub.ensures.value (batch_more c.self.inside.parts c.append.new.self c.self.inside.shares c.self.inside.events c.args.limit c.args.job c.self.invariant c.requires.limit (ap (λ js. is_taken c.args.limit js c.args.job) c.self.view_is ∙ c.requires.joins)
-    (put.operation ∙ room.operation) (put.jobs ∙ ap (λ js. js ++ c.args.job ∷ []) room.jobs.0) (put.stubs ∙ ap (λ ss. ss ++ stub_of c.args.job ∷ []) room.jobs.1) (put.body ∙ ap (λ bs. bs ++ c.args.job.packet.bytes) room.jobs.2) has_room)
+    put.admitted (put.operation ∙ room.operation) (put.jobs ∙ ap (λ js. js ++ c.args.job ∷ []) room.jobs.0) (put.stubs ∙ ap (λ ss. ss ++ stub_of c.args.job ∷ []) room.jobs.1) (put.body ∙ ap (λ bs. bs ++ c.args.job.packet.bytes) room.jobs.2) has_room)

@@ -3,8 +3,8 @@ use Rattle.tb_layout.specs.Failures.{rebased}
 use Rattle.tb_work.specs.Admission.{count_of}
 use Rattle.tb_work.specs.Reply.{reply_with}
 use Rattle.tb_work.specs.declared.stub.Stub.{Stub}
-use Rattle.tb_work.specs.declared.answer.Answer.TheVariants.{Failures}
-use Rattle.tb_work.specs.declared.answer.Outcome.TheVariants.{Committed}
+use Rattle.tb_layout.specs.declared.answer.Answer.TheVariants.{Failures}
+use Rattle.tb_work.specs.declared.outcome.Outcome.TheVariants.{Committed}
 use Rattle.tb_demux.specs.Leading.{leading}
 use Rattle.tb_demux.specs.Left.{left}
 use Rattle.tb_demux.proofs.Cuts.{rise_own, rise_behind, cut_leading}

@@ -1,9 +1,10 @@
-//! What became of a packet.
+//! The answer to a packet that was committed.
 
 ghost use Rattle.std.specs.Prelude.{◌≡◌};
 
+use crate::account::Account;
+use crate::failure::Failure;
 use std::marker::Model;
-use tb_layout::{Account, Failure};
 
 /// The failed events of a packet, seen as their list.
 #[derive(Drop)]
@@ -79,13 +80,4 @@ impl Accounts {
 pub enum Answer {
     Failures(Failures),
     Accounts(Accounts),
-}
-
-/// What became of a packet: committed at a place among the committed packets and pulses, counted from
-/// 0; queued behind the close; or stopped with the pipeline.
-#[derive(Drop)]
-pub enum Outcome {
-    Committed { place: u64, answer: Answer },
-    Shutdown,
-    Stopped,
 }
