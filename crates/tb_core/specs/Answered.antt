@@ -3,7 +3,7 @@ use Rattle.std.specs.Prelude.{◌≡◌, ◌≤◌, ℕ, ◌==◌, true, false, 
 use Rattle.tb_layout.specs.declared.account.Account.{Account}
 use Rattle.tb_layout.specs.declared.failure.Failure.{Failure}
 use Rattle.tb_layout.specs.Events.{events_of, ids_of}
-use Rattle.tb_machine.specs.Clock.{clock_max}
+use Rattle.tb_layout.specs.Limits.{clock_max}
 use Rattle.tb_machine.specs.Replay.{State, failures_of, accounts_found}
 use Rattle.tb_work.specs.Job.{stub_of}
 use Rattle.tb_work.specs.declared.answer.Answer.{Answer}

@@ -1,6 +1,6 @@
 -- What is true of a ledger between its calls.
 use Rattle.std.specs.Prelude.{◌≡◌, ◌≤◌, ◌^◌, ℕ, length}
-use Rattle.tb_machine.specs.Clock.{clock_max}
+use Rattle.tb_layout.specs.Limits.{clock_max}
 use Rattle.tb_machine.specs.Replay.{State}
 use Rattle.tb_core.specs.Ledger.{LedgerState, works, state_after}
 

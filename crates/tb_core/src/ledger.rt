@@ -2,7 +2,7 @@
 
 ghost use Rattle.std.specs.Prelude.{◌≡◌, ◌==◌, ◌<◌, ◌≤◌, ◌+◌, ◌^◌, ◌++◌, ◌∷◌, [], ℕ, List, Bool, false, true, length, map, vec_len, vec_capacity, OnOk, OnErr, IfOk, IfErr, nat_lt, ◌||◌};
 ghost use Rattle.tb_layout.specs.Events.{events_of};
-ghost use Rattle.tb_machine.specs.Clock.{clock_max};
+ghost use Rattle.tb_layout.specs.Limits.{clock_max};
 ghost use Rattle.tb_machine.specs.Replay.{State, after_packet};
 ghost use Rattle.tb_batch.specs.Batch.{AreParts};
 ghost use Rattle.tb_work.specs.Reply.{reply_with};

@@ -1,7 +1,7 @@
 //! A list of items through the front and the ledger, in one thread.
 
 ghost use Rattle.std.specs.Prelude.{◌≡◌, ◌≤◌, ◌++◌, ◌∷◌, [], false, ℕ, List, IfOk, OnOk};
-ghost use Rattle.tb_machine.specs.Clock.{clock_max};
+ghost use Rattle.tb_layout.specs.Limits.{clock_max};
 ghost use Rattle.tb_work.specs.declared.item.Item.{Item as ItemValue};
 ghost use Rattle.tb_core.specs.Answering.{HasAnswered, HasRun, replies_in};
 ghost use Rattle.tb_core.specs.Front.{held_by, spelled, spelled_one};

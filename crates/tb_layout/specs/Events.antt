@@ -6,6 +6,7 @@ use Rattle.tb_layout.specs.declared.transfer.Transfer.{Transfer}
 use Rattle.tb_layout.specs.Account.{account_of, is_linked as is_linked_account}
 use Rattle.tb_layout.specs.Transfer.{transfer_of, is_linked as is_linked_transfer}
 use Rattle.tb_layout.specs.Bytes.{little_endian}
+use Rattle.tb_layout.specs.Operation.{create_accounts, create_transfers}
 
 -- a body cut into rows of so many bytes
 abbrev pub rows : ℕ → List ℕ → List (List ℕ)
@@ -26,11 +27,11 @@ pub data Events : Type 0 where
   Transfers : List Transfer → Events
   Ids : List ℕ → Events
 
--- the events of a body: 129 is create_accounts, 130 create_transfers, and 131 lookup_accounts
+-- the events of a body; whatever makes neither accounts nor transfers looks accounts up
 abbrev pub events_of : ℕ → List ℕ → Events
 events_of operation body =
-    if operation == 129 then Accounts (accounts_of body)
-    else if operation == 130 then Transfers (transfers_of body)
+    if operation == create_accounts then Accounts (accounts_of body)
+    else if operation == create_transfers then Transfers (transfers_of body)
     else Ids (ids_of body)
 
 abbrev pub count_of : Events → ℕ

@@ -7,7 +7,8 @@ use Rattle.tb_layout.specs.declared.failure.Failure.{Failure}
 use Rattle.tb_layout.specs.Events.{Events, is_last_linked}
 use Rattle.tb_layout.specs.Failures.{RiseWithin, is_within, rebased, cut}
 use Rattle.tb_tables.specs.Facts.{Facts}
-use Rattle.tb_machine.specs.Clock.{clock_after, clock_max}
+use Rattle.tb_layout.specs.Limits.{clock_max}
+use Rattle.tb_machine.specs.Clock.{clock_after}
 use Rattle.tb_machine.specs.Chain.{Operation, Outcome, before_chains, chains_of, chain_outcome, chains_outcome, then_outcome}
 use Rattle.tb_machine.specs.Packet.{events_outcome, failures_from}
 use Rattle.tb_machine.specs.Replay.{State, outcome_of, after_events, after_packet, failures_of}

@@ -13,8 +13,8 @@ use Rattle.tb_machine.specs.TransferVerdict.{transfer_verdict, stored_by}
 use Rattle.tb_machine.specs.Chain.{Operation}
 
 -- an account is stored with its timestamp, and a fault leaves nothing behind
-abbrev pub create_accounts : Operation Account
-create_accounts = record {
+abbrev pub accounts_operation : Operation Account
+accounts_operation = record {
   is_linked = is_linked_account;
   verdict = λ facts timestamp event. account_number (account_verdict facts event);
   stored = λ facts timestamp event. add_account facts (record event { timestamp = timestamp });
@@ -31,8 +31,8 @@ abbrev pub with_failed : Facts → ℕ → Facts
 with_failed facts id = if is_failed facts id then facts else add_failed facts id
 
 -- a transfer is stored with its resolved fields, and some faults leave its id behind
-abbrev pub create_transfers : Operation Transfer
-create_transfers = record {
+abbrev pub transfers_operation : Operation Transfer
+transfers_operation = record {
   is_linked = is_linked_transfer;
   verdict = λ facts timestamp event. transfer_number (transfer_verdict facts timestamp event);
   stored = λ facts timestamp event. add_transfer facts (stored_by facts timestamp event);

@@ -2,7 +2,8 @@
 
 ghost use Rattle.std.specs.Prelude.{◌≡◌, ◌+◌, ◌^◌, ◌<◌, ◌≤◌, ◌++◌, [], length, map, vec_len, vec_capacity, Ok, None, IfOk, OnOk};
 ghost use Rattle.tb_tables.specs.History.{mark_of, undone, Extends};
-ghost use Rattle.tb_machine.specs.Clock as time;
+ghost use Rattle.tb_layout.specs.Limits.{clock_max};
+ghost use Rattle.tb_machine.specs.Clock as spec;
 ghost use Rattle.tb_machine.specs.Chain.{examined, stored_at, stored_all, first_fault, left_behind, open_outcome, closed_outcome, chain_outcome};
 ghost use Rattle.tb_machine.specs.Packet.{events_outcome, failures_from};
 
@@ -20,10 +21,10 @@ const CLOCK_EXHAUSTED: u32 = 201;
 
 /// Stores the event where its checks find nothing, and answers the number of its result.
 fn examine_at<E: Event>(clock: u64, tables: &mut Tables, event: &E) -> Result<u32, NoMemory>
-    requires { clock ≤ time.clock_max }
+    requires { clock ≤ clock_max }
     ensures extends { Extends tables.old tables.new }
-    ensures code { IfOk result (λ code. code ≡ examined E.operation tables.old.now (time.next_timestamp clock) event.now) }
-    ensures stored { result ≡ Ok 0 → tables.new.now ≡ stored_at E.operation tables.old.now (time.next_timestamp clock) event.now }
+    ensures code { IfOk result (λ code. code ≡ examined E.operation tables.old.now (spec.next_timestamp clock) event.now) }
+    ensures stored { result ≡ Ok 0 → tables.new.now ≡ stored_at E.operation tables.old.now (spec.next_timestamp clock) event.now }
 {
     match next_timestamp(clock) {
         Some(timestamp) => event.examine(tables, timestamp),
@@ -37,7 +38,7 @@ fn examine_all<E: Event>(
     tables: &mut Tables,
     rows: &[[u8; 128]],
 ) -> Result<Option<Fault<E>>, NoMemory>
-    requires { clock ≤ time.clock_max }
+    requires { clock ≤ clock_max }
     ensures extends { Extends tables.old tables.new }
     ensures fault { IfOk result (λ fault. fault ≡ first_fault E.operation 0 clock tables.old.now (map E.event_of rows.now)) }
     ensures stored { result ≡ Ok None → tables.new.now ≡ stored_all E.operation clock tables.old.now (map E.event_of rows.now) }
@@ -78,7 +79,7 @@ fn commit_closed_chain<E: Event>(
     index: usize,
     out: &mut Vec<Failure>,
 ) -> Result<(), NoMemory>
-    requires clock { clock ≤ time.clock_max }
+    requires clock { clock ≤ clock_max }
     requires room { vec_len out.old + length chain.now ≤ vec_capacity out.old }
     requires fits { index + length chain.now < 2 ^ 32 }
     ensures extends { Extends tables.old tables.new }
@@ -105,7 +106,7 @@ fn commit_open_chain<E: Event>(
     index: usize,
     out: &mut Vec<Failure>,
 ) -> Result<(), NoMemory>
-    requires clock { clock ≤ time.clock_max }
+    requires clock { clock ≤ clock_max }
     requires room { vec_len out.old + length front.now < vec_capacity out.old }
     requires fits { index + length front.now + 1 < 2 ^ 32 }
     ensures extends { Extends tables.old tables.new }
@@ -135,7 +136,7 @@ fn commit_chain<E: Event>(
     out: &mut Vec<Failure>,
 ) -> Result<(), NoMemory>
     requires some { 0 < length chain.now }
-    requires clock { clock ≤ time.clock_max }
+    requires clock { clock ≤ clock_max }
     requires room { vec_len out.old + length chain.now ≤ vec_capacity out.old }
     requires fits { index + length chain.now < 2 ^ 32 }
     ensures extends { Extends tables.old tables.new }
@@ -160,7 +161,7 @@ pub fn commit_chains<E: Event>(
     rows: &[[u8; 128]],
     out: &mut Vec<Failure>,
 ) -> Result<(), NoMemory>
-    requires clock { clock ≤ time.clock_max }
+    requires clock { clock ≤ clock_max }
     requires empty { out.old.items ≡ [] }
     requires room { length rows.now ≤ vec_capacity out.old }
     requires fits { length rows.now < 2 ^ 32 }

@@ -6,12 +6,12 @@ ghost use Rattle.tb_layout.specs.Transfer.{transfer_of};
 ghost use Rattle.tb_layout.specs.TransferCode.{number_of};
 ghost use Rattle.tb_tables.specs.Facts.{add_transfer};
 ghost use Rattle.tb_tables.specs.History.{changed, Extends};
-ghost use Rattle.tb_machine.specs.Clock.{clock_max};
+ghost use Rattle.tb_layout.specs.Limits.{clock_max};
 ghost use Rattle.tb_machine.specs.Chain.{Operation};
 ghost use Rattle.tb_machine.specs.TransferVerdict.{stored_by, transfer_verdict as verdict_of};
 ghost use Rattle.tb_machine.specs.Prefetch.{IsTarget, IsPrefetched};
 ghost use Rattle.tb_machine.specs.declared.prefetch.Target.TheVariants.{Between, Named};
-ghost use Rattle.tb_machine.specs.Operations.{create_accounts, create_transfers};
+ghost use Rattle.tb_machine.specs.Operations.{accounts_operation, transfers_operation};
 
 use crate::account_verdict::account_verdict;
 use crate::prefetch::{Prefetch, Sides, Target};
@@ -49,7 +49,7 @@ pub trait Event: Copy {
 impl Event for Account {
     ghost event_of = { account_of };
 
-    ghost operation = { create_accounts };
+    ghost operation = { accounts_operation };
 
     fn read(row: &[u8; 128]) -> Account {
         read_account(row)
@@ -75,7 +75,7 @@ impl Event for Account {
 impl Event for Transfer {
     ghost event_of = { transfer_of };
 
-    ghost operation = { create_transfers };
+    ghost operation = { transfers_operation };
 
     fn read(row: &[u8; 128]) -> Transfer {
         read_transfer(row)

@@ -6,7 +6,7 @@ ghost use Rattle.tb_layout.specs.declared.transfer.Transfer.{Transfer};
 ghost use Rattle.tb_layout.specs.Account.{is_linked as is_linked_account};
 ghost use Rattle.tb_layout.specs.Transfer.{is_linked as is_linked_transfer};
 ghost use Rattle.tb_layout.specs.Events.{Accounts, Transfers, Ids};
-ghost use Rattle.tb_machine.specs.Clock.{clock_max};
+ghost use Rattle.tb_layout.specs.Limits.{clock_max};
 ghost use Rattle.tb_machine.specs.Replay.{State, after_packet};
 ghost use Rattle.tb_machine.specs.Joining.{none_open, JoiningIsInvisible};
 

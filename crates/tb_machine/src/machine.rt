@@ -5,7 +5,8 @@ ghost use Rattle.tb_layout.specs.Events.{events_of, ids_of, rows};
 ghost use Rattle.tb_tables.specs.Facts.{transfer_with};
 ghost use Rattle.tb_tables.specs.Status.{status_with};
 ghost use Rattle.tb_tables.specs.Balances.{balanced_account};
-ghost use Rattle.tb_machine.specs.Clock.{clock_max};
+ghost use Rattle.tb_layout.specs.Limits.{batch_max, clock_max, moment_max};
+ghost use Rattle.tb_layout.specs.Operation.{create_accounts, create_transfers};
 ghost use Rattle.tb_machine.specs.Packet.{events_outcome, failures_from};
 
 use crate::clock::clock_after;
@@ -14,10 +15,8 @@ use crate::event::Event;
 use crate::lookup::look_up;
 use std::alloc::Global;
 use std::marker::Model;
-use tb_layout::{Account, Failure, NoMemory, Transfer};
+use tb_layout::{Account, CREATE_ACCOUNTS, Failure, NoMemory, Transfer};
 use tb_tables::{Status, Tables};
-
-const CREATE_ACCOUNTS: u8 = 129;
 
 /// The state machine: the facts of a ledger, and the clock, in nanoseconds.
 #[derive(Drop)]
@@ -59,9 +58,9 @@ impl Machine {
         body: &[u8],
         out: &mut Vec<Failure>,
     ) -> Result<(), NoMemory>
-        requires operation { operation == 129 || operation == 130 ≡ true }
+        requires operation { operation == create_accounts || operation == create_transfers ≡ true }
         requires whole { length body.now % 128 ≡ 0 }
-        requires limit { length body.now / 128 ≤ 8190 }
+        requires limit { length body.now / 128 ≤ batch_max }
         requires empty { out.old.items ≡ [] }
         requires room { length body.now / 128 ≤ vec_capacity out.old }
         ensures state { OnOk result (self.new ≡ after_packet self.old (events_of operation body.now)) }
@@ -83,7 +82,7 @@ impl Machine {
         out: &mut Vec<Failure>,
     ) -> Result<(), NoMemory>
         requires whole { length body.now % 128 ≡ 0 }
-        requires limit { length body.now / 128 ≤ 8190 }
+        requires limit { length body.now / 128 ≤ batch_max }
         requires empty { out.old.items ≡ [] }
         requires room { length body.now / 128 ≤ vec_capacity out.old }
         ensures state { let events = map E.event_of (rows 128 body.now) in
@@ -113,7 +112,7 @@ impl Machine {
     /// Raises the clock to a moment, in nanoseconds, and lets each pending transfer expire that nothing
     /// resolved and whose timeout is over then. Takes no memory.
     pub fn pulse(&mut self, moment: u64)
-        requires { moment ≤ 2 ^ 62 }
+        requires { moment ≤ moment_max }
         ensures { self.new ≡ pulsed self.old moment }
     {
         self.clock = self.clock.max(moment);
@@ -124,7 +123,7 @@ impl Machine {
     /// an account are left out. Takes no memory.
     pub fn lookup(&self, body: &[u8], out: &mut Vec<Account>)
         requires whole { length body.now % 16 ≡ 0 }
-        requires limit { length body.now / 16 ≤ 8190 }
+        requires limit { length body.now / 16 ≤ batch_max }
         requires empty { out.old.items ≡ [] }
         requires room { length body.now / 16 ≤ vec_capacity out.old }
         ensures found { out.new.items ≡ accounts_found self.now.facts (ids_of body.now) }

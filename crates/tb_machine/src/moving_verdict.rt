@@ -5,9 +5,9 @@ ghost use Rattle.tb_tables.specs.Balances.{balanced_account};
 ghost use Rattle.tb_machine.specs.Prefetch.{AreSides};
 ghost use Rattle.tb_machine.specs.TransferVerdict as spec;
 
-use crate::clock::{CLOCK_MAX, expires_at};
+use crate::clock::expires_at;
 use crate::prefetch::{Sides, account_at};
-use tb_layout::{Account, Transfer, TransferCode};
+use tb_layout::{Account, CLOCK_MAX, Transfer, TransferCode};
 use tb_tables::Tables;
 
 /// Whether the sum of two amounts is above a number.

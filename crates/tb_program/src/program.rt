@@ -4,7 +4,7 @@ ghost use Rattle.std.specs.Prelude.{◌≡◌, ◌≤◌, List, map, IfOk, IfSom
 ghost use Rattle.std.specs.Io.KnownBytes.{Appends, Keeps};
 ghost use Rattle.tb_program.specs.Script.{script_of};
 ghost use Rattle.tb_program.specs.Output.{plan_text, listing, printed, is_ok_script, out, is_faultless};
-ghost use Rattle.tb_machine.specs.Clock.{clock_max};
+ghost use Rattle.tb_layout.specs.Limits.{clock_max};
 ghost use Rattle.tb_program.specs.Plan.{Planned, queue_of, line_of};
 
 use crate::listing::put_listing;

@@ -21,9 +21,7 @@ use crate::places::Places;
 use crate::row::Row;
 use crate::status::Status;
 use std::collections::BTreeSet;
-use tb_layout::{Account, NoMemory, Transfer};
-
-const NANOSECONDS: u64 = 1_000_000_000;
+use tb_layout::{Account, NANOSECONDS_PER_SECOND, NoMemory, Transfer};
 
 /// Whether a transfer has a moment at which it expires.
 fn is_timed(transfer: &Transfer) -> bool
@@ -37,7 +35,7 @@ fn expires_at(transfer: &Transfer) -> u64
     requires { expires_at_of transfer.now < 2 ^ 64 }
     ensures { result ≡ expires_at_of transfer.now }
 {
-    transfer.timestamp + u64::from(transfer.timeout) * NANOSECONDS
+    transfer.timestamp + u64::from(transfer.timeout) * NANOSECONDS_PER_SECOND
 }
 
 /// Puts the pair of a transfer at a place into the index, where it has one.
