@@ -7,11 +7,13 @@
 mod account;
 mod account_code;
 mod failure;
+mod flags;
 mod id;
 mod limits;
 mod no_memory;
 mod number;
 mod operation;
+mod row;
 mod transfer;
 mod transfer_code;
 
@@ -22,5 +24,6 @@ pub use id::read_id;
 pub use limits::{BATCH_MAX, CLOCK_MAX, MOMENT_MAX, NANOSECONDS_PER_SECOND, SUBMITTERS_MAX};
 pub use no_memory::NoMemory;
 pub use operation::{CREATE_ACCOUNTS, CREATE_TRANSFERS, LOOKUP_ACCOUNTS};
+pub use row::is_row_linked;
 pub use transfer::{Transfer, read_transfer, write_transfer};
 pub use transfer_code::TransferCode;

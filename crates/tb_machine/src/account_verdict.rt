@@ -67,7 +67,7 @@ pub fn account_verdict(tables: &Tables, event: &Account) -> AccountCode
     if event.reserved != 0 {
         return AccountCode::ReservedField;
     }
-    if event.flags > 15 {
+    if event.has_reserved_flag() {
         return AccountCode::ReservedFlag;
     }
     if event.id == 0 {

@@ -146,7 +146,7 @@ fn commit_chain<E: Event>(
     ensures capacity { vec_capacity out.new ≡ vec_capacity out.old }
 {
     let last = chain.len() - 1;
-    if E::read(&chain[last]).is_linked() {
+    if E::is_row_linked(&chain[last]) {
         commit_open_chain::<E>(clock, tables, &chain[..last], index, out)
     } else {
         commit_closed_chain::<E>(clock, tables, chain, index, out)

@@ -88,7 +88,7 @@ pub fn transfer_verdict(
     if event.timestamp != 0 {
         return TransferCode::TimestampMustBeZero;
     }
-    if event.flags > 15 {
+    if event.has_reserved_flag() {
         return TransferCode::ReservedFlag;
     }
     if event.id == 0 {
