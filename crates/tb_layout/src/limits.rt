@@ -5,7 +5,7 @@
 pub const BATCH_MAX: u32 = 8190;
 
 /// The greatest moment of a pulse, in nanoseconds: some 146 years. Half of what a clock can tell, so
-/// that events go on to get timestamps behind it.
+/// that events still get timestamps after it.
 pub const MOMENT_MAX: u64 = 1 << 62;
 
 /// The greatest clock, in nanoseconds. TigerBeetle keeps the topmost bit of a timestamp free.

@@ -19,7 +19,8 @@ const LINKED_EVENT_CHAIN_OPEN: u32 = 2;
 
 const CLOCK_EXHAUSTED: u32 = 201;
 
-/// Stores the event where its checks find nothing, and answers the number of its result.
+/// Stores the event, at the timestamp after the clock, where its checks find nothing, and answers the number of its
+/// result. An event for which the clock can't be raised isn't checked.
 fn examine_at<E: Event>(clock: u64, tables: &mut Tables, event: &E) -> Result<u32, NoMemory>
     requires { clock ≤ clock_max }
     ensures extends { Extends tables.old tables.new }
@@ -32,7 +33,7 @@ fn examine_at<E: Event>(clock: u64, tables: &mut Tables, event: &E) -> Result<u3
     }
 }
 
-/// Stores the events in order up to the first fault, which is the answer.
+/// Stores the events in order up to the first fault, which is the answer. No event after it is examined.
 fn examine_all<E: Event>(
     clock: u64,
     tables: &mut Tables,
@@ -72,6 +73,8 @@ fn take_back<E: Event>(
     }
 }
 
+/// Takes a chain whose last event isn't linked: each of its events succeeds, or each is reported, the first fault
+/// with its own code. `index` is that of its first event in the packet.
 fn commit_closed_chain<E: Event>(
     clock: u64,
     tables: &mut Tables,
@@ -99,6 +102,8 @@ fn commit_closed_chain<E: Event>(
     Ok(())
 }
 
+/// Takes a chain whose last event is linked, without that one: all of it fails, and the last event, which is never
+/// examined, reports that the chain is open. The first fault among the others has its own code.
 fn commit_open_chain<E: Event>(
     clock: u64,
     tables: &mut Tables,
@@ -128,6 +133,7 @@ fn commit_open_chain<E: Event>(
     Ok(())
 }
 
+/// Takes one chain, whose first event has this index in its packet, and reports its events if it fails.
 fn commit_chain<E: Event>(
     clock: u64,
     tables: &mut Tables,

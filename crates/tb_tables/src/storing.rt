@@ -64,7 +64,8 @@ pub fn forget(expiries: &mut BTreeSet<(u64, usize)>, transfer: &Transfer, place:
     }
 }
 
-/// What a post or a void changes, once its row is there.
+/// Moves the amount of a post, releases what was reserved, and sets the status of the transfer that it names, once
+/// the post or void is stored.
 fn settle(
     accounts: &mut ById<Account>,
     transfers: &mut ById<Row>,
@@ -83,7 +84,7 @@ fn settle(
     set_status(transfers, pending, settled_status(transfer.is_post()));
 }
 
-/// What a transfer changes, once its row is there.
+/// Adds a stored transfer's amounts to its accounts, and resolves what it names.
 pub fn apply(
     accounts: &mut ById<Account>,
     transfers: &mut ById<Row>,
@@ -100,7 +101,7 @@ pub fn apply(
     }
 }
 
-/// Takes back what a post or a void changed, once its row is off.
+/// Takes back what a post or a void changed, once it is stored no more.
 fn unsettle(
     accounts: &mut ById<Account>,
     transfers: &mut ById<Row>,
