@@ -10,8 +10,8 @@ use Rattle.tb_layout.specs.Events.{Accounts, Transfers, Ids, events_of, rows, ac
 use Rattle.tb_layout.specs.Bytes.{little_endian}
 use Rattle.tb_layout.specs.Failures.{RiseWithin}
 use Rattle.tb_tables.specs.Balances.{balanced_account}
-use Rattle.tb_machine.specs.Clock.{clock_max}
-use Rattle.tb_machine.specs.Operations.{create_accounts, create_transfers}
+use Rattle.tb_layout.specs.Limits.{clock_max}
+use Rattle.tb_machine.specs.Operations.{accounts_operation, transfers_operation}
 use Rattle.tb_machine.proofs.Joined.{ArePacketsOf}
 use Rattle.tb_machine.specs.Replay.{State, failures_of, accounts_found, answer_of, after_packet}
 use Rattle.tb_layout.specs.declared.answer.Answer.TheVariants.{Accounts as Looked_up}
@@ -148,18 +148,18 @@ gives_each place operation state jobs h lawful all not_lookup = by (kind_of_batc
 
     by : Kind operation → GivesEach place operation state jobs
     by (OfAccounts is) =
-        let are : ArePacketsOf create_accounts Accounts = record { outcome = λ state events. refl; after = λ state events. refl } in
+        let are : ArePacketsOf accounts_operation Accounts = record { outcome = λ state events. refl; after = λ state events. refl } in
         record {
-          replies = replies_are create_accounts operation account_of Accounts are (size_of_accounts operation is) (accounts_is is) (λ state events. refl) (λ events. refl) place state jobs h lawful.one_operation all lawful.alone;
-          states = states_are create_accounts operation account_of Accounts are (size_of_accounts operation is) (accounts_is is) (λ state events. refl) (λ events. refl) state jobs h lawful.some lawful.one_operation all lawful.alone;
-          rises = rise create_accounts operation account_of Accounts are (size_of_accounts operation is) (accounts_is is) (λ state events. refl) (λ events. refl) state jobs lawful.one_operation all;
+          replies = replies_are accounts_operation operation account_of Accounts are (size_of_accounts operation is) (accounts_is is) (λ state events. refl) (λ events. refl) place state jobs h lawful.one_operation all lawful.alone;
+          states = states_are accounts_operation operation account_of Accounts are (size_of_accounts operation is) (accounts_is is) (λ state events. refl) (λ events. refl) state jobs h lawful.some lawful.one_operation all lawful.alone;
+          rises = rise accounts_operation operation account_of Accounts are (size_of_accounts operation is) (accounts_is is) (λ state events. refl) (λ events. refl) state jobs lawful.one_operation all;
         }
     by (OfTransfers not_a is) =
-        let are : ArePacketsOf create_transfers Transfers = record { outcome = λ state events. refl; after = λ state events. refl } in
+        let are : ArePacketsOf transfers_operation Transfers = record { outcome = λ state events. refl; after = λ state events. refl } in
         record {
-          replies = replies_are create_transfers operation transfer_of Transfers are (size_of_transfers operation not_a is) (transfers_is not_a is) (λ state events. refl) (λ events. refl) place state jobs h lawful.one_operation all lawful.alone;
-          states = states_are create_transfers operation transfer_of Transfers are (size_of_transfers operation not_a is) (transfers_is not_a is) (λ state events. refl) (λ events. refl) state jobs h lawful.some lawful.one_operation all lawful.alone;
-          rises = rise create_transfers operation transfer_of Transfers are (size_of_transfers operation not_a is) (transfers_is not_a is) (λ state events. refl) (λ events. refl) state jobs lawful.one_operation all;
+          replies = replies_are transfers_operation operation transfer_of Transfers are (size_of_transfers operation not_a is) (transfers_is not_a is) (λ state events. refl) (λ events. refl) place state jobs h lawful.one_operation all lawful.alone;
+          states = states_are transfers_operation operation transfer_of Transfers are (size_of_transfers operation not_a is) (transfers_is not_a is) (λ state events. refl) (λ events. refl) state jobs h lawful.some lawful.one_operation all lawful.alone;
+          rises = rise transfers_operation operation transfer_of Transfers are (size_of_transfers operation not_a is) (transfers_is not_a is) (λ state events. refl) (λ events. refl) state jobs lawful.one_operation all;
         }
     by (OfIds not_a not_b is) = cc
 

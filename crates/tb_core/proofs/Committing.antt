@@ -8,7 +8,7 @@ use Rattle.std.proofs.lemmas.Bool.{and_parts}
 use Rattle.tb_layout.specs.declared.failure.Failure.{Failure}
 use Rattle.tb_layout.specs.Events.{Events, events_of, rows, is_last_linked, is_open}
 use Rattle.tb_layout.specs.Failures.{RiseWithin, cut}
-use Rattle.tb_machine.specs.Clock.{clock_max}
+use Rattle.tb_layout.specs.Limits.{clock_max}
 use Rattle.tb_machine.specs.Chain.{Operation, Outcome}
 use Rattle.tb_machine.specs.Packet.{events_outcome, failures_from}
 use Rattle.tb_machine.specs.Replay.{State, outcome_of, failures_of, answer_of, after_packet}
