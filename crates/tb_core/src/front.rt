@@ -6,8 +6,8 @@ use crate::parcel::{Cause, Parcel};
 use arrayvec::ArrayVec;
 use std::alloc::Global;
 use std::marker::Model;
-use tb_layout::SUBMITTERS_MAX;
 use tb_batch::{Batch, Batcher, Offered};
+use tb_layout::SUBMITTERS_MAX;
 use tb_work::{Item, Job, Moment, Refusal, Ticket};
 
 /// Takes the tickets of a queue in order, joins neighbouring packets to batches, and hands these on

@@ -20,7 +20,7 @@ use std::marker::Model;
 use tb_batch::{Batch, Parts};
 use tb_demux::Cutter;
 use tb_layout::{Account, Failure, LOOKUP_ACCOUNTS, NoMemory};
-use tb_machine::Machine;
+use tb_machine::{Machine, joining_is_invisible};
 use tb_work::{Accounts, Answer, Failures, Job, Moment, Outcome, Reply};
 
 const MOST_PLACES: u64 = 1 << 63;
@@ -91,6 +91,8 @@ fn record(entries: &mut Vec<Entry>, place: u64, parts: Parts) -> Cutter
         failures,
         accounts,
     } = parts;
+    // The law by which each packet's part of the answer is its own.
+    joining_is_invisible();
     let answer = answer(operation, failures, accounts);
     entries.push_reserved(Entry::Batch {
         operation,
@@ -204,6 +206,8 @@ impl Ledger {
         if take_batch(&mut self.machine, &mut parts).is_err() {
             return Err(Batch::whole(parts));
         }
+        // The law by which the machine is where the packets, one by one, bring it.
+        joining_is_invisible();
         let replies = record(&mut self.entries, self.places, parts);
         self.places += count as u64;
         Ok(Outcomes::Cut(replies))
