@@ -12,7 +12,7 @@ use Rattle.tb_machine.specs.Clock.{clock_after}
 use Rattle.tb_machine.specs.Chain.{Operation, Outcome, before_chains, chains_of, chain_outcome, chains_outcome, then_outcome}
 use Rattle.tb_machine.specs.Packet.{events_outcome, failures_from}
 use Rattle.tb_machine.specs.Replay.{State, outcome_of, after_events, after_packet, failures_of}
-use Rattle.tb_machine.specs.Joining.{laid, none_open, cuts, failures_each, IsGroup, GiveAsEach, JoiningIsInvisible}
+use Rattle.tb_machine.specs.Joining.{laid, none_open, cuts, failures_each, GiveAsEach, JoiningIsInvisible}
 use Rattle.tb_machine.proofs.Faults.{length-chain_outcome}
 use Rattle.tb_machine.proofs.Failures.{failures_from-append, failing}
 

@@ -17,7 +17,9 @@ use crate::account_verdict::account_verdict;
 use crate::prefetch::{Prefetch, Sides, Target};
 use crate::resolved::resolved_under;
 use crate::transfer_verdict::transfer_verdict;
-use tb_layout::{Account, NoMemory, Transfer, TransferCode, is_row_linked, read_account, read_transfer};
+use tb_layout::{
+    Account, NoMemory, Transfer, TransferCode, is_row_linked, read_account, read_transfer,
+};
 use tb_tables::{Key, Tables};
 
 /// An event of an operation.

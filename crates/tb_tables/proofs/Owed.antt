@@ -10,7 +10,6 @@ use Rattle.tb_tables.specs.Facts.{Facts, account_with, transfer_with}
 use Rattle.tb_tables.specs.Balances.{balanced_account, with_balances, debits, credits}
 use Rattle.tb_tables.specs.Conditions.{MayResolve}
 use Rattle.tb_tables.specs.Status.{status_of, status_with, status_if_pending}
-use Rattle.tb_tables.specs.declared.status.Status.{Status}
 use Rattle.tb_tables.specs.declared.status.Status.TheVariants.{Pending}
 use Rattle.tb_tables.proofs.Finding.{found-id}
 

@@ -65,7 +65,11 @@ fn each_call(rt: HostRuntime) -> Result<(), Fail> {
 }
 
 /// Looks three ids up, of which one has no account.
-fn looks_up(rt: &HostRuntime, machine: &Machine, found: &mut Vec<Account>) -> Result<bool, AllocError>
+fn looks_up(
+    rt: &HostRuntime,
+    machine: &Machine,
+    found: &mut Vec<Account>,
+) -> Result<bool, AllocError>
     requires { found.old.items ≡ [] }
 {
     let mut ids = Vec::new(rt.alloc());

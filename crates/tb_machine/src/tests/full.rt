@@ -31,7 +31,11 @@ fn full_transfers(rt: &HostRuntime) -> Result<Vec<u8>, AllocError> {
 }
 
 /// Whether full accounts from an id on are made.
-fn makes_accounts(rt: &HostRuntime, machine: &mut Machine, first_id: u128) -> Result<bool, AllocError> {
+fn makes_accounts(
+    rt: &HostRuntime,
+    machine: &mut Machine,
+    first_id: u128,
+) -> Result<bool, AllocError> {
     let accounts = full_accounts(rt, first_id)?;
     Ok(commits(rt, machine, CREATE_ACCOUNTS, &accounts))
 }
@@ -63,6 +67,9 @@ fn full_bodies(rt: HostRuntime) -> Result<(), Fail> {
     };
     assert_eq!(rt; machine.account(8190), Some(debited));
     assert_eq!(rt; machine.account_at(16_379), Some(last));
-    assert_eq!(rt; machine.transfer(8190).map(|made| made.timestamp), Some(16_380));
+    assert_eq!(rt;
+        machine.transfer(8190).map(|made| made.timestamp),
+        Some(16_380)
+    );
     Ok(())
 }

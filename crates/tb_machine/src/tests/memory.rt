@@ -68,10 +68,8 @@ fn is_committed(
         return Ok(false);
     }
     let same = out.len() == failures.len()
-        && out
-            .iter()
-            .zip(failures)
-            .all(|(failure, (index, code))| failure.index == *index && failure.code == code.number());
+        && out.iter().zip(failures).all(|(failure, (index, code))| failure.index == *index
+            && failure.code == code.number());
     if !same {
         Err("other failures")?;
     }
@@ -123,7 +121,13 @@ fn chain_and_single(
     ];
     let all = is_committed(rt, machine, CREATE_ACCOUNTS, accounts, [].as_slice())?
         && is_committed(rt, machine, CREATE_TRANSFERS, chain, codes.as_slice())?
-        && is_committed(rt, machine, CREATE_TRANSFERS, single, [(0, ExceedsCredits)].as_slice())?;
+        && is_committed(
+            rt,
+            machine,
+            CREATE_TRANSFERS,
+            single,
+            [(0, ExceedsCredits)].as_slice(),
+        )?;
     Ok(!all || machine.clock() == 7)
 }
 
@@ -166,10 +170,34 @@ fn four_packets(
 ) -> Result<bool, Fail> {
     let [chain, again, post, last] = packets;
     let all = is_committed(rt, machine, CREATE_ACCOUNTS, accounts, [].as_slice())?
-        && is_committed(rt, machine, CREATE_TRANSFERS, chain, [(0, LinkedEventFailed), (1, CreditAccountNotFound)].as_slice())?
-        && is_committed(rt, machine, CREATE_TRANSFERS, again, [(1, IdAlreadyFailed)].as_slice())?
-        && is_committed(rt, machine, CREATE_TRANSFERS, post, [(0, PendingTransferNotFound)].as_slice())?
-        && is_committed(rt, machine, CREATE_TRANSFERS, last, [(0, IdAlreadyFailed), (1, IdAlreadyFailed)].as_slice())?;
+        && is_committed(
+            rt,
+            machine,
+            CREATE_TRANSFERS,
+            chain,
+            [(0, LinkedEventFailed), (1, CreditAccountNotFound)].as_slice(),
+        )?
+        && is_committed(
+            rt,
+            machine,
+            CREATE_TRANSFERS,
+            again,
+            [(1, IdAlreadyFailed)].as_slice(),
+        )?
+        && is_committed(
+            rt,
+            machine,
+            CREATE_TRANSFERS,
+            post,
+            [(0, PendingTransferNotFound)].as_slice(),
+        )?
+        && is_committed(
+            rt,
+            machine,
+            CREATE_TRANSFERS,
+            last,
+            [(0, IdAlreadyFailed), (1, IdAlreadyFailed)].as_slice(),
+        )?;
     Ok(!all || machine.clock() == 9)
 }
 

@@ -168,9 +168,9 @@ fn agrees(machine: &Machine, rows: &[Row]) -> bool {
 fn expire(rows: &mut Vec<Row>, clock: u64) {
     for place in 0..rows.len() {
         let (made, _) = rows[place];
-        let expires_at = made
-            .timestamp
-            .saturating_add(u64::from(made.timeout).saturating_mul(NANOSECONDS_PER_SECOND));
+        let expires_at = made.timestamp.saturating_add(u64::from(made.timeout).saturating_mul(
+            NANOSECONDS_PER_SECOND,
+        ));
         let is_open = plain_status(rows, &rows[place]) == Some(Status::Pending);
         if is_open && made.timeout != 0 && expires_at <= clock {
             rows[place] = (made, true);

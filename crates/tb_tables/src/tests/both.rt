@@ -180,12 +180,7 @@ fn store(maps: &mut Tables, lists: &mut PlainTables, transfer: Transfer) -> Resu
 }
 
 /// Takes an event, and now and then takes it back.
-fn take(
-    maps: &mut Tables,
-    lists: &mut PlainTables,
-    counter: u64,
-    ids: u64,
-) -> Result<(), NoMemory>
+fn take(maps: &mut Tables, lists: &mut PlainTables, counter: u64, ids: u64) -> Result<(), NoMemory>
     requires { maps.old ≡ lists.old }
     ensures { OnOk result (maps.new ≡ lists.new) }
 {
@@ -243,12 +238,7 @@ fn run(maps: &mut Tables, lists: &mut PlainTables, ids: u32, apart: u64) -> Resu
 }
 
 /// Takes the events, with a pulse after each fortieth. All look-ups are compared after events that are so many apart.
-fn take_events(
-    maps: &mut Tables,
-    lists: &mut PlainTables,
-    ids: u32,
-    apart: u64,
-) -> Result<(), Fail>
+fn take_events(maps: &mut Tables, lists: &mut PlainTables, ids: u32, apart: u64) -> Result<(), Fail>
     requires same { maps.old ≡ lists.old }
     requires some { 0 < apart }
 {
