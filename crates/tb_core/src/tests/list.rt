@@ -5,7 +5,7 @@ use super::ledger::{account, create, job, packets, place_of};
 use crate::{Listed, run_list};
 use std::alloc::AllocError;
 use std::test::Fail;
-use tb_layout::{CREATE_ACCOUNTS, CREATE_TRANSFERS, Transfer, write_account, write_transfer};
+use tb_layout::{BATCH_MAX, CREATE_ACCOUNTS, CREATE_TRANSFERS, Transfer, write_account, write_transfer};
 use tb_work::{Answer, Item, Moment, Outcome, Reply};
 
 fn packet(rt: &HostRuntime, id: u128) -> Result<Item, Fail> {
@@ -67,14 +67,20 @@ fn packet_behind_shut(rt: HostRuntime) -> Result<(), Fail> {
     came_to(&rt, &listed, [0, 1007].as_slice(), [1].as_slice(), 1)
 }
 
-/// A packet of accounts with these ids, one after another.
-fn accounts(rt: &HostRuntime, first: u128, count: u32) -> Option<Item> {
-    let mut bytes = Vec::new(rt.alloc());
+/// The data of accounts with these ids, one after another.
+fn account_rows(rt: &HostRuntime, first: u128, count: u32) -> Result<Vec<u8>, AllocError> {
+    let mut rows = Vec::new(rt.alloc());
     for k in 0..count {
         let row = write_account(&account(first.saturating_add(k as u128)));
-        bytes.extend_from_slice(row.as_slice()).ok()?;
+        rows.extend_from_slice(row.as_slice())?;
     }
-    job(rt, CREATE_ACCOUNTS, bytes).map(Item::Packet)
+    Ok(rows)
+}
+
+/// A packet of accounts with these ids.
+fn accounts(rt: &HostRuntime, first: u128, count: u32) -> Result<Item, Fail> {
+    let rows = account_rows(rt, first, count)?;
+    Ok(Item::Packet(job(rt, CREATE_ACCOUNTS, rows).ok_or("no memory")?))
 }
 
 /// A transfer of 1 from account 1 to account 2.
@@ -96,14 +102,20 @@ fn transfer(id: u128) -> Transfer {
     }
 }
 
-/// A packet of so many of these, with ids from 1 on.
-fn transfers(rt: &HostRuntime, count: u32) -> Option<Item> {
-    let mut bytes = Vec::new(rt.alloc());
+/// The data of so many of these, with ids from 1 on.
+fn transfer_rows(rt: &HostRuntime, count: u32) -> Result<Vec<u8>, AllocError> {
+    let mut rows = Vec::new(rt.alloc());
     for k in 0..count {
         let row = write_transfer(&transfer(k as u128 + 1));
-        bytes.extend_from_slice(row.as_slice()).ok()?;
+        rows.extend_from_slice(row.as_slice())?;
     }
-    job(rt, CREATE_TRANSFERS, bytes).map(Item::Packet)
+    Ok(rows)
+}
+
+/// A packet of so many transfers.
+fn transfers(rt: &HostRuntime, count: u32) -> Result<Item, Fail> {
+    let rows = transfer_rows(rt, count)?;
+    Ok(Item::Packet(job(rt, CREATE_TRANSFERS, rows).ok_or("no memory")?))
 }
 
 /// Whether a packet was committed at a place, and none of its events failed.
@@ -129,29 +141,48 @@ fn all_succeeded(replies: &[Reply]) -> bool {
     true
 }
 
+/// Four accounts, one, and none.
+fn overflowing(rt: &HostRuntime) -> Result<Vec<Item>, Fail> {
+    let mut items = Vec::new(rt.alloc());
+    items.push(accounts(rt, 1, 4)?)?;
+    items.push(accounts(rt, 5, 1)?)?;
+    items.push(accounts(rt, 6, 0)?)?;
+    Ok(items)
+}
+
 #[test]
 fn full_batch_then_overflow(rt: HostRuntime) -> Result<(), Fail> {
-    let mut items = Vec::new(rt.alloc());
-    items.push(accounts(&rt, 1, 4).ok_or("no memory")?)?;
-    items.push(accounts(&rt, 5, 1).ok_or("no memory")?)?;
-    items.push(accounts(&rt, 6, 0).ok_or("no memory")?)?;
+    let items = overflowing(&rt)?;
     let listed = run_list(rt.alloc(), 0, 4, items).ok().ok_or("no memory")?;
     came_to(&rt, &listed, [0, 1, 2].as_slice(), [1, 2].as_slice(), 5)
 }
 
+/// A full packet of accounts, a full one of transfers, and a few more accounts.
+fn full_packets(rt: &HostRuntime) -> Result<Vec<Item>, Fail> {
+    let mut items = Vec::new(rt.alloc());
+    items.push(accounts(rt, 1, BATCH_MAX)?)?;
+    items.push(transfers(rt, BATCH_MAX)?)?;
+    items.push(accounts(rt, 8191, 10)?)?;
+    Ok(items)
+}
+
+/// All 16,390 events succeeded, and account 1 was debited by each transfer.
+fn hold_all(listed: &Listed) -> bool {
+    let machine = listed.ledger.machine();
+    all_succeeded(&listed.replies)
+        && machine.clock() == 16_390
+        && machine.accounts() == 8200
+        && machine
+            .account(1)
+            .is_some_and(|debtor| debtor.debits_posted == 8190)
+}
+
 #[test]
 fn largest_packets(rt: HostRuntime) -> Result<(), Fail> {
-    let mut items = Vec::new(rt.alloc());
-    items.push(accounts(&rt, 1, 8190).ok_or("no memory")?)?;
-    items.push(transfers(&rt, 8190).ok_or("no memory")?)?;
-    items.push(accounts(&rt, 8191, 10).ok_or("no memory")?)?;
-    let listed = run_list(rt.alloc(), 0, 8190, items)
+    let items = full_packets(&rt)?;
+    let listed = run_list(rt.alloc(), 0, BATCH_MAX, items)
         .ok()
         .ok_or("no memory")?;
-    holds(all_succeeded(&listed.replies))?;
-    let machine = listed.ledger.machine();
-    holds(machine.clock() == 16_390 && machine.accounts() == 8200)?;
-    let debtor = machine.account(1).ok_or("no account")?;
-    assert_eq!(rt; debtor.debits_posted, 8190);
+    assert!(rt; hold_all(&listed));
     Ok(())
 }
