@@ -1,4 +1,23 @@
-//! The core: what becomes of tickets between the queue and the replies.
+//! The core: what becomes of tickets between the queue and the replies, in one thread and without a lock.
+//!
+//! A packet goes one way: `Front` takes its ticket and joins it to its neighbours, `Ledger` commits the batch and notes it
+//! in the journal, and a `Cutter` (tb_demux) gives each packet its reply.
+//!
+//! ```text
+//! for parcel in front.take(ticket) {          // what the ticket seals, or sends back
+//!     ledger.apply(parcel);
+//! }
+//! let batch = front.idle()?;                  // the group held: here the one packet
+//! match ledger.apply(Parcel::Batch(batch)) {
+//!     Outcomes::Cut(mut cutter) => cutter.next(),
+//!     _ => None,
+//! }
+//! ```
+//!
+//! (`way_of_a_packet` in the tests is this caller, proved.) `run_list` does so with a list of items. Whatever took
+//! the tickets, and whichever growth was refused, what comes of them is one report: `Front` and `Ledger` keep `passes` and
+//! `commits` from call to call, and `run_is_lawful` leads from there to `LawfulReport` (`specs/Report.antt`), in which no
+//! batch is mentioned.
 #![tactic(auto)]
 
 mod front;

@@ -1,10 +1,10 @@
 //! What no clause says: worked examples by name, and a growth that is refused.
 
-ghost use Rattle.std.specs.Prelude.{◌≡◌, IfOk};
+ghost use Rattle.std.specs.Prelude.{◌≡◌, ◌≤◌, IfOk};
 
-use crate::{Cause, Front, Parcel};
+use crate::{Cause, Front, Ledger, Outcomes, Parcel};
 use std::test::Fail;
-use tb_work::{Bytes, Item, Job, Packet, Refusal, Ticket};
+use tb_work::{Bytes, Item, Job, Outcome, Packet, Refusal, Reply, Ticket};
 
 mod ledger;
 mod list;
@@ -102,5 +102,41 @@ fn refused_growth(rt: HostRuntime) -> Result<(), Fail> {
     );
     let parcels = front.take(ticket_of(&rt, 0, 129, 1)?);
     assert!(rt; matches!(parcels.first(), Some(Parcel::Return(_, Cause::Stopped))));
+    Ok(())
+}
+
+/// Takes a packet through front, ledger and cutter, and gives its reply.
+fn way_of_a_packet(front: &mut Front, ledger: &mut Ledger, ticket: Ticket) -> Option<Reply>
+    requires { ticket.sender ≤ front.old.submitters }
+{
+    for parcel in front.take(ticket) {
+        ledger.apply(parcel);
+    }
+    let batch = front.idle()?;
+    match ledger.apply(Parcel::Batch(batch)) {
+        Outcomes::Cut(mut cutter) => cutter.next(),
+        _ => None,
+    }
+}
+
+#[test]
+fn packet_is_answered(rt: HostRuntime) -> Result<(), Fail> {
+    let mut front = Front::new(rt.alloc(), 4, 1).ok().ok_or("bad opening")?;
+    let mut ledger = Ledger::new(rt.alloc(), 0);
+    let ticket = ticket_of(&rt, 0, 129, 1)?;
+    let reply = way_of_a_packet(&mut front, &mut ledger, ticket).ok_or("no reply")?;
+    assert_eq!(rt;
+        (reply.submitter, reply.number, reply.packet.user),
+        (0, 0, 7)
+    );
+    assert!(rt;
+        matches!(
+            reply.outcome,
+            Outcome::Committed {
+                place: 0,
+                answer: _
+            }
+        )
+    );
     Ok(())
 }

@@ -10,10 +10,8 @@ use crate::plan::Line;
 use crate::submitter_number::SubmitterNumber;
 use std::alloc::Global;
 use std::marker::Model;
-use tb_layout::NoMemory;
+use tb_layout::{MOMENT_MAX, NoMemory};
 use tb_work::{Bytes, Job, Moment, Packet, Refusal};
-
-const GREATEST_MOMENT: u64 = 1 << 62;
 
 /// What the items so far queue, and what is printed of each.
 #[derive(Drop)]
@@ -93,7 +91,7 @@ impl Plan {
     fn add_pulse(&mut self, moment: u64) -> Result<(), NoMemory>
         ensures { OnOk result (self.new ≡ with_planned self.old (pulse_as moment)) }
     {
-        if moment > GREATEST_MOMENT {
+        if moment > MOMENT_MAX {
             self.lines.push(Line::RefusedPulse)?;
             return Ok(());
         }

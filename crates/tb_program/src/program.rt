@@ -19,7 +19,7 @@ use crate::script::Script;
 use std::alloc::Global;
 use std::io::{Read, Write};
 use tb_core::run_list;
-use tb_layout::NoMemory;
+use tb_layout::{BATCH_MAX, NoMemory};
 use tb_work::Item;
 
 /// The lines of a plan whose queue is listed.
@@ -48,7 +48,7 @@ fn output_for(alloc: Global, script: Script) -> Result<String, NoMemory>
 {
     let (settings, items) = script.finish()?;
     let clock = settings.clock.unwrap_or(0);
-    let limit = settings.limit.unwrap_or(8190);
+    let limit = settings.limit.unwrap_or(BATCH_MAX);
     let (queue, lines) = plan_all(alloc, limit, items)?.into_halves();
     listed(alloc, clock, limit, queue, &lines)
 }
@@ -83,7 +83,7 @@ fn output_of<R: Read>(alloc: Global, reader: &mut R) -> Result<(String, bool), P
 }
 
 /// Reads a script to its end, runs its packets and prints what became of each, with the clock and
-/// the accounts behind them. Answers whether the script has no fault; a fault is printed alone. All
+/// the accounts after them. Answers whether the script has no fault; a fault is printed alone. All
 /// output is made before its first byte is written. It takes memory in proportion to the script and
 /// to what its packets make.
 pub fn run_script<R: Read, W: Write>(

@@ -16,19 +16,13 @@ use crate::submitter_number::SubmitterNumber;
 use crate::text::Words;
 use std::alloc::Global;
 use std::marker::Model;
-use tb_layout::NoMemory;
+use tb_layout::{BATCH_MAX, CLOCK_MAX, NoMemory, SUBMITTERS_MAX};
 
-const CLOCK_MAX: u128 = 0x7fff_ffff_ffff_ffff;
+/// The most bytes of a line, its ending byte not counted.
+const LINE_MAX: usize = 65_536;
 
-const GREATEST_MOMENT: u128 = 0xffff_ffff_ffff_ffff;
-
-const LONGEST_LINE: usize = 65_536;
-
-const MOST_EVENTS: u128 = 8190;
-
-const MOST_PLACES: u128 = 65_536;
-
-const MOST_SUBMITTERS: u128 = 16;
+/// The most places of the queue, and the greatest credit of a submitter, in packets.
+const CAPACITY_MAX: u128 = 65_536;
 
 /// What the lines so far say.
 #[derive(Drop)]
@@ -182,7 +176,7 @@ impl Script {
     fn set_clock(&mut self, words: Words) -> Result<(), LineError>
         ensures { Leaves result self.new (with_line self.old Keyword.Clock (words_of words.entry.rest.now)) }
     {
-        let n = number_within(one_word(words)?, 0, CLOCK_MAX)?;
+        let n = number_within(one_word(words)?, 0, CLOCK_MAX as u128)?;
         self.settings.clock = Some(n as u64);
         Ok(())
     }
@@ -191,7 +185,7 @@ impl Script {
     fn set_limit(&mut self, words: Words) -> Result<(), LineError>
         ensures { Leaves result self.new (with_line self.old Keyword.Limit (words_of words.entry.rest.now)) }
     {
-        let n = number_within(one_word(words)?, 1, MOST_EVENTS)?;
+        let n = number_within(one_word(words)?, 1, BATCH_MAX as u128)?;
         self.settings.limit = Some(n as u32);
         Ok(())
     }
@@ -200,7 +194,7 @@ impl Script {
     fn set_capacity(&mut self, words: Words) -> Result<(), LineError>
         ensures { Leaves result self.new (with_line self.old Keyword.Capacity (words_of words.entry.rest.now)) }
     {
-        let n = number_within(one_word(words)?, 1, MOST_PLACES)?;
+        let n = number_within(one_word(words)?, 1, CAPACITY_MAX)?;
         self.settings.capacity = Some(n as u32);
         Ok(())
     }
@@ -209,7 +203,7 @@ impl Script {
     fn set_credit(&mut self, words: Words) -> Result<(), LineError>
         ensures { Leaves result self.new (with_line self.old Keyword.Credit (words_of words.entry.rest.now)) }
     {
-        let n = number_within(one_word(words)?, 1, MOST_PLACES)?;
+        let n = number_within(one_word(words)?, 1, CAPACITY_MAX)?;
         self.settings.credit = Some(n as u32);
         Ok(())
     }
@@ -218,7 +212,7 @@ impl Script {
     fn set_submitters(&mut self, words: Words) -> Result<(), LineError>
         ensures { Leaves result self.new (with_line self.old Keyword.Submitters (words_of words.entry.rest.now)) }
     {
-        let n = number_within(one_word(words)?, 1, MOST_SUBMITTERS)?;
+        let n = number_within(one_word(words)?, 1, SUBMITTERS_MAX as u128)?;
         self.settings.submitters = Some(n as u32);
         Ok(())
     }
@@ -268,7 +262,7 @@ impl Script {
     fn take_pulse(&mut self, words: Words) -> Result<(), LineError>
         ensures { Leaves result self.new (with_line self.old Keyword.Pulse (words_of words.entry.rest.now)) }
     {
-        let moment = number_within(one_word(words)?, 0, GREATEST_MOMENT)?;
+        let moment = number_within(one_word(words)?, 0, u64::MAX as u128)?;
         self.add_pulse(moment as u64)?;
         Ok(())
     }
@@ -316,7 +310,7 @@ impl Script {
     pub fn line(&mut self, alloc: Global, line: &[u8]) -> Result<(), LineError>
         ensures { Leaves result self.new (after_line self.old line.now) }
     {
-        if line.len() > LONGEST_LINE {
+        if line.len() > LINE_MAX {
             return Err(LineError::Fault(Fault::LineTooLong));
         }
         if !is_text(line) {

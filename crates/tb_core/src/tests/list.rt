@@ -5,7 +5,9 @@ use super::ledger::{account, create, job, packets, place_of};
 use crate::{Listed, run_list};
 use std::alloc::AllocError;
 use std::test::Fail;
-use tb_layout::{BATCH_MAX, CREATE_ACCOUNTS, CREATE_TRANSFERS, Transfer, write_account, write_transfer};
+use tb_layout::{
+    BATCH_MAX, CREATE_ACCOUNTS, CREATE_TRANSFERS, Transfer, write_account, write_transfer,
+};
 use tb_work::{Answer, Item, Moment, Outcome, Reply};
 
 fn packet(rt: &HostRuntime, id: u128) -> Result<Item, Fail> {
