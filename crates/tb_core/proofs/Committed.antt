@@ -122,7 +122,7 @@ pub batch_applied : (ledger : LedgerState) (state : State) (places : ℕ) (group
 batch_applied ledger state places groups jobs batch replies is groups_is same replies_is goes =
     let next = entering ledger (map work_of batch) in
     let answers = replies_is ∙ ap (λ js. committed_from places state js) same ∙ ap (λ n. committed_from n state batch) is.counted
-        ∙ replies_from-committed ledger.opening (length (works ledger)) state (works next) (works ledger) batch (works-more ledger.groups (map work_of batch)) refl is.machine in
+    ∙ replies_from-committed ledger.opening (length (works ledger)) state (works next) (works ledger) batch (works-more ledger.groups (map work_of batch)) refl is.machine in
     ap (λ gs. giving (record { opening = ledger.opening; groups = gs; stopped = ledger.stopped }) (Cut replies)) (groups_is ∙ ap (λ js. ledger.groups ++ map work_of js ∷ []) same)
     ∙ ap (λ rs. giving next (Cut rs)) answers ∙ ap (λ b. if b then giving (halting ledger) (Cut (map (reply_with outcome.Stopped) batch)) else committing ledger batch) (sym goes)
 

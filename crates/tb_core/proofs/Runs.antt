@@ -48,15 +48,17 @@ from_stop clock place through k (item.Packet job ∷ items) h =
     let later = passed_from (Some through) (Ahead (k + 1)) items in
     let others = from_stop clock place through (k + 1) items (omega (arith, h)) in
     subst (λ b. (works_in (passed false b (item.Packet job) ++ later) ≡ [])
-        × ((journal : List Work) → length journal ≤ k → replies_from clock journal place (passed false b (item.Packet job) ++ later) ≡ all_due_from clock journal (Ahead k) (item.Packet job ∷ items)))
-    (sym (stops_here k through h))
-    (others.0, λ journal far. ap (λ rs. reply_with outcome.Stopped job ∷ rs) (others.1 journal (omega (arith, far)))
-        ∙ ap (λ o. reply_with o job ∷ all_due_from clock journal (Ahead (k + 1)) items) (sym (outcome_past clock k journal far)))
+    × ((journal : List Work) → length journal ≤ k → replies_from clock journal place (passed false b (item.Packet job) ++ later) ≡ all_due_from clock journal (Ahead k) (item.Packet job ∷ items)))
+    (sym (stops_here k through h)) (
+      others.0,
+      λ journal far. ap (λ rs. reply_with outcome.Stopped job ∷ rs) (others.1 journal (omega (arith, far)))
+          ∙ ap (λ o. reply_with o job ∷ all_due_from clock journal (Ahead (k + 1)) items) (sym (outcome_past clock k journal far)),
+    )
 from_stop clock place through k (item.Pulse moment ∷ items) h =
     let later = passed_from (Some through) (Ahead (k + 1)) items in
     let others = from_stop clock place through (k + 1) items (omega (arith, h)) in
     subst (λ b. (works_in (passed false b (item.Pulse moment) ++ later) ≡ [])
-        × ((journal : List Work) → length journal ≤ k → replies_from clock journal place (passed false b (item.Pulse moment) ++ later) ≡ all_due_from clock journal (Ahead k) (item.Pulse moment ∷ items)))
+    × ((journal : List Work) → length journal ≤ k → replies_from clock journal place (passed false b (item.Pulse moment) ++ later) ≡ all_due_from clock journal (Ahead k) (item.Pulse moment ∷ items)))
     (sym (stops_here k through h)) (others.0, λ journal far. others.1 journal (omega (arith, far)))
 from_stop clock place through k (item.End ∷ items) h = from_stop clock place through k items h
 from_stop clock place through k (item.Close ∷ items) h =

@@ -57,7 +57,11 @@ fn apply(ledger: &mut Ledger, replies: &mut Vec<Reply>, parcel: Parcel) -> Resul
 }
 
 /// Applies parcels in order.
-fn apply_all(ledger: &mut Ledger, replies: &mut Vec<Reply>, parcels: ArrayVec<Parcel, 2>) -> Result<(), NoMemory>
+fn apply_all(
+    ledger: &mut Ledger,
+    replies: &mut Vec<Reply>,
+    parcels: ArrayVec<Parcel, 2>,
+) -> Result<(), NoMemory>
     ensures { (clock : ℕ) (limit : ℕ) (sent : List Passage) → AreJoinedParcels limit parcels.items → GoesOn clock limit sent ledger.old replies.old.items
         → OnOk result (GoesOn clock limit (sent ++ spelled parcels.items) ledger.new replies.new.items) }
 {

@@ -13,9 +13,6 @@ mod run;
 mod sender;
 mod shelf;
 
-pub use event::Event;
-pub use run::run_world;
-
 use crate::front::Front;
 use crate::ledger::Ledger;
 use crate::outcomes::Outcomes;
@@ -24,6 +21,8 @@ use crate::world::left::Left;
 use crate::world::sender::Sender;
 use crate::world::shelf::Shelves;
 use arrayvec::ArrayVec;
+pub use event::Event;
+pub use run::run_world;
 use std::alloc::Global;
 use std::collections::VecDeque;
 use std::marker::Model;
