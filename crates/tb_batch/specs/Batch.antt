@@ -2,6 +2,8 @@
 use Rattle.std.specs.Prelude.{◌≡◌, ◌==◌, ◌<◌, ◌≤◌, ℕ, Bool, true, false, List, [], ◌∷◌, length, map, IsOk, Vec, vec_capacity}
 use Rattle.std.specs.List.{flat_map, list_all, AllByRecursion}
 use Rattle.std.specs.declared.alloc.Global.{Global}
+use Rattle.tb_layout.specs.Limits.{batch_max}
+use Rattle.tb_layout.specs.Operation.{lookup_accounts}
 use Rattle.tb_layout.specs.declared.account.Account.{Account}
 use Rattle.tb_layout.specs.declared.failure.Failure.{Failure}
 use Rattle.tb_work.specs.Admission.{admitted}
@@ -15,22 +17,22 @@ body_of jobs = flat_map (λ job. job.packet.bytes) jobs
 
 -- each packet was admitted
 abbrev pub AreAdmitted : List Numbered → Type 0
-AreAdmitted jobs = AllByRecursion (λ job. IsOk (admitted 8190 job.packet)) jobs
+AreAdmitted jobs = AllByRecursion (λ job. IsOk (admitted batch_max job.packet)) jobs
 
 -- some admitted packets of one operation, of at most 8190 events together; one that can't share its batch is alone
 pub record IsLawful (operation : ℕ) (jobs : List Numbered) : Type 0 where
   pub some : 0 < length jobs
   pub all_admitted : AreAdmitted jobs
   pub one_operation : are_of operation jobs ≡ true
-  pub few : count_of_all jobs ≤ 8190
+  pub few : count_of_all jobs ≤ batch_max
   pub alone : 1 < length jobs → list_all can_share jobs ≡ true
 
 -- an empty answer has room for all failures, or for all accounts of a lookup
 pub record HasRoom (operation count : ℕ) (failures : Vec Failure Global) (accounts : Vec Account Global) : Type 0 where
   pub no_failures : failures.items ≡ []
   pub no_accounts : accounts.items ≡ []
-  pub for_failures : (operation == 131) ≡ false → count ≤ vec_capacity failures
-  pub for_accounts : (operation == 131) ≡ true → count ≤ vec_capacity accounts
+  pub for_failures : (operation == lookup_accounts) ≡ false → count ≤ vec_capacity failures
+  pub for_accounts : (operation == lookup_accounts) ≡ true → count ≤ vec_capacity accounts
 
 -- the parts of one batch: the stubs and the body are those of its jobs
 pub record AreParts (parts : Parts) : Type 0 where

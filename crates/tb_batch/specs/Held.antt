@@ -1,5 +1,6 @@
 -- A batcher's value: its limit, and the group that it holds.
 use Rattle.std.specs.Prelude.{◌≤◌, ℕ, List, [], Option, Some, None}
+use Rattle.tb_layout.specs.Limits.{batch_max}
 use Rattle.tb_work.specs.Job.{Numbered}
 use Rattle.tb_batch.specs.Grouping.{IsGroup}
 
@@ -13,5 +14,5 @@ jobs_of (Some jobs) = jobs
 
 pub record IsHeld (limit : ℕ) (jobs : List Numbered) : Type 0 where
   pub limit_low : 1 ≤ limit
-  pub limit_high : limit ≤ 8190
+  pub limit_high : limit ≤ batch_max
   pub group : IsGroup limit jobs

@@ -1,6 +1,7 @@
 //! The batcher.
 
 ghost use Rattle.std.specs.Prelude.{◌≡◌, ◌<◌, ◌≤◌, ◌==◌, ◌∷◌, [], length, IfOk, IfErr, IsOk, IfSome, IfNone, true, false};
+ghost use Rattle.tb_layout.specs.Limits.{batch_max};
 ghost use Rattle.tb_work.specs.declared.refusal.Refusal.TheVariants.{BadLimit};
 
 use crate::batch::Batch;
@@ -9,9 +10,8 @@ use crate::offered::Offered;
 use std::alloc::Global;
 use std::marker::Model;
 use std::mem;
+use tb_layout::BATCH_MAX;
 use tb_work::{Job, Refusal};
-
-const MOST_EVENTS: u32 = 8190;
 
 /// Joins neighbouring packets to batches of at most so many events. It is seen as its limit and the
 /// jobs of the group that it holds.
@@ -40,10 +40,10 @@ impl Batcher {
     pub fn new(alloc: Global, limit: u32) -> Result<Batcher, Refusal>
         ensures held { IfOk result (λ batcher. (batcher.limit ≡ limit) × (batcher.jobs ≡ [])) }
         ensures refused { IfErr result (λ refusal. refusal ≡ BadLimit) }
-        ensures lawful { 1 ≤ limit → limit ≤ 8190 → IsOk result }
-        ensures bounds { IsOk result → (1 ≤ limit) × (limit ≤ 8190) }
+        ensures lawful { 1 ≤ limit → limit ≤ batch_max → IsOk result }
+        ensures bounds { IsOk result → (1 ≤ limit) × (limit ≤ batch_max) }
     {
-        if limit < 1 || limit > MOST_EVENTS {
+        if limit < 1 || limit > BATCH_MAX {
             return Err(Refusal::BadLimit);
         }
         Ok(Batcher {

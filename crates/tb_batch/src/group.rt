@@ -1,6 +1,7 @@
 //! The group that a batcher holds.
 
 ghost use Rattle.std.specs.Prelude.{◌≡◌, ◌<◌, ◌≤◌, ◌==◌, ◌++◌, ◌∷◌, [], length, IfOk, IfErr, OnOk, OnErr};
+ghost use Rattle.tb_layout.specs.Limits.{batch_max};
 ghost use Rattle.tb_work.specs.Admission.{count_of};
 ghost use Rattle.tb_work.specs.Job.{is_lookup};
 ghost use Rattle.std.specs.Prelude.{true};
@@ -11,10 +12,8 @@ use crate::batch::Batch;
 use crate::parts::Parts;
 use std::alloc::Global;
 use std::marker::Model;
-use tb_layout::NoMemory;
+use tb_layout::{LOOKUP_ACCOUNTS, NoMemory};
 use tb_work::Job;
-
-const LOOKUP_ACCOUNTS: u8 = 131;
 
 /// A batch that packets may still join, seen as its jobs in order.
 #[derive(Drop)]
@@ -79,7 +78,7 @@ impl Group {
     /// Puts a job that joins the group behind its others. Where memory is refused, the job comes back
     /// and the group is as before.
     pub(crate) fn join(&mut self, limit: u32, job: Job) -> Result<(), (Job, NoMemory)>
-        requires limit { limit ≤ 8190 }
+        requires limit { limit ≤ batch_max }
         requires joins { is_taken limit self.old job ≡ true }
         ensures group { OnOk result (self.new ≡ self.old ++ job ∷ []) }
         ensures same { OnErr result (self.new ≡ self.old) }

@@ -1,14 +1,14 @@
 //! What a batch is made of.
 
 ghost use Rattle.std.specs.Prelude.{◌≡◌, ◌==◌, ◌+◌, ◌<◌, ◌≤◌, ◌++◌, ◌∷◌, [], true, false, length, vec_len, vec_capacity, IsOk, OnOk};
+ghost use Rattle.tb_layout.specs.Limits.{batch_max};
+ghost use Rattle.tb_layout.specs.Operation.{lookup_accounts};
 ghost use Rattle.tb_work.specs.Admission.{admitted};
 ghost use Rattle.tb_work.specs.Job.{stub_of};
 
 use std::alloc::Global;
-use tb_layout::{Account, Failure, NoMemory};
+use tb_layout::{Account, Failure, LOOKUP_ACCOUNTS, NoMemory};
 use tb_work::{Job, Stub};
-
-const LOOKUP_ACCOUNTS: u8 = 131;
 
 /// The parts of a batch: its packets' data one behind the other, its jobs with their stubs, and an
 /// empty answer with room for all of it: failures, or for a lookup accounts.
@@ -47,8 +47,8 @@ impl Parts {
         ensures answer { (self.new.failures.items ≡ []) × (self.new.accounts.items ≡ []) }
         ensures kept { (vec_capacity self.old.failures ≤ vec_capacity self.new.failures) × (vec_capacity self.old.accounts ≤ vec_capacity self.new.accounts) }
         ensures room_for_job { OnOk result ((vec_len self.new.jobs < vec_capacity self.new.jobs) × (vec_len self.new.stubs < vec_capacity self.new.stubs) × (vec_len self.new.body + length job.now.packet.bytes ≤ vec_capacity self.new.body)) }
-        ensures room_for_failures { OnOk result ((self.old.operation == 131) ≡ false → events ≤ vec_capacity self.new.failures) }
-        ensures room_for_accounts { OnOk result ((self.old.operation == 131) ≡ true → events ≤ vec_capacity self.new.accounts) }
+        ensures room_for_failures { OnOk result ((self.old.operation == lookup_accounts) ≡ false → events ≤ vec_capacity self.new.failures) }
+        ensures room_for_accounts { OnOk result ((self.old.operation == lookup_accounts) ≡ true → events ≤ vec_capacity self.new.accounts) }
     {
         self.jobs.reserve(1)?;
         self.stubs.reserve(1)?;
@@ -66,7 +66,7 @@ impl Parts {
     pub(crate) fn append(&mut self, job: Job)
         requires { (vec_len self.old.jobs < vec_capacity self.old.jobs) × (vec_len self.old.stubs < vec_capacity self.old.stubs) × (vec_len self.old.body + length job.packet.bytes ≤ vec_capacity self.old.body) }
         ensures operation { self.new.operation ≡ self.old.operation }
-        ensures admitted { IsOk (admitted 8190 job.packet) }
+        ensures admitted { IsOk (admitted batch_max job.packet) }
         ensures jobs { self.new.jobs.items ≡ self.old.jobs.items ++ job ∷ [] }
         ensures stubs { self.new.stubs.items ≡ self.old.stubs.items ++ stub_of job ∷ [] }
         ensures body { self.new.body.items ≡ self.old.body.items ++ job.packet.bytes }

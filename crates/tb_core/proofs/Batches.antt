@@ -4,16 +4,14 @@ use Rattle.std.specs.Prelude.{◌==◌, ◌||◌, ◌&&◌, fold, IsOk, if◌the
 use Rattle.std.specs.List.{list_all, filter_map, cons_option}
 use Rattle.std.proofs.lemmas.List.{length-map}
 use Rattle.std.proofs.lemmas.Bool.{and_parts, eqb-true}
-use Rattle.tb_layout.specs.Account.{account_of}
-use Rattle.tb_layout.specs.Transfer.{transfer_of}
+use Rattle.tb_layout.specs.Account.{account_of, is_linked as is_linked_account}
+use Rattle.tb_layout.specs.Transfer.{transfer_of, is_linked as is_linked_transfer}
 use Rattle.tb_layout.specs.Events.{Accounts, Transfers, Ids, events_of, rows, accounts_of, transfers_of, ids_of}
 use Rattle.tb_layout.specs.Bytes.{little_endian}
-use Rattle.tb_layout.specs.Failures.{RiseWithin}
 use Rattle.tb_tables.specs.Balances.{balanced_account}
-use Rattle.tb_machine.specs.Clock.{clock_max}
-use Rattle.tb_machine.specs.Operations.{create_accounts, create_transfers}
-use Rattle.tb_machine.proofs.Joined.{ArePacketsOf}
-use Rattle.tb_machine.specs.Replay.{State, failures_of, accounts_found, answer_of, after_packet}
+use Rattle.tb_layout.specs.Limits.{clock_max}
+use Rattle.tb_machine.specs.Joining.{JoiningIsInvisible}
+use Rattle.tb_machine.specs.Replay.{State, accounts_found, answer_of, after_packet}
 use Rattle.tb_layout.specs.declared.answer.Answer.TheVariants.{Accounts as Looked_up}
 use Rattle.tb_work.specs.declared.outcome.Outcome.TheVariants.{Committed}
 use Rattle.tb_work.specs.Admission.{event_size, admitted_of_size, count_of, count_of_size}
@@ -22,11 +20,10 @@ use Rattle.tb_work.specs.Reply.{reply_with}
 use Rattle.tb_work.specs.Work.{work_of}
 use Rattle.tb_batch.specs.Grouping.{can_share, are_of}
 use Rattle.tb_batch.specs.Batch.{body_of, IsLawful, AreAdmitted}
-use Rattle.tb_demux.specs.Cutting.{replies_from}
 use Rattle.tb_core.specs.Answered.{committed_from}
 use Rattle.tb_core.specs.Ledger.{packets_of}
 use Rattle.tb_core.proofs.Bodies.{first_is, whole_events, packets_of-jobs}
-use Rattle.tb_core.proofs.Committing.{length-chunks, replies_are, states_are, rise}
+use Rattle.tb_core.proofs.Committing.{length-chunks, GivesEach, gives}
 
 -- ---- operations
 
@@ -129,14 +126,13 @@ may_look_up operation jobs lawful all lookup =
 
 -- ---- what it gives
 
--- of accounts or transfers: the replies, the state and the failures' range
-pub record GivesEach (place operation : ℕ) (state : State) (jobs : List Numbered) : Type 0 where
-  pub replies : replies_from place 0 (failures_of state (events_of operation (body_of jobs))) jobs ≡ committed_from place state jobs
-  pub states : after_packet state (events_of operation (body_of jobs)) ≡ fold after_packet state (map (λ (job : Numbered). events_in job.packet) jobs)
-  pub rises : RiseWithin 0 (count_of_all jobs) (failures_of state (events_of operation (body_of jobs)))
+-- packets of accounts that were joined give what each gives by itself, and so do those of transfers
+pub record JoinInvisibly : Type 0 where
+  pub accounts : JoiningIsInvisible Accounts is_linked_account
+  pub transfers : JoiningIsInvisible Transfers is_linked_transfer
 
-pub gives_each : (place operation : ℕ) (state : State) (jobs : List Numbered) → state.clock ≤ clock_max → IsLawful operation jobs → AreAdmitted jobs → (operation == 131) ≡ false → GivesEach place operation state jobs
-gives_each place operation state jobs h lawful all not_lookup = by (kind_of_batch operation jobs lawful.some lawful.one_operation all)
+pub gives_each : (law : JoinInvisibly) (place operation : ℕ) (state : State) (jobs : List Numbered) → state.clock ≤ clock_max → IsLawful operation jobs → (operation == 131) ≡ false → GivesEach place operation state jobs
+gives_each law place operation state jobs in_range lawful not_lookup = by (kind_of_batch operation jobs lawful.some lawful.one_operation lawful.all_admitted)
   where
     accounts_is : (operation == 129) ≡ true → (bytes : List ℕ) → events_of operation bytes ≡ Accounts (accounts_of bytes)
     accounts_is is bytes = ap (λ b. if b then Accounts (accounts_of bytes) else if operation == 130 then Transfers (transfers_of bytes) else Ids (ids_of bytes)) is
@@ -148,19 +144,11 @@ gives_each place operation state jobs h lawful all not_lookup = by (kind_of_batc
 
     by : Kind operation → GivesEach place operation state jobs
     by (OfAccounts is) =
-        let are : ArePacketsOf create_accounts Accounts = record { outcome = λ state events. refl; after = λ state events. refl } in
-        record {
-          replies = replies_are create_accounts operation account_of Accounts are (size_of_accounts operation is) (accounts_is is) (λ state events. refl) (λ events. refl) place state jobs h lawful.one_operation all lawful.alone;
-          states = states_are create_accounts operation account_of Accounts are (size_of_accounts operation is) (accounts_is is) (λ state events. refl) (λ events. refl) state jobs h lawful.some lawful.one_operation all lawful.alone;
-          rises = rise create_accounts operation account_of Accounts are (size_of_accounts operation is) (accounts_is is) (λ state events. refl) (λ events. refl) state jobs lawful.one_operation all;
-        }
+        gives is_linked_account operation account_of Accounts law.accounts (size_of_accounts operation is) (accounts_is is) (λ state events. refl) (λ events. refl) place state jobs in_range lawful.one_operation lawful.all_admitted
+        lawful.alone
     by (OfTransfers not_a is) =
-        let are : ArePacketsOf create_transfers Transfers = record { outcome = λ state events. refl; after = λ state events. refl } in
-        record {
-          replies = replies_are create_transfers operation transfer_of Transfers are (size_of_transfers operation not_a is) (transfers_is not_a is) (λ state events. refl) (λ events. refl) place state jobs h lawful.one_operation all lawful.alone;
-          states = states_are create_transfers operation transfer_of Transfers are (size_of_transfers operation not_a is) (transfers_is not_a is) (λ state events. refl) (λ events. refl) state jobs h lawful.some lawful.one_operation all lawful.alone;
-          rises = rise create_transfers operation transfer_of Transfers are (size_of_transfers operation not_a is) (transfers_is not_a is) (λ state events. refl) (λ events. refl) state jobs lawful.one_operation all;
-        }
+        gives is_linked_transfer operation transfer_of Transfers law.transfers (size_of_transfers operation not_a is) (transfers_is not_a is) (λ state events. refl) (λ events. refl) place state jobs in_range lawful.one_operation
+        lawful.all_admitted lawful.alone
     by (OfIds not_a not_b is) = cc
 
 -- of a lookup, which is one packet

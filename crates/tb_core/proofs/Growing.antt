@@ -15,7 +15,7 @@ use Rattle.tb_batch.specs.Batch.{body_of}
 use Rattle.tb_batch.specs.declared.parts.Parts.{Parts}
 use Rattle.tb_core.specs.Answered.{AreAnswered}
 use Rattle.tb_core.specs.Ledger.{LedgerState, IsLedger, works, halts}
-use Rattle.tb_core.proofs.Batches.{gives_each, gives_one}
+use Rattle.tb_core.proofs.Batches.{JoinInvisibly, gives_each, gives_one}
 
 -- what holds of a call that succeeded
 pub given : {A E : Type 0} (result : Result A E) (P : Type 0) → is_err result ≡ false → OnOk result P → P
@@ -47,10 +47,10 @@ jobs_after : (state : State) (jobs : List Numbered) → fold after_packet state 
 jobs_after state [] = refl
 jobs_after state (job ∷ jobs) = jobs_after (after_packet state (events_in job.packet)) jobs
 
--- the state behind a batch
-batch_state : (state : State) (parts : Parts) → AreAnswered state parts →
+-- the state after a batch
+batch_state : (law : JoinInvisibly) (state : State) (parts : Parts) → AreAnswered state parts →
     after_packet state (events_of parts.operation parts.body.items) ≡ fold after_work state (map work_of parts.jobs.items)
-batch_state state parts answered =
+batch_state law state parts answered =
     ap (λ body. after_packet state (events_of parts.operation body)) answered.body ∙ by (parts.operation == 131) refl ∙ jobs_after state parts.jobs.items
   where
     none : (a : ℕ) → (131 == a) ≡ false → parts.operation ≡ 131 → (parts.operation == a) ≡ false
@@ -60,17 +60,17 @@ batch_state state parts answered =
     by true is =
         ap (λ op. after_packet state (events_of op (body_of parts.jobs.items))) (eqb-true parts.operation 131 is)
         ∙ (gives_one 0 parts.operation state parts.jobs.items answered.lawful answered.lawful.all_admitted is).states
-    by false is = (gives_each 0 parts.operation state parts.jobs.items answered.in_range answered.lawful answered.lawful.all_admitted is).states
+    by false is = (gives_each law 0 parts.operation state parts.jobs.items answered.in_range answered.lawful is).states
 
-pub batch_entered : (ledger : LedgerState) (state next : State) (places : ℕ) (groups : List (List Work)) (parts : Parts) (count : ℕ) → IsLedger ledger state places → AreAnswered state parts →
+pub batch_entered : (law : JoinInvisibly) (ledger : LedgerState) (state next : State) (places : ℕ) (groups : List (List Work)) (parts : Parts) (count : ℕ) → IsLedger ledger state places → AreAnswered state parts →
     next ≡ after_packet state (events_of parts.operation parts.body.items) → groups ≡ ledger.groups ++ map work_of parts.jobs.items ∷ [] → count ≡ length parts.jobs.items → halts false ledger count ≡ false →
     IsLedger (record ledger { groups = groups }) next (places + count)
-batch_entered ledger state next places groups parts count is answered next_is groups_is count_is goes =
+batch_entered law ledger state next places groups parts count is answered next_is groups_is count_is goes =
     let group = map work_of parts.jobs.items in
     let all : flat_map (λ g. g) groups ≡ works ledger ++ group = ap (flat_map (λ g. g)) groups_is ∙ works-more ledger.groups group in
     let room = within false ledger count goes in
     record {
-      machine = next_is ∙ batch_state state parts answered ∙ ap (λ s. fold after_work s group) is.machine
+      machine = next_is ∙ batch_state law state parts answered ∙ ap (λ s. fold after_work s group) is.machine
           ∙ sym (fold-append after_work (opening ledger.opening) (works ledger) group)
           ∙ ap (fold after_work (opening ledger.opening)) (sym all);
       counted = (let e : places + count ≡ length (works ledger ++ group) = omega (arith, is.counted, count_is, length-append (works ledger) group, length-map parts.jobs.items work_of) in e) ∙ ap length (sym all);

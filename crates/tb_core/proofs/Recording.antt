@@ -16,7 +16,7 @@ use Rattle.tb_batch.specs.declared.parts.Parts.{Parts}
 use Rattle.tb_demux.specs.Cutting.{replies_to, replies_from, replies_answered, IsOutcomeOfAll, IsAnswerToAll}
 use Rattle.tb_core.specs.Answered.{AreAnswered, answer_in, committed_from}
 use Rattle.tb_core.proofs.Bodies.{first_is}
-use Rattle.tb_core.proofs.Batches.{gives_each, gives_one}
+use Rattle.tb_core.proofs.Batches.{JoinInvisibly, gives_each, gives_one}
 
 no_lookups : (operation : ℕ) (jobs : List Numbered) → (operation == 131) ≡ false → are_of operation jobs ≡ true → list_all (λ job. not (is_lookup job.packet)) jobs ≡ true
 no_lookups operation [] other one = refl
@@ -29,8 +29,8 @@ pub record IsRecorded (place : ℕ) (state : State) (parts : Parts) : Type 0 whe
   pub fits : IsOutcomeOfAll (Committed place (answer_in parts.operation parts.failures.items parts.accounts.items)) parts.jobs.items
   pub replies : replies_to (Committed place (answer_in parts.operation parts.failures.items parts.accounts.items)) parts.jobs.items ≡ committed_from place state parts.jobs.items
 
-pub recorded : (place : ℕ) (state : State) (parts : Parts) → place + length parts.jobs.items ≤ 2 ^ 63 → AreAnswered state parts → IsRecorded place state parts
-recorded place state parts few answered = by (parts.operation == 131) refl
+pub recorded : (law : JoinInvisibly) (place : ℕ) (state : State) (parts : Parts) → place + length parts.jobs.items ≤ 2 ^ 63 → AreAnswered state parts → IsRecorded place state parts
+recorded law place state parts few answered = by (parts.operation == 131) refl
   where
     chosen : Bool → Answer
     chosen b = if b then Accounts parts.accounts.items else Failures parts.failures.items
@@ -49,7 +49,7 @@ recorded place state parts few answered = by (parts.operation == 131) refl
         (gives.job, gives.only, gives.lookup, subst (λ found. length found ≤ count_of gives.job.packet) (sym accounts) gives.few)
         (ap (λ found. map (reply_with (Committed place (Accounts found))) parts.jobs.items) accounts ∙ gives.replies)
     by false is =
-        let gives = gives_each place parts.operation state parts.jobs.items answered.in_range answered.lawful answered.lawful.all_admitted is in
+        let gives = gives_each law place parts.operation state parts.jobs.items answered.in_range answered.lawful is in
         let failures = answered.failures is ∙ ap (λ body. failures_of state (events_of parts.operation body)) answered.body in
         of_answer false is
         (subst (RiseWithin 0 (count_of_all parts.jobs.items)) (sym failures) gives.rises, no_lookups parts.operation parts.jobs.items is answered.lawful.one_operation)

@@ -1,6 +1,7 @@
 -- What a front makes of one ticket.
 use Rattle.std.specs.Prelude.{◌≡◌, ℕ, ◌+◌, ◌≤◌, Bool, true, false, ◌||◌, if◌then◌else◌, List, [], ◌∷◌, ◌++◌, length, map, take, slice_set, get_or, nat_lt, Option, Some, None}
 use Rattle.std.specs.List.{list_all, list_any, flat_map}
+use Rattle.tb_layout.specs.Limits.{batch_max, submitters_max}
 use Rattle.tb_work.specs.Job.{Numbered}
 use Rattle.tb_work.specs.Queue.{part, is_end}
 use Rattle.tb_work.specs.declared.item.Ticket.{Ticket}
@@ -27,8 +28,8 @@ pub record FrontState : Type 0 where
 -- why a front can't be opened, if it can't: the limit is 1 to 8190 events, and there are 1 to 16 submitters
 abbrev pub opening_refusal : ℕ → ℕ → Option Refusal
 opening_refusal limit submitters =
-    if nat_lt limit 1 || nat_lt 8190 limit then Some BadLimit
-    else if nat_lt submitters 1 || nat_lt 16 submitters then Some BadSubmitters
+    if nat_lt limit 1 || nat_lt batch_max limit then Some BadLimit
+    else if nat_lt submitters 1 || nat_lt submitters_max submitters then Some BadSubmitters
     else None
 
 -- a front, and what it hands out
@@ -107,7 +108,7 @@ spelled_batch (Some jobs) = map Admitted jobs
 
 -- what is held is one group, and behind a Close or a stop nothing is held
 pub record IsFront (front : FrontState) : Type 0 where
-  pub few : front.submitters ≤ 16
+  pub few : front.submitters ≤ submitters_max
   pub places : length front.ended ≡ 17
   pub clear : (front.closed || front.stopped) ≡ true → front.held ≡ []
   pub group : IsGroup front.limit front.held

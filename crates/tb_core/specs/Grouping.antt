@@ -1,6 +1,7 @@
 -- Lawful groupings of packets and pulses (batching in the requests reference and in tb_client, here of neighbours alone).
 use Rattle.std.specs.Prelude.{◌≡◌, ◌≤◌, ℕ, ◌+◌, ◌==◌, Bool, true, false, not, ◌&&◌, nat_le, List, [], ◌∷◌, ◌++◌}
 use Rattle.std.specs.List.{list_all, AllByRecursion, flat_map}
+use Rattle.tb_layout.specs.Operation.{create_accounts, create_transfers, lookup_accounts}
 use Rattle.tb_layout.specs.Events.{Events, Accounts, Transfers, Ids, is_open, count_of}
 use Rattle.tb_layout.specs.Work.{Work, Packet, Pulse}
 use Rattle.tb_batch.specs.Grouping.{IsGroup}
@@ -8,9 +9,9 @@ use Rattle.tb_core.specs.declared.parcel.Parcel.{Parcel}
 use Rattle.tb_core.specs.declared.parcel.Parcel.TheVariants as parcel
 
 abbrev pub operation_of : Events → ℕ
-operation_of (Accounts events) = 129
-operation_of (Transfers events) = 130
-operation_of (Ids ids) = 131
+operation_of (Accounts events) = create_accounts
+operation_of (Transfers events) = create_transfers
+operation_of (Ids ids) = lookup_accounts
 
 -- a lookup joins nothing, and neither does an open packet
 abbrev pub can_join : Events → Bool

@@ -3,7 +3,7 @@ use Rattle.std.specs.Prelude.{◌≡◌, ◌≤◌, ℕ, ◌+◌, ◌*◌, ◌^�
 use Rattle.std.specs.List.{flat_map}
 use Rattle.tb_layout.specs.Events.{events_of}
 use Rattle.tb_layout.specs.Work.{Work, Packet, Pulse}
-use Rattle.tb_machine.specs.Clock.{clock_max}
+use Rattle.tb_layout.specs.Limits.{clock_max}
 use Rattle.tb_machine.specs.Replay.{State, replay}
 use Rattle.tb_work.specs.Admission.{event_size}
 use Rattle.tb_work.specs.Job.{Numbered}

@@ -7,9 +7,8 @@ use arrayvec::ArrayVec;
 use std::alloc::Global;
 use std::marker::Model;
 use tb_batch::{Batch, Batcher, Offered};
+use tb_layout::SUBMITTERS_MAX;
 use tb_work::{Item, Job, Moment, Refusal, Ticket};
-
-const MOST_SUBMITTERS: u32 = 16;
 
 /// Takes the tickets of a queue in order, joins neighbouring packets to batches, and hands these on
 /// with the pulses, and with the packets that come back uncommitted.
@@ -66,7 +65,7 @@ impl Front {
         ensures refusal { IfErr result (λ refusal. opening_refusal limit submitters ≡ Some refusal) }
     {
         let batcher = Batcher::new(alloc, limit)?;
-        if submitters < 1 || submitters > MOST_SUBMITTERS {
+        if submitters < 1 || submitters > SUBMITTERS_MAX {
             return Err(Refusal::BadSubmitters);
         }
         Ok(Front {

@@ -2,7 +2,7 @@
 
 ghost use Rattle.std.specs.Prelude.{◌≡◌, ◌==◌, ◌<◌, ◌≤◌, ◌+◌, ◌^◌, ◌++◌, ◌∷◌, [], ℕ, List, Bool, false, true, length, map, vec_len, vec_capacity, OnOk, OnErr, IfOk, IfErr, nat_lt, ◌||◌};
 ghost use Rattle.tb_layout.specs.Events.{events_of};
-ghost use Rattle.tb_machine.specs.Clock.{clock_max};
+ghost use Rattle.tb_layout.specs.Limits.{clock_max};
 ghost use Rattle.tb_machine.specs.Replay.{State, after_packet};
 ghost use Rattle.tb_batch.specs.Batch.{AreAdmitted, AreParts};
 ghost use Rattle.tb_work.specs.Reply.{reply_with};
@@ -19,11 +19,9 @@ use std::alloc::Global;
 use std::marker::Model;
 use tb_batch::{Batch, Parts};
 use tb_demux::Cutter;
-use tb_layout::{Account, Failure, NoMemory};
-use tb_machine::Machine;
+use tb_layout::{Account, Failure, LOOKUP_ACCOUNTS, NoMemory};
+use tb_machine::{Machine, joining_is_invisible};
 use tb_work::{Accounts, Answer, Failures, Job, Moment, Outcome, Reply};
-
-const LOOKUP_ACCOUNTS: u8 = 131;
 
 const MOST_PLACES: u64 = 1 << 63;
 
@@ -93,6 +91,8 @@ fn record(entries: &mut Vec<Entry>, place: u64, parts: Parts) -> Cutter
         failures,
         accounts,
     } = parts;
+    // The law by which each packet's part of the answer is its own.
+    joining_is_invisible();
     let answer = answer(operation, failures, accounts);
     entries.push_reserved(Entry::Batch {
         operation,
@@ -206,6 +206,8 @@ impl Ledger {
         if take_batch(&mut self.machine, &mut parts).is_err() {
             return Err(Batch::whole(parts));
         }
+        // The law by which the machine is where the packets, one by one, bring it.
+        joining_is_invisible();
         let replies = record(&mut self.entries, self.places, parts);
         self.places += count as u64;
         Ok(Outcomes::Cut(replies))

@@ -1,7 +1,8 @@
 //! A list of items through the front and the ledger, in one thread.
 
 ghost use Rattle.std.specs.Prelude.{◌≡◌, ◌≤◌, ◌++◌, ◌∷◌, [], ℕ, List, IfOk, OnOk};
-ghost use Rattle.tb_machine.specs.Clock.{clock_max};
+ghost use Rattle.tb_layout.specs.Limits.{batch_max};
+ghost use Rattle.tb_layout.specs.Limits.{clock_max};
 ghost use Rattle.tb_work.specs.Queue.{ahead};
 ghost use Rattle.tb_work.specs.declared.item.Item.{Item as ItemValue};
 ghost use Rattle.tb_core.specs.Front.{held_by, spelled, spelled_one};
@@ -109,7 +110,7 @@ impl Listing {
 pub fn run_list(alloc: Global, clock: u64, limit: u32, items: Vec<Item>) -> Result<Listed, NoMemory>
     requires clock { clock ≤ clock_max }
     requires least { 1 ≤ limit }
-    requires most { limit ≤ 8190 }
+    requires most { limit ≤ batch_max }
     ensures listed { IfOk result (λ listed. IsListed clock items.items listed.ledger listed.replies.items) }
     ensures ran { IfOk result (λ listed. Ran clock items.items listed.ledger listed.replies.items) }
     ensures grouping { AreWithin limit (ahead items.items) → IfOk result (λ listed. IsGrouping limit listed.ledger.groups) }

@@ -18,7 +18,12 @@ pub enum Parcel {
 }
 
 impl Default for Parcel {
-    fn default() -> Parcel {
+    ghost use Rattle.std.specs.Prelude.{◌≡◌};
+    ghost use Rattle.tb_core.specs.declared.parcel.Parcel.TheVariants.{Last};
+
+    fn default() -> Parcel
+        ensures { result ≡ Last }
+    {
         Parcel::Last
     }
 }

@@ -15,7 +15,7 @@ unfoldable pub bytes_of : ℕ → ℕ → List ℕ
 bytes_of zero number = []
 bytes_of (suc size) number = number % 256 ∷ bytes_of size (number / 256)
 
--- the bytes of numbers that lie one behind the other, each with its size
+-- the bytes of numbers that lie one after another, each with its size
 abbrev pub laid : List (ℕ × ℕ) → List ℕ
 laid [] = []
 laid ((size, number) ∷ fields) = bytes_of size number ++ laid fields

@@ -5,7 +5,9 @@ use Rattle.tb_layout.specs.declared.account.Account.{Account}
 use Rattle.tb_layout.specs.declared.transfer.Transfer.{Transfer}
 use Rattle.tb_layout.specs.Account.{account_of, is_linked as is_linked_account}
 use Rattle.tb_layout.specs.Transfer.{transfer_of, is_linked as is_linked_transfer}
-use Rattle.tb_layout.specs.Bytes.{little_endian}
+use Rattle.tb_layout.specs.Bytes.{little_endian, number_at}
+use Rattle.tb_layout.specs.Flags.{has_flag}
+use Rattle.tb_layout.specs.Operation.{create_accounts, create_transfers}
 
 -- a body cut into rows of so many bytes
 abbrev pub rows : ℕ → List ℕ → List (List ℕ)
@@ -26,17 +28,21 @@ pub data Events : Type 0 where
   Transfers : List Transfer → Events
   Ids : List ℕ → Events
 
--- the events of a body: 129 is create_accounts, 130 create_transfers, and 131 lookup_accounts
+-- the events of a body; whatever makes neither accounts nor transfers looks accounts up
 abbrev pub events_of : ℕ → List ℕ → Events
 events_of operation body =
-    if operation == 129 then Accounts (accounts_of body)
-    else if operation == 130 then Transfers (transfers_of body)
+    if operation == create_accounts then Accounts (accounts_of body)
+    else if operation == create_transfers then Transfers (transfers_of body)
     else Ids (ids_of body)
 
 abbrev pub count_of : Events → ℕ
 count_of (Accounts events) = length events
 count_of (Transfers events) = length events
 count_of (Ids ids) = length ids
+
+-- whether the event of a row, an account or a transfer, is linked: both have their flags at byte 118
+abbrev pub is_row_linked : List ℕ → Bool
+is_row_linked row = has_flag (number_at row 118 2) 0
 
 -- whether the last of some events is linked
 abbrev pub is_last_linked : {Event : Type 0} → (Event → Bool) → List Event → Bool

@@ -1,3 +1,5 @@
+pub mod Operation
+pub mod Limits
 pub mod Bytes
 pub mod Flags
 pub mod Account

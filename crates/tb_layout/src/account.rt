@@ -3,7 +3,9 @@
 ghost use Rattle.std.specs.Prelude.{◌≡◌, ℕ, List};
 ghost use Rattle.tb_layout.specs.Bytes.{IsBytes};
 ghost use Rattle.tb_layout.specs.Account as spec;
+ghost use Rattle.tb_layout.specs.Flags.{has_reserved_flag as is_reserved_in};
 
+use crate::flags::has_reserved_flag;
 use crate::number::{
     read_u16, read_u32, read_u64, read_u128, write_u16, write_u32, write_u64, write_u128,
 };
@@ -47,6 +49,13 @@ impl Account {
         ensures { result ≡ spec.credits_must_not_exceed_debits self.now }
     {
         self.flags & 4 != 0
+    }
+
+    /// Whether a bit of the flags is set that stands for nothing (bits 4 to 15).
+    pub fn has_reserved_flag(&self) -> bool
+        ensures { result ≡ is_reserved_in self.now.flags }
+    {
+        has_reserved_flag(self.flags)
     }
 }
 

@@ -7,11 +7,12 @@ use Rattle.tb_layout.specs.declared.failure.Failure.{Failure}
 use Rattle.tb_layout.specs.Events.{Events, is_last_linked}
 use Rattle.tb_layout.specs.Failures.{RiseWithin, is_within, rebased, cut}
 use Rattle.tb_tables.specs.Facts.{Facts}
-use Rattle.tb_machine.specs.Clock.{clock_after, clock_max}
+use Rattle.tb_layout.specs.Limits.{clock_max}
+use Rattle.tb_machine.specs.Clock.{clock_after}
 use Rattle.tb_machine.specs.Chain.{Operation, Outcome, before_chains, chains_of, chain_outcome, chains_outcome, then_outcome}
 use Rattle.tb_machine.specs.Packet.{events_outcome, failures_from}
 use Rattle.tb_machine.specs.Replay.{State, outcome_of, after_events, after_packet, failures_of}
-use Rattle.tb_machine.specs.Joining.{laid, none_open, cuts, failures_each, JoiningIsInvisible}
+use Rattle.tb_machine.specs.Joining.{laid, none_open, cuts, failures_each, IsGroup, GiveAsEach, JoiningIsInvisible}
 use Rattle.tb_machine.proofs.Faults.{length-chain_outcome}
 use Rattle.tb_machine.proofs.Failures.{failures_from-append, failing}
 
@@ -194,18 +195,18 @@ module _ {Event : Type 0} (operation : Operation Event) (packet_of : List Event 
       let e = ap (λ (s : State). s.clock) (are.after state events) in
       omega (arith, e)
 
-  -- the outcome of a first packet and of those behind it, which begin in the state that it leaves
+  -- the outcome of a first packet and of those after it, which begin in the state that it leaves
   first_and_rest : (state : State) (packet : List Event) (packets : List (List Event)) → state.clock ≤ clock_max → is_last_linked operation.is_linked packet ≡ false →
       outcome_in state (laid (packet ∷ packets)) ≡ then_outcome (outcome_in state packet) (outcome_in (after_packet state (packet_of packet)) (laid packets))
   first_and_rest state packet packets h closed =
       events_outcome-append operation state.clock state.facts packet (laid packets) h closed
       ∙ ap (λ (s : State). then_outcome (outcome_in state packet) (outcome_in s (laid packets))) (sym (are.after state packet))
 
-  -- behind some results, which stand for the packets before
-  cuts_behind : (before : List ℕ) (state : State) (packets : List (List Event)) → state.clock ≤ clock_max → none_open operation.is_linked packets ≡ true →
+  -- after some results, which stand for the packets before
+  cuts_after : (before : List ℕ) (state : State) (packets : List (List Event)) → state.clock ≤ clock_max → none_open operation.is_linked packets ≡ true →
       cuts (length before) packets (failures_from 0 (before ++ (outcome_in state (laid packets)).results)) ≡ failures_each state (map packet_of packets)
-  cuts_behind before state [] h closed = refl
-  cuts_behind before state (packet ∷ packets) h closed =
+  cuts_after before state [] h closed = refl
+  cuts_after before state (packet ∷ packets) h closed =
       let first = outcome_in state packet in
       let next = after_packet state (packet_of packet) in
       let rest = outcome_in next (laid packets) in
@@ -218,16 +219,16 @@ module _ {Event : Type 0} (operation : Operation Event) (packet_of : List Event 
       ∙ ap (λ (o : Outcome). failures_from 0 o.results) (sym (are.outcome state packet)) in
       let later : cuts (length before + length packet) packets failures ≡ failures_each next (map packet_of packets) =
       ap (λ n. cuts n packets failures) (sym offset) ∙ ap (λ codes. cuts (length (before ++ first.results)) packets (failures_from 0 codes)) (sym (append_assoc before first.results rest.results))
-      ∙ cuts_behind (before ++ first.results) next packets (in_range state packet) (closed-rest (is_last_linked operation.is_linked packet) (none_open operation.is_linked packets) closed) in
+      ∙ cuts_after (before ++ first.results) next packets (in_range state packet) (closed-rest (is_last_linked operation.is_linked packet) (none_open operation.is_linked packets) closed) in
       ap (λ codes. cuts (length before) (packet ∷ packets) (failures_from 0 (before ++ codes))) results
       ∙ ap (λ fs. fs ∷ cuts (length before + length packet) packets failures) own ∙ ap (λ fss. failures_of state (packet_of packet) ∷ fss) later
 
-  state_behind : (state : State) (packets : List (List Event)) → state.clock ≤ clock_max → none_open operation.is_linked packets ≡ true →
+  state_after : (state : State) (packets : List (List Event)) → state.clock ≤ clock_max → none_open operation.is_linked packets ≡ true →
       after_packet state (packet_of (laid packets)) ≡ fold after_packet state (map packet_of packets)
-  state_behind state [] h closed =
+  state_after state [] h closed =
       let same : clock_after state.clock 0 ≡ state.clock = omega arith in
       are.after state [] ∙ ap (λ c. record { clock = c; facts = state.facts }) same
-  state_behind state (packet ∷ packets) h closed =
+  state_after state (packet ∷ packets) h closed =
       let next = after_packet state (packet_of packet) in
       let facts = ap (λ (o : Outcome). o.facts) (first_and_rest state packet packets h (closed-first (is_last_linked operation.is_linked packet) (none_open operation.is_linked packets) closed)) in
       let clock : clock_after state.clock (length (packet ++ laid packets)) ≡ clock_after next.clock (length (laid packets)) =
@@ -235,10 +236,39 @@ module _ {Event : Type 0} (operation : Operation Event) (packet_of : List Event 
       ∙ ap (λ (s : State). clock_after s.clock (length (laid packets))) (sym (are.after state packet)) in
       let both : after_packet state (packet_of (laid (packet ∷ packets))) ≡ after_packet next (packet_of (laid packets)) =
       are.after state (laid (packet ∷ packets)) ∙ (λ i. record { clock = clock i; facts = facts i }) ∙ sym (are.after next (laid packets)) in
-      both ∙ state_behind next packets (in_range state packet) (closed-rest (is_last_linked operation.is_linked packet) (none_open operation.is_linked packets) closed)
+      both ∙ state_after next packets (in_range state packet) (closed-rest (is_last_linked operation.is_linked packet) (none_open operation.is_linked packets) closed)
 
-  pub joining : (state : State) (packets : List (List Event)) → state.clock ≤ clock_max → none_open operation.is_linked packets ≡ true → JoiningIsInvisible packet_of state packets
+  rise : (state : State) (packets : List (List Event)) → RiseWithin 0 (length (laid packets)) (failures_of state (packet_of (laid packets)))
+  rise state packets =
+      let results = (outcome_in state (laid packets)).results in
+      let count : 0 + length results ≡ length (laid packets) = omega (arith, length-outcome operation state.clock state.facts (laid packets)) in
+      subst (λ (o : Outcome). RiseWithin 0 (length (laid packets)) (failures_from 0 o.results)) (sym (are.outcome state (laid packets)))
+      (subst (λ high. RiseWithin 0 high (failures_from 0 results)) count (failures_rise 0 results))
+
+  -- packets of which none is open
+  pub joining : (state : State) (packets : List (List Event)) → state.clock ≤ clock_max → none_open operation.is_linked packets ≡ true → GiveAsEach packet_of state packets
   joining state packets h closed = record {
-    failures = ap (λ (o : Outcome). cuts 0 packets (failures_from 0 o.results)) (are.outcome state (laid packets)) ∙ cuts_behind [] state packets h closed;
-    state_after = state_behind state packets h closed;
+    rise = rise state packets;
+    failures = ap (λ (o : Outcome). cuts 0 packets (failures_from 0 o.results)) (are.outcome state (laid packets)) ∙ cuts_after [] state packets h closed;
+    state_after = state_after state packets h closed;
   }
+
+  -- a packet alone, open or not
+  alone : (state : State) (packet : List Event) → GiveAsEach packet_of state (packet ∷ [])
+  alone state packet =
+      let results = (outcome_of state (packet_of packet)).results in
+      let count : length packet ≡ length results =
+      sym (ap (λ (o : Outcome). length o.results) (are.outcome state packet) ∙ length-outcome operation state.clock state.facts packet) in
+      record {
+        rise = rise state (packet ∷ []);
+        failures =
+            ap (λ events. cut 0 (length packet) (failures_of state (packet_of events)) ∷ []) (append-nil packet)
+            ∙ ap (λ n. cut 0 n (failures_from 0 results) ∷ []) count
+            ∙ ap (λ codes. cut 0 (length results) (failures_from 0 codes) ∷ []) (sym (append-nil results)) ∙ ap (λ fs. fs ∷ []) (cut-middle [] results []);
+        state_after = ap (λ events. after_packet state (packet_of events)) (append-nil packet);
+      }
+
+  pub joining_group : JoiningIsInvisible packet_of operation.is_linked
+  joining_group state [] h group = joining state [] h refl
+  joining_group state (packet ∷ []) h group = alone state packet
+  joining_group state (packet ∷ next ∷ packets) h group = joining state (packet ∷ next ∷ packets) h (group (omega arith))

@@ -18,7 +18,7 @@ use Rattle.tb_tables.specs.declared.status.Status.{Status}
 use Rattle.tb_tables.specs.declared.status.Status.TheVariants.{Pending, Posted, Voided, Expired}
 use Rattle.tb_tables.specs.Conditions.{MayAdd, MayResolve}
 use Rattle.tb_tables.proofs.Finding.{found-id}
-use Rattle.tb_machine.specs.Clock.{clock_max}
+use Rattle.tb_layout.specs.Limits.{clock_max, nanoseconds_per_second}
 use Rattle.tb_machine.specs.AccountVerdict.{u128_max}
 use Rattle.tb_machine.specs.Table.{first_row}
 use Rattle.tb_machine.specs.TransferVerdict.{transfer_verdict, event_checks, against_id, stored_checks, new_id_checks, resolving_checks, resolving_verdict, against_named, pending_checks, against_status, moving_checks, moving_verdict, between_found, balance_checks, resolved, resolved_by, stored_by, has_exclusive_flags}
@@ -105,14 +105,14 @@ at_most : (most n : ℕ) → nat_lt most n ≡ false → n ≤ most
 at_most most n h = grind (arith, nat_tests)
 
 -- a timeout of 0 is over at once, and any other by the greatest clock
-expires_by : (timestamp timeout : ℕ) → timestamp ≤ clock_max → (not (timeout == 0) && nat_lt clock_max (timestamp + timeout * 1000000000)) ≡ false → timestamp + timeout * 1000000000 ≤ clock_max
+expires_by : (timestamp timeout : ℕ) → timestamp ≤ clock_max → (not (timeout == 0) && nat_lt clock_max (timestamp + timeout * nanoseconds_per_second)) ≡ false → timestamp + timeout * nanoseconds_per_second ≤ clock_max
 expires_by timestamp timeout h check = by (timeout == 0) refl check
   where
-    by : (b : Bool) → (timeout == 0) ≡ b → (not b && nat_lt clock_max (timestamp + timeout * 1000000000)) ≡ false → timestamp + timeout * 1000000000 ≤ clock_max
+    by : (b : Bool) → (timeout == 0) ≡ b → (not b && nat_lt clock_max (timestamp + timeout * nanoseconds_per_second)) ≡ false → timestamp + timeout * nanoseconds_per_second ≤ clock_max
     by true is check =
         let none = eqb-true timeout 0 is in
         omega arith
-    by false is check = at_most clock_max (timestamp + timeout * 1000000000) check
+    by false is check = at_most clock_max (timestamp + timeout * nanoseconds_per_second) check
 
 pub resolves_nothing : (found : Option Transfer) (event : Transfer) → is_resolving event ≡ false → resolved_by found event ≡ event
 resolves_nothing None event plain = refl

@@ -1,9 +1,6 @@
--- The clock: its greatest number, and the timestamps that it gives.
+-- The timestamps that a clock gives.
 use Rattle.std.specs.Prelude.{ℕ, ◌+◌, min, nat_lt, Option, Some, None, if◌then◌else◌}
-
--- 2^63 - 1
-abbrev pub clock_max : ℕ
-clock_max = 9223372036854775807
+use Rattle.tb_layout.specs.Limits.{clock_max}
 
 -- the timestamp of the next event, if the clock can be raised for it
 abbrev pub next_timestamp : ℕ → Option ℕ

@@ -1,10 +1,11 @@
 -- Packets of one operation laid one after another, and each by itself.
-use Rattle.std.specs.Prelude.{◌≡◌, ℕ, ◌+◌, Bool, not, List, [], ◌∷◌, map, flat_map, fold, length}
+use Rattle.std.specs.Prelude.{◌≡◌, ◌<◌, ◌≤◌, ℕ, ◌+◌, Bool, true, not, List, [], ◌∷◌, map, flat_map, fold, length}
 use Rattle.std.specs.List.{list_all}
 use Rattle.tb_layout.specs.declared.failure.Failure.{Failure}
-use Rattle.tb_layout.specs.Events.{Events, is_last_linked}
-use Rattle.tb_layout.specs.Failures.{cut}
-use Rattle.tb_machine.specs.Replay.{State, failures_of, after_packet}
+use Rattle.tb_layout.specs.Events.{Events, Ids, is_last_linked}
+use Rattle.tb_layout.specs.Failures.{RiseWithin, cut}
+use Rattle.tb_layout.specs.Limits.{clock_max}
+use Rattle.tb_machine.specs.Replay.{State, failures_of, accounts_found, after_packet}
 
 -- the events of packets, laid one after another
 abbrev pub laid : {Event : Type 0} → List (List Event) → List Event
@@ -24,7 +25,22 @@ abbrev pub failures_each : State → List Events → List (List Failure)
 failures_each state [] = []
 failures_each state (packet ∷ packets) = failures_of state packet ∷ failures_each (after_packet state packet) packets
 
--- packets laid one after another give each packet what it gives by itself, and leave the same state
-pub record JoiningIsInvisible {Event : Type 0} (packet_of : List Event → Events) (state : State) (packets : List (List Event)) : Type 0 where
+-- packets that may be committed as one: one packet, open or not, or several of which none is open
+abbrev pub IsGroup : {Event : Type 0} → (Event → Bool) → List (List Event) → Type 0
+IsGroup is_linked packets = 1 < length packets → none_open is_linked packets ≡ true
+
+-- laid one after another they give each packet what it gives by itself, and leave the same state
+pub record GiveAsEach {Event : Type 0} (packet_of : List Event → Events) (state : State) (packets : List (List Event)) : Type 0 where
+  pub rise : RiseWithin 0 (length (laid packets)) (failures_of state (packet_of (laid packets)))
   pub failures : cuts 0 packets (failures_of state (packet_of (laid packets))) ≡ failures_each state (map packet_of packets)
   pub state_after : after_packet state (packet_of (laid packets)) ≡ fold after_packet state (map packet_of packets)
+
+-- so does every group, in every state that a machine can have
+abbrev pub JoiningIsInvisible : {Event : Type 0} → (List Event → Events) → (Event → Bool) → Type 0
+JoiningIsInvisible {Event} packet_of is_linked =
+    (state : State) (packets : List (List Event)) → state.clock ≤ clock_max → IsGroup is_linked packets → GiveAsEach packet_of state packets
+
+-- a lookup is a group by itself: its accounts, whole, are its answer, and the state stays as it is
+pub record GivesAsAlone (state : State) (ids : List ℕ) : Type 0 where
+  pub accounts : accounts_found state.facts (laid (ids ∷ [])) ≡ accounts_found state.facts ids
+  pub state_after : after_packet state (Ids (laid (ids ∷ []))) ≡ state

@@ -1,8 +1,10 @@
 -- What the two operations that change the facts make of their events.
-use Rattle.std.specs.Prelude.{ℕ, ◌==◌, Bool, [], ◌∷◌, if◌then◌else◌}
+use Rattle.std.specs.Prelude.{ℕ, ◌==◌, Bool, List, [], ◌∷◌, if◌then◌else◌}
 use Rattle.std.specs.List.{list_any}
 use Rattle.tb_layout.specs.declared.account.Account.{Account}
 use Rattle.tb_layout.specs.declared.transfer.Transfer.{Transfer}
+use Rattle.tb_layout.specs.declared.transfer_code.TransferCode.{TransferCode}
+use Rattle.tb_layout.specs.declared.transfer_code.TransferCode.TheVariants.{DebitAccountNotFound, CreditAccountNotFound, PendingTransferNotFound, ExceedsCredits, ExceedsDebits}
 use Rattle.tb_layout.specs.AccountCode.{number_of as account_number}
 use Rattle.tb_layout.specs.TransferCode.{number_of as transfer_number}
 use Rattle.tb_layout.specs.Account.{is_linked as is_linked_account}
@@ -13,28 +15,31 @@ use Rattle.tb_machine.specs.TransferVerdict.{transfer_verdict, stored_by}
 use Rattle.tb_machine.specs.Chain.{Operation}
 
 -- an account is stored with its timestamp, and a fault leaves nothing behind
-abbrev pub create_accounts : Operation Account
-create_accounts = record {
+abbrev pub accounts_operation : Operation Account
+accounts_operation = record {
   is_linked = is_linked_account;
   verdict = λ facts timestamp event. account_number (account_verdict facts event);
   stored = λ facts timestamp event. add_account facts (record event { timestamp = timestamp });
   remembered = λ facts code event. facts;
 }
 
--- whether a transfer that failed with this code can't be made later either: an account or a pending transfer wasn't
--- found, or a limit would be passed
-abbrev pub is_remembered : ℕ → Bool
-is_remembered code = list_any (λ other. code == other) (21 ∷ 22 ∷ 25 ∷ 54 ∷ 55 ∷ [])
+-- the results that later events could change: an account or a pending transfer wasn't found, or a limit would be passed
+abbrev pub transient_codes : List TransferCode
+transient_codes = DebitAccountNotFound ∷ CreditAccountNotFound ∷ PendingTransferNotFound ∷ ExceedsCredits ∷ ExceedsDebits ∷ []
+
+-- whether a transfer that failed with this code leaves its id behind
+abbrev pub is_transient : ℕ → Bool
+is_transient code = list_any (λ transient. code == transfer_number transient) transient_codes
 
 -- the facts with an id among those that failed
 abbrev pub with_failed : Facts → ℕ → Facts
 with_failed facts id = if is_failed facts id then facts else add_failed facts id
 
 -- a transfer is stored with its resolved fields, and some faults leave its id behind
-abbrev pub create_transfers : Operation Transfer
-create_transfers = record {
+abbrev pub transfers_operation : Operation Transfer
+transfers_operation = record {
   is_linked = is_linked_transfer;
   verdict = λ facts timestamp event. transfer_number (transfer_verdict facts timestamp event);
   stored = λ facts timestamp event. add_transfer facts (stored_by facts timestamp event);
-  remembered = λ facts code event. if is_remembered code then with_failed facts event.id else facts;
+  remembered = λ facts code event. if is_transient code then with_failed facts event.id else facts;
 }

@@ -12,7 +12,7 @@ use Rattle.tb_tables.specs.Status.{expire_due}
 use Rattle.tb_tables.specs.Balances.{with_balances, balanced_account}
 use Rattle.tb_machine.specs.Chain.{Outcome}
 use Rattle.tb_machine.specs.Packet.{events_outcome, failures_from}
-use Rattle.tb_machine.specs.Operations.{create_accounts, create_transfers}
+use Rattle.tb_machine.specs.Operations.{accounts_operation, transfers_operation}
 use Rattle.tb_machine.specs.Clock.{clock_after}
 
 pub record State : Type 0 where
@@ -27,8 +27,8 @@ opening clock = record { clock = clock; facts = no_facts }
 
 -- the results of a packet's events, and the facts after them; a lookup has no results
 abbrev pub outcome_of : State → Events → Outcome
-outcome_of state (Accounts events) = events_outcome create_accounts state.clock state.facts events
-outcome_of state (Transfers events) = events_outcome create_transfers state.clock state.facts events
+outcome_of state (Accounts events) = events_outcome accounts_operation state.clock state.facts events
+outcome_of state (Transfers events) = events_outcome transfers_operation state.clock state.facts events
 outcome_of state (Ids ids) = record { results = []; facts = state.facts }
 
 -- the events that failed, in rising index

@@ -1,7 +1,7 @@
 -- What is true of a machine between its calls.
 use Rattle.std.specs.Prelude.{◌≡◌, ◌≤◌, ℕ, []}
 use Rattle.tb_tables.specs.History.{History}
-use Rattle.tb_machine.specs.Clock.{clock_max}
+use Rattle.tb_layout.specs.Limits.{clock_max}
 
 -- its clock can be told, and nothing is left to be taken back
 pub record IsSettled (clock : ℕ) (tables : History) : Type 0 where

@@ -13,7 +13,7 @@ use Rattle.tb_tables.specs.Status.{status_of, is_due, expires_at}
 use Rattle.tb_tables.specs.declared.status.Status.{Status}
 use Rattle.tb_tables.specs.declared.status.Status.TheVariants.{Pending, Posted, Voided, Expired}
 use Rattle.tb_machine.specs.AccountVerdict.{u128_max}
-use Rattle.tb_machine.specs.Clock.{clock_max}
+use Rattle.tb_layout.specs.Limits.{clock_max}
 use Rattle.tb_machine.specs.Table.{first_row}
 
 -- ---- what a post or a void leaves to the transfer that it names

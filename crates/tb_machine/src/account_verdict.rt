@@ -6,6 +6,7 @@ ghost use Rattle.tb_machine.specs.AccountVerdict as spec;
 use tb_layout::{Account, AccountCode};
 use tb_tables::Tables;
 
+/// How an event differs from the account that has its id, or that it doesn't.
 fn against_existing(existing: &Account, event: &Account) -> AccountCode
     ensures { result ≡ spec.against_existing existing.now event.now }
 {
@@ -30,6 +31,7 @@ fn against_existing(existing: &Account, event: &Account) -> AccountCode
     AccountCode::Exists
 }
 
+/// The first check that an event with a new id fails, or Ok.
 fn of_new(event: &Account) -> AccountCode
     ensures { result ≡ spec.of_new event.now }
 {
@@ -67,7 +69,7 @@ pub fn account_verdict(tables: &Tables, event: &Account) -> AccountCode
     if event.reserved != 0 {
         return AccountCode::ReservedField;
     }
-    if event.flags > 15 {
+    if event.has_reserved_flag() {
         return AccountCode::ReservedFlag;
     }
     if event.id == 0 {

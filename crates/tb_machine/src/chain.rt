@@ -12,7 +12,7 @@ pub fn first_chain_length<E: Event>(rows: &[[u8; 128]]) -> usize
     ensures some { 0 < length rows.now → 0 < result }
 {
     for (index, row) in rows.iter().enumerate() {
-        if !E::read(row).is_linked() {
+        if !E::is_row_linked(row) {
             return index + 1;
         }
     }

@@ -1,15 +1,14 @@
 //! The clock, in nanoseconds.
 
 ghost use Rattle.std.specs.Prelude.{◌≡◌, ◌+◌, ◌*◌, ◌≤◌};
+ghost use Rattle.tb_layout.specs.Limits.{clock_max, nanoseconds_per_second};
 ghost use Rattle.tb_machine.specs.Clock as spec;
 
-pub const CLOCK_MAX: u64 = 0x7fff_ffff_ffff_ffff;
-
-const NANOSECONDS: u128 = 1_000_000_000;
+use tb_layout::{CLOCK_MAX, NANOSECONDS_PER_SECOND};
 
 /// The timestamp of the next event, if the clock can be raised for it.
 pub fn next_timestamp(clock: u64) -> Option<u64>
-    requires { clock ≤ spec.clock_max }
+    requires { clock ≤ clock_max }
     ensures { result ≡ spec.next_timestamp clock }
 {
     if clock < CLOCK_MAX {
@@ -21,9 +20,9 @@ pub fn next_timestamp(clock: u64) -> Option<u64>
 
 /// The clock after so many events.
 pub fn clock_after(clock: u64, count: usize) -> u64
-    requires { clock ≤ spec.clock_max }
+    requires { clock ≤ clock_max }
     ensures value { result ≡ spec.clock_after clock count }
-    ensures bound { result ≤ spec.clock_max }
+    ensures bound { result ≤ clock_max }
 {
     if (count as u64) < CLOCK_MAX - clock {
         clock + count as u64
@@ -34,7 +33,7 @@ pub fn clock_after(clock: u64, count: usize) -> u64
 
 /// When a timeout, in seconds, is over that began at a timestamp.
 pub fn expires_at(timestamp: u64, timeout: u32) -> u128
-    ensures { result ≡ timestamp + timeout * 1000000000 }
+    ensures { result ≡ timestamp + timeout * nanoseconds_per_second }
 {
-    u128::from(timestamp) + u128::from(timeout) * NANOSECONDS
+    u128::from(timestamp) + u128::from(timeout) * u128::from(NANOSECONDS_PER_SECOND)
 }

@@ -2,7 +2,8 @@
 
 ghost use Rattle.std.specs.Prelude.{◌≡◌, ◌+◌, ◌^◌, ◌<◌, ◌≤◌, ◌++◌, [], length, map, vec_len, vec_capacity, Ok, None, IfOk, OnOk};
 ghost use Rattle.tb_tables.specs.History.{mark_of, undone, Extends};
-ghost use Rattle.tb_machine.specs.Clock as time;
+ghost use Rattle.tb_layout.specs.Limits.{clock_max};
+ghost use Rattle.tb_machine.specs.Clock as spec;
 ghost use Rattle.tb_machine.specs.Chain.{examined, stored_at, stored_all, first_fault, left_behind, open_outcome, closed_outcome, chain_outcome};
 ghost use Rattle.tb_machine.specs.Packet.{events_outcome, failures_from};
 
@@ -18,12 +19,13 @@ const LINKED_EVENT_CHAIN_OPEN: u32 = 2;
 
 const CLOCK_EXHAUSTED: u32 = 201;
 
-/// Stores the event where its checks find nothing, and answers the number of its result.
+/// Stores the event, at the timestamp after the clock, where its checks find nothing, and answers the number of its
+/// result. An event for which the clock can't be raised isn't checked.
 fn examine_at<E: Event>(clock: u64, tables: &mut Tables, event: &E) -> Result<u32, NoMemory>
-    requires { clock ≤ time.clock_max }
+    requires { clock ≤ clock_max }
     ensures extends { Extends tables.old tables.new }
-    ensures code { IfOk result (λ code. code ≡ examined E.operation tables.old.now (time.next_timestamp clock) event.now) }
-    ensures stored { result ≡ Ok 0 → tables.new.now ≡ stored_at E.operation tables.old.now (time.next_timestamp clock) event.now }
+    ensures code { IfOk result (λ code. code ≡ examined E.operation tables.old.now (spec.next_timestamp clock) event.now) }
+    ensures stored { result ≡ Ok 0 → tables.new.now ≡ stored_at E.operation tables.old.now (spec.next_timestamp clock) event.now }
 {
     match next_timestamp(clock) {
         Some(timestamp) => event.examine(tables, timestamp),
@@ -31,13 +33,13 @@ fn examine_at<E: Event>(clock: u64, tables: &mut Tables, event: &E) -> Result<u3
     }
 }
 
-/// Stores the events in order up to the first fault, which is the answer.
+/// Stores the events in order up to the first fault, which is the answer. No event after it is examined.
 fn examine_all<E: Event>(
     clock: u64,
     tables: &mut Tables,
     rows: &[[u8; 128]],
 ) -> Result<Option<Fault<E>>, NoMemory>
-    requires { clock ≤ time.clock_max }
+    requires { clock ≤ clock_max }
     ensures extends { Extends tables.old tables.new }
     ensures fault { IfOk result (λ fault. fault ≡ first_fault E.operation 0 clock tables.old.now (map E.event_of rows.now)) }
     ensures stored { result ≡ Ok None → tables.new.now ≡ stored_all E.operation clock tables.old.now (map E.event_of rows.now) }
@@ -71,6 +73,8 @@ fn take_back<E: Event>(
     }
 }
 
+/// Takes a chain whose last event isn't linked: each of its events succeeds, or each is reported, the first fault
+/// with its own code. `index` is that of its first event in the packet.
 fn commit_closed_chain<E: Event>(
     clock: u64,
     tables: &mut Tables,
@@ -78,7 +82,7 @@ fn commit_closed_chain<E: Event>(
     index: usize,
     out: &mut Vec<Failure>,
 ) -> Result<(), NoMemory>
-    requires clock { clock ≤ time.clock_max }
+    requires clock { clock ≤ clock_max }
     requires room { vec_len out.old + length chain.now ≤ vec_capacity out.old }
     requires fits { index + length chain.now < 2 ^ 32 }
     ensures extends { Extends tables.old tables.new }
@@ -98,6 +102,8 @@ fn commit_closed_chain<E: Event>(
     Ok(())
 }
 
+/// Takes a chain whose last event is linked, without that one: all of it fails, and the last event, which is never
+/// examined, reports that the chain is open. The first fault among the others has its own code.
 fn commit_open_chain<E: Event>(
     clock: u64,
     tables: &mut Tables,
@@ -105,7 +111,7 @@ fn commit_open_chain<E: Event>(
     index: usize,
     out: &mut Vec<Failure>,
 ) -> Result<(), NoMemory>
-    requires clock { clock ≤ time.clock_max }
+    requires clock { clock ≤ clock_max }
     requires room { vec_len out.old + length front.now < vec_capacity out.old }
     requires fits { index + length front.now + 1 < 2 ^ 32 }
     ensures extends { Extends tables.old tables.new }
@@ -127,6 +133,7 @@ fn commit_open_chain<E: Event>(
     Ok(())
 }
 
+/// Takes one chain, whose first event has this index in its packet, and reports its events if it fails.
 fn commit_chain<E: Event>(
     clock: u64,
     tables: &mut Tables,
@@ -135,7 +142,7 @@ fn commit_chain<E: Event>(
     out: &mut Vec<Failure>,
 ) -> Result<(), NoMemory>
     requires some { 0 < length chain.now }
-    requires clock { clock ≤ time.clock_max }
+    requires clock { clock ≤ clock_max }
     requires room { vec_len out.old + length chain.now ≤ vec_capacity out.old }
     requires fits { index + length chain.now < 2 ^ 32 }
     ensures extends { Extends tables.old tables.new }
@@ -145,7 +152,7 @@ fn commit_chain<E: Event>(
     ensures capacity { vec_capacity out.new ≡ vec_capacity out.old }
 {
     let last = chain.len() - 1;
-    if E::read(&chain[last]).is_linked() {
+    if E::is_row_linked(&chain[last]) {
         commit_open_chain::<E>(clock, tables, &chain[..last], index, out)
     } else {
         commit_closed_chain::<E>(clock, tables, chain, index, out)
@@ -160,7 +167,7 @@ pub fn commit_chains<E: Event>(
     rows: &[[u8; 128]],
     out: &mut Vec<Failure>,
 ) -> Result<(), NoMemory>
-    requires clock { clock ≤ time.clock_max }
+    requires clock { clock ≤ clock_max }
     requires empty { out.old.items ≡ [] }
     requires room { length rows.now ≤ vec_capacity out.old }
     requires fits { length rows.now < 2 ^ 32 }

@@ -6,18 +6,18 @@ ghost use Rattle.tb_layout.specs.Transfer.{transfer_of};
 ghost use Rattle.tb_layout.specs.TransferCode.{number_of};
 ghost use Rattle.tb_tables.specs.Facts.{add_transfer};
 ghost use Rattle.tb_tables.specs.History.{changed, Extends};
-ghost use Rattle.tb_machine.specs.Clock.{clock_max};
+ghost use Rattle.tb_layout.specs.Limits.{clock_max};
 ghost use Rattle.tb_machine.specs.Chain.{Operation};
 ghost use Rattle.tb_machine.specs.TransferVerdict.{stored_by, transfer_verdict as verdict_of};
 ghost use Rattle.tb_machine.specs.Prefetch.{IsTarget, IsPrefetched};
 ghost use Rattle.tb_machine.specs.declared.prefetch.Target.TheVariants.{Between, Named};
-ghost use Rattle.tb_machine.specs.Operations.{create_accounts, create_transfers};
+ghost use Rattle.tb_machine.specs.Operations as spec;
 
 use crate::account_verdict::account_verdict;
 use crate::prefetch::{Prefetch, Sides, Target};
 use crate::resolved::resolved_under;
 use crate::transfer_verdict::transfer_verdict;
-use tb_layout::{Account, NoMemory, Transfer, read_account, read_transfer};
+use tb_layout::{Account, NoMemory, Transfer, TransferCode, is_row_linked, read_account, read_transfer};
 use tb_tables::{Key, Tables};
 
 /// An event of an operation.
@@ -30,8 +30,9 @@ pub trait Event: Copy {
     fn read(row: &[u8; 128]) -> Self
         ensures { result ≡ event_of row.now };
 
-    fn is_linked(&self) -> bool
-        ensures { result ≡ operation.is_linked self.now };
+    /// Whether the event in a row is linked, without reading the rest of it.
+    fn is_row_linked(row: &[u8; 128]) -> bool
+        ensures { result ≡ operation.is_linked (event_of row.now) };
 
     /// Stores the event where its checks find nothing, and answers the number of its result.
     fn examine(&self, tables: &mut Tables, timestamp: u64) -> Result<u32, NoMemory>
@@ -49,14 +50,14 @@ pub trait Event: Copy {
 impl Event for Account {
     ghost event_of = { account_of };
 
-    ghost operation = { create_accounts };
+    ghost operation = { spec.accounts_operation };
 
     fn read(row: &[u8; 128]) -> Account {
         read_account(row)
     }
 
-    fn is_linked(&self) -> bool {
-        Account::is_linked(self)
+    fn is_row_linked(row: &[u8; 128]) -> bool {
+        is_row_linked(row)
     }
 
     fn examine(&self, tables: &mut Tables, timestamp: u64) -> Result<u32, NoMemory> {
@@ -75,14 +76,14 @@ impl Event for Account {
 impl Event for Transfer {
     ghost event_of = { transfer_of };
 
-    ghost operation = { create_transfers };
+    ghost operation = { spec.transfers_operation };
 
     fn read(row: &[u8; 128]) -> Transfer {
         read_transfer(row)
     }
 
-    fn is_linked(&self) -> bool {
-        Transfer::is_linked(self)
+    fn is_row_linked(row: &[u8; 128]) -> bool {
+        is_row_linked(row)
     }
 
     fn examine(&self, tables: &mut Tables, timestamp: u64) -> Result<u32, NoMemory> {
@@ -96,11 +97,24 @@ impl Event for Transfer {
 
     fn remember(&self, tables: &mut Tables, code: u32) -> Result<(), NoMemory> {
         let key = Key::of(self.id);
-        if matches!(code, 21 | 22 | 25 | 54 | 55) && !tables.failed_under(key) {
+        if is_transient(code) && !tables.failed_under(key) {
             tables.add_failed_under(key)?;
         }
         Ok(())
     }
+}
+
+/// Whether the same event could find no fault later: an account or a pending transfer wasn't there, or a limit of
+/// an account would have been passed. TigerBeetle calls these results transient; the id of an event that failed with
+/// one of them is never taken again.
+fn is_transient(code: u32) -> bool
+    ensures { result ≡ spec.is_transient code }
+{
+    code == TransferCode::DebitAccountNotFound.number()
+        || code == TransferCode::CreditAccountNotFound.number()
+        || code == TransferCode::PendingTransferNotFound.number()
+        || code == TransferCode::ExceedsCredits.number()
+        || code == TransferCode::ExceedsDebits.number()
 }
 
 /// Stores a plain or pending transfer whose checks find nothing.

@@ -1,22 +1,19 @@
 //! What joined packets give.
 
-ghost use Rattle.std.specs.Prelude.{◌≡◌, ◌≤◌, ℕ, List, true};
-ghost use Rattle.tb_layout.specs.declared.account.Account.{Account};
-ghost use Rattle.tb_layout.specs.declared.transfer.Transfer.{Transfer};
+ghost use Rattle.std.specs.Prelude.{ℕ, List};
 ghost use Rattle.tb_layout.specs.Account.{is_linked as is_linked_account};
 ghost use Rattle.tb_layout.specs.Transfer.{is_linked as is_linked_transfer};
-ghost use Rattle.tb_layout.specs.Events.{Accounts, Transfers, Ids};
-ghost use Rattle.tb_machine.specs.Clock.{clock_max};
-ghost use Rattle.tb_machine.specs.Replay.{State, after_packet};
-ghost use Rattle.tb_machine.specs.Joining.{none_open, JoiningIsInvisible};
+ghost use Rattle.tb_layout.specs.Events.{Accounts, Transfers};
+ghost use Rattle.tb_machine.specs.Replay.{State};
+ghost use Rattle.tb_machine.specs.Joining.{JoiningIsInvisible, GivesAsAlone};
 
-/// Packets of one operation, none of which is open, may be committed as one. The failures cut by the
-/// packets' ranges are those of each packet in the state that the packets before it left, and the
-/// state after them is the same. A lookup, which is never joined, leaves the state as it is.
+/// Batching is invisible. The packets of a group, one packet, open or not, or several of one operation of which
+/// none is open, may be committed as one: the failures cut by the packets' ranges are those of each packet in the
+/// state that the packets before it left, and the state after them is the same. A lookup is a group by itself.
+///
+/// Nothing is done; a caller has the law from here on.
 pub fn joining_is_invisible()
-    ensures accounts { (state : State) (packets : List (List Account)) → state.clock ≤ clock_max → none_open is_linked_account packets ≡ true
-        → JoiningIsInvisible Accounts state packets }
-    ensures transfers { (state : State) (packets : List (List Transfer)) → state.clock ≤ clock_max → none_open is_linked_transfer packets ≡ true
-        → JoiningIsInvisible Transfers state packets }
-    ensures lookup { (state : State) (ids : List ℕ) → after_packet state (Ids ids) ≡ state }
+    ensures accounts { JoiningIsInvisible Accounts is_linked_account }
+    ensures transfers { JoiningIsInvisible Transfers is_linked_transfer }
+    ensures lookup { (state : State) (ids : List ℕ) → GivesAsAlone state ids }
 {}

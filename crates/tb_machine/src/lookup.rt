@@ -7,7 +7,7 @@ ghost use Rattle.tb_machine.specs.Replay.{accounts_found};
 use tb_layout::{Account, read_id};
 use tb_tables::Tables;
 
-/// Puts the account with an id behind the others, if it is there.
+/// Puts the account with an id after the others, if it is there.
 fn put_found(tables: &Tables, row: &[u8; 16], out: &mut Vec<Account>)
     requires { vec_len out.old < vec_capacity out.old }
     ensures found { out.new.items ≡ out.old.items ++ accounts_found tables.now.now (little_endian row.now ∷ []) }
@@ -19,7 +19,7 @@ fn put_found(tables: &Tables, row: &[u8; 16], out: &mut Vec<Account>)
     }
 }
 
-/// Puts the accounts with these ids behind each other, with their balances.
+/// Puts the accounts with these ids one after another, with their balances.
 pub fn look_up(tables: &Tables, rows: &[[u8; 16]], out: &mut Vec<Account>)
     requires empty { out.old.items ≡ [] }
     requires room { length rows.now ≤ vec_capacity out.old }

@@ -5,7 +5,8 @@ ghost use Rattle.tb_layout.specs.Events.{events_of, ids_of, rows};
 ghost use Rattle.tb_tables.specs.Facts.{transfer_with};
 ghost use Rattle.tb_tables.specs.Status.{status_with};
 ghost use Rattle.tb_tables.specs.Balances.{balanced_account};
-ghost use Rattle.tb_machine.specs.Clock.{clock_max};
+ghost use Rattle.tb_layout.specs.Limits.{batch_max, clock_max, moment_max};
+ghost use Rattle.tb_layout.specs.Operation.{create_accounts, create_transfers};
 ghost use Rattle.tb_machine.specs.Packet.{events_outcome, failures_from};
 
 use crate::clock::clock_after;
@@ -14,10 +15,8 @@ use crate::event::Event;
 use crate::lookup::look_up;
 use std::alloc::Global;
 use std::marker::Model;
-use tb_layout::{Account, Failure, NoMemory, Transfer};
+use tb_layout::{Account, CREATE_ACCOUNTS, Failure, NoMemory, Transfer};
 use tb_tables::{Status, Tables};
-
-const CREATE_ACCOUNTS: u8 = 129;
 
 /// The state machine: the facts of a ledger, and the clock, in nanoseconds.
 #[derive(Drop)]
@@ -40,7 +39,8 @@ impl Model for Machine {
 impl Machine {
     ghost use Rattle.tb_machine.specs.Replay.{opening, failures_of, accounts_found, balanced_accounts, after_events, after_packet, pulsed};
 
-    /// A machine without facts, whose clock starts at a number. Takes no memory.
+    /// A machine without facts. Its clock starts at a number of nanoseconds, 0 to `CLOCK_MAX`; the first event gets
+    /// the next one as its timestamp. Takes no memory.
     pub fn new(alloc: Global, clock: u64) -> Machine
         requires { clock ≤ clock_max }
         ensures { result ≡ opening clock }
@@ -51,17 +51,19 @@ impl Machine {
         }
     }
 
-    /// Takes the events of a packet, whose data is `body`, and reports those that failed. It costs
-    /// what the events cost, and takes memory for the facts that they make.
+    /// Takes the events of a packet, accounts (`CREATE_ACCOUNTS`) or transfers (`CREATE_TRANSFERS`), and reports those
+    /// that failed. The data of the packet, `body`, has 128 bytes an event and at most `BATCH_MAX` events; `out` is
+    /// empty, with room for as many failures, and doesn't grow. On want of memory nothing has happened. It costs what
+    /// the events cost, and takes memory for the facts that they make (requests reference of TigerBeetle).
     pub fn commit(
         &mut self,
         operation: u8,
         body: &[u8],
         out: &mut Vec<Failure>,
     ) -> Result<(), NoMemory>
-        requires operation { operation == 129 || operation == 130 ≡ true }
+        requires operation { operation == create_accounts || operation == create_transfers ≡ true }
         requires whole { length body.now % 128 ≡ 0 }
-        requires limit { length body.now / 128 ≤ 8190 }
+        requires limit { length body.now / 128 ≤ batch_max }
         requires empty { out.old.items ≡ [] }
         requires room { length body.now / 128 ≤ vec_capacity out.old }
         ensures in_range { self.old.clock ≤ clock_max }
@@ -78,13 +80,15 @@ impl Machine {
         }
     }
 
+    /// Commits events of one kind: all of their chains, or on want of memory none. The mark set at the start is what
+    /// a refused growth goes back to.
     fn commit_events<E: Event>(
         &mut self,
         body: &[u8],
         out: &mut Vec<Failure>,
     ) -> Result<(), NoMemory>
         requires whole { length body.now % 128 ≡ 0 }
-        requires limit { length body.now / 128 ≤ 8190 }
+        requires limit { length body.now / 128 ≤ batch_max }
         requires empty { out.old.items ≡ [] }
         requires room { length body.now / 128 ≤ vec_capacity out.old }
         ensures in_range { self.old.clock ≤ clock_max }
@@ -112,21 +116,23 @@ impl Machine {
         }
     }
 
-    /// Raises the clock to a moment, in nanoseconds, and lets each pending transfer expire that nothing
-    /// resolved and whose timeout is over then. Takes no memory.
+    /// Raises the clock to a moment, in nanoseconds up to `MOMENT_MAX`, unless it is there already, and lets each
+    /// pending transfer expire that nothing resolved and whose timeout is over then. Costs as much as what expires,
+    /// and takes no memory.
     pub fn pulse(&mut self, moment: u64)
-        requires { moment ≤ 2 ^ 62 }
+        requires { moment ≤ moment_max }
         ensures { self.new ≡ pulsed self.old moment }
     {
         self.clock = self.clock.max(moment);
         self.tables.expire_due(self.clock);
     }
 
-    /// Puts the accounts whose ids are in `body` behind each other, with their balances. Ids without
-    /// an account are left out. Takes no memory.
+    /// Puts the accounts whose ids are in `body`, 16 bytes each and at most `BATCH_MAX`, into `out` in their order,
+    /// with their balances. Ids without an account are left out. `out` is empty, with room for as many accounts as
+    /// there are ids. Takes no memory.
     pub fn lookup(&self, body: &[u8], out: &mut Vec<Account>)
         requires whole { length body.now % 16 ≡ 0 }
-        requires limit { length body.now / 16 ≤ 8190 }
+        requires limit { length body.now / 16 ≤ batch_max }
         requires empty { out.old.items ≡ [] }
         requires room { length body.now / 16 ≤ vec_capacity out.old }
         ensures in_range { self.now.clock ≤ clock_max }
@@ -137,7 +143,7 @@ impl Machine {
         look_up(&self.tables, rows, out);
     }
 
-    /// The newest timestamp, or where the clock started.
+    /// The clock in nanoseconds: where it started, raised by one for each event and to the moments of pulses.
     pub fn clock(&self) -> u64
         ensures value { result ≡ self.now.clock }
         ensures bound { result ≤ clock_max }

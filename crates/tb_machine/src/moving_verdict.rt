@@ -5,9 +5,9 @@ ghost use Rattle.tb_tables.specs.Balances.{balanced_account};
 ghost use Rattle.tb_machine.specs.Prefetch.{AreSides};
 ghost use Rattle.tb_machine.specs.TransferVerdict as spec;
 
-use crate::clock::{CLOCK_MAX, expires_at};
+use crate::clock::expires_at;
 use crate::prefetch::{Sides, account_at};
-use tb_layout::{Account, Transfer, TransferCode};
+use tb_layout::{Account, CLOCK_MAX, Transfer, TransferCode};
 use tb_tables::Tables;
 
 /// Whether the sum of two amounts is above a number.
@@ -30,12 +30,14 @@ fn total_exceeds(pending: u128, posted: u128, amount: u128, most: u128) -> bool
     }
 }
 
+/// Whether an account's debits and an amount are above a number.
 fn total_debits_exceed(account: &Account, amount: u128, most: u128) -> bool
     ensures { result ≡ nat_lt most (account.now.debits_pending + account.now.debits_posted + amount) }
 {
     total_exceeds(account.debits_pending, account.debits_posted, amount, most)
 }
 
+/// Whether an account's credits and an amount are above a number.
 fn total_credits_exceed(account: &Account, amount: u128, most: u128) -> bool
     ensures { result ≡ nat_lt most (account.now.credits_pending + account.now.credits_posted + amount) }
 {
@@ -47,6 +49,8 @@ fn total_credits_exceed(account: &Account, amount: u128, most: u128) -> bool
     )
 }
 
+/// The first check that a plain or pending transfer between two accounts fails, or Ok. Sums are told exactly, also
+/// past 128 bits.
 fn between(timestamp: u64, debit: &Account, credit: &Account, event: &Transfer) -> TransferCode
     ensures { result ≡ spec.between timestamp debit.now credit.now event.now }
 {
@@ -90,6 +94,7 @@ fn between(timestamp: u64, debit: &Account, credit: &Account, event: &Transfer) 
     TransferCode::Ok
 }
 
+/// The same, where one of the accounts may not be there.
 fn between_found(tables: &Tables, sides: Sides, timestamp: u64, event: &Transfer) -> TransferCode
     requires { AreSides tables.now.now event.now sides }
     ensures { result ≡ spec.between_found timestamp (balanced_account tables.now.now event.now.debit_account_id) (balanced_account tables.now.now event.now.credit_account_id) event.now }

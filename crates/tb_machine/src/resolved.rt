@@ -8,24 +8,28 @@ ghost use Rattle.tb_machine.specs.TransferVerdict as spec;
 use tb_layout::Transfer;
 use tb_tables::{Key, Tables};
 
+/// A field, or where it is 0 what the pending transfer has.
 fn unless_zero_u128(field: u128, otherwise: u128) -> u128
     ensures { result ≡ spec.unless_zero field otherwise }
 {
     if field == 0 { otherwise } else { field }
 }
 
+/// The same for a field of 64 bits.
 fn unless_zero_u64(field: u64, otherwise: u64) -> u64
     ensures { result ≡ spec.unless_zero field otherwise }
 {
     if field == 0 { otherwise } else { field }
 }
 
+/// The same for a field of 32 bits.
 fn unless_zero_u32(field: u32, otherwise: u32) -> u32
     ensures { result ≡ spec.unless_zero field otherwise }
 {
     if field == 0 { otherwise } else { field }
 }
 
+/// The same for a field of 16 bits.
 fn unless_zero_u16(field: u16, otherwise: u16) -> u16
     ensures { result ≡ spec.unless_zero field otherwise }
 {
@@ -39,6 +43,7 @@ pub fn is_resolving(event: &Transfer) -> bool
     event.is_post() || event.is_void()
 }
 
+/// Whether a post's or void's amount stands for all that was reserved: the greatest number in a post, 0 in a void.
 fn means_whole_amount(event: &Transfer) -> bool
     ensures { result ≡ spec.means_whole_amount event.now }
 {

@@ -18,6 +18,8 @@ fn is_due(clock: u64, transfer: &Transfer) -> bool
     transfer.timeout != 0 && expires_at(transfer.timestamp, transfer.timeout) <= u128::from(clock)
 }
 
+/// What a pending transfer's status leaves of a post or a void: only one that is pending still, and not due, may be
+/// resolved. One that is due expired, also where no pulse came since.
 fn against_status(tables: &Tables, key: Key, pending: &Transfer, due: bool) -> TransferCode
     requires there { transfer_with tables.now.now key ≡ Some pending.now }
     requires pending { is_pending pending.now ≡ true }
@@ -37,6 +39,7 @@ fn against_status(tables: &Tables, key: Key, pending: &Transfer, due: bool) -> T
     }
 }
 
+/// The first check that a post or a void, with its fields resolved, fails against the transfer that it names, or Ok.
 fn against_pending(
     tables: &Tables,
     key: Key,

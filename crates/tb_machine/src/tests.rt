@@ -1,11 +1,17 @@
 //! What no clause says: each call once with ample memory, and commits with each growth refused.
 
+ghost use Rattle.std.specs.Prelude.{◌≡◌, ◌==◌, ◌||◌, ◌/◌, ◌%◌, ◌≤◌, true, length};
+ghost use Rattle.tb_layout.specs.Limits.{batch_max};
+ghost use Rattle.tb_layout.specs.Operation.{create_accounts, create_transfers};
+
 use crate::Machine;
 use std::alloc::AllocError;
-use std::test::Fail;
-use tb_layout::{Account, Transfer, write_account, write_transfer};
+use tb_layout::{
+    Account, BATCH_MAX, CREATE_ACCOUNTS, CREATE_TRANSFERS, Transfer, write_account, write_transfer,
+};
 
 mod calls;
+mod full;
 mod memory;
 mod running;
 
@@ -75,20 +81,25 @@ fn transfers_body(rt: &HostRuntime, events: &[Transfer]) -> Result<Vec<u8>, Allo
     Ok(body)
 }
 
-/// Whether a packet was committed, as it is unless memory is wanting.
+/// Whether an operation makes accounts or transfers, and a body has a whole number of events, no more than a
+/// batch may have.
+fn is_packet(operation: u8, body: &[u8]) -> bool
+    ensures operation { result ≡ true → operation == create_accounts || operation == create_transfers ≡ true }
+    ensures whole { result ≡ true → length body.now % 128 ≡ 0 }
+    ensures limit { result ≡ true → length body.now / 128 ≤ batch_max }
+{
+    (operation == CREATE_ACCOUNTS || operation == CREATE_TRANSFERS)
+        && body.len() % 128 == 0
+        && body.len() / 128 <= BATCH_MAX as usize
+}
+
+/// Whether a packet was committed and each of its events succeeded, as they do unless memory is wanting.
 fn commits(rt: &HostRuntime, machine: &mut Machine, operation: u8, body: &[u8]) -> bool {
-    if operation != 129 && operation != 130 || body.len() % 128 != 0 || body.len() / 128 > 8190 {
+    if !is_packet(operation, body) {
         return false;
     }
     let Ok(mut out) = Vec::with_capacity(rt.alloc(), body.len() / 128) else {
         return false;
     };
     machine.commit(operation, body, &mut out).is_ok() && out.is_empty()
-}
-
-fn holds(fact: bool) -> Result<(), Fail> {
-    if !fact {
-        Err("something doesn't hold")?;
-    }
-    Ok(())
 }

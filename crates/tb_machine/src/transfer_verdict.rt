@@ -51,6 +51,7 @@ fn against_stored(stored: &Transfer, event: &Transfer) -> TransferCode
     TransferCode::Exists
 }
 
+/// Whether more than one of pending, post and void is set.
 fn has_exclusive_flags(event: &Transfer) -> bool
     ensures { result ≡ spec.has_exclusive_flags event.now }
 {
@@ -59,6 +60,8 @@ fn has_exclusive_flags(event: &Transfer) -> bool
         || event.is_post() && event.is_void()
 }
 
+/// The first check that an event fails whose id is that of no transfer, or Ok. The accounts, or the pending transfer,
+/// were looked up before.
 fn of_new_id(tables: &Tables, prefetch: &Prefetch, timestamp: u64, event: &Transfer) -> TransferCode
     requires { IsPrefetched tables.now.now event.now prefetch.now }
     ensures { result ≡ spec.of_new_id tables.now.now timestamp event.now }
@@ -88,7 +91,7 @@ pub fn transfer_verdict(
     if event.timestamp != 0 {
         return TransferCode::TimestampMustBeZero;
     }
-    if event.flags > 15 {
+    if event.has_reserved_flag() {
         return TransferCode::ReservedFlag;
     }
     if event.id == 0 {

@@ -2,6 +2,7 @@
 use Rattle.std.specs.Prelude.{◌<◌, ◌≤◌, ℕ, ◌+◌, ◌-◌, ◌^◌, ◌==◌, Bool, true, false, not, ◌&&◌, ◌||◌, List, [], ◌∷◌, ◌++◌, length, Option, Some, None, Result, Ok, Err, is_some, is_none, unwrap_or, if◌then◌else◌, nat_lt, nat_le, slice_index}
 use Rattle.std.specs.List.{list_all}
 use Rattle.std.specs.Int.{w128, to_le_bytes}
+use Rattle.tb_layout.specs.Limits.{batch_max}
 use Rattle.tb_program.specs.declared.fault.Fault.{Fault}
 use Rattle.tb_program.specs.declared.fault.Fault.TheVariants.{LineTooLong, BadByte, UnknownWord, OutOfPlace}
 use Rattle.tb_program.specs.declared.keyword.Keyword.{Keyword}
@@ -93,7 +94,7 @@ with_line said word.Clock words = do
   Ok (set_to said (record said.settings { clock = Some n }))
 with_line said word.Limit words = do
   text ← one_word words
-  n ← number_within 1 8190 text
+  n ← number_within 1 batch_max text
   Ok (set_to said (record said.settings { limit = Some n }))
 with_line said word.Capacity words = do
   text ← one_word words
@@ -172,12 +173,12 @@ abbrev pub clock_of : Settings → ℕ
 clock_of settings = unwrap_or settings.clock 0
 
 abbrev pub limit_of : Settings → ℕ
-limit_of settings = unwrap_or settings.limit 8190
+limit_of settings = unwrap_or settings.limit batch_max
 
 -- what is known of the settings of each script
 pub record InBounds (settings : Settings) : Type 0 where
   pub clock : clock_of settings < 2 ^ 63
   pub limit_low : 1 ≤ limit_of settings
-  pub limit_high : limit_of settings ≤ 8190
+  pub limit_high : limit_of settings ≤ batch_max
   pub submitters_low : 1 ≤ unwrap_or settings.submitters 2
   pub submitters_high : unwrap_or settings.submitters 2 ≤ 16

@@ -2,6 +2,7 @@
 use Rattle.std.specs.Prelude.{◌≡◌, ℕ, ◌<◌, ◌≤◌, ◌^◌, Bool, true, false, List, [], ◌∷◌, ◌++◌, map, All, Option, Some, None, codes, decimal, IfSome}
 use Rattle.std.specs.List.{flat_map}
 use Rattle.hex.specs.Hex.{encode_lower}
+use Rattle.tb_layout.specs.Limits.{batch_max}
 use Rattle.tb_program.specs.declared.item.Settings.{Settings}
 use Rattle.tb_program.specs.declared.item.Submission.{Submission}
 use Rattle.tb_program.specs.declared.item.Item.{Item}
@@ -48,7 +49,7 @@ spelled settings items = ended (settings_lines settings ++ flat_map item_lines i
 -- a script can say these settings
 pub record CanBeSet (settings : Settings) : Type 0 where
   pub clock : IfSome settings.clock (λ n. n < 2 ^ 63)
-  pub limit : IfSome settings.limit (λ n. (1 ≤ n) × (n ≤ 8190))
+  pub limit : IfSome settings.limit (λ n. (1 ≤ n) × (n ≤ batch_max))
   pub capacity : IfSome settings.capacity (λ n. (1 ≤ n) × (n ≤ 65536))
   pub credit : IfSome settings.credit (λ n. (1 ≤ n) × (n ≤ 65536))
   pub submitters : IfSome settings.submitters (λ n. (1 ≤ n) × (n ≤ 16))

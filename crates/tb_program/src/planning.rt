@@ -1,6 +1,7 @@
 //! The plan of a script's items.
 
 ghost use Rattle.std.specs.Prelude.{◌≡◌, ◌<◌, ◌≤◌, [], ℕ, get_or, OnOk, IfOk};
+ghost use Rattle.tb_layout.specs.Limits.{batch_max};
 ghost use Rattle.tb_program.specs.Plan.{Packet as PacketPlanned, Pulse as PulsePlanned, Close as ClosePlanned, RefusedPacket as RefusedPacketPlanned, RefusedPulse as RefusedPulsePlanned, number_in, pulse_as, planned_as, plan_behind, with_planned, halves_of};
 ghost use Rattle.tb_program.specs.declared.item.Item.TheVariants.{Packet as PacketItem};
 
@@ -64,7 +65,7 @@ impl Plan {
         limit: u32,
         submission: Submission,
     ) -> Result<(), NoMemory>
-        requires { limit ≤ 8190 }
+        requires { limit ≤ batch_max }
         ensures { OnOk result (self.new ≡ with_planned self.old (planned_as limit self.old.queue (PacketItem submission))) }
     {
         let Submission {
@@ -112,7 +113,7 @@ impl Plan {
 
     /// An item behind those so far.
     fn add(&mut self, alloc: Global, limit: u32, item: Item) -> Result<(), NoMemory>
-        requires { limit ≤ 8190 }
+        requires { limit ≤ batch_max }
         ensures { OnOk result (self.new ≡ with_planned self.old (planned_as limit self.old.queue item)) }
     {
         match item {
@@ -135,7 +136,7 @@ impl Plan {
 /// copied.
 #[tactic(auto, unfolding(crate::specs::Plan::plan_behind))]
 pub fn plan_all(alloc: Global, limit: u32, items: Vec<Item>) -> Result<Plan, NoMemory>
-    requires { limit ≤ 8190 }
+    requires { limit ≤ batch_max }
     ensures { IfOk result (λ plan. plan ≡ halves_of (plan_behind limit [] items.items)) }
 {
     let mut plan = Plan::new(alloc);

@@ -1,10 +1,11 @@
 //! `tbpipe list`.
 
 ghost use Rattle.std.specs.Prelude.{◌≡◌, ◌≤◌, List, map, IfOk, IfSome, IsErrOf, string_bytes};
+ghost use Rattle.tb_layout.specs.Limits.{batch_max};
 ghost use Rattle.std.specs.Io.KnownBytes.{Appends, Keeps};
 ghost use Rattle.tb_program.specs.Script.{script_of};
 ghost use Rattle.tb_program.specs.Output.{plan_text, listing, printed, is_ok_script, out, is_faultless};
-ghost use Rattle.tb_machine.specs.Clock.{clock_max};
+ghost use Rattle.tb_layout.specs.Limits.{clock_max};
 ghost use Rattle.tb_program.specs.Plan.{Planned, queue_of, line_of};
 
 use crate::listing::put_listing;
@@ -31,7 +32,7 @@ fn listed(
 ) -> Result<String, NoMemory>
     requires clock { clock ≤ clock_max }
     requires least { 1 ≤ limit }
-    requires most { limit ≤ 8190 }
+    requires most { limit ≤ batch_max }
     ensures { (plan : List Planned) → items.items ≡ queue_of plan → lines.now ≡ map line_of plan
         → IfOk result (λ text. string_bytes text ≡ plan_text clock plan) }
 {

@@ -3,6 +3,7 @@ pub mod Finding
 mod Sums
 mod Laws
 mod Rows
+mod Owed
 mod Expiring
 mod Marking
 pub mod Stored

@@ -123,7 +123,7 @@ pub record WasStored (places : Places) (old new : Lists) : Type 0 where
   pub are_at : AreAt old.accounts places transfer.debit_account_id transfer.credit_account_id
   pub may : MayStore (facts_of old) transfer places.pending
 
--- what a change says of the lists behind it
+-- what a change says of the lists after it
 abbrev pub IsUndoable : Change Places → Lists → Type 0
 IsUndoable Account lists = AreGrounded (facts_of (before {T = Places} Account lists))
 IsUndoable (Transfer places) lists = AreGrounded (facts_of (before (Transfer places) lists)) × WasStored places (before (Transfer places) lists) lists

@@ -2,6 +2,7 @@
 use Rattle.std.specs.Prelude.{ℕ, ◌+◌, ◌*◌, Bool, not, ◌&&◌, ◌||◌, ◌==◌, nat_le, if◌then◌else◌, map, filter, Option, Some, None}
 use Rattle.std.specs.List.{list_any}
 use Rattle.tb_layout.specs.declared.transfer.Transfer.{Transfer}
+use Rattle.tb_layout.specs.Limits.{nanoseconds_per_second}
 use Rattle.tb_layout.specs.Transfer.{is_pending, is_post, is_void, is_resolving}
 use Rattle.tb_tables.specs.Facts.{Facts, is_expired, transfer_with}
 use Rattle.tb_tables.specs.declared.status.Status.{Status}
@@ -42,7 +43,7 @@ is_reserving facts transfer = is_pending transfer && not (is_resolved facts tran
 
 -- when a transfer with a timeout expires, in nanoseconds; the timeout is in seconds
 abbrev pub expires_at : Transfer → ℕ
-expires_at transfer = transfer.timestamp + transfer.timeout * 1000000000
+expires_at transfer = transfer.timestamp + transfer.timeout * nanoseconds_per_second
 
 -- whether it is due at a clock
 abbrev pub is_due : ℕ → Transfer → Bool

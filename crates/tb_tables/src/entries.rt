@@ -13,7 +13,7 @@ use crate::row::Row;
 use crate::status::Status;
 use tb_layout::{Account, NoMemory, Transfer};
 
-/// Puts a new account behind the others.
+/// Puts a new account after the others.
 pub fn push_account(accounts: &mut ById<Account>, account: Account) -> Result<(), NoMemory>
     requires { get nat_eq accounts.old account.id ≡ None }
     ensures ok { OnOk result (accounts.new.entries ≡ accounts.old.entries ++ (account.id, account) ∷ []) }
@@ -23,7 +23,7 @@ pub fn push_account(accounts: &mut ById<Account>, account: Account) -> Result<()
     Ok(())
 }
 
-/// Puts a new transfer behind the others, under its id's key.
+/// Puts a new transfer after the others, under its id's key.
 pub fn push_transfer(
     transfers: &mut ById<Row>,
     key: Key,
@@ -43,7 +43,7 @@ pub fn push_transfer(
     Ok(())
 }
 
-/// Puts a new failed id behind the others.
+/// Puts a new failed id after the others.
 pub fn push_failed(failed: &mut Ids, key: Key) -> Result<(), NoMemory>
     requires { list_any (λ other. other == key) failed.old.keys ≡ false }
     ensures ok { OnOk result (failed.new.keys ≡ failed.old.keys ++ key ∷ []) }

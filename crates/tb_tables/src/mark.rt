@@ -19,7 +19,7 @@ impl Model for Mark {
 }
 
 impl Mark {
-    /// A mark behind so many changes.
+    /// A mark after so many changes.
     pub(crate) fn new(changes: usize) -> Mark
         ensures { result ≡ changes }
     {

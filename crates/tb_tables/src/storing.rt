@@ -21,9 +21,7 @@ use crate::places::Places;
 use crate::row::Row;
 use crate::status::Status;
 use std::collections::BTreeSet;
-use tb_layout::{Account, NoMemory, Transfer};
-
-const NANOSECONDS: u64 = 1_000_000_000;
+use tb_layout::{Account, NANOSECONDS_PER_SECOND, NoMemory, Transfer};
 
 /// Whether a transfer has a moment at which it expires.
 fn is_timed(transfer: &Transfer) -> bool
@@ -37,7 +35,7 @@ fn expires_at(transfer: &Transfer) -> u64
     requires { expires_at_of transfer.now < 2 ^ 64 }
     ensures { result ≡ expires_at_of transfer.now }
 {
-    transfer.timestamp + u64::from(transfer.timeout) * NANOSECONDS
+    transfer.timestamp + u64::from(transfer.timeout) * NANOSECONDS_PER_SECOND
 }
 
 /// Puts the pair of a transfer at a place into the index, where it has one.
@@ -66,7 +64,8 @@ pub fn forget(expiries: &mut BTreeSet<(u64, usize)>, transfer: &Transfer, place:
     }
 }
 
-/// What a post or a void changes, once its row is there.
+/// Moves the amount of a post, releases what was reserved, and sets the status of the transfer that it names, once
+/// the post or void is stored.
 fn settle(
     accounts: &mut ById<Account>,
     transfers: &mut ById<Row>,
@@ -85,7 +84,7 @@ fn settle(
     set_status(transfers, pending, settled_status(transfer.is_post()));
 }
 
-/// What a transfer changes, once its row is there.
+/// Adds a stored transfer's amounts to its accounts, and resolves what it names.
 pub fn apply(
     accounts: &mut ById<Account>,
     transfers: &mut ById<Row>,
@@ -102,7 +101,7 @@ pub fn apply(
     }
 }
 
-/// Takes back what a post or a void changed, once its row is off.
+/// Takes back what a post or a void changed, once it is stored no more.
 fn unsettle(
     accounts: &mut ById<Account>,
     transfers: &mut ById<Row>,

@@ -67,7 +67,7 @@ impl Tables {
         }
     }
 
-    /// Adds an account behind those that are there.
+    /// Adds an account after those that are there, with its timestamp and no balances of its own.
     pub fn add_account(&mut self, account: Account) -> Result<(), NoMemory>
         requires new { account_with self.old.now account.id ≡ None }
         requires no_balances { HasNoBalances account }
@@ -121,7 +121,7 @@ impl Tables {
         Ok(())
     }
 
-    /// Adds a plain or pending transfer behind those that are there.
+    /// Adds a plain or pending transfer after those that are there.
     pub fn add_transfer(&mut self, transfer: Transfer) -> Result<(), NoMemory>
         requires { MayAdd self.old.now transfer }
         ensures ok { OnOk result (self.new ≡ changed self.old (with_transfer self.old.now transfer)) }
@@ -135,7 +135,7 @@ impl Tables {
         self.store(Key::of(transfer.id), transfer, places)
     }
 
-    /// Adds a plain or pending transfer behind those that are there, under its id's key and between the accounts at
+    /// Adds a plain or pending transfer after those that are there, under its id's key and between the accounts at
     /// two places. No id is hashed.
     pub fn add_transfer_between(
         &mut self,
@@ -265,7 +265,7 @@ impl Tables {
         self.failed.contains(&key)
     }
 
-    /// The present moment, to go back to. It is spent by `keep` and by going back past it.
+    /// How far `undo_to` can come back to. It is spent by `keep` and by going back past it.
     pub fn mark(&self) -> Mark
         ensures { result ≡ mark_of self.now }
     {

@@ -3,6 +3,7 @@
 ghost use Rattle.std.specs.Prelude.{◌≡◌, []};
 ghost use Rattle.tb_tables.specs.Facts.{no_facts};
 
+mod both;
 mod plain;
 
 use crate::{Key, Status, Tables};

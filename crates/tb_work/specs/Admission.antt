@@ -1,12 +1,13 @@
 -- Which packets are admitted.
 use Rattle.std.specs.Prelude.{ℕ, ◌/◌, ◌%◌, ◌==◌, not, List, length, Option, Some, None, Result, Ok, Err, nat_lt, if◌then◌else◌}
+use Rattle.tb_layout.specs.Operation.{create_accounts, create_transfers, lookup_accounts}
 use Rattle.tb_work.specs.declared.packet.Packet.{Packet}
 use Rattle.tb_work.specs.declared.refusal.Refusal.{Refusal}
 use Rattle.tb_work.specs.declared.refusal.Refusal.TheVariants.{InvalidOperation, InvalidDataSize, TooMuchData}
 
 -- the bytes of one event of an operation; a lookup's events are ids
 abbrev pub event_size : ℕ → Option ℕ
-event_size operation = if operation == 129 then Some 128 else if operation == 130 then Some 128 else if operation == 131 then Some 16 else None
+event_size operation = if operation == create_accounts then Some 128 else if operation == create_transfers then Some 128 else if operation == lookup_accounts then Some 16 else None
 
 abbrev pub admitted_of_size : ℕ → List ℕ → Option ℕ → Result ℕ Refusal
 admitted_of_size limit bytes None = Err InvalidOperation

@@ -1,6 +1,8 @@
 -- A packet that was admitted, with its number.
 use Rattle.std.specs.Prelude.{ℕ, ◌≡◌, ◌≤◌, ◌+◌, ◌==◌, Bool, false, List, [], ◌∷◌, Vec, Ok, vec_capacity, if◌then◌else◌}
 use Rattle.std.specs.declared.alloc.Global.{Global}
+use Rattle.tb_layout.specs.Limits.{batch_max}
+use Rattle.tb_layout.specs.Operation.{create_accounts, create_transfers, lookup_accounts}
 use Rattle.tb_layout.specs.declared.failure.Failure.{Failure}
 use Rattle.tb_layout.specs.Events.{Events, events_of, is_open as is_open_events}
 use Rattle.tb_layout.specs.Account.{account_of, is_linked as is_linked_account}
@@ -31,7 +33,7 @@ abbrev pub is_open : Packet → Bool
 is_open packet = is_open_events (events_in packet)
 
 abbrev pub is_lookup : Packet → Bool
-is_lookup packet = packet.operation == 131
+is_lookup packet = packet.operation == lookup_accounts
 
 abbrev pub numbered : ℕ → ℕ → Packet → Numbered
 numbered submitter number packet = record { submitter = submitter; number = number; packet = packet }
@@ -39,10 +41,10 @@ numbered submitter number packet = record { submitter = submitter; number = numb
 -- whether a row of a packet's data is a linked event
 abbrev pub is_row_linked : ℕ → List ℕ → Bool
 is_row_linked operation row =
-    if operation == 129 then is_linked_account (account_of row) else if operation == 130 then is_linked_transfer (transfer_of row) else false
+    if operation == create_accounts then is_linked_account (account_of row) else if operation == create_transfers then is_linked_transfer (transfer_of row) else false
 
 -- it is admitted, and so many failures have room
 pub record IsJob (packet : Packet) (count : ℕ) (room : Vec Failure Global) : Type 0 where
-  pub admitted : admitted 8190 packet ≡ Ok count
+  pub admitted : admitted batch_max packet ≡ Ok count
   pub empty : room.items ≡ []
   pub fits : is_lookup packet ≡ false → count ≤ vec_capacity room

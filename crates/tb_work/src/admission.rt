@@ -5,12 +5,7 @@ ghost use Rattle.tb_work.specs.Admission as spec;
 
 use crate::packet::Packet;
 use crate::refusal::Refusal;
-
-const CREATE_ACCOUNTS: u8 = 129;
-
-const CREATE_TRANSFERS: u8 = 130;
-
-const LOOKUP_ACCOUNTS: u8 = 131;
+use tb_layout::{CREATE_ACCOUNTS, CREATE_TRANSFERS, LOOKUP_ACCOUNTS};
 
 const EVENT_SIZE: usize = 128;
 

@@ -1,6 +1,8 @@
 //! Packets that were admitted.
 
 ghost use Rattle.std.specs.Prelude.{◌≡◌, ◌≤◌, ◌==◌, ◌⊎◌, false, [], IfOk, OnOk, IfErr, IsOk, Err, vec_capacity};
+ghost use Rattle.tb_layout.specs.Limits.{batch_max};
+ghost use Rattle.tb_layout.specs.Operation.{lookup_accounts};
 ghost use Rattle.tb_work.specs.Admission.{admitted};
 ghost use Rattle.tb_work.specs.declared.refusal.Refusal.TheVariants.{NoMemory};
 ghost use Rattle.tb_work.specs.Job.{is_row_linked};
@@ -11,13 +13,7 @@ use crate::refusal::Refusal;
 use crate::stub::Stub;
 use std::alloc::{AllocError, Global};
 use std::marker::Model;
-use tb_layout::{Failure, read_account, read_transfer};
-
-const CREATE_ACCOUNTS: u8 = 129;
-
-const CREATE_TRANSFERS: u8 = 130;
-
-const LOOKUP_ACCOUNTS: u8 = 131;
+use tb_layout::{CREATE_ACCOUNTS, CREATE_TRANSFERS, Failure, LOOKUP_ACCOUNTS};
 
 /// An admitted packet of a submitter, with its number and with room for its failures.
 #[derive(Drop)]
@@ -42,7 +38,7 @@ impl Model for Job {
 /// Room for the failures of a packet: none for a lookup, which has no failures.
 fn room_for(alloc: Global, operation: u8, count: u32) -> Result<Vec<Failure>, AllocError>
     ensures empty { IfOk result (λ room. room.items ≡ []) }
-    ensures fits { IfOk result (λ room. (operation == 131) ≡ false → count ≤ vec_capacity room) }
+    ensures fits { IfOk result (λ room. (operation == lookup_accounts) ≡ false → count ≤ vec_capacity room) }
 {
     if operation == LOOKUP_ACCOUNTS {
         Ok(Vec::new(alloc))
@@ -51,16 +47,11 @@ fn room_for(alloc: Global, operation: u8, count: u32) -> Result<Vec<Failure>, Al
     }
 }
 
+/// Whether the event of a row is linked. It is read from its flags, and no event is decoded.
 fn is_last_linked(operation: u8, row: &[u8; 128]) -> bool
     ensures { result ≡ is_row_linked operation row.now }
 {
-    if operation == CREATE_ACCOUNTS {
-        read_account(row).is_linked()
-    } else if operation == CREATE_TRANSFERS {
-        read_transfer(row).is_linked()
-    } else {
-        false
-    }
+    (operation == CREATE_ACCOUNTS || operation == CREATE_TRANSFERS) && tb_layout::is_row_linked(row)
 }
 
 impl Job {
@@ -76,7 +67,7 @@ impl Job {
         limit: u32,
         packet: Packet,
     ) -> Result<Job, (Packet, Refusal)>
-        requires { limit ≤ 8190 }
+        requires { limit ≤ batch_max }
         ensures job { IfOk result (λ job. job ≡ numbered submitter number packet) }
         ensures admitted { OnOk result (IsOk (admitted limit packet)) }
         ensures back { IfErr result (λ refused. refused.0 ≡ packet) }
@@ -101,7 +92,7 @@ impl Job {
     /// Its submitter, its number and its number of events.
     pub fn stub(&self) -> Stub
         ensures value { result ≡ stub_of self.now }
-        ensures bound { result.count ≤ 8190 }
+        ensures bound { result.count ≤ batch_max }
     {
         Stub {
             submitter: self.submitter,
@@ -113,7 +104,7 @@ impl Job {
     /// The packet as it was handed in.
     pub fn packet(&self) -> &Packet
         ensures packet { result.now ≡ self.now.packet }
-        ensures admitted { IsOk (admitted 8190 self.now.packet) }
+        ensures admitted { IsOk (admitted batch_max self.now.packet) }
     {
         &self.packet
     }

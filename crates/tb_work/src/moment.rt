@@ -1,6 +1,7 @@
 //! The moment of a pulse.
 
 ghost use Rattle.std.specs.Prelude.{◌≡◌, ◌≤◌, ◌^◌, ℕ};
+ghost use Rattle.tb_layout.specs.Limits.{moment_max};
 
 use std::marker::Model;
 
@@ -17,13 +18,13 @@ impl Model for Moment {
 
     ghost inverse = { λ number. record { nanoseconds = number } };
 
-    ghost invariant = { λ moment. moment.nanoseconds ≤ 2 ^ 62 };
+    ghost invariant = { λ moment. moment.nanoseconds ≤ moment_max };
 }
 
 impl Moment {
     /// The moment of this number of nanoseconds.
     pub fn new(nanoseconds: u64) -> Moment
-        requires { nanoseconds ≤ 2 ^ 62 }
+        requires { nanoseconds ≤ moment_max }
         ensures { result ≡ nanoseconds }
     {
         Moment { nanoseconds }
@@ -32,7 +33,7 @@ impl Moment {
     /// Its nanoseconds.
     pub fn get(self) -> u64
         ensures value { result ≡ self }
-        ensures bound { result ≤ 2 ^ 62 }
+        ensures bound { result ≤ moment_max }
     {
         self.nanoseconds
     }

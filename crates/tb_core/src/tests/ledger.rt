@@ -10,10 +10,10 @@ use tb_batch::{Batch, Batcher, Offered};
 use tb_layout::{Account, write_account};
 use tb_work::{Answer, Bytes, Item, Job, Moment, Outcome, Packet, Reply, Ticket};
 
-/// Stands for the place of a packet that came behind a close.
+/// Stands for the place of a packet that came behind a Close.
 const SHUT: u64 = 1007;
 
-/// Stands for the place of a packet that came at or behind a stop.
+/// Stands for the place of a packet that met a refused growth, or came after it.
 const STOPPED: u64 = 1008;
 
 pub(super) fn place_of(reply: &Reply) -> u64 {
@@ -24,7 +24,7 @@ pub(super) fn place_of(reply: &Reply) -> u64 {
     }
 }
 
-/// Puts the places of at most four replies behind those told.
+/// Puts the places of at most four replies after those told.
 fn tell(outcomes: Outcomes, places: &mut Vec<u64>) -> Result<(), AllocError> {
     match outcomes {
         Outcomes::Cut(mut cutter) => {
@@ -57,7 +57,7 @@ fn feed(
 }
 
 /// An account in ledger 1 with code 1.
-fn account(id: u128) -> Account {
+pub(super) fn account(id: u128) -> Account {
     Account {
         id,
         debits_pending: 0,
@@ -76,7 +76,7 @@ fn account(id: u128) -> Account {
 }
 
 /// A packet of submitter 0; None where memory is refused.
-fn job(rt: &HostRuntime, operation: u8, bytes: Vec<u8>) -> Option<Job> {
+pub(super) fn job(rt: &HostRuntime, operation: u8, bytes: Vec<u8>) -> Option<Job> {
     let packet = Packet {
         operation,
         bytes: Bytes::from_vec(bytes),

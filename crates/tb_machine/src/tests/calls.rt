@@ -1,17 +1,20 @@
-use super::{account, accounts_body, commits, holds, resolving, transfer, transfers_body};
+ghost use Rattle.std.specs.Prelude.{◌≡◌, []};
+
+use super::{account, accounts_body, commits, resolving, transfer, transfers_body};
 use crate::Machine;
+use std::alloc::AllocError;
 use std::test::Fail;
-use tb_layout::{Account, Transfer};
+use tb_layout::{Account, CREATE_ACCOUNTS, CREATE_TRANSFERS, Transfer};
 use tb_tables::Status;
 
-#[test]
-fn each_call(rt: HostRuntime) -> Result<(), Fail> {
-    let mut machine = Machine::new(rt.alloc(), 0);
-    calls(&rt, &mut machine)
+/// Two accounts.
+fn makes_accounts(rt: &HostRuntime, machine: &mut Machine) -> Result<bool, AllocError> {
+    let accounts = accounts_body(rt, [account(1, 0), account(2, 0)].as_slice())?;
+    Ok(commits(rt, machine, CREATE_ACCOUNTS, &accounts))
 }
 
-fn calls(rt: &HostRuntime, machine: &mut Machine) -> Result<(), Fail> {
-    let accounts = accounts_body(rt, [account(1, 0), account(2, 0)].as_slice())?;
+/// A pending transfer with a timeout, one that is voided, and a plain one.
+fn makes_transfers(rt: &HostRuntime, machine: &mut Machine) -> Result<bool, AllocError> {
     let timed = Transfer {
         timeout: 1,
         ..transfer(1, 1, 2, 100, 2)
@@ -26,18 +29,24 @@ fn calls(rt: &HostRuntime, machine: &mut Machine) -> Result<(), Fail> {
         ]
         .as_slice(),
     )?;
-    holds(commits(rt, machine, 129, &accounts))?;
-    holds(commits(rt, machine, 130, &transfers))?;
-    holds(machine.clock() == 6)?;
-    holds(machine.status(1) == Some(Status::Pending))?;
+    Ok(commits(rt, machine, CREATE_TRANSFERS, &transfers))
+}
+
+#[test]
+fn each_call(rt: HostRuntime) -> Result<(), Fail> {
+    let mut machine = Machine::new(rt.alloc(), 0);
+    assert!(rt; makes_accounts(&rt, &mut machine)?);
+    assert!(rt; makes_transfers(&rt, &mut machine)?);
+    assert_eq!(rt; machine.clock(), 6);
+    assert_eq!(rt; machine.status(1), Some(Status::Pending));
     machine.pulse(1_000_000_003);
-    holds(machine.clock() == 1_000_000_003)?;
-    holds(machine.status(1) == Some(Status::Expired))?;
-    holds(machine.status(2) == Some(Status::Voided))?;
-    holds(machine.status(4) == None)?;
-    holds(machine.transfer(3).map(|made| made.amount) == Some(50))?;
-    holds(machine.transfer(9) == None)?;
-    holds(machine.accounts() == 2)?;
+    assert_eq!(rt; machine.clock(), 1_000_000_003);
+    assert_eq!(rt; machine.status(1), Some(Status::Expired));
+    assert_eq!(rt; machine.status(2), Some(Status::Voided));
+    assert_eq!(rt; machine.status(4), None);
+    assert_eq!(rt; machine.transfer(3).map(|void| void.amount), Some(50));
+    assert_eq!(rt; machine.transfer(9), None);
+    assert_eq!(rt; machine.accounts(), 2);
     let first = Account {
         debits_posted: 30,
         timestamp: 1,
@@ -48,31 +57,34 @@ fn calls(rt: &HostRuntime, machine: &mut Machine) -> Result<(), Fail> {
         timestamp: 2,
         ..account(2, 0)
     };
-    holds(machine.account(1) == Some(first))?;
-    holds(machine.account(9) == None)?;
-    holds(machine.account_at(1) == Some(second))?;
-    holds(machine.account_at(2) == None)?;
+    assert_eq!(rt; machine.account(1), Some(first));
+    assert_eq!(rt; machine.account(9), None);
+    assert_eq!(rt; machine.account_at(1), Some(second));
+    assert_eq!(rt; machine.account_at(2), None);
     Ok(())
+}
+
+/// Looks three ids up, of which one has no account.
+fn looks_up(rt: &HostRuntime, machine: &Machine, found: &mut Vec<Account>) -> Result<bool, AllocError>
+    requires { found.old.items ≡ [] }
+{
+    let mut ids = Vec::new(rt.alloc());
+    for id in [2_u128, 9, 1] {
+        ids.extend_from_slice(&id.to_le_bytes())?;
+    }
+    if ids.len() != 48 || found.capacity() < 3 {
+        return Ok(false);
+    }
+    machine.lookup(&ids, found);
+    Ok(true)
 }
 
 #[test]
 fn lookup_of_three_ids(rt: HostRuntime) -> Result<(), Fail> {
     let mut machine = Machine::new(rt.alloc(), 0);
-    lookup(&rt, &mut machine)
-}
-
-fn lookup(rt: &HostRuntime, machine: &mut Machine) -> Result<(), Fail> {
-    let accounts = accounts_body(rt, [account(1, 0), account(2, 0)].as_slice())?;
-    holds(commits(rt, machine, 129, &accounts))?;
-    let mut ids = Vec::new(rt.alloc());
-    for id in [2_u128, 9, 1] {
-        ids.extend_from_slice(&id.to_le_bytes())?;
-    }
     let mut found = Vec::with_capacity(rt.alloc(), 3)?;
-    if ids.len() != 48 || found.capacity() < 3 {
-        Err("no room")?;
-    }
-    machine.lookup(&ids, &mut found);
+    assert!(rt; makes_accounts(&rt, &mut machine)?);
+    assert!(rt; looks_up(&rt, &machine, &mut found)?);
     let second = Account {
         timestamp: 2,
         ..account(2, 0)
@@ -81,7 +93,7 @@ fn lookup(rt: &HostRuntime, machine: &mut Machine) -> Result<(), Fail> {
         timestamp: 1,
         ..account(1, 0)
     };
-    holds(found.as_slice() == [second, first].as_slice())?;
-    holds(machine.clock() == 2)?;
+    assert_eq!(rt; found.as_slice(), [second, first].as_slice());
+    assert_eq!(rt; machine.clock(), 2);
     Ok(())
 }

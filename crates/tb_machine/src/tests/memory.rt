@@ -1,9 +1,13 @@
 //! What is tried with each allocation refused in turn, by `tools/refuse-each-growth`.
 
-use super::{MOST, account, accounts_body, holds, resolving, transfer, transfers_body};
+use super::{MOST, account, accounts_body, is_packet, resolving, transfer, transfers_body};
 use crate::Machine;
 use std::test::Fail;
-use tb_layout::{Account, Failure, Transfer};
+use tb_layout::TransferCode::{
+    CreditAccountNotFound, ExceedsCredits, IdAlreadyFailed, LedgerMustNotBeZero, LinkedEventFailed,
+    PendingTransferNotFound,
+};
+use tb_layout::{Account, CREATE_ACCOUNTS, CREATE_TRANSFERS, Transfer, TransferCode};
 use tb_tables::Status;
 
 /// What the look-ups of a machine answer for ids 1, 2 and 3.
@@ -48,10 +52,10 @@ fn is_committed(
     machine: &mut Machine,
     operation: u8,
     body: &[u8],
-    failures: &[(u32, u32)],
+    failures: &[(u32, TransferCode)],
 ) -> Result<bool, Fail> {
-    if operation != 129 && operation != 130 || body.len() % 128 != 0 || body.len() / 128 > 8190 {
-        Err("no packet")?;
+    if !is_packet(operation, body) {
+        return Err("no packet")?;
     }
     let Ok(mut out) = Vec::with_capacity(rt.alloc(), body.len() / 128) else {
         return Ok(false);
@@ -64,8 +68,10 @@ fn is_committed(
         return Ok(false);
     }
     let same = out.len() == failures.len()
-        && out.iter().zip(failures).all(|(failure, wanted)| (failure.index, failure.code)
-            == *wanted);
+        && out
+            .iter()
+            .zip(failures)
+            .all(|(failure, (index, code))| failure.index == *index && failure.code == code.number());
     if !same {
         Err("other failures")?;
     }
@@ -99,7 +105,8 @@ fn chains_of_transfers_joined_refused_memory(rt: HostRuntime) -> Result<(), Fail
         return Ok(());
     };
     let mut machine = Machine::new(rt.alloc(), 0);
-    chain_and_single(&rt, &mut machine, &accounts, &chain, &single)
+    assert!(rt; chain_and_single(&rt, &mut machine, &accounts, &chain, &single)?);
+    Ok(())
 }
 
 fn chain_and_single(
@@ -108,12 +115,16 @@ fn chain_and_single(
     accounts: &[u8],
     chain: &[u8],
     single: &[u8],
-) -> Result<(), Fail> {
-    let codes = [(0, 1), (1, 1), (2, 19)];
-    let all = is_committed(rt, machine, 129, accounts, [].as_slice())?
-        && is_committed(rt, machine, 130, chain, codes.as_slice())?
-        && is_committed(rt, machine, 130, single, [(0, 54)].as_slice())?;
-    holds(!all || machine.clock() == 7)
+) -> Result<bool, Fail> {
+    let codes = [
+        (0, LinkedEventFailed),
+        (1, LinkedEventFailed),
+        (2, LedgerMustNotBeZero),
+    ];
+    let all = is_committed(rt, machine, CREATE_ACCOUNTS, accounts, [].as_slice())?
+        && is_committed(rt, machine, CREATE_TRANSFERS, chain, codes.as_slice())?
+        && is_committed(rt, machine, CREATE_TRANSFERS, single, [(0, ExceedsCredits)].as_slice())?;
+    Ok(!all || machine.clock() == 7)
 }
 
 #[test]
@@ -143,7 +154,8 @@ fn id_already_failed_refused_memory(rt: HostRuntime) -> Result<(), Fail> {
         return Ok(());
     };
     let mut machine = Machine::new(rt.alloc(), 0);
-    four_packets(&rt, &mut machine, &accounts, [&chain, &again, &post, &last])
+    assert!(rt; four_packets(&rt, &mut machine, &accounts, [&chain, &again, &post, &last])?);
+    Ok(())
 }
 
 fn four_packets(
@@ -151,12 +163,31 @@ fn four_packets(
     machine: &mut Machine,
     accounts: &[u8],
     packets: [&Vec<u8>; 4],
-) -> Result<(), Fail> {
+) -> Result<bool, Fail> {
     let [chain, again, post, last] = packets;
-    let all = is_committed(rt, machine, 129, accounts, [].as_slice())?
-        && is_committed(rt, machine, 130, chain, [(0, 1), (1, 22)].as_slice())?
-        && is_committed(rt, machine, 130, again, [(1, 68)].as_slice())?
-        && is_committed(rt, machine, 130, post, [(0, 25)].as_slice())?
-        && is_committed(rt, machine, 130, last, [(0, 68), (1, 68)].as_slice())?;
-    holds(!all || machine.clock() == 9)
+    let all = is_committed(rt, machine, CREATE_ACCOUNTS, accounts, [].as_slice())?
+        && is_committed(rt, machine, CREATE_TRANSFERS, chain, [(0, LinkedEventFailed), (1, CreditAccountNotFound)].as_slice())?
+        && is_committed(rt, machine, CREATE_TRANSFERS, again, [(1, IdAlreadyFailed)].as_slice())?
+        && is_committed(rt, machine, CREATE_TRANSFERS, post, [(0, PendingTransferNotFound)].as_slice())?
+        && is_committed(rt, machine, CREATE_TRANSFERS, last, [(0, IdAlreadyFailed), (1, IdAlreadyFailed)].as_slice())?;
+    Ok(!all || machine.clock() == 9)
+}
+
+#[test]
+fn void_of_nothing_refused_memory(rt: HostRuntime) -> Result<(), Fail> {
+    let Ok(void) = transfers_body(&rt, [resolving(1, 8, 0, 8)].as_slice()) else {
+        return Ok(());
+    };
+    let mut machine = Machine::new(rt.alloc(), 0);
+    assert!(rt; void_twice(&rt, &mut machine, &void)?);
+    Ok(())
+}
+
+/// A void that names nothing leaves its id behind, and so is refused for that when it comes again.
+fn void_twice(rt: &HostRuntime, machine: &mut Machine, void: &[u8]) -> Result<bool, Fail> {
+    let missing = [(0, PendingTransferNotFound)];
+    let failed = [(0, IdAlreadyFailed)];
+    let all = is_committed(rt, machine, CREATE_TRANSFERS, void, missing.as_slice())?
+        && is_committed(rt, machine, CREATE_TRANSFERS, void, failed.as_slice())?;
+    Ok(!all || machine.clock() == 2)
 }

@@ -1,14 +1,14 @@
 //! 400 events, made by a rule from a counter, against plain lists: the transfers in order of making, beside
 //! each whether it expired, and balances as sums.
 
-use super::{account, accounts_body, commits, holds, transfer};
+use super::{account, accounts_body, commits, is_packet, transfer};
 use crate::Machine;
 use std::alloc::AllocError;
 use std::test::Fail;
-use tb_layout::{Account, Transfer, write_transfer};
+use tb_layout::{
+    Account, CREATE_ACCOUNTS, CREATE_TRANSFERS, NANOSECONDS_PER_SECOND, Transfer, write_transfer,
+};
 use tb_tables::Status;
-
-const SECOND: u64 = 1_000_000_000;
 
 /// One of `many` numbers, counted from 0, that a counter and a purpose lead to.
 fn pick(counter: u64, purpose: u64, many: u64) -> u64 {
@@ -170,7 +170,7 @@ fn expire(rows: &mut Vec<Row>, clock: u64) {
         let (made, _) = rows[place];
         let expires_at = made
             .timestamp
-            .saturating_add(u64::from(made.timeout).saturating_mul(SECOND));
+            .saturating_add(u64::from(made.timeout).saturating_mul(NANOSECONDS_PER_SECOND));
         let is_open = plain_status(rows, &rows[place]) == Some(Status::Pending);
         if is_open && made.timeout != 0 && expires_at <= clock {
             rows[place] = (made, true);
@@ -180,13 +180,13 @@ fn expire(rows: &mut Vec<Row>, clock: u64) {
 
 /// Whether a packet was committed, as it is unless memory is wanting.
 fn commits_any(rt: &HostRuntime, machine: &mut Machine, body: &[u8]) -> bool {
-    if body.len() % 128 != 0 || body.len() / 128 > 8190 {
+    if !is_packet(CREATE_TRANSFERS, body) {
         return false;
     }
     let Ok(mut out) = Vec::with_capacity(rt.alloc(), body.len() / 128) else {
         return false;
     };
-    machine.commit(130, body, &mut out).is_ok()
+    machine.commit(CREATE_TRANSFERS, body, &mut out).is_ok()
 }
 
 /// A packet of the events from a counter on.
@@ -203,19 +203,25 @@ fn packet(rt: &HostRuntime, first: u64, events: u64, ids: u64) -> Result<Vec<u8>
 fn run(rt: &HostRuntime, machine: &mut Machine, rows: &mut Vec<Row>, ids: u32) -> Result<(), Fail> {
     let events = [account(1, 0), account(2, 0), account(3, 0), account(4, 0)];
     let accounts = accounts_body(rt, events.as_slice())?;
-    holds(commits(rt, machine, 129, &accounts))?;
+    if !commits(rt, machine, CREATE_ACCOUNTS, &accounts) {
+        return Err("the accounts weren't made")?;
+    }
     let mut first: u64 = 0;
     for number in 0..115_u64 {
         let events = number % 6 + 1;
         let body = packet(rt, first, events, u64::from(ids))?;
         first = first.saturating_add(events);
-        holds(commits_any(rt, machine, &body))?;
+        if !commits_any(rt, machine, &body) {
+            return Err("a packet wasn't committed")?;
+        }
         note_new(rows, machine, ids)?;
         if number % 10 == 9 {
-            machine.pulse((number / 10 + 1) * SECOND);
+            machine.pulse((number / 10 + 1) * NANOSECONDS_PER_SECOND);
             expire(rows, machine.clock());
         }
-        holds(agrees(machine, rows))?;
+        if !agrees(machine, rows) {
+            return Err("the machine isn't as the lists say")?;
+        }
     }
     Ok(())
 }
@@ -274,7 +280,7 @@ fn plain_lists_refused_memory(rt: HostRuntime) -> Result<(), Fail> {
     };
     let mut machine = Machine::new(rt.alloc(), 0);
     let mut rows = Vec::new(rt.alloc());
-    if commits(&rt, &mut machine, 129, &accounts)
+    if commits(&rt, &mut machine, CREATE_ACCOUNTS, &accounts)
         && run_refused(&rt, &mut machine, &mut rows).is_ok()
     {
         assert!(rt; agrees(&machine, &rows));

@@ -8,7 +8,7 @@ use Rattle.tb_core.proofs.ledger.record.Goals as goal
 pub new-requires : goal.new-requires
 new-requires c =
     let answered = c.requires.answered in
-    rw c.answer-answer.ensures (recorded c.args.place answered.0 c.args.parts c.requires.fits answered.1).fits
+    rw c.answer-answer.ensures (recorded (record { accounts = c.joining_is_invisible.ensures.accounts; transfers = c.joining_is_invisible.ensures.transfers }) c.args.place answered.0 c.args.parts c.requires.fits answered.1).fits
 
 pub returns-clause-entry : goal.returns-clause-entry
 returns-clause-entry c =
@@ -18,4 +18,4 @@ returns-clause-entry c =
     rw c.push_reserved.ensures.items (map-append group_of c.args.entries.now.items _ ∙ ap (λ group. map group_of c.args.entries.now.items ++ group ∷ []) packets)
 
 pub returns-clause-replies : goal.returns-clause-replies
-returns-clause-replies c = λ state answered. c.new.ensures ∙ rw c.answer-answer.ensures (recorded c.args.place state c.args.parts c.requires.fits answered).replies
+returns-clause-replies c = λ state answered. c.new.ensures ∙ rw c.answer-answer.ensures (recorded (record { accounts = c.joining_is_invisible.ensures.accounts; transfers = c.joining_is_invisible.ensures.transfers }) c.args.place state c.args.parts c.requires.fits answered).replies

@@ -1,6 +1,6 @@
 use Rattle.std.proofs.Common.{◌≡◌, ◌≤◌, drop, map}
 use Rattle.tb_tables.specs.History.{Extends}
-use Rattle.tb_machine.specs.Clock.{clock_max}
+use Rattle.tb_layout.specs.Limits.{clock_max}
 use Rattle.tb_machine.specs.Chain.{first_fault, stored_all}
 use Rattle.tb_machine.proofs.commit.examine_all.Given as goal
 

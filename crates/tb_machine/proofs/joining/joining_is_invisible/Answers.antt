@@ -1,11 +1,18 @@
-use Rattle.std.proofs.Common.{refl}
+use Rattle.std.proofs.Common.{refl, ap, append-nil}
 use Rattle.tb_layout.specs.Events.{Accounts, Transfers}
-use Rattle.tb_machine.specs.Operations.{create_accounts, create_transfers}
-use Rattle.tb_machine.proofs.Joined.{joining}
+use Rattle.tb_machine.specs.Operations.{accounts_operation, transfers_operation}
+use Rattle.tb_machine.specs.Replay.{accounts_found}
+use Rattle.tb_machine.proofs.Joined.{joining_group}
 use Rattle.tb_machine.proofs.joining.joining_is_invisible.Goals as goal
 
 pub returns-clause-accounts : goal.returns-clause-accounts
-returns-clause-accounts c = joining create_accounts Accounts (record { outcome = λ state events. refl; after = λ state events. refl })
+returns-clause-accounts c = joining_group accounts_operation Accounts (record { outcome = λ state events. refl; after = λ state events. refl })
 
 pub returns-clause-transfers : goal.returns-clause-transfers
-returns-clause-transfers c = joining create_transfers Transfers (record { outcome = λ state events. refl; after = λ state events. refl })
+returns-clause-transfers c = joining_group transfers_operation Transfers (record { outcome = λ state events. refl; after = λ state events. refl })
+
+pub returns-clause-lookup : goal.returns-clause-lookup
+returns-clause-lookup c state ids = record {
+  accounts = ap (accounts_found state.facts) (append-nil ids);
+  state_after = refl;
+}

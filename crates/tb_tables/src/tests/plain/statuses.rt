@@ -9,9 +9,7 @@ ghost use Rattle.tb_tables.specs.Status.{status_of, is_due as is_due_at};
 ghost use Rattle.tb_tables.specs.Expiring.{lapses as lapses_at, with_lapses};
 
 use crate::status::Status;
-use tb_layout::Transfer;
-
-const NANOSECONDS: u128 = 1_000_000_000;
+use tb_layout::{NANOSECONDS_PER_SECOND, Transfer};
 
 /// The transfer with this id.
 pub fn transfer_in(rows: &[(Transfer, bool)], id: u128) -> Option<Transfer>
@@ -77,7 +75,8 @@ pub fn status_in(rows: &[(Transfer, bool)], id: u128) -> Status
 fn is_due(clock: u64, transfer: &Transfer) -> bool
     ensures { result ≡ is_due_at clock transfer.now }
 {
-    let expires_at = u128::from(transfer.timestamp) + u128::from(transfer.timeout) * NANOSECONDS;
+    let expires_at = u128::from(transfer.timestamp)
+        + u128::from(transfer.timeout) * u128::from(NANOSECONDS_PER_SECOND);
     transfer.timeout != 0 && expires_at <= u128::from(clock)
 }
 

@@ -54,7 +54,7 @@ impl PlainTables {
         }
     }
 
-    /// Adds an account behind those that are there.
+    /// Adds an account after those that are there.
     pub fn add_account(&mut self, account: Account) -> Result<(), NoMemory>
         requires new { account_with self.old.now account.id ≡ None }
         requires no_balances { HasNoBalances account }
@@ -79,7 +79,7 @@ impl PlainTables {
         Ok(())
     }
 
-    /// Adds a plain or pending transfer behind those that are there.
+    /// Adds a plain or pending transfer after those that are there.
     pub fn add_transfer(&mut self, transfer: Transfer) -> Result<(), NoMemory>
         requires { MayAdd self.old.now transfer }
         ensures ok { OnOk result (self.new ≡ changed self.old (with_transfer self.old.now transfer)) }
@@ -158,7 +158,7 @@ impl PlainTables {
         self.failed.iter().any(|failed| *failed == id)
     }
 
-    /// The present moment, to go back to. It is spent by `keep` and by going back past it.
+    /// How far `undo_to` can come back to. It is spent by `keep` and by going back past it.
     pub fn mark(&self) -> Mark
         ensures { result ≡ mark_of self.now }
     {

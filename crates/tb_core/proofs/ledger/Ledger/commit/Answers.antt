@@ -2,6 +2,7 @@ use Rattle.std.proofs.Common.{◌∙◌, ap, sym, false, map, length, ◌++◌, 
 use Rattle.tb_work.specs.Work.{work_of}
 use Rattle.tb_core.specs.declared.parcel.Parcel.TheVariants as parcel
 use Rattle.tb_core.specs.Ledger.{LedgerState, group_of, halts, applied}
+use Rattle.tb_core.proofs.Batches.{JoinInvisibly}
 use Rattle.tb_core.proofs.Committed.{batch_applied}
 use Rattle.tb_core.proofs.Growing.{given, batch_entered}
 use Rattle.tb_core.proofs.ledger.Ledger.commit.Goals as goal
@@ -17,7 +18,8 @@ invariant_of-self-2 c =
     let groups = c.record-replies.ensures.entry ∙ ap (λ items. map group_of items ++ map work_of parts.jobs.items ∷ []) c.reserve.ensures.items in
     let count = ap length (c.jobs-count.ensures.jobs ∙ sym c.into_parts-parts.ensures.jobs ∙ sym c.take_batch.ensures.jobs) in
     let goes = ap (λ (l : LedgerState). halts false l (length c.jobs-count.result.now)) c.self.view_is ∙ sym c.halts_at.ensures ∙ c.if-halts_at.false in
-    batch_entered ledger inside.machine c.take_batch.new.machine inside.places (map group_of c.record-replies.new.entries.items) parts (length c.jobs-count.result.now) c.self.invariant answered next groups count goes
+    let law : JoinInvisibly = record { accounts = c.joining_is_invisible.ensures.accounts; transfers = c.joining_is_invisible.ensures.transfers } in
+    batch_entered law ledger inside.machine c.take_batch.new.machine inside.places (map group_of c.record-replies.new.entries.items) parts (length c.jobs-count.result.now) c.self.invariant answered next groups count goes
 
 pub returns-clause-ok : goal.returns-clause-ok
 returns-clause-ok c =

@@ -1,0 +1,22 @@
+-- The bounds that packets, moments and clocks keep.
+use Rattle.std.specs.Prelude.{ℕ, ◌^◌, ◌-◌}
+
+-- the most events of a batch
+abbrev pub batch_max : ℕ
+batch_max = 8190
+
+-- the greatest moment of a pulse, in nanoseconds
+abbrev pub moment_max : ℕ
+moment_max = 2 ^ 62
+
+-- the greatest clock, in nanoseconds
+abbrev pub clock_max : ℕ
+clock_max = 2 ^ 63 - 1
+
+-- the nanoseconds of a second
+abbrev pub nanoseconds_per_second : ℕ
+nanoseconds_per_second = 10 ^ 9
+
+-- the most submitters of a front
+abbrev pub submitters_max : ℕ
+submitters_max = 16

@@ -1,0 +1,18 @@
+//! The bounds that packets, moments and clocks keep.
+
+/// The most events of a batch, and so of a packet: what fits a message of TigerBeetle's, 1 MiB less
+/// its header, at 128 bytes an event.
+pub const BATCH_MAX: u32 = 8190;
+
+/// The greatest moment of a pulse, in nanoseconds: some 146 years. Half of what a clock can tell, so
+/// that events still get timestamps after it.
+pub const MOMENT_MAX: u64 = 1 << 62;
+
+/// The greatest clock, in nanoseconds. TigerBeetle keeps the topmost bit of a timestamp free.
+pub const CLOCK_MAX: u64 = 0x7fff_ffff_ffff_ffff;
+
+/// A timeout is in seconds, a timestamp in nanoseconds.
+pub const NANOSECONDS_PER_SECOND: u64 = 1_000_000_000;
+
+/// The most submitters of a front, which are numbered from 0.
+pub const SUBMITTERS_MAX: u32 = 16;
