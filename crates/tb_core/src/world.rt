@@ -1,7 +1,7 @@
 //! The stages in one thread, in any order of their steps.
 
 ghost use Rattle.std.specs.Prelude.{◌≡◌, ◌≤◌, ◌<◌, ◌+◌, ◌⊎◌, true, replicate, Some, None, IfOk, OnOk, IfErr, OnErr, is_some};
-ghost use Rattle.tb_machine.specs.Clock.{clock_max};
+ghost use Rattle.tb_layout.specs.Limits.{clock_max, submitters_max};
 ghost use Rattle.tb_work.specs.declared.refusal.Refusal.TheVariants.{NoMemory as NoMemoryRefusal};
 ghost use Rattle.tb_core.specs.Front.{opening_refusal};
 ghost use Rattle.tb_core.specs.world.Pushing.{newcomer};
@@ -74,7 +74,7 @@ impl Model for World {
 
 /// The submitters and the control, none of which pushed anything.
 fn newcomers(alloc: Global, submitters: u32) -> Result<Vec<Sender>, NoMemory>
-    requires { submitters ≤ 16 }
+    requires { submitters ≤ submitters_max }
     ensures { IfOk result (λ senders. senders.items ≡ replicate (submitters + 1) newcomer) }
 {
     let mut senders = Vec::new(alloc);

@@ -1,7 +1,7 @@
 //! A list of events.
 
 ghost use Rattle.std.specs.Prelude.{◌≡◌, ◌≤◌, IfOk, OnOk};
-ghost use Rattle.tb_machine.specs.Clock.{clock_max};
+ghost use Rattle.tb_layout.specs.Limits.{batch_max, clock_max, submitters_max};
 ghost use Rattle.tb_core.specs.world.EveryOrder.{HasRun};
 ghost use Rattle.tb_core.specs.world.World.{stepped};
 
@@ -31,8 +31,8 @@ pub fn run_world(
     events: Vec<Event>,
 ) -> Result<World, NoMemory>
     requires clock { clock ≤ clock_max }
-    requires limit { (1 ≤ limit) × (limit ≤ 8190) }
-    requires submitters { (1 ≤ submitters) × (submitters ≤ 16) }
+    requires limit { (1 ≤ limit) × (limit ≤ batch_max) }
+    requires submitters { (1 ≤ submitters) × (submitters ≤ submitters_max) }
     ensures { IfOk result (λ world. HasRun clock limit submitters events.items world) }
 {
     let Ok(mut world) = World::new(alloc, clock, limit, submitters) else {
