@@ -1,6 +1,6 @@
 //! The batcher.
 
-ghost use Rattle.std.specs.Prelude.{◌≡◌, ◌<◌, ◌≤◌, ◌∷◌, [], length, IfOk, IfErr, IsOk, IfSome, IfNone, true, false};
+ghost use Rattle.std.specs.Prelude.{◌≡◌, ◌<◌, ◌≤◌, ◌==◌, ◌∷◌, [], length, IfOk, IfErr, IsOk, IfSome, IfNone, true, false};
 ghost use Rattle.tb_layout.specs.Limits.{batch_max};
 ghost use Rattle.tb_work.specs.declared.refusal.Refusal.TheVariants.{BadLimit};
 
@@ -110,6 +110,16 @@ impl Batcher {
             self.join(job)
         } else {
             self.replace(job)
+        }
+    }
+
+    /// Whether no group is held. Takes no memory.
+    pub fn is_empty(&self) -> bool
+        ensures { result ≡ (length self.now.jobs == 0) }
+    {
+        match &self.held {
+            Some(held) => held.is_empty(),
+            None => true,
         }
     }
 

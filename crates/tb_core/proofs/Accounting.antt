@@ -22,6 +22,10 @@ use Rattle.tb_core.specs.Front.{FrontState, Taken, IsFront, handing, holding, se
 use Rattle.tb_core.specs.Grouping.{AreJoinedParcels}
 use Rattle.tb_core.proofs.Passing.{passes_more}
 
+-- behind a Close or a stop it holds nothing
+abbrev pub IsClear : FrontState → Type 0
+IsClear front = (front.closed || front.stopped) ≡ true → front.held ≡ []
+
 abbrev pub IsAccounted : FrontState → Item → Taken → Type 0
 IsAccounted front item taken = spelled taken.parcels ++ held_by taken.front ≡ held_by front ++ passed front.closed taken.front.stopped item
 
@@ -61,14 +65,14 @@ end : (front : FrontState) (sender : ℕ) (all : Bool) → IsAccounted front ite
 end front sender true = sealed_alone front.held
 end front sender false = sym (append-nil (held_by front))
 
-accounted : (refused : Bool) (front : FrontState) (sender : ℕ) (x : Item) → IsFront front → IsAccounted front x (took refused front sender x)
-accounted refused front sender (item.Packet job) is = packet refused (is_taken front.limit front.held job) front.limit front.submitters front.held front.closed front.stopped front.ended job is.clear refl
+accounted : (refused : Bool) (front : FrontState) (sender : ℕ) (x : Item) → IsClear front → IsAccounted front x (took refused front sender x)
+accounted refused front sender (item.Packet job) is = packet refused (is_taken front.limit front.held job) front.limit front.submitters front.held front.closed front.stopped front.ended job is refl
 accounted refused front sender (item.Pulse moment) is = pulse front.limit front.submitters front.held front.closed front.stopped front.ended moment
 accounted refused front sender item.End is = end front sender (all_ended (with_end front sender))
 accounted refused front sender item.Close is = sealed_alone front.held
 
 -- the same for a front and parcels that have names
-pub taken_is_accounted : (refused : Bool) (front next : FrontState) (sender : ℕ) (x : Item) (parcels : List Parcel) → IsFront front → handing next parcels ≡ took refused front sender x → IsAccounted front x (handing next parcels)
+pub taken_is_accounted : (refused : Bool) (front next : FrontState) (sender : ℕ) (x : Item) (parcels : List Parcel) → IsClear front → handing next parcels ≡ took refused front sender x → IsAccounted front x (handing next parcels)
 taken_is_accounted refused front next sender x parcels is took_is = subst (IsAccounted front x) (sym took_is) (accounted refused front sender x is)
 
 -- ---- whether it is closed and stopped then
@@ -132,7 +136,7 @@ limit_then refused front sender (item.Pulse moment) = either_same (λ taken. tak
 limit_then refused front sender item.End = either_same (λ taken. taken.front.limit) (all_ended (with_end front sender)) _ _ front.limit refl refl
 limit_then refused front sender item.Close = refl
 
-submitters_then : (refused : Bool) (front : FrontState) (sender : ℕ) (x : Item) → (took refused front sender x).front.submitters ≡ front.submitters
+pub submitters_then : (refused : Bool) (front : FrontState) (sender : ℕ) (x : Item) → (took refused front sender x).front.submitters ≡ front.submitters
 submitters_then refused front sender (item.Packet job) =
     let submitters : Taken → ℕ = λ taken. taken.front.submitters in
     either_same submitters front.closed _ _ front.submitters refl
@@ -207,7 +211,7 @@ joined_then refused front sender item.Close group = alone_joined front.limit fro
 
 -- ---- the queue with the ticket after it
 
-pub taken_passes : (refused : Bool) (front next : FrontState) (sender : ℕ) (x : Item) (parcels : List Parcel) (items : List Item) (sent : List Passage) → IsFront front → handing next parcels ≡ took refused front sender x →
+pub taken_passes : (refused : Bool) (front next : FrontState) (sender : ℕ) (x : Item) (parcels : List Parcel) (items : List Item) (sent : List Passage) → IsClear front → handing next parcels ≡ took refused front sender x →
     Passes items front.closed front.stopped (sent ++ held_by front) → Passes (items ++ x ∷ []) next.closed next.stopped ((sent ++ spelled parcels) ++ held_by next)
 taken_passes refused front next sender x parcels items sent is took_is passes =
     let closed : next.closed ≡ (front.closed || is_close x) = ap (λ (taken : Taken). taken.front.closed) took_is ∙ closed_then refused front sender x in
@@ -236,8 +240,8 @@ has_taken refused front next ticket parcels is among took_is =
     let x = ticket.item in
     let submitters : next.submitters ≡ front.submitters = ap (λ (taken : Taken). taken.front.submitters) took_is ∙ submitters_then refused front sender x in
     record {
-      accounted = taken_is_accounted refused front next sender x parcels is took_is;
-      passes = λ items sent passes. taken_passes refused front next sender x parcels items sent is took_is passes;
+      accounted = taken_is_accounted refused front next sender x parcels is.clear took_is;
+      passes = λ items sent passes. taken_passes refused front next sender x parcels items sent is.clear took_is passes;
       lawful = subst (λ (taken : Taken). AreJoinedParcels front.limit taken.parcels) (sym took_is) (joined_then refused front sender x is.group);
       ends = λ queue knows other below.
           ap (λ (taken : Taken). get_or taken.front.ended other false) took_is ∙ ap (λ ended. get_or ended other false) (ended_then refused front sender x)

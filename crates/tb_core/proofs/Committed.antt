@@ -66,17 +66,17 @@ outcome_here clock place state before job rest place_is state_is =
 
 -- ---- replies to passages
 
-works_in-append : (xs ys : List Passage) → works_in (xs ++ ys) ≡ works_in xs ++ works_in ys
+pub works_in-append : (xs ys : List Passage) → works_in (xs ++ ys) ≡ works_in xs ++ works_in ys
 works_in-append [] ys = refl
 works_in-append (Admitted job ∷ xs) ys = ap (λ ws. work_of job ∷ ws) (works_in-append xs ys)
 works_in-append (Pulsed moment ∷ xs) ys = ap (λ ws. work.Pulse moment ∷ ws) (works_in-append xs ys)
 works_in-append (Returned job cause ∷ xs) ys = works_in-append xs ys
 
-works_in-admitted : (jobs : List Numbered) → works_in (map Admitted jobs) ≡ map work_of jobs
+pub works_in-admitted : (jobs : List Numbered) → works_in (map Admitted jobs) ≡ map work_of jobs
 works_in-admitted [] = refl
 works_in-admitted (job ∷ jobs) = ap (λ ws. work_of job ∷ ws) (works_in-admitted jobs)
 
-replies_from-append : (clock : ℕ) (journal : List Work) (place : ℕ) (xs ys : List Passage) →
+pub replies_from-append : (clock : ℕ) (journal : List Work) (place : ℕ) (xs ys : List Passage) →
     replies_from clock journal place (xs ++ ys) ≡ replies_from clock journal place xs ++ replies_from clock journal (place + length (works_in xs)) ys
 replies_from-append clock journal place [] ys = ap (λ n. replies_from clock journal n ys) (omega arith)
 replies_from-append clock journal place (Admitted job ∷ xs) ys =
@@ -87,7 +87,7 @@ replies_from-append clock journal place (Pulsed moment ∷ xs) ys =
 replies_from-append clock journal place (Returned job cause ∷ xs) ys = ap (λ rs. reply_with (outcome_of cause) job ∷ rs) (replies_from-append clock journal place xs ys)
 
 -- a longer journal answers what it had answered the same
-replies_from-longer : (clock : ℕ) (journal others : List Work) (place : ℕ) (xs : List Passage) → place + length (works_in xs) ≤ length journal → replies_from clock (journal ++ others) place xs ≡ replies_from clock journal place xs
+pub replies_from-longer : (clock : ℕ) (journal others : List Work) (place : ℕ) (xs : List Passage) → place + length (works_in xs) ≤ length journal → replies_from clock (journal ++ others) place xs ≡ replies_from clock journal place xs
 replies_from-longer clock journal others place [] h = refl
 replies_from-longer clock journal others place (Admitted job ∷ xs) h =
     ap (λ o. reply_with o job ∷ replies_from clock (journal ++ others) (place + 1) xs) (outcome_within clock place journal others (omega (arith, h)))
@@ -128,7 +128,7 @@ batch_applied ledger state places groups jobs batch replies is groups_is same re
 
 -- ---- a parcel more
 
-or_parts : (a b : Bool) → (a || b) ≡ false → (a ≡ false) × (b ≡ false)
+pub or_parts : (a b : Bool) → (a || b) ≡ false → (a ≡ false) × (b ≡ false)
 or_parts true b none = cc
 or_parts false b none = (refl, none)
 
@@ -177,7 +177,7 @@ module _ (clock : ℕ) (sent : List Passage) (ledger next : LedgerState) (replie
       }
 
   -- nothing of it was to be committed
-  aside : (passages : List Passage) → next ≡ ledger → works_in passages ≡ [] → ((place : ℕ) → replies_in outcomes ≡ replies_from clock journal place passages) → ThenCommits passages
+  pub aside : (passages : List Passage) → next ≡ ledger → works_in passages ≡ [] → ((place : ℕ) → replies_in outcomes ≡ replies_from clock journal place passages) → ThenCommits passages
   aside passages next_is none answers =
       kept passages (ap (λ (l : LedgerState). l.opening) next_is) (ap works next_is) (λ on. (sym (ap (λ (l : LedgerState). l.stopped) next_is) ∙ on, none))
       (λ e. ap (λ (l : LedgerState). l.stopped) next_is ∙ is.unstopped (sym (append-nil is.behind) ∙ ap (λ ws. is.behind ++ ws) (sym none) ∙ e)) (λ place far. answers place)
@@ -195,7 +195,7 @@ module _ (clock : ℕ) (sent : List Passage) (ledger next : LedgerState) (replie
   abbrev replies_of : Applied → List Replied
   replies_of a = replies_in a.outcomes
 
-  batch : (refused b : Bool) (jobs : List Numbered) → halts refused ledger (length jobs) ≡ b → 0 < length jobs →
+  pub batch : (refused b : Bool) (jobs : List Numbered) → halts refused ledger (length jobs) ≡ b → 0 < length jobs →
       giving next outcomes ≡ (if b then giving (halting ledger) (Cut (map (reply_with outcome.Stopped) jobs)) else committing ledger jobs) → ThenCommits (map Admitted jobs)
   batch refused b [] h some e = absurd (omega (arith, some))
   batch refused true (job ∷ jobs) h some e =
@@ -208,7 +208,7 @@ module _ (clock : ℕ) (sent : List Passage) (ledger next : LedgerState) (replie
       (ap replies_of e ∙ ap (λ start. replies_from start (works (entering ledger group)) (length journal) passages) is.from
       ∙ ap (λ ws. replies_from clock ws (length journal) passages) (works-more ledger.groups group))
 
-  pulse : (refused b : Bool) (moment : ℕ) → halts refused ledger 1 ≡ b → giving next outcomes ≡ (if b then giving (halting ledger) Nothing else giving (entering ledger (work.Pulse moment ∷ [])) Nothing) →
+  pub pulse : (refused b : Bool) (moment : ℕ) → halts refused ledger 1 ≡ b → giving next outcomes ≡ (if b then giving (halting ledger) Nothing else giving (entering ledger (work.Pulse moment ∷ [])) Nothing) →
       ThenCommits (Pulsed moment ∷ [])
   pulse refused true moment h e = halted (work.Pulse moment) [] (Pulsed moment ∷ []) (ap next_of e) refl (λ place far. ap replies_of e)
   pulse refused false moment h e = entered (work.Pulse moment ∷ []) (Pulsed moment ∷ []) (or_parts ledger.stopped _ h).0 (ap next_of e) refl (ap replies_of e)

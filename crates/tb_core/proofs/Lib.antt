@@ -9,4 +9,5 @@ mod Committed
 mod Grouped
 mod Runs
 mod Listing
+mod orders
 mod Examples

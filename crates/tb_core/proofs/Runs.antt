@@ -128,7 +128,7 @@ abbrev pub most_of : Option ℕ → List Item → ℕ
 most_of None items = length (ahead items)
 most_of (Some through) items = through
 
-passed_through : (clock : ℕ) (stop : Option ℕ) (items : List Item) → LetsThrough clock 0 (most_of stop items) items (all_passed stop items)
+pub passed_through : (clock : ℕ) (stop : Option ℕ) (items : List Item) → LetsThrough clock 0 (most_of stop items) items (all_passed stop items)
 passed_through clock None items =
     let most = length (ahead items) in
     subst (LetsThrough clock 0 most items) (sym (never_stops 0 most items (omega arith))) (let_through clock most most 0 items (omega arith))
@@ -144,7 +144,7 @@ none_behind clock journal (item.End ∷ items) = none_behind clock journal items
 none_behind clock journal (item.Close ∷ items) = none_behind clock journal items
 
 -- nobody, where the journal has all that is ahead
-none_told : (clock k : ℕ) (journal before : List Work) (items : List Item) → journal ≡ before ++ ahead items → k ≡ length before → tell_a_stop (all_due_from clock journal (Ahead k) items) ≡ false
+pub none_told : (clock k : ℕ) (journal before : List Work) (items : List Item) → journal ≡ before ++ ahead items → k ≡ length before → tell_a_stop (all_due_from clock journal (Ahead k) items) ≡ false
 none_told clock k journal before [] all k_is = refl
 none_told clock k journal before (item.Packet job ∷ items) all k_is =
     let one = work_of job ∷ [] in
@@ -178,7 +178,7 @@ or_parts true b none = cc
 or_parts false b none = (refl, none)
 
 -- nobody of some
-none_among : (q : Replied → Bool) (replies : List Replied) → tell_a_stop replies ≡ false → tell_a_stop (filter q replies) ≡ false
+pub none_among : (q : Replied → Bool) (replies : List Replied) → tell_a_stop replies ≡ false → tell_a_stop (filter q replies) ≡ false
 none_among q [] none = refl
 none_among q (reply ∷ replies) none = let parts = or_parts (is_stopped reply.outcome) (tell_a_stop replies) none in by (q reply) parts.0 (none_among q replies parts.1)
   where

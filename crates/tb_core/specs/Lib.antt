@@ -6,3 +6,4 @@ pub mod Ledger
 pub mod Answered
 pub mod Report
 pub mod Run
+pub mod world

@@ -1,6 +1,6 @@
 //! The front: tickets in, batches out.
 
-ghost use Rattle.std.specs.Prelude.{◌≡◌, ◌<◌, ◌≤◌, ◌++◌, ◌∷◌, [], length, true, false, Some, None, IfOk, OnOk, IfErr, IfSome, IfNone};
+ghost use Rattle.std.specs.Prelude.{◌≡◌, ◌<◌, ◌≤◌, ◌==◌, ◌++◌, ◌∷◌, [], length, true, false, not, Some, None, IfOk, OnOk, IfErr, IfSome, IfNone};
 
 use crate::parcel::{Cause, Parcel};
 use arrayvec::ArrayVec;
@@ -96,6 +96,13 @@ impl Front {
             → Passes items self.new.closed self.new.stopped ((sent ++ spelled_batch result) ++ held_by self.new) }
     {
         self.batcher.seal()
+    }
+
+    /// Whether a group is held. Takes no memory.
+    pub(crate) fn is_holding(&self) -> bool
+        ensures { result ≡ not (length self.now.held == 0) }
+    {
+        !self.batcher.is_empty()
     }
 
     /// The group held, as a parcel.

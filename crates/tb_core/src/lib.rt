@@ -29,6 +29,7 @@ mod outcomes;
 mod parcel;
 #[cfg(test)]
 mod tests;
+mod world;
 
 pub use front::Front;
 pub use journal::Entry;
@@ -37,3 +38,4 @@ pub use ledger::Ledger;
 pub use list::{Listed, run_list};
 pub use outcomes::Outcomes;
 pub use parcel::{Cause, Parcel};
+pub use world::{Event, World, run_world};

@@ -1,0 +1,6 @@
+mod Below
+mod Fronts
+mod Pushed
+mod Holding
+mod Runs
+pub mod Told

@@ -1,0 +1,335 @@
+-- What holds of a World is kept by each of its steps.
+use Rattle.std.proofs.Common.{refl, sym, ap, ◌∙◌, subst, arith, ◌≡◌, ◌≢◌, ◌==◌, ◌⊎◌, ⊎_elim, ℕ, ◌+◌, ◌^◌, ◌<◌, ◌≤◌, Bool, true, false, ◌||◌, ◌&&◌, not, nat_lt, List, [], ◌∷◌, ◌++◌, map, length, filter, set, get_or, append_assoc, append-nil, length-append, length-set, get_or-set_other, Option, Some, None, unwrap_or}
+use Rattle.std.specs.Prelude.{if◌then◌else◌, flat_map}
+use Rattle.std.specs.List.{AllByRecursion}
+use Rattle.std.proofs.lemmas.List.{get_or-set_same, map-append}
+use Rattle.std.proofs.lemmas.List.Elements.{filter-append}
+use Rattle.std.proofs.lemmas.Grind.{flat_map-append}
+use Rattle.std.proofs.lemmas.Bool.{cases_eq}
+use Rattle.std.proofs.lemmas.Bool.Decides.{nat_tests}
+use Rattle.tb_work.specs.Job.{Numbered}
+use Rattle.tb_work.specs.Queue.{items_in}
+use Rattle.tb_work.specs.Reply.{Replied}
+use Rattle.tb_work.specs.declared.item.Ticket.{Ticket}
+use Rattle.tb_core.specs.declared.outcomes.Outcomes.{Outcomes}
+use Rattle.tb_core.specs.declared.outcomes.Outcomes.TheVariants as outcomes
+use Rattle.tb_core.specs.declared.parcel.Parcel.{Parcel}
+use Rattle.tb_core.specs.declared.parcel.Parcel.TheVariants as parcel
+use Rattle.tb_core.specs.Passage.{Passage, Admitted, Passes}
+use Rattle.tb_core.specs.Front.{FrontState, took, holding, all_ended, spelled, spelled_one, held_by}
+use Rattle.tb_core.specs.Ledger.{LedgerState, applied}
+use Rattle.tb_core.specs.Due.{replies_to}
+use Rattle.tb_core.specs.Run.{Commits, replies_in}
+use Rattle.tb_core.specs.world.Shelf.{Shelf, empty_shelf, shelf_at, given_to, given, taken_from}
+use Rattle.tb_core.specs.world.Pushing.{may_push}
+use Rattle.tb_core.specs.world.World.{WorldState, sender_at, is_lawful, pop, batch_push, left_by, batch_pop, outcome_push, outcome_pop, reply_push, reply_pop, counting}
+use Rattle.tb_core.proofs.Accounting.{IsClear}
+use Rattle.tb_core.proofs.orders.Below.{HasJobs, passes_more, goes_further, commits_more}
+use Rattle.tb_core.proofs.orders.Fronts.{AllHaveJobs, is_taken_by}
+use Rattle.tb_core.proofs.orders.Pushed.{HavePushed, push_counted}
+
+-- what the front made of a queue and no ledger took yet, from the batch ring back to the group held
+abbrev pub on_the_way : FrontState → List Parcel → List Parcel → List Passage
+on_the_way front parcels batches = spelled batches ++ (spelled parcels ++ held_by front)
+
+abbrev pub of_all : List Outcomes → List Replied
+of_all outcomes = flat_map replies_in outcomes
+
+abbrev pub of_one : Option Outcomes → List Replied
+of_one None = []
+of_one (Some outcome) = replies_in outcome
+
+-- the replies that no ring has yet, from the demultiplexer back to the committer
+abbrev pub unrouted : List Replied → List Outcomes → Option Outcomes → List Replied
+unrouted replies outcomes outcome = replies ++ (of_all outcomes ++ of_one outcome)
+
+-- what of the queue a front took went to a ledger, or is on the way
+pub record AreSent (queue : List Ticket) (applied : List Passage) (front : FrontState) (parcels batches : List Parcel) : Type 0 where
+  pub passes : Passes (items_in queue) front.closed front.stopped (applied ++ on_the_way front parcels batches)
+  pub clear : IsClear front
+  pub parcel_jobs : AllHaveJobs parcels
+  pub batch_jobs : AllHaveJobs batches
+
+-- what a submitter has of the replies: what it received, what lies in its ring, and its own of those on the way
+abbrev pub shelved : ℕ → List Shelf → List Replied → List Replied
+shelved submitter shelves way = (shelf_at shelves submitter).received ++ ((shelf_at shelves submitter).ring ++ replies_to way submitter)
+
+-- each submitter has just the replies with its number
+pub record AreRouted (submitters : ℕ) (answers : List Replied) (shelves : List Shelf) (way : List Replied) : Type 0 where
+  pub long : length shelves ≡ submitters
+  pub each : (submitter : ℕ) → submitter < submitters → replies_to answers submitter ≡ shelved submitter shelves way
+
+pub record Goes (batcher : FrontState) (committer : LedgerState) : Type 0 where
+  pub front : batcher.stopped ≡ false
+  pub ledger : committer.stopped ≡ false
+
+-- Of what was pushed some was taken; what the front made of that was applied, or is on the way; and the replies to what was
+-- applied are with their submitters, or on the way. Where it is so that nothing was refused, nothing stopped.
+pub record Holds (Unrefused : Type 0) (clock submitters : ℕ) (pushed : List Ticket) (world : WorldState) : Type 0 where
+  pub taken : List Ticket
+  pub applied : List Passage
+  pub answers : List Replied
+  pub split : pushed ≡ taken ++ world.queue
+  pub counted : world.submitters ≡ submitters
+  pub senders : HavePushed submitters pushed world.senders
+  pub sent : AreSent taken applied world.front world.parcels world.batches
+  pub commits : Commits clock applied world.ledger answers
+  pub routed : AreRouted submitters answers world.shelves (unrouted world.replies world.outcomes world.outcome)
+  pub goes : Unrefused → Goes world.front world.ledger
+
+-- ---- the batcher
+
+items_push : (queue : List Ticket) (ticket : Ticket) → items_in (queue ++ ticket ∷ []) ≡ items_in queue ++ ticket.item ∷ []
+items_push queue ticket = map-append (λ (ticket : Ticket). ticket.item) queue (ticket ∷ [])
+
+sent_ticket : (refused : Bool) (queue : List Ticket) (applied : List Passage) (front : FrontState) (batches : List Parcel) (ticket : Ticket) → AreSent queue applied front [] batches →
+    (let next = took refused front ticket.sender ticket.item in AreSent (queue ++ ticket ∷ []) applied next.front next.parcels batches)
+sent_ticket refused queue applied front batches ticket sent =
+    let next = took refused front ticket.sender ticket.item in
+    let is = is_taken_by refused front ticket.sender ticket.item sent.clear in
+    let before : applied ++ (spelled batches ++ held_by front) ≡ (applied ++ spelled batches) ++ held_by front = sym (append_assoc applied (spelled batches) (held_by front)) in
+    let more = passes_more refused front ticket.sender ticket.item (items_in queue) (applied ++ spelled batches) sent.clear (subst (Passes (items_in queue) front.closed front.stopped) before sent.passes) in
+    let after : ((applied ++ spelled batches) ++ spelled next.parcels) ++ held_by next.front ≡ applied ++ (spelled batches ++ (spelled next.parcels ++ held_by next.front)) = simp append_assoc in
+    record {
+      passes = subst (λ items. Passes items next.front.closed next.front.stopped (applied ++ on_the_way next.front next.parcels batches)) (sym (items_push queue ticket))
+          (subst (Passes (items_in queue ++ ticket.item ∷ []) next.front.closed next.front.stopped) after more);
+      clear = is.clear;
+      parcel_jobs = is.jobs;
+      batch_jobs = sent.batch_jobs;
+    }
+
+pub pop_holds : (Unrefused : Type 0) (refused : Bool) (clock n : ℕ) (pushed : List Ticket) (w : WorldState) (parcels : List Parcel) (queue : List Ticket) → w.parcels ≡ parcels → w.queue ≡ queue → (Unrefused → refused ≡ false) →
+    Holds Unrefused clock n pushed w → Holds Unrefused clock n pushed (unwrap_or (pop refused w parcels queue) w)
+pop_holds Unrefused refused clock n pushed w (first ∷ parcels) queue p q u h = h
+pop_holds Unrefused refused clock n pushed w [] [] p q u h = h
+pop_holds Unrefused refused clock n pushed w [] (ticket ∷ queue) p q u h =
+    record {
+      taken = h.taken ++ ticket ∷ [];
+      applied = h.applied;
+      answers = h.answers;
+      split = h.split ∙ ap (λ rest. h.taken ++ rest) q ∙ sym (append_assoc h.taken (ticket ∷ []) queue);
+      counted = h.counted;
+      senders = h.senders;
+      sent = sent_ticket refused h.taken h.applied w.front w.batches ticket (subst (λ ps. AreSent h.taken h.applied w.front ps w.batches) p h.sent);
+      commits = h.commits;
+      routed = h.routed;
+      goes = λ is. (let goes = h.goes is in record { front = goes_further refused w.front ticket.sender ticket.item (u is) goes.front; ledger = goes.ledger });
+    }
+
+jobs_push : (parcels : List Parcel) (p : Parcel) → AllHaveJobs parcels → HasJobs p → AllHaveJobs (parcels ++ p ∷ [])
+jobs_push [] p all has = (has, tt)
+jobs_push (first ∷ parcels) p all has = (all.0, jobs_push parcels p all.1 has)
+
+-- a parcel goes to the batch ring, from those to push or as the group held
+sent_parcel : (queue : List Ticket) (applied : List Passage) (front next : FrontState) (parcels others batches : List Parcel) (p : Parcel) → HasJobs p → AllHaveJobs others → IsClear next →
+    next.closed ≡ front.closed → next.stopped ≡ front.stopped → spelled parcels ++ held_by front ≡ spelled_one p ++ (spelled others ++ held_by next) → AreSent queue applied front parcels batches → AreSent queue applied next others (batches ++ p ∷ [])
+sent_parcel queue applied front next parcels others batches p has all clear closed stopped list sent =
+    let rest = spelled others ++ held_by next in
+    let spelt : spelled (batches ++ p ∷ []) ≡ spelled batches ++ spelled_one p = flat_map-append spelled_one batches (p ∷ []) ∙ ap (λ l. spelled batches ++ l) (append-nil (spelled_one p)) in
+    let way : on_the_way front parcels batches ≡ on_the_way next others (batches ++ p ∷ []) =
+    ap (λ l. spelled batches ++ l) list ∙ sym (append_assoc (spelled batches) (spelled_one p) rest) ∙ ap (λ l. l ++ rest) (sym spelt) in
+    record {
+      passes = subst (Passes (items_in queue) next.closed next.stopped) (ap (λ l. applied ++ l) way)
+          (subst (λ b. Passes (items_in queue) b next.stopped (applied ++ on_the_way front parcels batches)) (sym closed)
+          (subst (λ b. Passes (items_in queue) front.closed b (applied ++ on_the_way front parcels batches)) (sym stopped) sent.passes));
+      clear = clear;
+      parcel_jobs = all;
+      batch_jobs = jobs_push batches p sent.batch_jobs has;
+    }
+
+pushed_on : (Unrefused : Type 0) (clock n : ℕ) (pushed : List Ticket) (w : WorldState) (front : FrontState) (others : List Parcel) (last : Bool) (p : Parcel) → front.stopped ≡ w.front.stopped → (h : Holds Unrefused clock n pushed w) →
+    AreSent h.taken h.applied front others (w.batches ++ p ∷ []) → Holds Unrefused clock n pushed (record w { front = front; parcels = others; last_sent = last; batches = w.batches ++ p ∷ [] })
+pushed_on Unrefused clock n pushed w front others last p stopped h sent =
+    record {
+      taken = h.taken;
+      applied = h.applied;
+      answers = h.answers;
+      split = h.split;
+      counted = h.counted;
+      senders = h.senders;
+      sent = sent;
+      commits = h.commits;
+      routed = h.routed;
+      goes = λ is. (let goes = h.goes is in record { front = stopped ∙ goes.front; ledger = goes.ledger });
+    }
+
+pub batch_push_holds : (Unrefused : Type 0) (clock n : ℕ) (pushed : List Ticket) (w : WorldState) (parcels : List Parcel) (held : List Numbered) → w.parcels ≡ parcels → w.front.held ≡ held →
+    Holds Unrefused clock n pushed w → Holds Unrefused clock n pushed (unwrap_or (batch_push w parcels held) w)
+batch_push_holds Unrefused clock n pushed w (p ∷ parcels) held e g h =
+    let sent = subst (λ ps. AreSent h.taken h.applied w.front ps w.batches) e h.sent in
+    pushed_on Unrefused clock n pushed w w.front parcels w.last_sent p refl h
+    (sent_parcel h.taken h.applied w.front w.front (p ∷ parcels) parcels w.batches p sent.parcel_jobs.0 sent.parcel_jobs.1 sent.clear refl refl (append_assoc (spelled_one p) (spelled parcels) (held_by w.front)) sent)
+batch_push_holds Unrefused clock n pushed w [] (job ∷ jobs) e g h =
+    let group = parcel.Batch (job ∷ jobs) in
+    let list : spelled w.parcels ++ held_by w.front ≡ spelled_one group ++ (spelled w.parcels ++ []) =
+    ap (λ (ps : List Parcel). spelled ps ++ held_by w.front) e ∙ ap (map Admitted) g ∙ sym (append-nil (spelled_one group)) ∙ ap (λ (ps : List Parcel). spelled_one group ++ (spelled ps ++ [])) (sym e) in
+    pushed_on Unrefused clock n pushed w (holding w.front []) w.parcels w.last_sent group refl h
+    (sent_parcel h.taken h.applied w.front (holding w.front []) w.parcels w.parcels w.batches group (omega arith) h.sent.parcel_jobs (λ any. refl) refl refl list h.sent)
+batch_push_holds Unrefused clock n pushed w [] [] e g h = by (all_ended w.front && not w.last_sent)
+  where
+    by : (b : Bool) → Holds Unrefused clock n pushed (unwrap_or (if b then Some (record w { last_sent = true; batches = w.batches ++ parcel.Last ∷ [] }) else None) w)
+    by true =
+        pushed_on Unrefused clock n pushed w w.front w.parcels true parcel.Last refl h
+        (sent_parcel h.taken h.applied w.front w.front w.parcels w.parcels w.batches parcel.Last tt h.sent.parcel_jobs h.sent.clear refl refl refl h.sent)
+    by false = h
+
+-- ---- the committer
+
+replies_to-append : (submitter : ℕ) (xs ys : List Replied) → replies_to (xs ++ ys) submitter ≡ replies_to xs submitter ++ replies_to ys submitter
+replies_to-append submitter xs ys = filter-append (λ (reply : Replied). reply.submitter == submitter) xs ys
+
+routed_more : (n : ℕ) (answers : List Replied) (shelves : List Shelf) (way more : List Replied) → AreRouted n answers shelves way → AreRouted n (answers ++ more) shelves (way ++ more)
+routed_more n answers shelves way more routed =
+    record {
+      long = routed.long;
+      each = λ submitter among.
+          let shelf = shelf_at shelves submitter in
+          replies_to-append submitter answers more ∙ ap (λ rs. rs ++ replies_to more submitter) (routed.each submitter among)
+          ∙ append_assoc shelf.received (shelf.ring ++ replies_to way submitter) (replies_to more submitter)
+          ∙ ap (λ rs. shelf.received ++ rs) (append_assoc shelf.ring (replies_to way submitter) (replies_to more submitter) ∙ ap (λ rs. shelf.ring ++ rs) (sym (replies_to-append submitter way more)));
+    }
+
+left_replies : (outcome : Outcomes) → of_one (left_by outcome) ≡ replies_in outcome
+left_replies (outcomes.Cut replies) = refl
+left_replies (outcomes.One reply) = refl
+left_replies outcomes.Nothing = refl
+left_replies outcomes.Last = refl
+
+sent_applied : (queue : List Ticket) (applied : List Passage) (front : FrontState) (parcels batches : List Parcel) (p : Parcel) → AreSent queue applied front parcels (p ∷ batches) → AreSent queue (applied ++ spelled_one p) front parcels batches
+sent_applied queue applied front parcels batches p sent =
+    let rest = spelled parcels ++ held_by front in
+    let list : applied ++ ((spelled_one p ++ spelled batches) ++ rest) ≡ (applied ++ spelled_one p) ++ (spelled batches ++ rest) = simp append_assoc in
+    record { passes = subst (Passes (items_in queue) front.closed front.stopped) list sent.passes; clear = sent.clear; parcel_jobs = sent.parcel_jobs; batch_jobs = sent.batch_jobs.1 }
+
+-- the next parcel is applied without a stop where nothing was refused
+abbrev pub GoesOn : Type 0 → Bool → WorldState → Type 0
+GoesOn Unrefused refused w = Unrefused → (p : Parcel) (batches : List Parcel) → w.batches ≡ p ∷ batches → (applied refused w.ledger p).ledger.stopped ≡ false
+
+pub batch_pop_holds : (Unrefused : Type 0) (refused : Bool) (clock n : ℕ) (pushed : List Ticket) (w : WorldState) (outcome : Option Outcomes) (batches : List Parcel) → w.outcome ≡ outcome → w.batches ≡ batches → GoesOn Unrefused refused w →
+    Holds Unrefused clock n pushed w → Holds Unrefused clock n pushed (unwrap_or (batch_pop refused w outcome batches) w)
+batch_pop_holds Unrefused refused clock n pushed w (Some outcome) batches o e goes h = h
+batch_pop_holds Unrefused refused clock n pushed w None [] o e goes h = h
+batch_pop_holds Unrefused refused clock n pushed w None (p ∷ batches) o e goes h =
+    let next = applied refused w.ledger p in
+    let sent = subst (λ ps. AreSent h.taken h.applied w.front w.parcels ps) e h.sent in
+    let more = replies_in next.outcomes in
+    let routed = routed_more n h.answers w.shelves (unrouted w.replies w.outcomes None) more (subst (λ o. AreRouted n h.answers w.shelves (unrouted w.replies w.outcomes o)) o h.routed) in
+    let way : unrouted w.replies w.outcomes None ++ more ≡ unrouted w.replies w.outcomes (left_by next.outcomes) =
+    append_assoc w.replies (of_all w.outcomes ++ []) more ∙ ap (λ rs. w.replies ++ (rs ++ more)) (append-nil (of_all w.outcomes)) ∙ ap (λ rs. w.replies ++ (of_all w.outcomes ++ rs)) (sym (left_replies next.outcomes)) in
+    record {
+      taken = h.taken;
+      applied = h.applied ++ spelled_one p;
+      answers = h.answers ++ more;
+      split = h.split;
+      counted = h.counted;
+      senders = h.senders;
+      sent = sent_applied h.taken h.applied w.front w.parcels batches p sent;
+      commits = commits_more refused clock h.applied w.ledger h.answers p sent.batch_jobs.0 h.commits;
+      routed = subst (AreRouted n (h.answers ++ more) w.shelves) way routed;
+      goes = λ is. record { front = (h.goes is).front; ledger = goes is p batches e };
+    }
+
+-- the replies on the way stand elsewhere, and the shelves may have changed
+rerouted : (Unrefused : Type 0) (clock n : ℕ) (pushed : List Ticket) (w : WorldState) (replies : List Replied) (outcomes : List Outcomes) (outcome : Option Outcomes) (shelves : List Shelf) → (h : Holds Unrefused clock n pushed w) →
+    AreRouted n h.answers shelves (unrouted replies outcomes outcome) → Holds Unrefused clock n pushed (record w { replies = replies; outcomes = outcomes; outcome = outcome; shelves = shelves })
+rerouted Unrefused clock n pushed w replies outcomes outcome shelves h routed =
+    record { taken = h.taken; applied = h.applied; answers = h.answers; split = h.split; counted = h.counted; senders = h.senders; sent = h.sent; commits = h.commits; routed = routed; goes = h.goes }
+
+pub outcome_push_holds : (Unrefused : Type 0) (clock n : ℕ) (pushed : List Ticket) (w : WorldState) (outcome : Option Outcomes) → w.outcome ≡ outcome →
+    Holds Unrefused clock n pushed w → Holds Unrefused clock n pushed (unwrap_or (outcome_push w outcome) w)
+outcome_push_holds Unrefused clock n pushed w None o h = h
+outcome_push_holds Unrefused clock n pushed w (Some outcome) o h =
+    let way : unrouted w.replies w.outcomes (Some outcome) ≡ unrouted w.replies (w.outcomes ++ outcome ∷ []) None =
+    ap (λ rs. w.replies ++ rs) (sym (append-nil (of_all (w.outcomes ++ outcome ∷ [])) ∙ flat_map-append replies_in w.outcomes (outcome ∷ []) ∙ ap (λ rs. of_all w.outcomes ++ rs) (append-nil (replies_in outcome)))) in
+    rerouted Unrefused clock n pushed w w.replies (w.outcomes ++ outcome ∷ []) None w.shelves h
+    (subst (AreRouted n h.answers w.shelves) (ap (unrouted w.replies w.outcomes) o ∙ way) h.routed)
+
+-- ---- the demultiplexer
+
+pub outcome_pop_holds : (Unrefused : Type 0) (clock n : ℕ) (pushed : List Ticket) (w : WorldState) (replies : List Replied) (outcomes : List Outcomes) → w.replies ≡ replies → w.outcomes ≡ outcomes →
+    Holds Unrefused clock n pushed w → Holds Unrefused clock n pushed (unwrap_or (outcome_pop w replies outcomes) w)
+outcome_pop_holds Unrefused clock n pushed w (reply ∷ replies) outcomes r o h = h
+outcome_pop_holds Unrefused clock n pushed w [] [] r o h = h
+outcome_pop_holds Unrefused clock n pushed w [] (outcome ∷ outcomes) r o h =
+    rerouted Unrefused clock n pushed w (replies_in outcome) outcomes w.outcome w.shelves h
+    (subst (AreRouted n h.answers w.shelves)
+    (ap (λ (rs : List Replied). unrouted rs w.outcomes w.outcome) r ∙ ap (λ (os : List Outcomes). unrouted [] os w.outcome) o ∙ append_assoc (replies_in outcome) (of_all outcomes) (of_one w.outcome)) h.routed)
+
+same_number : (n : ℕ) → (n == n) ≡ true
+same_number n = grind (arith, nat_tests)
+
+differ : (a b : ℕ) → a ≢ b → (a == b) ≡ false
+differ a b h = grind (arith, nat_tests)
+
+-- a reply goes from the way to its submitter's ring
+given_keeps : (n submitter : ℕ) (shelves : List Shelf) (reply : Replied) (way : List Replied) → length shelves ≡ n → submitter < n → shelved submitter shelves (reply ∷ way) ≡ shelved submitter (given shelves reply) way
+given_keeps n submitter shelves reply way long among =
+    let own = reply.submitter in
+    let new = given_to (shelf_at shelves own) reply in
+    let others = replies_to way submitter in
+    ⊎_elim
+    (λ (same : own ≡ submitter).
+    let shelf = shelf_at shelves submitter in
+    let there : given_to shelf reply ≡ shelf_at (given shelves reply) submitter =
+    ap (λ k. given_to (shelf_at shelves k) reply) (sym same) ∙ sym (get_or-set_same shelves own new empty_shelf (omega (arith, long, same, among))) ∙ ap (λ k. get_or (set shelves own new) k empty_shelf) same in
+    ap (λ b. shelf.received ++ (shelf.ring ++ (if b then reply ∷ others else others))) (ap (λ k. k == submitter) same ∙ same_number submitter)
+    ∙ ap (λ rs. shelf.received ++ rs) (sym (append_assoc shelf.ring (reply ∷ []) others)) ∙ ap (λ (s : Shelf). s.received ++ (s.ring ++ others)) there)
+    (λ (other : own ≢ submitter).
+    ap (λ b. (shelf_at shelves submitter).received ++ ((shelf_at shelves submitter).ring ++ (if b then reply ∷ others else others))) (differ own submitter other)
+    ∙ ap (λ (s : Shelf). s.received ++ (s.ring ++ others)) (sym (get_or-set_other shelves own submitter new empty_shelf (λ same. other (sym same)))))
+    (cases_eq own submitter)
+
+pub reply_push_holds : (Unrefused : Type 0) (clock n : ℕ) (pushed : List Ticket) (w : WorldState) (replies : List Replied) → w.replies ≡ replies →
+    Holds Unrefused clock n pushed w → Holds Unrefused clock n pushed (unwrap_or (reply_push w replies) w)
+reply_push_holds Unrefused clock n pushed w [] r h = h
+reply_push_holds Unrefused clock n pushed w (reply ∷ replies) r h =
+    rerouted Unrefused clock n pushed w replies w.outcomes w.outcome (given w.shelves reply) h
+    (record {
+      long = length-set w.shelves reply.submitter (given_to (shelf_at w.shelves reply.submitter) reply) ∙ h.routed.long;
+      each = λ submitter among. h.routed.each submitter among ∙ ap (λ (rs : List Replied). shelved submitter w.shelves (unrouted rs w.outcomes w.outcome)) r
+          ∙ given_keeps n submitter w.shelves reply (unrouted replies w.outcomes w.outcome) h.routed.long among;
+    })
+
+-- ---- the submitters
+
+taken_keeps : (n submitter own : ℕ) (shelves : List Shelf) (reply : Replied) (ring way : List Replied) → length shelves ≡ n → submitter < n → (shelf_at shelves own).ring ≡ reply ∷ ring →
+    shelved submitter shelves way ≡ shelved submitter (set shelves own (record { ring = ring; received = (shelf_at shelves own).received ++ reply ∷ [] })) way
+taken_keeps n submitter own shelves reply ring way long among e =
+    let new : Shelf = record { ring = ring; received = (shelf_at shelves own).received ++ reply ∷ [] } in
+    let others = replies_to way submitter in
+    ⊎_elim
+    (λ (same : own ≡ submitter).
+    let there : new ≡ shelf_at (set shelves own new) submitter = sym (get_or-set_same shelves own new empty_shelf (omega (arith, long, same, among))) ∙ ap (λ k. get_or (set shelves own new) k empty_shelf) same in
+    ap (λ k. (shelf_at shelves k).received ++ ((shelf_at shelves k).ring ++ others)) (sym same) ∙ ap (λ rs. (shelf_at shelves own).received ++ (rs ++ others)) e
+    ∙ sym (append_assoc (shelf_at shelves own).received (reply ∷ []) (ring ++ others)) ∙ ap (λ (s : Shelf). s.received ++ (s.ring ++ others)) there)
+    (λ (other : own ≢ submitter). ap (λ (s : Shelf). s.received ++ (s.ring ++ others)) (sym (get_or-set_other shelves own submitter new empty_shelf (λ same. other (sym same)))))
+    (cases_eq own submitter)
+
+pub reply_pop_holds : (Unrefused : Type 0) (clock n : ℕ) (pushed : List Ticket) (w : WorldState) (own : ℕ) (ring : List Replied) → (shelf_at w.shelves own).ring ≡ ring →
+    Holds Unrefused clock n pushed w → Holds Unrefused clock n pushed (unwrap_or (reply_pop w own (taken_from (shelf_at w.shelves own) ring)) w)
+reply_pop_holds Unrefused clock n pushed w own [] e h = h
+reply_pop_holds Unrefused clock n pushed w own (reply ∷ ring) e h =
+    rerouted Unrefused clock n pushed w w.replies w.outcomes w.outcome _ h
+    (record {
+      long = length-set w.shelves own (record { ring = ring; received = (shelf_at w.shelves own).received ++ reply ∷ [] }) ∙ h.routed.long;
+      each = λ submitter among. h.routed.each submitter among ∙ taken_keeps n submitter own w.shelves reply ring (unrouted w.replies w.outcomes w.outcome) h.routed.long among e;
+    })
+
+-- ---- a push
+
+pub push_holds : (Unrefused : Type 0) (clock n : ℕ) (pushed : List Ticket) (w : WorldState) (ticket : Ticket) (b : Bool) → is_lawful w ticket ≡ b → Holds Unrefused clock n pushed w →
+    Holds Unrefused clock n (pushed ++ (if b then ticket ∷ [] else [])) (unwrap_or (if b then Some (record w { senders = counting w.senders ticket; queue = w.queue ++ ticket ∷ [] }) else None) w)
+push_holds Unrefused clock n pushed w ticket false is h = subst (λ l. Holds Unrefused clock n l w) (sym (append-nil pushed)) h
+push_holds Unrefused clock n pushed w ticket true is h =
+    record {
+      taken = h.taken;
+      applied = h.applied;
+      answers = h.answers;
+      split = ap (λ l. l ++ ticket ∷ []) h.split ∙ append_assoc h.taken w.queue (ticket ∷ []);
+      counted = h.counted;
+      senders = push_counted w.limit n pushed w.senders ticket (subst (λ m. may_push w.limit m ticket.sender (sender_at w.senders ticket.sender) ticket.item ≡ true) h.counted is) h.senders;
+      sent = h.sent;
+      commits = h.commits;
+      routed = h.routed;
+      goes = h.goes;
+    }

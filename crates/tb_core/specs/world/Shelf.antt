@@ -1,0 +1,29 @@
+-- A submitter's reply ring, and what it received.
+use Rattle.std.specs.Prelude.{ℕ, List, [], ◌∷◌, ◌++◌, Option, Some, None, slice_index_or, slice_set}
+use Rattle.tb_work.specs.Reply.{Replied}
+
+-- the ring, and what was taken from it
+pub record Shelf : Type 0 where
+  pub ring : List Replied
+  pub received : List Replied
+
+abbrev pub empty_shelf : Shelf
+empty_shelf = record { ring = []; received = [] }
+
+abbrev pub given_to : Shelf → Replied → Shelf
+given_to shelf reply = record { ring = shelf.ring ++ reply ∷ []; received = shelf.received }
+
+abbrev pub taken_from : Shelf → List Replied → Option Shelf
+taken_from shelf [] = None
+taken_from shelf (reply ∷ ring) = Some (record { ring = ring; received = shelf.received ++ reply ∷ [] })
+
+-- the shelf after the first reply of its ring was received, if there is one
+abbrev pub taken : Shelf → Option Shelf
+taken shelf = taken_from shelf shelf.ring
+
+abbrev pub shelf_at : List Shelf → ℕ → Shelf
+shelf_at shelves submitter = slice_index_or shelves submitter empty_shelf
+
+-- a reply goes to its submitter's ring
+abbrev pub given : List Shelf → Replied → List Shelf
+given shelves reply = slice_set shelves reply.submitter (given_to (shelf_at shelves reply.submitter) reply)
