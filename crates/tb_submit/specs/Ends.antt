@@ -1,5 +1,5 @@
 -- What a contract sees of the ends of a queue.
-use Rattle.std.specs.Prelude.{◌≡◌, ℕ, zero, suc, List, [], ◌∷◌, ◌++◌, map, Option, Some}
+use Rattle.std.specs.Prelude.{ℕ, zero, suc, List, [], ◌∷◌, ◌++◌, Option, Some}
 use Rattle.atomic_table.specs.Seated.{TableId}
 use Rattle.tb_rings.specs.Ends.{RingId, outlet_ring}
 use Rattle.tb_rings.specs.declared.Outlet.{Outlet}

@@ -1,5 +1,5 @@
 -- What the private types keep.
-use Rattle.std.specs.Prelude.{◌≡◌, ℕ, ◌-◌, ◌<◌, ◌≤◌, ◌^◌, min, length, List, [], ◌∷◌, Option, Some, None, ⊤}
+use Rattle.std.specs.Prelude.{◌≡◌, ℕ, ◌-◌, ◌<◌, ◌≤◌, min, length, List, [], ◌∷◌, Option, Some, None, ⊤}
 use Rattle.atomic_table.specs.Seated.{TableId}
 use Rattle.crossbeam_queue.specs.Passes.{Pass, view}
 use Rattle.tb_work.specs.Reply.{Replied}
@@ -10,7 +10,7 @@ use Rattle.tb_submit.specs.declared.rule.Entry.{Entry}
 use Rattle.tb_submit.specs.declared.rule.Mark.{Mark}
 use Rattle.tb_submit.specs.declared.rule.View.{View}
 use Rattle.tb_submit.specs.Ends.{Seat, SenderState, EndedState}
-use Rattle.tb_submit.specs.Lists.{ArePackets, ArePulses, IsFiled}
+use Rattle.tb_submit.specs.Lists.{ArePackets, IsFiled}
 use Rattle.tb_submit.specs.Refusals.{told_in}
 use Rattle.tb_submit.specs.Rule.{entry, sender}
 

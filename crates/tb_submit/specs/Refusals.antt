@@ -21,7 +21,6 @@ or_else (Some refusal) other = Some refusal
 
 -- ---- opening
 
-
 -- a limit of 1 to 8190 events, capacity and credit of 1 to 65,536, 1 to 16 submitters, in this order
 abbrev pub queue_refusal : ℕ → ℕ → ℕ → ℕ → Option Refusal
 queue_refusal limit capacity credit submitters =
