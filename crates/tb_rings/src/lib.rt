@@ -2,6 +2,9 @@
 //! waits.
 #![tactic(auto)]
 
+#[cfg(test)]
+mod tests;
+
 ghost use Rattle.std.specs.Prelude.{◌≡◌, ◌<◌, [], ◌∷◌, ◌++◌, length, OnOk, IfOk, IfErr, IfSome, IfNone, IsSomeAnd};
 ghost use Rattle.tb_rings.specs.Ends.{given, taken, lies, IsRing, SameOutlet, SameInlet};
 
