@@ -1,6 +1,8 @@
 //! What no clause says: worked examples by name, each refusal once, senders in threads of their own.
 
 use crate::{Control, Ends, Submitter, open_queue};
+use std::alloc::Global;
+use std::sync::Wait;
 use std::test::Fail;
 use tb_work::{Answer, Bytes, Failures, Item, Job, Outcome, Packet, Refusal, Reply, Ticket};
 
@@ -10,9 +12,17 @@ mod openings;
 mod refusals;
 mod threads;
 
+fn holds(fact: bool) -> Result<(), Fail> {
+    if fact {
+        Ok(())
+    } else {
+        Err("it doesn't hold")?
+    }
+}
+
 /// A packet of so many bytes, each of them 7.
-fn packet_of(rt: &HostRuntime, operation: u8, length: usize) -> Result<Packet, Fail> {
-    let mut bytes = Vec::with_capacity(rt.alloc(), length)?;
+fn packet_of(alloc: Global, operation: u8, length: usize) -> Result<Packet, Fail> {
+    let mut bytes = Vec::with_capacity(alloc, length)?;
     bytes.resize(length, 7)?;
     Ok(Packet {
         operation,
@@ -37,16 +47,17 @@ fn made_look(operation: u8, length: usize) -> (u8, usize, u64, u64) {
 }
 
 /// A queue of this limit, capacity and credit, with one submitter.
-fn ends_of(rt: &HostRuntime, limit: u32, capacity: u32, credit: u32) -> Result<Ends, Fail> {
-    Ok(open_queue(rt.alloc(), limit, capacity, credit, 1)
+fn ends_of(alloc: Global, limit: u32, capacity: u32, credit: u32) -> Result<Ends, Fail> {
+    Ok(open_queue(alloc, limit, capacity, credit, 1)
         .ok()
         .ok_or("refused")?)
 }
 
 /// Submits a packet of so many bytes: its number, or why it was refused; a refused packet comes back as
 /// it was.
-fn submit(
-    rt: &HostRuntime,
+fn submit<R: Wait>(
+    rt: &R,
+    alloc: Global,
     submitter: &mut Submitter,
     operation: u8,
     length: usize,
@@ -54,17 +65,21 @@ fn submit(
     if submitter.queued() >= 1 << 56 {
         return Err("too many are queued")?;
     }
-    let packet = packet_of(rt, operation, length)?;
-    match submitter.submit(rt, rt.alloc(), packet) {
+    let packet = packet_of(alloc, operation, length)?;
+    match submitter.submit(rt, alloc, packet) {
         Ok(number) => Ok(Ok(number)),
         Err((back, refusal)) => {
-            assert_eq!(rt; look_of(&back), made_look(operation, length));
+            holds(look_of(&back) == made_look(operation, length))?;
             Ok(Err(refusal))
         }
     }
 }
 
-fn pulse(rt: &HostRuntime, control: &mut Control, moment: u64) -> Result<Result<(), Refusal>, Fail> {
+fn pulse<R: Wait>(
+    rt: &R,
+    control: &mut Control,
+    moment: u64,
+) -> Result<Result<(), Refusal>, Fail> {
     if control.queued() >= 1 << 56 {
         return Err("too many are queued")?;
     }
@@ -72,11 +87,11 @@ fn pulse(rt: &HostRuntime, control: &mut Control, moment: u64) -> Result<Result<
 }
 
 /// The reply to a packet that says Committed at place 0 without failures, Shutdown or Stopped.
-fn reply_to(rt: &HostRuntime, job: Job, says: Says) -> Reply {
+fn reply_to(alloc: Global, job: Job, says: Says) -> Reply {
     let outcome = match says {
         Says::Committed => Outcome::Committed {
             place: 0,
-            answer: Answer::Failures(Failures::from_vec(Vec::new(rt.alloc()))),
+            answer: Answer::Failures(Failures::from_vec(Vec::new(alloc))),
         },
         Says::Shutdown => Outcome::Shutdown,
         Says::Stopped => Outcome::Stopped,
@@ -92,7 +107,7 @@ enum Says {
 }
 
 /// Takes the front of the queue, a packet of submitter 0, and gives its reply.
-fn answer(rt: &HostRuntime, ends: &mut Ends, says: Says) -> Result<(), Fail> {
+fn answer<R: Wait>(rt: &R, alloc: Global, ends: &mut Ends, says: Says) -> Result<(), Fail> {
     let Some(Ticket {
         sender: 0,
         item: Item::Packet(job),
@@ -100,7 +115,7 @@ fn answer(rt: &HostRuntime, ends: &mut Ends, says: Says) -> Result<(), Fail> {
     else {
         return Err("no packet of submitter 0")?;
     };
-    let reply = reply_to(rt, job, says);
+    let reply = reply_to(alloc, job, says);
     if ends.outlets.len() == 0 || ends.outlets[0].give(reply).is_err() {
         return Err("the ring is full")?;
     }

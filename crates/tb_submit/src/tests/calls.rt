@@ -1,30 +1,31 @@
-use super::{Says, answer, ends_of, kind_of, pulse, submit};
+use super::{Says, answer, ends_of, holds, kind_of, pulse, submit};
 use crate::{Control, Ended, Ends, Intake, Submitter};
+use std::alloc::Global;
+use std::sync::Wait;
 use std::test::Fail;
 use tb_work::Refusal;
 
 /// Takes so many tickets, and then None.
-fn take_all(rt: &HostRuntime, intake: &mut Intake, wanted: &[(u8, u32)]) -> Result<(), Fail> {
+fn take_all<R: Wait>(rt: &R, intake: &mut Intake, wanted: &[(u8, u32)]) -> Result<(), Fail> {
     for kind in wanted {
         let ticket = intake.take(rt).ok_or("nothing is queued")?;
-        assert_eq!(rt; kind_of(&ticket), *kind);
+        holds(kind_of(&ticket) == *kind)?;
     }
-    assert!(rt; intake.take(rt).is_none());
-    Ok(())
+    holds(intake.take(rt).is_none())
 }
 
 fn one_submitter(ends: &mut Ends) -> Result<Submitter, Fail> {
     Ok(ends.submitters.pop().ok_or("no submitter")?)
 }
 
-fn end(rt: &HostRuntime, submitter: Submitter) -> Result<Ended, Refusal> {
+fn end<R: Wait>(rt: &R, submitter: Submitter) -> Result<Ended, Refusal> {
     match submitter.end(rt) {
         Ok(ended) => Ok(ended),
         Err((_, refusal)) => Err(refusal),
     }
 }
 
-fn shut(rt: &HostRuntime, control: Control) -> Option<Refusal> {
+fn shut<R: Wait>(rt: &R, control: Control) -> Option<Refusal> {
     match control.shut(rt) {
         Ok(_) => None,
         Err((_, refusal)) => Some(refusal),
@@ -34,9 +35,9 @@ fn shut(rt: &HostRuntime, control: Control) -> Option<Refusal> {
 /// The queue gives what was put in it, in order.
 #[test]
 fn first_in_first_out(rt: HostRuntime) -> Result<(), Fail> {
-    let mut ends = ends_of(&rt, 4, 4, 4)?;
+    let mut ends = ends_of(rt.alloc(), 4, 4, 4)?;
     let mut submitter = one_submitter(&mut ends)?;
-    assert_eq!(rt; submit(&rt, &mut submitter, 129, 128)?, Ok(0));
+    assert_eq!(rt; submit(&rt, rt.alloc(), &mut submitter, 129, 128)?, Ok(0));
     assert_eq!(rt; pulse(&rt, &mut ends.control, 5)?, Ok(()));
     assert!(rt; end(&rt, submitter).is_ok());
     assert_eq!(rt; shut(&rt, ends.control), None);
@@ -50,7 +51,7 @@ fn first_in_first_out(rt: HostRuntime) -> Result<(), Fail> {
 /// An end that is refused may be tried again.
 #[test]
 fn ends_of_a_full_queue(rt: HostRuntime) -> Result<(), Fail> {
-    let mut ends = ends_of(&rt, 4, 1, 4)?;
+    let mut ends = ends_of(rt.alloc(), 4, 1, 4)?;
     assert_eq!(rt; pulse(&rt, &mut ends.control, 5)?, Ok(()));
     let Err((submitter, refusal)) = one_submitter(&mut ends)?.end(&rt) else {
         return Err("room in a full queue")?;
@@ -66,28 +67,32 @@ fn ends_of_a_full_queue(rt: HostRuntime) -> Result<(), Fail> {
     take_all(&rt, &mut ends.intake, [(b'E', 0)].as_slice())
 }
 
-fn submit_one(rt: &HostRuntime, ends: &mut Ends) -> Result<(u32, Result<u64, Refusal>), Fail> {
+fn submit_one<R: Wait>(
+    rt: &R,
+    alloc: Global,
+    ends: &mut Ends,
+) -> Result<(u32, Result<u64, Refusal>), Fail> {
     if ends.submitters.len() == 0 {
         return Err("no submitter")?;
     }
     let before = ends.submitters[0].in_flight();
-    Ok((before, submit(rt, &mut ends.submitters[0], 129, 128)?))
+    Ok((before, submit(rt, alloc, &mut ends.submitters[0], 129, 128)?))
 }
 
 /// Three packets of a credit of three; their replies are read once the submitter has ended.
 #[test]
 fn credit_of_three(rt: HostRuntime) -> Result<(), Fail> {
-    let mut ends = ends_of(&rt, 4, 8, 3)?;
+    let mut ends = ends_of(rt.alloc(), 4, 8, 3)?;
     for wanted in [
         (0, Ok(0)),
         (1, Ok(1)),
         (2, Ok(2)),
         (3, Err(Refusal::InFlight)),
     ] {
-        assert_eq!(rt; submit_one(&rt, &mut ends)?, wanted);
+        assert_eq!(rt; submit_one(&rt, rt.alloc(), &mut ends)?, wanted);
     }
-    answer(&rt, &mut ends, Says::Committed)?;
-    answer(&rt, &mut ends, Says::Committed)?;
+    answer(&rt, rt.alloc(), &mut ends, Says::Committed)?;
+    answer(&rt, rt.alloc(), &mut ends, Says::Committed)?;
     let mut submitter = one_submitter(&mut ends)?;
     assert!(rt; submitter.reply().is_some());
     assert_eq!(rt; submitter.in_flight(), 2);

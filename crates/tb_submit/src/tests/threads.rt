@@ -4,7 +4,7 @@ use std::sync::Wait;
 use std::test::Fail;
 use std::thread;
 use std::thread::Threads;
-use tb_work::{Bytes, Item, Packet, Ticket};
+use tb_work::{Bytes, Item, Packet, Stub, Ticket};
 
 /// How often in all a thread gives way before it gives up.
 const MOST_TURNS: u64 = 100_000_000;
@@ -63,6 +63,7 @@ fn end_all<R: Wait>(rt: &R, submitter: Submitter, turns: u64) -> bool {
 
 /// What was taken so far: how many packets of each sender in a row, how many ends, and whether a
 /// packet came out of turn.
+#[derive(Drop)]
 struct Counts {
     next: [u64; 17],
     ended: u32,
@@ -70,19 +71,22 @@ struct Counts {
 }
 
 impl Counts {
+    fn note_packet(&mut self, sender: u32, stub: Stub) {
+        let place = sender as usize;
+        if place >= 17 || stub.submitter != sender || stub.number != self.next[place] {
+            self.torn = true;
+        } else {
+            self.next[place] = stub.number.wrapping_add(1);
+        }
+    }
+
     fn note(&mut self, ticket: Ticket) {
-        let sender = ticket.sender as usize;
-        match ticket.item {
-            Item::Packet(job) => {
-                let stub = job.stub();
-                if sender >= 17 || stub.submitter != ticket.sender || stub.number != self.next[sender] {
-                    self.torn = true;
-                } else {
-                    self.next[sender] = self.next[sender].wrapping_add(1);
-                }
-            }
+        let Ticket { sender, item } = ticket;
+        match item {
+            Item::Packet(job) => self.note_packet(sender, job.stub()),
             Item::Pulse(_) => self.torn = true,
-            Item::End | Item::Close => self.ended = self.ended.wrapping_add(1),
+            Item::End => self.ended = self.ended.wrapping_add(1),
+            Item::Close => self.ended = self.ended.wrapping_add(1),
         }
     }
 }
