@@ -10,6 +10,7 @@ mod calls;
 mod memory;
 mod openings;
 mod refusals;
+mod rounds;
 mod threads;
 
 fn holds(fact: bool) -> Result<(), Fail> {
