@@ -1,6 +1,6 @@
 -- One ticket more, one parcel more, and what a front and a ledger made of a queue so far.
 use Rattle.std.proofs.Common.{refl, sym, ap, ◌∙◌, subst, arith, ◌≡◌, ℕ, ◌+◌, ◌<◌, ◌≤◌, Bool, true, false, List, [], ◌∷◌, ◌++◌, length, append_assoc, append-nil, length-append, Option, Some, None}
-use Rattle.std.specs.Prelude.{◌||◌, is_some}
+use Rattle.std.specs.Prelude.{is_some}
 use Rattle.std.proofs.lemmas.List.Folds.{list_any-append}
 use Rattle.tb_layout.specs.Work.{Work}
 use Rattle.tb_work.specs.Queue.{ahead}

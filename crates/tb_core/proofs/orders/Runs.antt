@@ -1,17 +1,14 @@
 -- Every order of steps: what holds of a World after a list of events.
-use Rattle.std.proofs.Common.{refl, sym, ap, subst, ◌∙◌, arith, ◌≡◌, ℕ, ◌+◌, ◌^◌, ◌<◌, ◌≤◌, Bool, true, false, ◌||◌, nat_lt, List, [], ◌∷◌, ◌++◌, map, length, append_assoc, append-nil, length-append, replicate, Option, Some, None}
+use Rattle.std.proofs.Common.{refl, sym, ap, subst, ◌∙◌, arith, ◌≡◌, ℕ, ◌+◌, ◌^◌, ◌≤◌, Bool, true, false, ◌||◌, nat_lt, List, [], ◌∷◌, ◌++◌, length, append_assoc, append-nil, length-append, replicate, None}
 use Rattle.std.specs.Prelude.{if◌then◌else◌}
 use Rattle.std.specs.List.{list_any}
 use Rattle.std.proofs.lemmas.List.{get_or-replicate, length-replicate, length-map}
 use Rattle.std.proofs.lemmas.Bool.Decides.{nat_tests}
-use Rattle.tb_work.specs.Job.{Numbered}
 use Rattle.tb_work.specs.Queue.{ahead, items_in}
-use Rattle.tb_work.specs.Reply.{Replied}
 use Rattle.tb_work.specs.Work.{work_of}
 use Rattle.tb_work.specs.declared.item.Item.{Item}
 use Rattle.tb_work.specs.declared.item.Item.TheVariants as item
 use Rattle.tb_work.specs.declared.item.Ticket.{Ticket}
-use Rattle.tb_core.specs.declared.outcomes.Outcomes.{Outcomes}
 use Rattle.tb_core.specs.declared.parcel.Parcel.{Parcel}
 use Rattle.tb_core.specs.declared.parcel.Parcel.TheVariants as parcel
 use Rattle.tb_core.specs.declared.world.event.Event.{Event}
@@ -26,7 +23,7 @@ use Rattle.tb_core.specs.world.EveryOrder.{pushed_at, history, is_refused}
 use Rattle.tb_core.proofs.Committed.{works_in-append, works_in-admitted}
 use Rattle.tb_core.proofs.orders.Below.{so_far}
 use Rattle.tb_core.proofs.orders.Pushed.{none_pushed}
-use Rattle.tb_core.proofs.orders.Holding.{on_the_way, Holds, Goes, GoesOn, push_holds, pop_holds, batch_push_holds, batch_pop_holds, outcome_push_holds, outcome_pop_holds, reply_push_holds, reply_pop_holds}
+use Rattle.tb_core.proofs.orders.Holding.{on_the_way, Holds, GoesOn, push_holds, pop_holds, batch_push_holds, batch_pop_holds, outcome_push_holds, outcome_pop_holds, reply_push_holds, reply_pop_holds}
 
 -- ---- where nothing was refused the next parcel is committed: there are fewer places than 2^63
 

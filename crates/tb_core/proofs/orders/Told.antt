@@ -1,5 +1,5 @@
 -- What a World's steps tell: so far, where nothing was refused, and at rest.
-use Rattle.std.proofs.Common.{refl, sym, ap, subst, ◌∙◌, ◌≡◌, ℕ, ◌^◌, ◌<◌, ◌≤◌, ◌==◌, Bool, true, false, List, [], ◌∷◌, ◌++◌, map, length, append_assoc, append-nil, Option, Some, None}
+use Rattle.std.proofs.Common.{refl, sym, ap, subst, ◌∙◌, ◌≡◌, ℕ, ◌^◌, ◌<◌, ◌≤◌, ◌==◌, Bool, false, List, [], ◌∷◌, ◌++◌, map, length, append_assoc, append-nil, Option, Some, None}
 use Rattle.std.specs.List.{list_any}
 use Rattle.std.proofs.lemmas.List.{map-append}
 use Rattle.std.proofs.lemmas.List.Elements.{filter-append}
@@ -29,7 +29,7 @@ use Rattle.tb_core.specs.world.EveryOrder.{history, is_refused, IsAtRest, IsPref
 use Rattle.tb_core.proofs.Committed.{or_parts}
 use Rattle.tb_core.proofs.Runs.{none_among, run_is_lawful}
 use Rattle.tb_core.proofs.orders.Below.{SoFar, so_far}
-use Rattle.tb_core.proofs.orders.Pushed.{HavePushed, numbered_by, queue_of_all}
+use Rattle.tb_core.proofs.orders.Pushed.{numbered_by, queue_of_all}
 use Rattle.tb_core.proofs.orders.Holding.{on_the_way, unrouted, of_all, of_one, shelved, Holds, Goes}
 use Rattle.tb_core.proofs.orders.Runs.{all_holds}
 

@@ -1,5 +1,5 @@
 -- Every order of pushes and pops.
-use Rattle.std.specs.Prelude.{◌≡◌, ◌<◌, ◌≤◌, ℕ, ◌+◌, Bool, true, false, if◌then◌else◌, List, [], ◌∷◌, ◌++◌, None}
+use Rattle.std.specs.Prelude.{◌≡◌, ◌<◌, ◌≤◌, ℕ, Bool, true, false, if◌then◌else◌, List, [], ◌∷◌, ◌++◌, None}
 use Rattle.std.specs.List.{list_any}
 use Rattle.tb_machine.specs.Replay.{replay}
 use Rattle.tb_work.specs.Queue.{part, ahead, items_in, AreSubmitted, AreNumbered}

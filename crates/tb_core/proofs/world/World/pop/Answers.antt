@@ -1,4 +1,4 @@
-use Rattle.std.proofs.Common.{◌≡◌, ◌≤◌, ◌∙◌, ℕ, true, false, ap, subst, All}
+use Rattle.std.proofs.Common.{◌≤◌, ◌∙◌, true, false, ap, subst, All}
 use Rattle.std.proofs.lemmas.List.Elements.{All-tail}
 use Rattle.tb_work.specs.declared.item.Ticket.{Ticket}
 use Rattle.tb_core.specs.Front.{Taken}

@@ -1,4 +1,4 @@
-use Rattle.std.proofs.Common.{◌≡◌, ◌≤◌, ◌∙◌, sym, subst, All, length-set, arith}
+use Rattle.std.proofs.Common.{◌≤◌, ◌∙◌, sym, subst, All, length-set, arith}
 use Rattle.std.proofs.lemmas.List.Elements.{All-push}
 use Rattle.tb_work.specs.declared.item.Ticket.{Ticket}
 use Rattle.tb_core.proofs.world.World.push.Goals as goal

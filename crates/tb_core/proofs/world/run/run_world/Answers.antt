@@ -1,6 +1,6 @@
 use Rattle.std.proofs.Common.{◌≡◌, ◌≤◌, ◌^◌, ◌∙◌, sym, ap, [], ◌∷◌, length, List, arith}
 use Rattle.tb_core.specs.declared.world.event.Event.{Event}
-use Rattle.tb_core.specs.world.World.{WorldState, run, opened}
+use Rattle.tb_core.specs.world.World.{WorldState, run}
 use Rattle.tb_core.proofs.Listing.{none_left}
 use Rattle.tb_core.proofs.orders.Told.{has_run}
 use Rattle.tb_core.proofs.world.run.run_world.Goals as goal
