@@ -1,0 +1,73 @@
+//! A ring from one thread to one other, over `rtrb`. No memory is taken once it is made, and no call
+//! waits.
+#![tactic(auto)]
+
+ghost use Rattle.std.specs.Prelude.{◌≡◌, ◌<◌, [], ◌∷◌, ◌++◌, length, OnOk, IfOk, IfErr, IfSome, IfNone, IsSomeAnd};
+ghost use Rattle.tb_rings.specs.Ends.{given, taken, lies, IsRing, SameOutlet, SameInlet};
+
+use rtrb::{Consumer, Producer, PushError, RingBuffer};
+use std::alloc::Global;
+use tb_layout::NoMemory;
+
+/// The end that gives.
+#[derive(Drop)]
+pub struct Outlet<T> {
+    producer: Producer<T>,
+}
+
+/// The end that takes.
+#[derive(Drop)]
+pub struct Inlet<T> {
+    consumer: Consumer<T>,
+}
+
+/// Both ends of a new ring of so many slots, in which nothing lies. With no slot it is always full.
+pub fn ring<T: Drop>(alloc: Global, capacity: usize) -> Result<(Outlet<T>, Inlet<T>), NoMemory>
+    ensures pair { IfOk result (λ ends. IsRing ends.0 ends.1) }
+    ensures empty { IfOk result (λ ends. (given ends.0 ≡ []) × (taken ends.1 ≡ []) × (lies ends.1 ≡ [])) }
+{
+    let (producer, consumer) = RingBuffer::new(alloc, capacity)?;
+    Ok((Outlet { producer }, Inlet { consumer }))
+}
+
+impl<T: Drop> Outlet<T> {
+    /// Puts the value into a free slot; where none is seen, it comes back.
+    pub fn give(&mut self, value: T) -> Result<(), T>
+        ensures ring { SameOutlet self.old self.new }
+        ensures ok { OnOk result (given self.new ≡ given self.old ++ value ∷ []) }
+        ensures full { IfErr result (λ back. (back ≡ value) × (given self.new ≡ given self.old)) }
+    {
+        match self.producer.push(value) {
+            Ok(()) => Ok(()),
+            Err(PushError::Full(back)) => Err(back),
+        }
+    }
+}
+
+impl<T: Drop> Inlet<T> {
+    /// The value that lies in the ring for longest; None where none is seen, and so never while some
+    /// are known to lie there.
+    pub fn take(&mut self) -> Option<T>
+        ensures ring { SameInlet self.old self.new }
+        ensures some { IfSome result (λ value. taken self.new ≡ taken self.old ++ value ∷ []) }
+        ensures none { IfNone result ((taken self.new ≡ taken self.old) × (lies self.new ≡ [])) }
+        ensures known { 0 < length (lies self.old) → IsSomeAnd result (λ value. lies self.old ≡ value ∷ lies self.new) }
+    {
+        if self.consumer.cached_slots() > 0 {
+            return Some(self.consumer.pop_known());
+        }
+        self.consumer.pop().ok()
+    }
+
+    /// How many lie in the ring, with both ends in one thread: these and what was taken are all that
+    /// was given.
+    pub fn lying(&mut self, outlet: &mut Outlet<T>) -> usize
+        requires { IsRing outlet.old self.old }
+        ensures ring { SameInlet self.old self.new × SameOutlet outlet.old outlet.new }
+        ensures same { (taken self.new ≡ taken self.old) × (given outlet.new ≡ given outlet.old) }
+        ensures value { result ≡ length (lies self.new) }
+        ensures all { taken self.new ++ lies self.new ≡ given outlet.new }
+    {
+        self.consumer.slots_beside(&mut outlet.producer)
+    }
+}

@@ -1,0 +1,6 @@
+use Rattle.std.proofs.Common.{refl}
+use Rattle.tb_submit.proofs.Filing.{pulses_filed}
+use Rattle.tb_submit.proofs.control.Control.end.Goals as goal
+
+pub end-requires : goal.end-requires
+end-requires g c = pulses_filed _ _ _ _ _ refl c.self.invariant.1

@@ -1,0 +1,12 @@
+use Rattle.std.proofs.Common.{◌∷◌, [], ap, sym, subst, arith, length, length-append}
+use Rattle.tb_work.specs.declared.item.Item.TheVariants.{Pulse}
+use Rattle.tb_submit.specs.Ends.{SenderState}
+use Rattle.tb_submit.specs.Lists.{ArePulses}
+use Rattle.tb_submit.proofs.Filing.{pulses_more}
+use Rattle.tb_submit.proofs.control.Control.pulse.Goals as goal
+
+pub invariant_of-self : goal.invariant_of-self
+invariant_of-self g c =
+    let before = c.self.inside.sender.queued in
+    let queued = ap (λ (s : SenderState). s.queued) c.in-Ok.ensures.ok in
+    (omega (arith, c.self.invariant.0, ap length queued, length-append before (Pulse c.new.result ∷ [])), subst ArePulses (sym queued) (pulses_more before c.new.result c.self.invariant.1))

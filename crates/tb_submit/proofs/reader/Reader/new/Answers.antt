@@ -1,0 +1,5 @@
+use Rattle.tb_submit.proofs.Keeping.{begins}
+use Rattle.tb_submit.proofs.reader.Reader.new.Goals as goal
+
+pub ruled-requires-clause-rule : goal.ruled-requires-clause-rule
+ruled-requires-clause-rule c = begins

@@ -1,0 +1,5 @@
+use Rattle.tb_submit.proofs.Keeping.{takes}
+use Rattle.tb_submit.proofs.reader.Reader.take.Goals as goal
+
+pub pop_as-requires-clause-rule : goal.pop_as-requires-clause-rule
+pop_as-requires-clause-rule g c = (takes _ _ _ _ _ c.self.invariant.1, λ items views h at. tt)

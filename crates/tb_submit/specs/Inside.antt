@@ -1,0 +1,67 @@
+-- What the private types keep.
+use Rattle.std.specs.Prelude.{◌≡◌, ℕ, ◌-◌, ◌<◌, ◌≤◌, min, length, List, [], ◌∷◌, Option, Some, None, ⊤}
+use Rattle.atomic_table.specs.Seated.{TableId}
+use Rattle.crossbeam_queue.specs.Passes.{Pass, view}
+use Rattle.tb_work.specs.Reply.{Replied}
+use Rattle.tb_work.specs.declared.item.Item.{Item}
+use Rattle.tb_work.specs.declared.item.Ticket.{Ticket}
+use Rattle.tb_work.specs.declared.refusal.Refusal.{Refusal}
+use Rattle.tb_submit.specs.declared.rule.Entry.{Entry}
+use Rattle.tb_submit.specs.declared.rule.Mark.{Mark}
+use Rattle.tb_submit.specs.declared.rule.View.{View}
+use Rattle.tb_submit.specs.Ends.{Seat, SenderState, EndedState}
+use Rattle.tb_submit.specs.Lists.{ArePackets, IsFiled}
+use Rattle.tb_submit.specs.Refusals.{told_in}
+use Rattle.tb_submit.specs.Rule.{entry, sender}
+
+abbrev pub known : Pass Ticket View → View
+known pass = view pass
+
+abbrev pub first_pushed : List Entry → List Item
+first_pushed [] = []
+first_pushed (e ∷ entries) = e.pushed
+
+abbrev pub taken_of : Option Mark → List Ticket
+taken_of None = []
+taken_of (Some mark) = mark.taken
+
+abbrev pub count_of : Option Mark → ℕ
+count_of None = 0
+count_of (Some mark) = mark.count
+
+-- the pass with the mark: its queue, the entries that were gathered, what was taken, and how many numbers were given out
+pub record ReaderState : Type 0 where
+  pub queue : TableId
+  pub entries : List Entry
+  pub taken : List Ticket
+  pub count : ℕ
+
+abbrev pub seated : Option TableId → ℕ → ℕ → ℕ → Seat
+seated queue submitters limit number = record { queue = queue; submitters = submitters; limit = limit; number = number }
+
+abbrev pub pushing : Pass Ticket View → ℕ → ℕ → ℕ → SenderState
+pushing pass submitters limit number = record { seat = seated (Some pass.table_id) submitters limit number; queued = first_pushed (known pass).entries }
+
+-- a sender that has ended, whose pass may be gone
+abbrev pub left : Option (Pass Ticket View) → ℕ → ℕ → ℕ → SenderState
+left None submitters limit number = record { seat = seated None submitters limit number; queued = [] }
+left (Some pass) submitters limit number = pushing pass submitters limit number
+
+abbrev pub IsLeft : Option (Pass Ticket View) → ℕ → ℕ → ℕ → Type 0
+IsLeft None submitters limit number = ⊤
+IsLeft (Some pass) submitters limit number =
+    (pass.me.1 ≡ []) × (known pass ≡ sender number (first_pushed (known pass).entries)) × IsFiled limit submitters number (first_pushed (known pass).entries)
+
+-- a submitter's counts: of what it queued, and of the replies read, as far as 64 bits go
+pub record IsSubmitter (seat : Seat) (queued : List Item) (count credit seen : ℕ) (first : Option Refusal) (read : List Replied) : Type 0 where
+  pub among : seat.number < seat.submitters
+  pub limited : seat.limit ≤ 8190
+  pub packets : ArePackets seat.limit seat.number 0 queued
+  pub counted : count ≡ length queued
+  pub credited : length queued - length read ≤ credit
+  pub few : credit ≤ 65536
+  pub counted_read : seen ≡ min (length read) 18446744073709551615
+  pub told : first ≡ told_in read
+
+abbrev pub entry_of : EndedState → Entry
+entry_of ended = entry ended.origin.seat.number ended.queued

@@ -1,0 +1,5 @@
+pub mod Rule
+pub mod Lists
+pub mod Ends
+pub mod Refusals
+pub mod Inside

@@ -1,0 +1,56 @@
+-- Why a call is refused.
+use Rattle.std.specs.Prelude.{◌≡◌, ℕ, ◌-◌, ◌==◌, ◌||◌, if◌then◌else◌, nat_lt, List, [], ◌∷◌, length, Option, Some, None, Result, Ok, Err}
+use Rattle.tb_core.specs.Front.{opening_refusal}
+use Rattle.tb_work.specs.Admission.{admitted}
+use Rattle.tb_work.specs.Reply.{Replied}
+use Rattle.tb_work.specs.declared.answer.Outcome.{Outcome}
+use Rattle.tb_work.specs.declared.answer.Outcome.TheVariants as outcome
+use Rattle.tb_work.specs.declared.packet.Packet.{Packet}
+use Rattle.tb_work.specs.declared.refusal.Refusal.{Refusal}
+use Rattle.tb_work.specs.declared.refusal.Refusal.TheVariants.{InFlight, Shutdown, Stopped, BadLimit, BadCapacity}
+use Rattle.tb_submit.specs.Ends.{SubmitterState}
+
+-- the refusal is the one that is due, or where none is due, one of the others
+abbrev pub IsRefusal : Option Refusal → (Refusal → Type 0) → Refusal → Type 0
+IsRefusal None Other refusal = Other refusal
+IsRefusal (Some due) Other refusal = refusal ≡ due
+
+abbrev pub or_else : Option Refusal → Option Refusal → Option Refusal
+or_else None other = other
+or_else (Some refusal) other = Some refusal
+
+-- ---- opening
+
+-- a limit of 1 to 8190 events, capacity and credit of 1 to 65,536, 1 to 16 submitters, in this order
+abbrev pub queue_refusal : ℕ → ℕ → ℕ → ℕ → Option Refusal
+queue_refusal limit capacity credit submitters =
+    if nat_lt limit 1 || nat_lt 8190 limit then Some BadLimit
+    else if nat_lt capacity 1 || nat_lt 65536 capacity || nat_lt credit 1 || nat_lt 65536 credit then Some BadCapacity
+    else opening_refusal limit submitters
+
+-- ---- submitting
+
+-- what an outcome tells of all packets that come later
+abbrev pub told_by : Outcome → Option Refusal
+told_by (outcome.Committed place answer) = None
+told_by outcome.Shutdown = Some Shutdown
+told_by outcome.Stopped = Some Stopped
+
+-- the first that replies tell
+abbrev pub told_in : List Replied → Option Refusal
+told_in [] = None
+told_in (reply ∷ replies) = or_else (told_by reply.outcome) (told_in replies)
+
+abbrev pub refusal_in : Result ℕ Refusal → Option Refusal
+refusal_in (Ok count) = None
+refusal_in (Err refusal) = Some refusal
+
+-- the packets queued less the replies read
+abbrev pub in_flight : SubmitterState → ℕ
+in_flight submitter = length submitter.queued - length submitter.read
+
+-- a reply read that told of a shutdown or a stop, the packet itself, the credit, in this order
+abbrev pub submit_refusal : SubmitterState → Packet → Option Refusal
+submit_refusal submitter packet =
+    or_else (told_in submitter.read)
+    (or_else (refusal_in (admitted submitter.origin.seat.limit packet)) (if in_flight submitter == submitter.credit then Some InFlight else None))

@@ -1,0 +1,110 @@
+-- The queue's rule: what was taken followed by what is queued has, as each sender's part, just what its pass pushed.
+use Rattle.std.specs.Prelude.{◌≡◌, ℕ, ◌+◌, ◌<◌, ◌≤◌, ◌⊎◌, List, [], ◌∷◌, ◌++◌, Option, Some, None, ⊤}
+use Rattle.std.specs.List.{AllByRecursion}
+use mathlib.Core.Option.{some}
+use lib.ListN.{get_elem?}
+use Rattle.tb_work.specs.Queue.{part}
+use Rattle.tb_work.specs.declared.item.Item.{Item}
+use Rattle.tb_work.specs.declared.item.Ticket.{Ticket}
+use Rattle.tb_submit.specs.declared.rule.Entry.{Entry}
+use Rattle.tb_submit.specs.declared.rule.Mark.{Mark}
+use Rattle.tb_submit.specs.declared.rule.View.{View}
+
+-- ---- what passes know
+
+abbrev pub entry : ℕ → List Item → Entry
+entry number pushed = record { number = number; pushed = pushed }
+
+abbrev pub viewing : List Entry → Option Mark → View
+viewing entries mark = record { entries = entries; mark = mark }
+
+-- a sender's pass: one number, and what was pushed under it
+abbrev pub sender : ℕ → List Item → View
+sender number pushed = viewing (entry number pushed ∷ []) None
+
+-- the intake's pass: what was taken, and how many numbers were given out
+abbrev pub intake : List Entry → List Ticket → ℕ → View
+intake entries taken count = viewing entries (Some (record { taken = taken; count = count }))
+
+abbrev pub opening : View
+opening = intake [] [] 0
+
+-- a pass that was joined to another
+abbrev pub spent : View
+spent = viewing [] None
+
+-- ---- what a step makes of them
+
+abbrev pub next_of : Option Mark → ℕ
+next_of None = 0
+next_of (Some mark) = mark.count
+
+abbrev pub raised : Option Mark → Option Mark
+raised None = None
+raised (Some mark) = Some (record { taken = mark.taken; count = mark.count + 1 })
+
+abbrev pub counted : View → View
+counted view = viewing view.entries (raised view.mark)
+
+abbrev pub newcomer : View → View
+newcomer view = sender (next_of view.mark) []
+
+abbrev pub gathered : View → View → View
+gathered view other = viewing (view.entries ++ other.entries) view.mark
+
+abbrev pub pushed_first : Item → List Entry → List Entry
+pushed_first item [] = []
+pushed_first item (e ∷ entries) = entry e.number (e.pushed ++ item ∷ []) ∷ entries
+
+abbrev pub with_pushed : View → Ticket → View
+with_pushed view ticket = viewing (pushed_first ticket.item view.entries) view.mark
+
+abbrev pub taken_more : Ticket → Option Mark → Option Mark
+taken_more ticket None = None
+taken_more ticket (Some mark) = Some (record { taken = mark.taken ++ ticket ∷ []; count = mark.count })
+
+abbrev pub with_taken : View → Ticket → View
+with_taken view ticket = viewing view.entries (taken_more ticket view.mark)
+
+-- ---- the rule
+
+abbrev pub Stands : ℕ → List Entry → Type 0
+Stands number [] = ⊥
+Stands number (e ∷ entries) = (e.number ≡ number) ⊎ Stands number entries
+
+-- An entry's number was given out, it stands in this pass alone, and what was pushed is its sender's part of all.
+abbrev pub FitsEntry : (ℕ → ℕ) → ℕ → List Ticket → ℕ → Entry → Type 0
+FitsEntry pass_of count all pass e = (e.number < count) × (pass_of e.number ≡ pass) × (part e.number all ≡ e.pushed)
+
+-- Only the reader's pass has the mark, which tells what was taken and how many numbers were given out.
+abbrev pub FitsMark : ℕ → ℕ → List Ticket → ℕ → Option Mark → Type 0
+FitsMark reader count taken pass None = ⊤
+FitsMark reader count taken pass (Some mark) = (pass ≡ reader) × (mark.taken ≡ taken) × (mark.count ≡ count)
+
+abbrev pub Fits : (ℕ → ℕ) → ℕ → ℕ → List Ticket → List Ticket → ℕ → View → Type 0
+Fits pass_of reader count taken items pass view = AllByRecursion (FitsEntry pass_of count (taken ++ items) pass) view.entries × FitsMark reader count taken pass view.mark
+
+abbrev pub InView : List View → ℕ → ℕ → Type 0
+InView views pass number = (view : View) × (get_elem? views pass ≡ some view) × Stands number view.entries
+
+-- Each number given out stands in a pass, and no other has a part.
+abbrev pub Kept : List Ticket → List View → Type 0
+Kept items views =
+    (pass_of : ℕ → ℕ) × (reader : ℕ) × (count : ℕ) × (taken : List Ticket)
+    × ((pass : ℕ) (view : View) → get_elem? views pass ≡ some view → Fits pass_of reader count taken items pass view)
+    × ((number : ℕ) → number < count → InView views (pass_of number) number)
+    × ((number : ℕ) → count ≤ number → part number (taken ++ items) ≡ [])
+
+-- ---- what the intake's pass learns of what is queued
+
+-- of each number that stands in it, taken and queued together are what was pushed
+abbrev pub IsWhole : List Entry → List Ticket → ℕ → List Ticket → Type 0
+IsWhole entries taken count items =
+    AllByRecursion (λ (e : Entry). part e.number (taken ++ items) ≡ e.pushed) entries × ((number : ℕ) → count ≤ number → part number (taken ++ items) ≡ [])
+
+abbrev pub TellsMark : List Entry → Option Mark → List Ticket → Type 0
+TellsMark entries None items = ⊤
+TellsMark entries (Some mark) items = IsWhole entries mark.taken mark.count items
+
+abbrev pub Tells : View → List Ticket → Type 0
+Tells view items = TellsMark view.entries view.mark items

@@ -1,0 +1,107 @@
+//! The control.
+
+ghost use Rattle.std.specs.Prelude.{◌≡◌, ◌<◌, ◌≤◌, ◌^◌, [], length, OnOk, IfOk, IfErr, Err};
+ghost use Rattle.tb_submit.specs.Ends.{sender_with};
+ghost use Rattle.tb_work.specs.declared.item.Item.TheVariants as item;
+ghost use Rattle.tb_work.specs.declared.refusal.Refusal.TheVariants as refusal;
+
+use crate::sender::{EndedSender, Sender};
+use std::marker::Model;
+use std::sync::Wait;
+use tb_work::{Item, Moment, Refusal};
+
+const MOST_MOMENT: u64 = 1 << 62;
+
+/// Queues pulses, and closes the queue or leaves it open.
+#[derive(Drop)]
+pub struct Control {
+    sender: Sender,
+    queued: u64,
+}
+
+impl Model for Control {
+    ghost use Rattle.std.specs.Prelude.{◌≡◌, length};
+    ghost use Rattle.tb_submit.specs.Ends.{SenderState};
+    ghost use Rattle.tb_submit.specs.Lists.{ArePulses};
+
+    ghost Value = { SenderState };
+
+    ghost view = { λ c. c.sender };
+
+    ghost invariant = { λ c. (c.queued ≡ length c.sender.queued) × ArePulses c.sender.queued };
+}
+
+impl Control {
+    pub(crate) fn new(sender: Sender) -> Control
+        requires { sender.queued ≡ [] }
+        ensures { result ≡ sender }
+    {
+        Control { sender, queued: 0 }
+    }
+
+    /// How many pulses it has queued.
+    pub fn queued(&self) -> u64
+        ensures { result ≡ length self.now.queued }
+    {
+        self.queued
+    }
+
+    /// Queues a pulse with this moment in nanoseconds, at most 2^62. A refused pulse changes nothing.
+    pub fn pulse<R: Wait>(&mut self, rt: &R, moment: u64) -> Result<(), Refusal>
+        requires { length self.old.queued < 2 ^ 56 }
+        ensures ok { OnOk result (self.new ≡ sender_with self.old (item.Pulse moment)) }
+        ensures refused { IfErr result (λ why. self.new ≡ self.old) }
+        ensures large { 2 ^ 62 < moment → result ≡ Err refusal.MomentTooLarge }
+        ensures full { moment ≤ 2 ^ 62 → IfErr result (λ why. why ≡ refusal.Full) }
+    {
+        if moment > MOST_MOMENT {
+            return Err(Refusal::MomentTooLarge);
+        }
+        match self.sender.push(rt, Item::Pulse(Moment::new(moment))) {
+            Ok(()) => {
+                self.queued += 1;
+                Ok(())
+            }
+            Err(_) => Err(Refusal::Full),
+        }
+    }
+
+    /// Queues its end: all that is queued is committed. Where the queue was full the control comes back.
+    pub fn end<R: Wait>(self, rt: &R) -> Result<ControlEnd, (Control, Refusal)>
+        ensures ok { IfOk result (λ end. end ≡ sender_with self item.End) }
+        ensures full { IfErr result (λ refused. (refused.0 ≡ self) × (refused.1 ≡ refusal.Full)) }
+    {
+        let Control { sender, queued } = self;
+        match sender.end(rt, Item::End) {
+            Ok(sender) => Ok(ControlEnd { sender }),
+            Err(sender) => Err((Control { sender, queued }, Refusal::Full)),
+        }
+    }
+
+    /// Queues the Close: packets behind it are answered Shutdown. Where the queue was full the control
+    /// comes back.
+    pub fn shut<R: Wait>(self, rt: &R) -> Result<ControlEnd, (Control, Refusal)>
+        ensures ok { IfOk result (λ end. end ≡ sender_with self item.Close) }
+        ensures full { IfErr result (λ refused. (refused.0 ≡ self) × (refused.1 ≡ refusal.Full)) }
+    {
+        let Control { sender, queued } = self;
+        match sender.end(rt, Item::Close) {
+            Ok(sender) => Ok(ControlEnd { sender }),
+            Err(sender) => Err((Control { sender, queued }, Refusal::Full)),
+        }
+    }
+}
+
+/// The control, which has ended.
+#[derive(Drop)]
+pub struct ControlEnd {
+    pub(crate) sender: EndedSender,
+}
+
+impl Model for ControlEnd {
+    ghost use Rattle.tb_submit.specs.Ends.{SenderState};
+
+    ghost Value = { SenderState };
+
+    ghost view = { λ c. c.sender };
+}

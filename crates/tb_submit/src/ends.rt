@@ -1,0 +1,115 @@
+//! Opening a queue.
+
+ghost use Rattle.std.specs.Prelude.{◌≡◌, ◌<◌, ◌≤◌, ◌+◌, [], map, length, None, All, OnOk, IfOk, IfErr};
+ghost use Rattle.tb_rings.specs.Ends.{given};
+ghost use Rattle.tb_submit.specs.Ends.{new_submitter, new_control, new_intake, origins, origin_of};
+ghost use Rattle.tb_submit.specs.Refusals.{IsRefusal, queue_refusal};
+ghost use Rattle.tb_work.specs.declared.refusal.Refusal.TheVariants as refusal;
+
+use crate::control::Control;
+use crate::intake::Intake;
+use crate::reader::Reader;
+use crate::submitter::Submitter;
+use std::alloc::Global;
+use tb_layout::NoMemory;
+use tb_rings::{Outlet, ring};
+use tb_work::{Refusal, Reply};
+
+const MOST_EVENTS: u32 = 8190;
+
+const MOST_PLACES: u32 = 65_536;
+
+const MOST_SUBMITTERS: u32 = 16;
+
+/// All ends of a queue. The submitter of number i is that at index i, and the outlet at index i gives it
+/// its replies.
+#[derive(Drop)]
+pub struct Ends {
+    pub submitters: Vec<Submitter>,
+    pub control: Control,
+    pub intake: Intake,
+    pub outlets: Vec<Outlet<Reply>>,
+}
+
+/// The submitters of a queue, each with the ring of its replies.
+fn open_submitters(
+    alloc: Global,
+    reader: &mut Reader,
+    limit: u32,
+    credit: u32,
+    submitters: u32,
+) -> Result<(Vec<Submitter>, Vec<Outlet<Reply>>), NoMemory>
+    requires range { (limit ≤ 8190) × (credit ≤ 65536) }
+    requires fresh { (reader.old.entries ≡ []) × (reader.old.taken ≡ []) × (reader.old.count ≡ 0) }
+    ensures reader { OnOk result (reader.new ≡ record reader.old { count = submitters }) }
+    ensures submitters { IfOk result (λ ends. ends.0.items ≡ map (new_submitter credit) (origins (new_intake reader.old.queue submitters limit) ends.1.items)) }
+    ensures outlets { IfOk result (λ ends. (length ends.1.items ≡ submitters) × All (λ outlet. given outlet ≡ []) ends.1.items) }
+{
+    let mut opened = Vec::new(alloc);
+    let mut outlets = Vec::new(alloc);
+    for number in 0..submitters {
+        let sender = reader.sender(number, submitters, limit)?;
+        let (outlet, inlet) = ring(alloc, credit as usize)?;
+        outlets.push(outlet)?;
+        opened.push(Submitter::new(sender, inlet, credit))?;
+    }
+    Ok((opened, outlets))
+}
+
+fn open_ends(
+    alloc: Global,
+    limit: u32,
+    capacity: u32,
+    credit: u32,
+    submitters: u32,
+) -> Result<Ends, NoMemory>
+    requires range { (limit ≤ 8190) × (0 < capacity) × (credit ≤ 65536) × (submitters ≤ 16) }
+    ensures submitters { IfOk result (λ ends. ends.submitters.items ≡ map (new_submitter credit) (origins ends.intake ends.outlets.items)) }
+    ensures control { IfOk result (λ ends. ends.control ≡ new_control ends.intake) }
+    ensures intake { IfOk result (λ ends. ends.intake ≡ new_intake ends.intake.queue submitters limit) }
+    ensures outlets { IfOk result (λ ends. (length ends.outlets.items ≡ submitters) × All (λ outlet. given outlet ≡ []) ends.outlets.items) }
+{
+    let mut reader = Reader::new(alloc, capacity as usize)?;
+    let (opened, outlets) = open_submitters(alloc, &mut reader, limit, credit, submitters)?;
+    let control = Control::new(reader.sender(submitters, submitters, limit)?);
+    Ok(Ends {
+        submitters: opened,
+        control,
+        intake: Intake::new(reader, submitters, limit),
+        outlets,
+    })
+}
+
+/// A queue of so many places with all its ends, for submitters that each may have as many packets as
+/// the credit queued with their replies unread. It is refused for its limit, then its capacity or
+/// credit, then the number of submitters, then want of memory. All memory but that of packets is taken
+/// here: the queue's places and a ring of `credit` slots for each submitter.
+pub fn open_queue(
+    alloc: Global,
+    limit: u32,
+    capacity: u32,
+    credit: u32,
+    submitters: u32,
+) -> Result<Ends, Refusal>
+    ensures submitters { IfOk result (λ ends. ends.submitters.items ≡ map (new_submitter credit) (origins ends.intake ends.outlets.items)) }
+    ensures own { IfOk result (λ ends. map origin_of ends.submitters.items ≡ origins ends.intake ends.outlets.items) }
+    ensures control { IfOk result (λ ends. ends.control ≡ new_control ends.intake) }
+    ensures intake { IfOk result (λ ends. ends.intake ≡ new_intake ends.intake.queue submitters limit) }
+    ensures outlets { IfOk result (λ ends. (length ends.outlets.items ≡ submitters) × All (λ outlet. given outlet ≡ []) ends.outlets.items) }
+    ensures opens { OnOk result (queue_refusal limit capacity credit submitters ≡ None) }
+    ensures refusal { IfErr result (λ why. IsRefusal (queue_refusal limit capacity credit submitters) (λ other. other ≡ refusal.NoMemory) why) }
+{
+    if limit < 1 || limit > MOST_EVENTS {
+        return Err(Refusal::BadLimit);
+    }
+    if capacity < 1 || capacity > MOST_PLACES || credit < 1 || credit > MOST_PLACES {
+        return Err(Refusal::BadCapacity);
+    }
+    if submitters < 1 || submitters > MOST_SUBMITTERS {
+        return Err(Refusal::BadSubmitters);
+    }
+    match open_ends(alloc, limit, capacity, credit, submitters) {
+        Ok(ends) => Ok(ends),
+        Err(_) => Err(Refusal::NoMemory),
+    }
+}

@@ -1,0 +1,52 @@
+//! The intake.
+
+ghost use Rattle.std.specs.Prelude.{◌≡◌, ◌+◌, ◌≤◌, [], IfSome, IfNone};
+ghost use Rattle.tb_submit.specs.Ends.{new_intake, with_taken};
+
+use crate::reader::Reader;
+use std::marker::Model;
+use std::sync::Wait;
+use tb_work::Ticket;
+
+/// Takes what all senders of a queue have put in it.
+#[derive(Drop)]
+pub struct Intake {
+    pub(crate) reader: Reader,
+    submitters: u32,
+    limit: u32,
+}
+
+impl Model for Intake {
+    ghost use Rattle.std.specs.Prelude.{◌≡◌, ◌+◌, []};
+    ghost use Rattle.tb_submit.specs.Ends.{IntakeState};
+
+    ghost Value = { IntakeState };
+
+    ghost view = { λ i. record { queue = i.reader.queue; submitters = i.submitters; limit = i.limit; taken = i.reader.taken } };
+
+    ghost invariant = { λ i. (i.reader.entries ≡ []) × (i.reader.count ≡ i.submitters + 1) };
+}
+
+impl Intake {
+    pub(crate) fn new(reader: Reader, submitters: u32, limit: u32) -> Intake
+        requires entries { reader.entries ≡ [] }
+        requires count { reader.count ≡ submitters + 1 }
+        requires none { reader.taken ≡ [] }
+        ensures { result ≡ new_intake reader.queue submitters limit }
+    {
+        Intake {
+            reader,
+            submitters,
+            limit,
+        }
+    }
+
+    /// The front of the queue; None only where the queue was empty at some moment of the call.
+    pub fn take<R: Wait>(&mut self, rt: &R) -> Option<Ticket>
+        ensures some { IfSome result (λ ticket. self.new ≡ with_taken self.old ticket) }
+        ensures none { IfNone result (self.new ≡ self.old) }
+        ensures sender { IfSome result (λ ticket. ticket.sender ≤ self.old.submitters) }
+    {
+        self.reader.take(rt)
+    }
+}

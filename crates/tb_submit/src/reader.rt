@@ -1,0 +1,99 @@
+//! The pass that takes.
+
+ghost use Rattle.std.specs.Prelude.{◌≡◌, ◌+◌, ◌<◌, [], ◌∷◌, ◌++◌, List, Some, OnOk, IfOk, IfSome, IfNone};
+ghost use Rattle.tb_work.specs.declared.item.Ticket.{Ticket};
+ghost use Rattle.tb_submit.specs.Inside.{seated};
+ghost use Rattle.tb_submit.specs.Lists.{IsFiled};
+ghost use Rattle.tb_submit.specs.Rule.{entry, IsWhole};
+
+use crate::rule::{Gathers, Newcomer, Place, Queue, Queued, Taken};
+use crate::sender::{EndedSender, Sender};
+use std::alloc::{AllocError, Global};
+use std::marker::Model;
+use std::sync::{Arc, Wait};
+use tb_work::Ticket;
+
+/// Takes from the queue, gives out numbers, and takes in what ended senders know.
+#[derive(Drop)]
+pub(crate) struct Reader {
+    queue: Arc<Queue, Global>,
+    place: Place,
+}
+
+impl Model for Reader {
+    ghost use Rattle.std.specs.Prelude.{◌≡◌};
+    ghost use Rattle.std.specs.Arc.{arc_value};
+    ghost use Rattle.crossbeam_queue.specs.Passes.{IsPassOf};
+    ghost use Rattle.tb_submit.specs.Inside.{ReaderState, taken_of, count_of, known};
+    ghost use Rattle.tb_submit.specs.Rule.{intake};
+
+    ghost Value = { ReaderState };
+
+    ghost view = { λ s. record { queue = s.place.table_id; entries = (known s.place).entries; taken = taken_of (known s.place).mark; count = count_of (known s.place).mark } };
+
+    ghost invariant = { λ s. IsPassOf (arc_value s.queue) s.place × (known s.place ≡ intake (known s.place).entries (taken_of (known s.place).mark) (count_of (known s.place).mark)) };
+}
+
+impl Reader {
+    /// A new queue's.
+    pub(crate) fn new(alloc: Global, capacity: usize) -> Result<Reader, AllocError>
+        requires { 0 < capacity }
+        ensures { IfOk result (λ reader. (reader.entries ≡ []) × (reader.taken ≡ []) × (reader.count ≡ 0)) }
+    {
+        let (queue, place) = Queue::ruled(alloc, capacity)?;
+        let queue = Arc::new(alloc, queue)?;
+        Ok(Reader { queue, place })
+    }
+
+    /// A new sender, with the next number.
+    pub(crate) fn sender(
+        &mut self,
+        number: u32,
+        submitters: u32,
+        limit: u32,
+    ) -> Result<Sender, AllocError>
+        requires { number ≡ self.old.count }
+        ensures same { (self.new.queue ≡ self.old.queue) × (self.new.entries ≡ self.old.entries) × (self.new.taken ≡ self.old.taken) }
+        ensures count { OnOk result (self.new.count ≡ self.old.count + 1) }
+        ensures sender { IfOk result (λ sender. sender ≡ record { seat = seated (Some self.old.queue) submitters limit number; queued = [] }) }
+    {
+        let queue = Arc::try_clone(&self.queue)?;
+        let place = self.queue.another::<Newcomer>(&mut self.place);
+        Ok(Sender {
+            queue,
+            place,
+            number,
+            submitters,
+            limit,
+        })
+    }
+
+    /// The front of the queue; None only where it was empty at some moment of the call.
+    pub(crate) fn take<R: Wait>(&mut self, rt: &R) -> Option<Ticket>
+        ensures some { IfSome result (λ ticket. self.new ≡ record self.old { taken = self.old.taken ++ ticket ∷ [] }) }
+        ensures none { IfNone result (self.new ≡ self.old) }
+        ensures sender { IfSome result (λ ticket. ticket.sender < self.old.count) }
+    {
+        self.queue.pop_as::<Taken, R>(rt, &mut self.place)
+    }
+
+    /// What an ended sender pushed is known here from now on.
+    pub(crate) fn gather(&mut self, ended: &mut EndedSender)
+        requires { ended.old.seat.queue ≡ Some self.old.queue }
+        ensures entries { self.new ≡ record self.old { entries = self.old.entries ++ entry ended.old.seat.number ended.old.queued ∷ [] } }
+        ensures filed { IsFiled ended.old.seat.limit ended.old.seat.submitters ended.old.seat.number ended.old.queued }
+    {
+        let Some(place) = ended.place.take() else {
+            unreachable!()
+        };
+        self.queue.absorb::<Gathers>(&mut self.place, place);
+    }
+
+    /// What is queued of each sender that was gathered.
+    pub(crate) fn learn(&mut self)
+        ensures same { self.new ≡ self.old }
+        ensures whole { (items : List Ticket) × IsWhole self.new.entries self.new.taken self.new.count items }
+    {
+        self.queue.learn_as::<Queued>(&mut self.place);
+    }
+}

@@ -1,0 +1,100 @@
+//! The queue's rule: what was taken followed by what is queued has, as each sender's part, just what its
+//! pass pushed. What passes know is known to proofs alone: no value of these types is made.
+
+use crossbeam_queue::protocol::{Join, Lesson, Outcome, Protocol, Split};
+use crossbeam_queue::{Pass, RuledArrayQueue};
+use std::collections::LinkedList;
+use tb_work::{Item, Ticket};
+
+/// What one sender pushed.
+pub struct Entry {
+    pub number: u32,
+    pub pushed: LinkedList<Item>,
+}
+
+/// What the intake took, and how many numbers were given out.
+pub struct Mark {
+    pub taken: LinkedList<Ticket>,
+    pub count: u32,
+}
+
+/// What a pass knows.
+pub struct View {
+    pub entries: LinkedList<Entry>,
+    pub mark: Option<Mark>,
+}
+
+pub struct PerSender;
+
+impl Protocol<Ticket, View> for PerSender {
+    ghost use Rattle.tb_submit.specs.Rule.{Kept, opening};
+
+    ghost holds = { Kept };
+
+    ghost first = { opening };
+}
+
+/// The intake's pass gives the next number to a new one.
+pub struct Newcomer;
+
+impl Split<View> for Newcomer {
+    ghost use Rattle.tb_submit.specs.Rule.{counted, newcomer};
+
+    ghost left = { counted };
+
+    ghost right = { newcomer };
+}
+
+/// A pass takes in what another knows.
+pub struct Gathers;
+
+impl Join<View> for Gathers {
+    ghost use Rattle.tb_submit.specs.Rule.{gathered, spent};
+
+    ghost both = { gathered };
+
+    ghost spent = { spent };
+}
+
+pub struct Pushed;
+
+impl Outcome<Ticket, View> for Pushed {
+    ghost use Rattle.std.specs.Prelude.{◌≡◌};
+    ghost use Rattle.tb_submit.specs.Rule.{with_pushed};
+
+    ghost then = { λ view ticket next. next ≡ with_pushed view ticket };
+}
+
+impl Lesson<Ticket, View> for Pushed {
+    ghost use Rattle.std.specs.Prelude.{⊤};
+
+    ghost fact = { λ view items. ⊤ };
+}
+
+pub struct Taken;
+
+impl Outcome<Ticket, View> for Taken {
+    ghost use Rattle.std.specs.Prelude.{◌≡◌, ◌<◌};
+    ghost use Rattle.tb_submit.specs.Rule.{with_taken, next_of};
+
+    ghost then = { λ view ticket next. (next ≡ with_taken view ticket) × (ticket.sender < next_of view.mark) };
+}
+
+impl Lesson<Ticket, View> for Taken {
+    ghost use Rattle.std.specs.Prelude.{⊤};
+
+    ghost fact = { λ view items. ⊤ };
+}
+
+/// What the intake's pass learns of what is queued.
+pub struct Queued;
+
+impl Lesson<Ticket, View> for Queued {
+    ghost use Rattle.tb_submit.specs.Rule.{Tells};
+
+    ghost fact = { Tells };
+}
+
+pub type Queue = RuledArrayQueue<Ticket, View, PerSender>;
+
+pub type Place = Pass<Ticket, View>;

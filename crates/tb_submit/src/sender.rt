@@ -1,0 +1,115 @@
+//! Those that push under a number of their own.
+
+ghost use Rattle.std.specs.Prelude.{◌≡◌, [], ◌∷◌, ◌++◌, OnOk, IfOk, IfErr};
+ghost use Rattle.tb_submit.specs.Ends.{sender_with};
+ghost use Rattle.tb_submit.specs.Lists.{IsFiled};
+
+use crate::rule::{Place, Pushed, Queue};
+use std::alloc::Global;
+use std::marker::Model;
+use std::sync::{Arc, Wait};
+use tb_work::{Item, Ticket};
+
+/// One that may push.
+#[derive(Drop)]
+pub(crate) struct Sender {
+    pub(crate) queue: Arc<Queue, Global>,
+    pub(crate) place: Place,
+    pub(crate) number: u32,
+    pub(crate) submitters: u32,
+    pub(crate) limit: u32,
+}
+
+impl Model for Sender {
+    ghost use Rattle.std.specs.Prelude.{◌≡◌};
+    ghost use Rattle.std.specs.Arc.{arc_value};
+    ghost use Rattle.crossbeam_queue.specs.Passes.{IsPassOf};
+    ghost use Rattle.tb_submit.specs.Ends.{SenderState};
+    ghost use Rattle.tb_submit.specs.Inside.{first_pushed, known, pushing};
+    ghost use Rattle.tb_submit.specs.Rule.{sender};
+
+    ghost Value = { SenderState };
+
+    ghost view = { λ s. pushing s.place s.submitters s.limit s.number };
+
+    ghost invariant = { λ s. IsPassOf (arc_value s.queue) s.place × (known s.place ≡ sender s.number (first_pushed (known s.place).entries)) };
+}
+
+impl Sender {
+    pub(crate) fn number(&self) -> u32
+        ensures { result ≡ self.now.seat.number }
+    {
+        self.number
+    }
+
+    pub(crate) fn limit(&self) -> u32
+        ensures { result ≡ self.now.seat.limit }
+    {
+        self.limit
+    }
+
+    /// The item comes back where the queue was full.
+    pub(crate) fn push<R: Wait>(&mut self, rt: &R, item: Item) -> Result<(), Item>
+        ensures ok { OnOk result (self.new ≡ sender_with self.old item) }
+        ensures full { IfErr result (λ back. (back ≡ item) × (self.new ≡ self.old)) }
+    {
+        let ticket = Ticket {
+            sender: self.number,
+            item,
+        };
+        match self.queue.push_as::<Pushed, R>(rt, &mut self.place, ticket) {
+            Ok(()) => Ok(()),
+            Err(Ticket { sender: _, item }) => Err(item),
+        }
+    }
+
+    /// Pushes its last item. The sender comes back where the queue was full.
+    pub(crate) fn end<R: Wait>(mut self, rt: &R, last: Item) -> Result<EndedSender, Sender>
+        requires { IsFiled self.seat.limit self.seat.submitters self.seat.number (self.queued ++ last ∷ []) }
+        ensures ok { IfOk result (λ ended. ended ≡ sender_with self last) }
+        ensures full { IfErr result (λ back. back ≡ self) }
+    {
+        let ticket = Ticket {
+            sender: self.number,
+            item: last,
+        };
+        match self.queue.push_as::<Pushed, R>(rt, &mut self.place, ticket) {
+            Ok(()) => {
+                let Sender {
+                    queue: _,
+                    place,
+                    number,
+                    submitters,
+                    limit,
+                } = self;
+                Ok(EndedSender {
+                    place: Some(place),
+                    number,
+                    submitters,
+                    limit,
+                })
+            }
+            Err(_) => Err(self),
+        }
+    }
+}
+
+/// One that pushed its last item. Its place goes to the reader once all have ended.
+#[derive(Drop)]
+pub(crate) struct EndedSender {
+    pub(crate) place: Option<Place>,
+    pub(crate) number: u32,
+    pub(crate) submitters: u32,
+    pub(crate) limit: u32,
+}
+
+impl Model for EndedSender {
+    ghost use Rattle.tb_submit.specs.Ends.{SenderState};
+    ghost use Rattle.tb_submit.specs.Inside.{left, IsLeft};
+
+    ghost Value = { SenderState };
+
+    ghost view = { λ s. left s.place s.submitters s.limit s.number };
+
+    ghost invariant = { λ s. IsLeft s.place s.submitters s.limit s.number };
+}

@@ -1,0 +1,62 @@
+//! What a queue came to, once all its senders have ended.
+
+ghost use Rattle.std.specs.Prelude.{◌≡◌, ◌≤◌, ◌<◌, ◌++◌, ◌∷◌, [], ℕ, List, map, length, slice_index_or, true};
+ghost use Rattle.std.specs.List.{list_any};
+ghost use Rattle.tb_rings.specs.Ends.{given};
+ghost use Rattle.tb_rings.specs.declared.Outlet.{Outlet as OutletValue};
+ghost use Rattle.tb_submit.specs.Ends.{EndedState, IntakeState, control_seat, end_origin, origins, queued_by, replies_of};
+ghost use Rattle.tb_submit.specs.Inside.{entry_of};
+ghost use Rattle.tb_submit.specs.Lists.{AreWithin, IsFiled};
+ghost use Rattle.tb_work.specs.Queue.{IsQueueOf, is_end, part};
+ghost use Rattle.tb_work.specs.Reply.{Replied};
+
+use crate::control::ControlEnd;
+use crate::ended::Ended;
+use crate::intake::Intake;
+use crate::reader::Reader;
+use tb_rings::Outlet;
+use tb_work::Reply;
+
+/// What each of them queued goes to the reader, and each sees what lies in its ring.
+fn settle_all(reader: &mut Reader, ends: Vec<Ended>, outlets: Vec<Outlet<Reply>>) -> Vec<Ended>
+    requires { (intake : IntakeState) × (intake.queue ≡ reader.old.queue) × (map end_origin ends.items ≡ origins intake outlets.items) }
+    ensures reader { reader.new ≡ record reader.old { entries = reader.old.entries ++ map entry_of ends.items } }
+    ensures filed { (k : ℕ) (d : EndedState) → k < length ends.items → IsFiled (slice_index_or ends.items k d).origin.seat.limit (slice_index_or ends.items k d).origin.seat.submitters (slice_index_or ends.items k d).origin.seat.number (slice_index_or ends.items k d).queued }
+    ensures long { length result.items ≡ length ends.items }
+    ensures replies { (k : ℕ) (d : EndedState) (o : OutletValue Replied) → k < length ends.items → (slice_index_or result.items k d).read ++ (slice_index_or result.items k d).lying ≡ given (slice_index_or outlets.items k o) }
+    ensures read { (k : ℕ) (d : EndedState) → (slice_index_or result.items k d).read ≡ (slice_index_or ends.items k d).read }
+{
+    let mut ends = ends;
+    let mut outlets = outlets;
+    for k in 0..ends.len() {
+        ends[k].settle(reader, &mut outlets[k]);
+    }
+    ends
+}
+
+/// Once all senders have ended and the end of each was taken, what was taken is the queue as they filled
+/// it, and each submitter's end sees all of its replies that were given. Takes no memory, and waits for
+/// nobody.
+pub fn settle_queue(
+    intake: Intake,
+    ends: Vec<Ended>,
+    control: ControlEnd,
+    outlets: Vec<Outlet<Reply>>,
+) -> Vec<Ended>
+    requires ends { map end_origin ends.items ≡ origins intake outlets.items }
+    requires number { length outlets.items ≡ intake.submitters }
+    requires control { control.seat ≡ control_seat intake }
+    requires finished { (sender : ℕ) → sender ≤ intake.submitters → list_any is_end (part sender intake.taken) ≡ true }
+    ensures queue { IsQueueOf intake.submitters intake.taken (queued_by ends.items control) }
+    ensures within { AreWithin intake.limit intake.taken }
+    ensures long { length result.items ≡ intake.submitters }
+    ensures replies { (sender : ℕ) (d : OutletValue Replied) → sender < intake.submitters → replies_of result.items sender ≡ given (slice_index_or outlets.items sender d) }
+    ensures read { (k : ℕ) (d : EndedState) → (slice_index_or result.items k d).read ≡ (slice_index_or ends.items k d).read }
+{
+    let mut reader = intake.reader;
+    let mut last = control.sender;
+    let ends = settle_all(&mut reader, ends, outlets);
+    reader.gather(&mut last);
+    reader.learn();
+    ends
+}

@@ -1,0 +1,190 @@
+//! Submitters.
+
+ghost use Rattle.std.specs.Prelude.{◌≡◌, ◌⊎◌, ◌<◌, ◌≤◌, ◌^◌, [], ◌∷◌, ◌++◌, length, None, OnOk, IfOk, IfErr, IfSome, IfNone, IsSomeAnd};
+ghost use Rattle.tb_rings.specs.Ends.{inlet_ring, taken, lies};
+ghost use Rattle.tb_submit.specs.Ends.{ended_with, with_item, new_submitter};
+ghost use Rattle.tb_submit.specs.Refusals as spec;
+ghost use Rattle.tb_submit.specs.Refusals.{IsRefusal, in_flight, submit_refusal};
+ghost use Rattle.tb_work.specs.Job.{numbered};
+ghost use Rattle.tb_work.specs.declared.item.Item.TheVariants as item;
+ghost use Rattle.tb_work.specs.declared.refusal.Refusal.TheVariants as refusal;
+
+use crate::ended::Ended;
+use crate::sender::Sender;
+use std::alloc::Global;
+use std::marker::Model;
+use std::sync::Wait;
+use tb_rings::Inlet;
+use tb_work::{Item, Job, Outcome, Packet, Refusal, Reply, admit};
+
+/// Queues packets under its number, and reads their replies.
+#[derive(Drop)]
+pub struct Submitter {
+    sender: Sender,
+    inlet: Inlet<Reply>,
+    credit: u32,
+    queued: u64,
+    read: u64,
+    told: Option<Refusal>,
+}
+
+impl Model for Submitter {
+    ghost use Rattle.tb_rings.specs.Ends.{inlet_ring, taken, lies};
+    ghost use Rattle.tb_submit.specs.Ends.{SubmitterState};
+    ghost use Rattle.tb_submit.specs.Inside.{IsSubmitter};
+
+    ghost Value = { SubmitterState };
+
+    ghost view = { λ s. record {
+      origin = record { seat = s.sender.seat; ring = inlet_ring s.inlet };
+      credit = s.credit;
+      queued = s.sender.queued;
+      read = taken s.inlet;
+      lying = lies s.inlet;
+    } };
+
+    ghost invariant = { λ s. IsSubmitter s.sender.seat s.sender.queued s.queued s.credit s.read s.told (taken s.inlet) };
+}
+
+/// What an outcome tells of all packets that come later.
+fn told_by(outcome: &Outcome) -> Option<Refusal>
+    ensures { result ≡ spec.told_by outcome.now }
+{
+    match outcome {
+        Outcome::Committed { .. } => None,
+        Outcome::Shutdown => Some(Refusal::Shutdown),
+        Outcome::Stopped => Some(Refusal::Stopped),
+    }
+}
+
+impl Submitter {
+    pub(crate) fn new(sender: Sender, inlet: Inlet<Reply>, credit: u32) -> Submitter
+        requires among { sender.seat.number < sender.seat.submitters }
+        requires limit { sender.seat.limit ≤ 8190 }
+        requires credit { credit ≤ 65536 }
+        requires none { (sender.queued ≡ []) × (taken inlet ≡ []) × (lies inlet ≡ []) }
+        ensures { result ≡ new_submitter credit (record { seat = sender.seat; ring = inlet_ring inlet }) }
+    {
+        Submitter {
+            sender,
+            inlet,
+            credit,
+            queued: 0,
+            read: 0,
+            told: None,
+        }
+    }
+
+    /// How many packets it has queued. The next one gets this number.
+    pub fn queued(&self) -> u64
+        ensures { result ≡ length self.now.queued }
+    {
+        self.queued
+    }
+
+    /// How many packets are queued and their replies not read, at most the credit.
+    pub fn in_flight(&self) -> u32
+        ensures value { result ≡ in_flight self.now }
+        ensures bound { result ≤ self.now.credit }
+    {
+        self.queued.saturating_sub(self.read) as u32
+    }
+
+    /// Why the packet is refused before any room is made for it.
+    fn refusal(&self, packet: &Packet) -> Option<Refusal>
+        ensures { result ≡ submit_refusal self.now packet.now }
+    {
+        if self.told.is_some() {
+            return self.told;
+        }
+        if let Err(refusal) = admit(self.sender.limit(), packet) {
+            return Some(refusal);
+        }
+        if self.in_flight() == self.credit {
+            return Some(Refusal::InFlight);
+        }
+        None
+    }
+
+    /// Queues a packet; its number is the count of this submitter's packets before it. A refused packet
+    /// comes back as it was, and no number is used. It is refused 7 or 8 once a reply that was read said
+    /// Shutdown or Stopped (whichever came first), then by what `admit` says of it, then InFlight where
+    /// as many packets as the credit are queued and their replies unread, then NoMemory, then Full. The
+    /// one allocation of a packet's way is made here, and not before the credit allows it: room for its
+    /// failures.
+    pub fn submit<R: Wait>(
+        &mut self,
+        rt: &R,
+        alloc: Global,
+        packet: Packet,
+    ) -> Result<u64, (Packet, Refusal)>
+        requires { length self.old.queued < 2 ^ 56 }
+        ensures ok { IfOk result (λ number. (number ≡ length self.old.queued) × (self.new ≡ with_item self.old (item.Packet (numbered self.old.origin.seat.number number packet)))) }
+        ensures admitted { OnOk result (submit_refusal self.old packet ≡ None) }
+        ensures back { IfErr result (λ refused. (refused.0 ≡ packet) × (self.new ≡ self.old)) }
+        ensures refusal { IfErr result (λ refused. IsRefusal (submit_refusal self.old packet) (λ other. (other ≡ refusal.NoMemory) ⊎ (other ≡ refusal.Full)) refused.1) }
+    {
+        if let Some(refusal) = self.refusal(&packet) {
+            return Err((packet, refusal));
+        }
+        let number = self.queued;
+        let job = Job::new(
+            alloc,
+            self.sender.number(),
+            number,
+            self.sender.limit(),
+            packet,
+        )?;
+        match self.sender.push(rt, Item::Packet(job)) {
+            Ok(()) => {
+                self.queued += 1;
+                Ok(number)
+            }
+            Err(Item::Packet(job)) => Err((job.into_packet(), Refusal::Full)),
+            Err(_) => unreachable!(),
+        }
+    }
+
+    /// The next reply; None where none is seen. It waits for nobody.
+    pub fn reply(&mut self) -> Option<Reply>
+        ensures some { IfSome result (λ reply. self.new ≡ record self.old { read = self.old.read ++ reply ∷ []; lying = self.new.lying }) }
+        ensures none { IfNone result (self.new ≡ record self.old { lying = [] }) }
+        ensures known { 0 < length self.old.lying → IsSomeAnd result (λ reply. self.old.lying ≡ reply ∷ self.new.lying) }
+    {
+        let reply = self.inlet.take()?;
+        self.read = self.read.saturating_add(1);
+        if self.told.is_none() {
+            self.told = told_by(&reply.outcome);
+        }
+        Some(reply)
+    }
+
+    /// Queues its end. Where the queue was full the submitter comes back.
+    pub fn end<R: Wait>(self, rt: &R) -> Result<Ended, (Submitter, Refusal)>
+        ensures ok { IfOk result (λ ended. ended ≡ ended_with self item.End) }
+        ensures full { IfErr result (λ refused. (refused.0 ≡ self) × (refused.1 ≡ refusal.Full)) }
+    {
+        let Submitter {
+            sender,
+            inlet,
+            credit,
+            queued,
+            read,
+            told,
+        } = self;
+        match sender.end(rt, Item::End) {
+            Ok(sender) => Ok(Ended { sender, inlet }),
+            Err(sender) => Err((
+                Submitter {
+                    sender,
+                    inlet,
+                    credit,
+                    queued,
+                    read,
+                    told,
+                },
+                Refusal::Full,
+            )),
+        }
+    }
+}
