@@ -1,42 +1,18 @@
 -- What a sender queues, one item after the other.
-use Rattle.std.proofs.Common.{◌≡◌, ◌<◌, ◌≤◌, ℕ, ◌+◌, ◌/◌, Bool, true, false, true≢false, List, [], ◌∷◌, ◌++◌, length, sym, refl, arith, nat_lt, Some, None, Option}
-use Rattle.std.specs.Prelude.{not, ◌==◌, ◌%◌, IsOk, Result, Ok, Err, if◌then◌else◌}
+use Rattle.std.proofs.Common.{◌≡◌, ◌<◌, ℕ, ◌+◌, true, List, [], ◌∷◌, ◌++◌, length, refl, arith}
+use Rattle.std.specs.Prelude.{not, IsOk}
 use Rattle.std.specs.List.{AllByRecursion}
-use Rattle.std.proofs.lemmas.Bool.Decides.{nat_tests}
-use Rattle.tb_work.specs.Admission.{admitted, admitted_of_size, event_size, count_of, count_of_size}
+use Rattle.tb_work.specs.Admission.{admitted}
 use Rattle.tb_work.specs.Job.{Numbered, numbered}
 use Rattle.tb_work.specs.Queue.{is_end, IsUnended, IsSubmitted, AreNumbered}
 use Rattle.tb_work.specs.declared.item.Item.{Item}
 use Rattle.tb_work.specs.declared.item.Item.TheVariants.{Packet, Pulse, End, Close}
-use Rattle.tb_work.specs.declared.packet.Packet.{Packet as PacketValue}
-use Rattle.tb_work.specs.declared.refusal.Refusal.{Refusal}
-use Rattle.tb_work.specs.declared.refusal.Refusal.TheVariants.{InvalidDataSize, TooMuchData}
 use Rattle.tb_submit.specs.Lists.{IsWithin, ArePackets, ArePulses, IsFiled}
-
-abbrev result_of : Result ℕ Refusal → Result ℕ Refusal
-result_of result = result
-
--- an admitted packet is within the limit
-size_within : (limit : ℕ) (bytes : List ℕ) (size : Option ℕ) → IsOk (admitted_of_size limit bytes size) → count_of_size bytes size ≤ limit
-size_within limit bytes None ok = omega arith
-size_within limit bytes (Some size) ok = by (not (length bytes % size == 0)) (nat_lt limit (length bytes / size)) refl ok
-  where
-    below : nat_lt limit (length bytes / size) ≡ false → length bytes / size ≤ limit
-    below is = grind (arith, nat_tests)
-
-    by : (odd above : Bool) → nat_lt limit (length bytes / size) ≡ above →
-        IsOk (result_of (if odd then Err InvalidDataSize else if above then Err TooMuchData else Ok (length bytes / size))) → length bytes / size ≤ limit
-    by true above is ok = absurd (true≢false (sym ok))
-    by false true is ok = absurd (true≢false (sym ok))
-    by false false is ok = below is
-
-pub within_limit : (limit : ℕ) (packet : PacketValue) → IsOk (admitted limit packet) → count_of packet ≤ limit
-within_limit limit packet ok = size_within limit packet.bytes (event_size packet.operation) ok
 
 -- ---- packets
 
 pub packets_more : (limit sender number : ℕ) (items : List Item) (job : Numbered) → ArePackets limit sender number items →
-    job.submitter ≡ sender → job.number ≡ number + length items → count_of job.packet ≤ limit → ArePackets limit sender number (items ++ Packet job ∷ [])
+    job.submitter ≡ sender → job.number ≡ number + length items → IsOk (admitted limit job.packet) → ArePackets limit sender number (items ++ Packet job ∷ [])
 packets_more limit sender number [] job all own is within = (own, omega (arith, is), within, tt)
 packets_more limit sender number (Packet first ∷ items) job all own is within = (all.0, all.1, all.2, packets_more limit sender (number + 1) items job all.3 own (omega (arith, is)) within)
 packets_more limit sender number (Pulse moment ∷ items) job all own is within = absurd all

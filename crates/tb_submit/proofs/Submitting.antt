@@ -1,8 +1,8 @@
 -- A submitter's counts, one step after the other.
 use Rattle.std.proofs.Common.{◌≡◌, ◌≢◌, ◌<◌, ◌≤◌, ℕ, ◌+◌, ◌-◌, min, Bool, true, false, true≢false, List, [], ◌∷◌, ◌++◌, length, length-append, sym, refl, ap, ◌∙◌, arith, Some, None, Option, ◌==◌, is_some}
-use Rattle.std.specs.Prelude.{if◌then◌else◌}
+use Rattle.std.specs.Prelude.{IsOk, if◌then◌else◌}
 use Rattle.std.proofs.lemmas.Bool.{eqb-false}
-use Rattle.tb_work.specs.Admission.{admitted, count_of}
+use Rattle.tb_work.specs.Admission.{admitted}
 use Rattle.tb_work.specs.Job.{Numbered}
 use Rattle.tb_work.specs.Reply.{Replied}
 use Rattle.tb_work.specs.declared.item.Item.{Item}
@@ -36,7 +36,7 @@ credit_left s packet none most =
     omega (arith, most, other)
 
 pub counts_packet : (seat : Seat) (queued : List Item) (count credit seen : ℕ) (first : Option Refusal) (read : List Replied) (job : Numbered) → IsSubmitter seat queued count credit seen first read →
-    job.submitter ≡ seat.number → job.number ≡ count → count_of job.packet ≤ seat.limit → length queued - length read < credit → IsSubmitter seat (queued ++ Packet job ∷ []) (count + 1) credit seen first read
+    job.submitter ≡ seat.number → job.number ≡ count → IsOk (admitted seat.limit job.packet) → length queued - length read < credit → IsSubmitter seat (queued ++ Packet job ∷ []) (count + 1) credit seen first read
 counts_packet seat queued count credit seen first read job is own number within left = record {
   among = is.among;
   limited = is.limited;

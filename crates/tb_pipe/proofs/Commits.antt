@@ -1,0 +1,86 @@
+-- One step of the committer.
+use Rattle.std.proofs.Common.{refl, sym, ap, subst, ◌∙◌, ◌≡◌, ℕ, Bool, true, false, List, [], ◌∷◌, ◌++◌, length, append-nil}
+use Rattle.std.specs.Prelude.{◌||◌}
+use Rattle.std.specs.List.{flat_map}
+use Rattle.std.proofs.lemmas.Grind.{flat_map-append}
+use Rattle.tb_work.specs.Reply.{Replied}
+use Rattle.tb_core.specs.declared.parcel.Parcel.{Parcel}
+use Rattle.tb_core.specs.declared.parcel.Parcel.TheVariants as parcel
+use Rattle.tb_core.specs.declared.outcomes.Outcomes.{Outcomes}
+use Rattle.tb_core.specs.declared.outcomes.Outcomes.TheVariants as outcomes
+use Rattle.tb_core.specs.Front.{spelled, spelled_one}
+use Rattle.tb_core.specs.Grouping.{AreJoined, AreJoinedParcels, IsJoinedParcel}
+use Rattle.tb_core.specs.Ledger.{LedgerState, Applied, giving, halts, applied}
+use Rattle.tb_core.specs.Passage.{Passage}
+use Rattle.tb_core.specs.Run.{Commits, replies_in}
+use Rattle.tb_pipe.specs.Carried.{is_last, has_last, is_final, has_final, answers_in, given_on, IsCommitted, AllCommitted, CommittedTo}
+use Rattle.tb_pipe.proofs.Lists.{either_same, none_more, any_more, all_first}
+
+-- ---- the last parcel comes to the last outcome, and no other does
+
+final_is : (refused : Bool) (ledger next : LedgerState) (handed : Parcel) (given : Outcomes) → giving next given ≡ applied refused ledger handed → is_final given ≡ is_last handed
+final_is refused ledger next (parcel.Batch jobs) given is =
+    let view : Applied → Bool = λ step. is_final step.outcomes in ap view is ∙ either_same view (halts refused ledger (length jobs)) _ _ false refl refl
+final_is refused ledger next (parcel.Pulse moment) given is =
+    let view : Applied → Bool = λ step. is_final step.outcomes in ap view is ∙ either_same view (halts refused ledger 1) _ _ false refl refl
+final_is refused ledger next (parcel.Return job cause) given is = ap (λ (step : Applied). is_final step.outcomes) is
+final_is refused ledger next parcel.Last given is = ap (λ (step : Applied). is_final step.outcomes) is
+
+answers-given_on : (given : Outcomes) → answers_in (given_on given) ≡ replies_in given
+answers-given_on (outcomes.Cut replies) = append-nil replies
+answers-given_on (outcomes.One reply) = refl
+answers-given_on outcomes.Nothing = refl
+answers-given_on outcomes.Last = refl
+
+none_final : (given : Outcomes) → is_final given ≡ false → has_final (given_on given) ≡ false
+none_final (outcomes.Cut replies) is = refl
+none_final (outcomes.One reply) is = refl
+none_final outcomes.Nothing is = refl
+none_final outcomes.Last is = is
+
+is_the_last : (given : Outcomes) → is_final given ≡ true → given ≡ outcomes.Last
+is_the_last (outcomes.Cut replies) is = cc
+is_the_last (outcomes.One reply) is = cc
+is_the_last outcomes.Nothing is = cc
+is_the_last outcomes.Last is = refl
+
+last_of : (limit : ℕ) (sent : List Parcel) (handed : Parcel) → AreJoinedParcels limit (sent ++ handed ∷ []) → IsJoinedParcel limit handed
+last_of limit [] handed all = all.0
+last_of limit (first ∷ sent) handed all = last_of limit sent handed all.1
+
+pub parcel_more : (clock : ℕ) (sent : List Parcel) (handed : Parcel) (last : Bool) (ledger next : LedgerState) (before : List Outcomes) (given : Outcomes) → last ≡ is_last handed →
+    (refused : Bool) × (giving next given ≡ applied refused ledger handed) →
+    ((clock : ℕ) (sent : List Passage) (replies : List Replied) → Commits clock sent ledger replies → Commits clock (sent ++ spelled_one handed) next (replies ++ replies_in given)) →
+    ((limit : ℕ) → IsJoinedParcel limit handed → AreJoined limit ledger.groups → AreJoined limit next.groups) → IsCommitted clock sent ledger before →
+    CommittedTo last clock (sent ++ handed ∷ []) next (before ++ given_on given)
+parcel_more clock sent handed last ledger next before given last_is step more joined_more is = by last last_is
+  where
+    final : is_final given ≡ is_last handed
+    final = final_is step.0 ledger next handed given step.1
+
+    spelling : spelled (sent ++ handed ∷ []) ≡ spelled sent ++ spelled_one handed
+    spelling = flat_map-append spelled_one sent (handed ∷ []) ∙ ap (λ ps. spelled sent ++ ps) (append-nil (spelled_one handed))
+
+    commits : Commits clock (spelled (sent ++ handed ∷ [])) next (answers_in before ++ replies_in given)
+    commits = subst (λ ps. Commits clock ps next (answers_in before ++ replies_in given)) (sym spelling) (more clock (spelled sent) (answers_in before) is.commits)
+
+    joined : (limit : ℕ) → AreJoinedParcels limit (sent ++ handed ∷ []) → AreJoined limit next.groups
+    joined limit all = joined_more limit (last_of limit sent handed all) (is.joined limit (all_first (IsJoinedParcel limit) sent (handed ∷ []) all))
+
+    by : (last : Bool) → last ≡ is_last handed → CommittedTo last clock (sent ++ handed ∷ []) next (before ++ given_on given)
+    by true ends =
+        let end : given ≡ outcomes.Last = is_the_last given (final ∙ sym ends) in
+        record {
+          before = before;
+          parts = ap (λ (o : Outcomes). before ++ given_on o) end;
+          commits = subst (λ rs. Commits clock (spelled (sent ++ handed ∷ [])) next rs) (ap (λ (o : Outcomes). answers_in before ++ replies_in o) end ∙ append-nil (answers_in before)) commits;
+          joined = joined;
+          ended = any_more is_last sent handed (sym ends);
+          unfinished = is.unfinished;
+        }
+    by false ends = record {
+      commits = subst (λ rs. Commits clock (spelled (sent ++ handed ∷ [])) next rs) (ap (λ rs. answers_in before ++ rs) (sym (answers-given_on given)) ∙ sym (flat_map-append replies_in before (given_on given))) commits;
+      joined = joined;
+      unended = none_more is_last sent (handed ∷ []) is.unended (ap (λ found. found || false) (sym ends));
+      unfinished = none_more is_final before (given_on given) is.unfinished (none_final given (final ∙ sym ends));
+    }

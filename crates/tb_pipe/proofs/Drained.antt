@@ -1,0 +1,118 @@
+-- What a run that has ended came to.
+use Rattle.std.proofs.Common.{refl, sym, ap, subst, ◌∙◌, arith, ◌≡◌, ◌<◌, ◌≤◌, ℕ, zero, suc, ◌/◌, Bool, true, false, true≢false, List, [], ◌∷◌, ◌++◌, append-nil, length, map, nat_lt, drop}
+use Rattle.std.specs.Prelude.{◌==◌, ◌%◌, not, IsOk, Result, Ok, Err, Option, Some, None, if◌then◌else◌}
+use Rattle.std.specs.List.{flat_map, AllByRecursion}
+use Rattle.std.specs.Simd.{first_chunks}
+use Rattle.std.proofs.lemmas.Bool.Decides.{nat_tests}
+use Rattle.std.proofs.lemmas.List.{length-map}
+use Rattle.std.proofs.lemmas.Grind.{flat_map-append}
+use Rattle.tb_layout.specs.Work.{Work}
+use Rattle.tb_layout.specs.Account.{account_of}
+use Rattle.tb_layout.specs.Bytes.{little_endian}
+use Rattle.tb_layout.specs.Transfer.{transfer_of}
+use Rattle.tb_layout.specs.Events.{Accounts, Transfers, Ids, accounts_of, transfers_of, ids_of, rows, count_of}
+use Rattle.tb_work.specs.Admission.{admitted, admitted_of_size}
+use Rattle.tb_work.specs.Job.{events_in}
+use Rattle.tb_work.specs.Queue.{ahead, ahead_of, items_in}
+use Rattle.tb_work.specs.Reply.{Replied}
+use Rattle.tb_work.specs.declared.item.Item.{Item}
+use Rattle.tb_work.specs.declared.item.Item.TheVariants as item
+use Rattle.tb_work.specs.declared.item.Ticket.{Ticket}
+use Rattle.tb_work.specs.declared.packet.Packet.{Packet}
+use Rattle.tb_work.specs.declared.refusal.Refusal.{Refusal}
+use Rattle.tb_work.specs.declared.refusal.Refusal.TheVariants.{InvalidDataSize, TooMuchData}
+use Rattle.tb_core.specs.declared.parcel.Parcel.{Parcel}
+use Rattle.tb_core.specs.declared.parcel.Parcel.TheVariants as parcel
+use Rattle.tb_core.specs.declared.outcomes.Outcomes.{Outcomes}
+use Rattle.tb_core.specs.declared.outcomes.Outcomes.TheVariants as outcomes
+use Rattle.tb_core.specs.Front.{spelled, spelled_one}
+use Rattle.tb_core.specs.Grouping.{AreJoined, AreJoinedParcels, IsJoinedParcel, IsGrouping, IsWithin as IsWorkWithin, AreWithin as AreWorksWithin}
+use Rattle.tb_core.specs.Ledger.{LedgerState, works}
+use Rattle.tb_core.specs.Run.{Commits, Ran, replies_in}
+use Rattle.tb_rings.specs.declared.Outlet.{Outlet}
+use Rattle.tb_submit.specs.Lists.{IsWithin, AreWithin}
+use Rattle.tb_pipe.specs.Carried.{is_last, is_final, has_final, answers_in, AllBatched, AllCommitted}
+use Rattle.tb_pipe.proofs.Lists.{all_taken, all_more, all_first}
+
+pub record HasRun (clock limit : ℕ) (queue : List Ticket) (ledger : LedgerState) (answers : List Replied) : Type 0 where
+  pub ran : Ran clock (items_in queue) ledger answers
+  pub joined : AreJoined limit ledger.groups
+
+-- where each stage took all that the one before it gave, and gave all that it made of it
+pub drained : (clock limit submitters : ℕ) (queue : List Ticket) (given_parcels taken_parcels left_parcels : List Parcel) (ledger : LedgerState) (given_outcomes taken_outcomes left_outcomes : List Outcomes) →
+    AllBatched limit submitters queue given_parcels → AllCommitted clock taken_parcels ledger given_outcomes → taken_parcels ++ left_parcels ≡ given_parcels → taken_outcomes ++ left_outcomes ≡ given_outcomes → has_final taken_outcomes ≡ true →
+    HasRun clock limit queue ledger (answers_in taken_outcomes)
+drained clock limit submitters queue given_parcels taken_parcels left_parcels ledger given_outcomes taken_outcomes left_outcomes batched committed parcels_are outcomes_are final =
+    let all_parcels : taken_parcels ≡ batched.before ++ parcel.Last ∷ [] = all_taken is_last batched.before parcel.Last taken_parcels left_parcels batched.unended (parcels_are ∙ batched.parts) committed.ended in
+    let spelling : spelled taken_parcels ≡ spelled batched.before = ap spelled all_parcels ∙ flat_map-append spelled_one batched.before (parcel.Last ∷ []) ∙ append-nil (spelled batched.before) in
+    let all_outcomes : taken_outcomes ≡ committed.before ++ outcomes.Last ∷ [] = all_taken is_final committed.before outcomes.Last taken_outcomes left_outcomes committed.unfinished (outcomes_are ∙ committed.parts) final in
+    let answers : answers_in taken_outcomes ≡ answers_in committed.before = ap answers_in all_outcomes ∙ flat_map-append replies_in committed.before (outcomes.Last ∷ []) ∙ append-nil (answers_in committed.before) in
+    record {
+      ran = record {
+        closed = batched.closed;
+        stopped = batched.stopped;
+        passages = spelled batched.before;
+        passed = batched.passes;
+        commits = subst (λ rs. Commits clock (spelled batched.before) ledger rs) (sym answers) (subst (λ ps. Commits clock ps ledger (answers_in committed.before)) spelling committed.commits);
+      };
+      joined = committed.joined limit (subst (AreJoinedParcels limit) (sym all_parcels) (all_more (IsJoinedParcel limit) batched.before (parcel.Last ∷ []) batched.joined (tt, tt)));
+    }
+
+-- ---- no packet of the journal has more events than the limit
+
+length-rows : (size n : ℕ) (bytes : List ℕ) → length (first_chunks size n bytes) ≡ n
+length-rows size zero bytes = refl
+length-rows size (suc n) bytes = ap suc (length-rows size n (drop size bytes))
+
+abbrev result_of : Result ℕ Refusal → Result ℕ Refusal
+result_of result = result
+
+few : (limit : ℕ) (bytes : List ℕ) (size : ℕ) → IsOk (admitted_of_size limit bytes (Some size)) → length (rows size bytes) ≤ limit
+few limit bytes size ok = by (not (length bytes % size == 0)) (nat_lt limit (length bytes / size)) refl ok
+  where
+    below : nat_lt limit (length bytes / size) ≡ false → length bytes / size ≤ limit
+    below is = grind (arith, nat_tests)
+
+    by : (odd above : Bool) → nat_lt limit (length bytes / size) ≡ above →
+        IsOk (result_of (if odd then Err InvalidDataSize else if above then Err TooMuchData else Ok (length bytes / size))) → length (rows size bytes) ≤ limit
+    by true above is ok = absurd (true≢false (sym ok))
+    by false true is ok = absurd (true≢false (sym ok))
+    by false false is ok = subst (λ n. n ≤ limit) (sym (length-rows size (length bytes / size) bytes)) (below is)
+
+few_mapped : {A : Type 0} (limit : ℕ) (f : List ℕ → A) (all : List (List ℕ)) → length all ≤ limit → length (map f all) ≤ limit
+few_mapped limit f all most = subst (λ n. n ≤ limit) (sym (length-map all f)) most
+
+few_events : (limit : ℕ) (packet : Packet) → IsOk (admitted limit packet) → count_of (events_in packet) ≤ limit
+few_events limit packet ok = by (packet.operation == 129) (packet.operation == 130) (packet.operation == 131) ok
+  where
+    bytes : List ℕ
+    bytes = packet.bytes
+
+    by : (accounts transfers lookup : Bool) → IsOk (admitted_of_size limit bytes (if accounts then Some 128 else if transfers then Some 128 else if lookup then Some 16 else None)) →
+        count_of (if accounts then Accounts (accounts_of bytes) else if transfers then Transfers (transfers_of bytes) else Ids (ids_of bytes)) ≤ limit
+    by true transfers lookup ok = few_mapped limit account_of (rows 128 bytes) (few limit bytes 128 ok)
+    by false true lookup ok = few_mapped limit transfer_of (rows 128 bytes) (few limit bytes 128 ok)
+    by false false true ok = few_mapped limit little_endian (rows 16 bytes) (few limit bytes 16 ok)
+    by false false false ok = absurd (true≢false (sym ok))
+
+one_within : (limit : ℕ) (x : Item) (others : List Work) → IsWithin limit x → AreWorksWithin limit others → AreWorksWithin limit (ahead_of x others)
+one_within limit (item.Packet job) others within all = (few_events limit job.packet within, all)
+one_within limit (item.Pulse moment) others within all = (tt, all)
+one_within limit item.End others within all = all
+one_within limit item.Close others within all = tt
+
+ahead_within : (limit : ℕ) (queue : List Ticket) → AreWithin limit queue → AreWorksWithin limit (ahead (items_in queue))
+ahead_within limit [] all = tt
+ahead_within limit (ticket ∷ queue) all = one_within limit ticket.item (ahead (items_in queue)) all.0 (ahead_within limit queue all.1)
+
+pub grouped : (limit : ℕ) (queue : List Ticket) (ledger : LedgerState) (behind : List Work) → AreJoined limit ledger.groups → AreWithin limit queue → works ledger ++ behind ≡ ahead (items_in queue) → IsGrouping limit ledger.groups
+grouped limit queue ledger behind joined within committed = record {
+  joined = joined;
+  within = all_first (IsWorkWithin limit) (works ledger) behind (subst (AreWorksWithin limit) (sym committed) (ahead_within limit queue within));
+}
+
+-- ---- a reply ring of each number below theirs
+
+pub some_of : (k : ℕ) (outlets : List (Outlet Replied)) → k < length outlets → Outlet Replied
+some_of k [] below = absurd (omega (arith, below))
+some_of k (outlet ∷ outlets) below = outlet

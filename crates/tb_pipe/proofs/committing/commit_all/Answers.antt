@@ -1,0 +1,15 @@
+use Rattle.std.proofs.Common.{◌≡◌, ◌∙◌, false, subst, Bool, ◌++◌, ◌∷◌, []}
+use Rattle.tb_rings.specs.Ends.{given, taken}
+use Rattle.tb_pipe.specs.Carried.{CommittedTo}
+use Rattle.tb_pipe.proofs.committing.commit_all.Goals as goal
+
+pub loop-preserved-else-commit : goal.loop-preserved-else-commit
+loop-preserved-else-commit g c =
+    let parcel = c.in-Some-take.parcel in
+    let more : CommittedTo c.commit.result c.args.ledger.opening (taken c.loop.inlet ++ parcel ∷ []) c.commit.new.ledger (given c.commit.new.outlet)
+    = c.commit.ensures.committed c.args.ledger.opening (taken c.loop.inlet) c.loop.invariant.committed in
+    record {
+      inlet = c.in-Some-take.ensures.ring ∙ c.loop.invariant.inlet;
+      outlet = c.commit.ensures.ring ∙ c.loop.invariant.outlet;
+      committed = rw c.in-Some-take.ensures.some (subst (λ (b : Bool). CommittedTo b c.args.ledger.opening (taken c.loop.inlet ++ parcel ∷ []) c.commit.new.ledger (given c.commit.new.outlet)) c.if-commit.false more);
+    }

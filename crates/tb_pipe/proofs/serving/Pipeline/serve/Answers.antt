@@ -1,0 +1,8 @@
+use Rattle.std.proofs.Common.{◌∙◌, ap}
+use Rattle.tb_pipe.specs.Run.{PipelineState}
+use Rattle.tb_pipe.proofs.Origins.{served_is}
+use Rattle.tb_pipe.proofs.serving.Pipeline.serve.Goals as goal
+
+pub returns-in-Ok-clause-submitters : goal.returns-in-Ok-clause-submitters
+returns-in-Ok-clause-submitters g c =
+    (served_is c.self.inside.stages c.in-Ok.remains c.self.invariant c.in-Ok.ensures.served).submitters ∙ ap (λ (p : PipelineState). p.submitters) c.self.view_is

@@ -1,0 +1,42 @@
+use Rattle.std.proofs.Common.{◌≡◌, ◌∙◌, sym, ap, arith, ℕ, ◌<◌, ◌++◌, length}
+use Rattle.tb_core.specs.Due.{replies_to}
+use Rattle.tb_core.specs.Ledger.{works}
+use Rattle.tb_core.specs.Report.{LawfulReport}
+use Rattle.tb_machine.specs.Replay.{replay}
+use Rattle.tb_rings.specs.Ends.{given, taken, lies}
+use Rattle.tb_submit.specs.Ends.{queued_by, replies_of}
+use Rattle.tb_pipe.specs.Carried.{answers_in}
+use Rattle.tb_pipe.proofs.Drained.{HasRun, drained, grouped, some_of}
+use Rattle.tb_pipe.proofs.settling.settle_remains.Goals as goal
+
+run : (c : goal.After-drop-batches) → HasRun c.args.remains.committed.ledger.opening c.args.remains.intake.limit c.args.remains.intake.taken c.args.remains.committed.ledger (answers_in (taken c.args.remains.routed.inlet))
+run c =
+    let remains = c.args.remains in
+    let is = c.requires.served in
+    let one = c.lying.ensures in
+    let two = c.lying-2.ensures in
+    let parcels : taken remains.committed.inlet ++ lies c.lying.new.self ≡ given remains.batches = ap (λ x. x ++ lies c.lying.new.self) (sym one.same.0) ∙ one.all ∙ one.same.1 in
+    let outs : taken remains.routed.inlet ++ lies c.lying-2.new.self ≡ given remains.committed.outlet = ap (λ x. x ++ lies c.lying-2.new.self) (sym two.same.0) ∙ two.all ∙ two.same.1 in
+    drained remains.committed.ledger.opening remains.intake.limit remains.intake.submitters remains.intake.taken (given remains.batches) (taken remains.committed.inlet) (lies c.lying.new.self) remains.committed.ledger
+    (given remains.committed.outlet) (taken remains.routed.inlet) (lies c.lying-2.new.self) is.batched is.committed parcels outs is.routed.ended
+
+report : (c : goal.After-drop-batches) → LawfulReport c.args.remains.committed.ledger.opening c.args.remains.intake.submitters c.args.remains.intake.taken (queued_by c.args.ends.items c.args.control) (works c.args.remains.committed.ledger)
+    (replay c.args.remains.committed.ledger.opening (works c.args.remains.committed.ledger)) c.args.remains.committed.ledger.stopped (replies_of c.settle_queue-ends.result.items)
+report c =
+    let remains = c.args.remains in
+    let is = c.requires.served in
+    let answers = answers_in (taken remains.routed.inlet) in
+    c.run_is_lawful.ensures remains.committed.ledger.opening remains.intake.submitters remains.intake.taken (queued_by c.args.ends.items c.args.control) remains.committed.ledger answers (replies_of c.settle_queue-ends.result.items)
+    c.settle_queue-ends.ensures.queue (run c).ran
+    (λ submitter below.
+    let within : submitter < length remains.routed.outlets.items = omega (arith, below, is.number) in
+    let outlet = some_of submitter remains.routed.outlets.items within in
+    c.settle_queue-ends.ensures.replies submitter outlet below ∙ is.routed.made submitter outlet within)
+
+pub returns-clause-report : goal.returns-clause-report
+returns-clause-report c = report c
+
+pub returns-clause-grouping : goal.returns-clause-grouping
+returns-clause-grouping c =
+    let remains = c.args.remains in
+    grouped remains.intake.limit remains.intake.taken remains.committed.ledger (report c).behind (run c).joined c.settle_queue-ends.ensures.within (report c).committed

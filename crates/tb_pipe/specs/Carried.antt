@@ -1,0 +1,84 @@
+-- What the rings between the stages carry.
+use Rattle.std.specs.Prelude.{◌≡◌, ℕ, Bool, true, false, List, [], ◌∷◌, ◌++◌}
+use Rattle.std.specs.List.{flat_map, list_any}
+use Rattle.tb_work.specs.Queue.{items_in}
+use Rattle.tb_work.specs.Reply.{Replied}
+use Rattle.tb_work.specs.declared.item.Ticket.{Ticket}
+use Rattle.tb_core.specs.declared.parcel.Parcel.{Parcel}
+use Rattle.tb_core.specs.declared.parcel.Parcel.TheVariants as parcel
+use Rattle.tb_core.specs.declared.outcomes.Outcomes.{Outcomes}
+use Rattle.tb_core.specs.declared.outcomes.Outcomes.TheVariants as outcomes
+use Rattle.tb_core.specs.Front.{FrontState, spelled, held_by, KnowsEnds, HaveAllEnded}
+use Rattle.tb_core.specs.Grouping.{AreJoined, AreJoinedParcels}
+use Rattle.tb_core.specs.Ledger.{LedgerState}
+use Rattle.tb_core.specs.Passage.{Passes}
+use Rattle.tb_core.specs.Run.{Commits, replies_in}
+
+abbrev pub is_last : Parcel → Bool
+is_last (parcel.Batch jobs) = false
+is_last (parcel.Pulse moment) = false
+is_last (parcel.Return job cause) = false
+is_last parcel.Last = true
+
+abbrev pub has_last : List Parcel → Bool
+has_last parcels = list_any is_last parcels
+
+abbrev pub is_final : Outcomes → Bool
+is_final (outcomes.Cut replies) = false
+is_final (outcomes.One reply) = false
+is_final outcomes.Nothing = false
+is_final outcomes.Last = true
+
+abbrev pub has_final : List Outcomes → Bool
+has_final given = list_any is_final given
+
+-- the replies that outcomes come to, in order
+abbrev pub answers_in : List Outcomes → List Replied
+answers_in given = flat_map replies_in given
+
+-- what the committer gives on: nothing for a pulse
+abbrev pub given_on : Outcomes → List Outcomes
+given_on (outcomes.Cut replies) = outcomes.Cut replies ∷ []
+given_on (outcomes.One reply) = outcomes.One reply ∷ []
+given_on outcomes.Nothing = []
+given_on outcomes.Last = outcomes.Last ∷ []
+
+-- a front of so many submitters under a limit took a queue, and these parcels were given on
+pub record IsBatched (limit submitters : ℕ) (queue : List Ticket) (front : FrontState) (given : List Parcel) : Type 0 where
+  pub under : front.limit ≡ limit
+  pub among : front.submitters ≡ submitters
+  pub passes : Passes (items_in queue) front.closed front.stopped (spelled given ++ held_by front)
+  pub joined : AreJoinedParcels limit given
+  pub unended : has_last given ≡ false
+  pub knows : KnowsEnds queue front
+
+-- all of a queue was given on, each sender's end is in it, and behind all that stands the last parcel
+pub record AllBatched (limit submitters : ℕ) (queue : List Ticket) (given : List Parcel) : Type 0 where
+  pub closed : Bool
+  pub stopped : Bool
+  pub before : List Parcel
+  pub parts : given ≡ before ++ parcel.Last ∷ []
+  pub passes : Passes (items_in queue) closed stopped (spelled before)
+  pub joined : AreJoinedParcels limit before
+  pub unended : has_last before ≡ false
+  pub ended : HaveAllEnded submitters queue
+
+-- a ledger took these parcels, and these outcomes were given on
+pub record IsCommitted (clock : ℕ) (taken : List Parcel) (ledger : LedgerState) (given : List Outcomes) : Type 0 where
+  pub commits : Commits clock (spelled taken) ledger (answers_in given)
+  pub joined : (limit : ℕ) → AreJoinedParcels limit taken → AreJoined limit ledger.groups
+  pub unended : has_last taken ≡ false
+  pub unfinished : has_final given ≡ false
+
+-- the last parcel was taken too, and the last outcome was given on behind all others
+pub record AllCommitted (clock : ℕ) (taken : List Parcel) (ledger : LedgerState) (given : List Outcomes) : Type 0 where
+  pub before : List Outcomes
+  pub parts : given ≡ before ++ outcomes.Last ∷ []
+  pub commits : Commits clock (spelled taken) ledger (answers_in before)
+  pub joined : (limit : ℕ) → AreJoinedParcels limit taken → AreJoined limit ledger.groups
+  pub ended : has_last taken ≡ true
+  pub unfinished : has_final before ≡ false
+
+abbrev pub CommittedTo : Bool → ℕ → List Parcel → LedgerState → List Outcomes → Type 0
+CommittedTo true clock taken ledger given = AllCommitted clock taken ledger given
+CommittedTo false clock taken ledger given = IsCommitted clock taken ledger given

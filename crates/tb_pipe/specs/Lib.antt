@@ -1,0 +1,4 @@
+pub mod Carried
+pub mod Outlets
+pub mod Stages
+pub mod Run

@@ -1,0 +1,129 @@
+//! The committer's stage: batches from their ring through the ledger, their replies into the next ring.
+
+ghost use Rattle.std.specs.Prelude.{◌≡◌, ℕ, List, [], ◌∷◌, ◌++◌};
+ghost use Rattle.tb_core.specs.declared.parcel.Parcel.{Parcel as ParcelValue};
+ghost use Rattle.tb_rings.specs.Ends.{given, taken, SameInlet, SameOutlet};
+ghost use Rattle.tb_pipe.specs.Carried.{is_last, given_on, IsCommitted, AllCommitted, CommittedTo};
+
+use crate::gate::Gate;
+use crate::waiting::give_waiting;
+use crossbeam_utils::Backoff;
+use std::snapshot::Snapshot;
+use std::sync::Wait;
+use std::thread::Promise;
+use tb_core::{Ledger, Outcomes, Parcel};
+use tb_rings::{Inlet, Outlet};
+
+/// What the committer hands back.
+#[derive(Drop)]
+pub struct Committed {
+    pub inlet: Inlet<Parcel>,
+    pub outlet: Outlet<Outcomes>,
+    pub ledger: Ledger,
+}
+
+/// The ring ends that come back are those that were handed over, and all that was taken is committed.
+#[derive(Drop)]
+pub struct Commitment {
+    pub inlet: Snapshot<Inlet<Parcel>>,
+    pub outlet: Snapshot<Outlet<Outcomes>>,
+    pub clock: u64,
+}
+
+impl Promise<Committed> for Commitment {
+    ghost use Rattle.std.specs.Prelude.{◌≡◌};
+    ghost use Rattle.tb_rings.specs.Ends.{given, taken, SameOutlet, SameInlet};
+    ghost use Rattle.tb_pipe.specs.Carried.{AllCommitted};
+
+    ghost kept_by = { λ p r. SameInlet p.inlet.value r.inlet × SameOutlet p.outlet.value r.outlet × AllCommitted p.clock (taken r.inlet) r.ledger (given r.outlet) };
+}
+
+fn is_last(parcel: &Parcel) -> bool
+    ensures { result ≡ is_last parcel.now }
+{
+    match parcel {
+        Parcel::Last => true,
+        _ => false,
+    }
+}
+
+/// Gives on what a parcel came to; nothing for a pulse.
+fn give_on<R: Wait>(rt: &R, outlet: &mut Outlet<Outcomes>, outcomes: Outcomes)
+    ensures ring { SameOutlet outlet.old outlet.new }
+    ensures given { given outlet.new ≡ given outlet.old ++ given_on outcomes }
+{
+    match outcomes {
+        Outcomes::Nothing => {}
+        Outcomes::Cut(cutter) => give_waiting(rt, outlet, Outcomes::Cut(cutter)),
+        Outcomes::One(reply) => give_waiting(rt, outlet, Outcomes::One(reply)),
+        Outcomes::Last => give_waiting(rt, outlet, Outcomes::Last),
+    }
+}
+
+/// Waits until the batch may be committed.
+fn wait_for<R: Wait, G: Gate>(rt: &R, gate: &G, batch: u64) {
+    let backoff = Backoff::new();
+    for _ in rt.forever() {
+        if gate.may_commit(batch) {
+            return;
+        }
+        backoff.snooze();
+    }
+    unreachable!()
+}
+
+/// One parcel through the ledger; true where it is the last.
+fn commit<R: Wait>(
+    rt: &R,
+    ledger: &mut Ledger,
+    outlet: &mut Outlet<Outcomes>,
+    parcel: Parcel,
+) -> bool
+    ensures ring { SameOutlet outlet.old outlet.new }
+    ensures committed { (clock : ℕ) (sent : List ParcelValue) → IsCommitted clock sent ledger.old (given outlet.old)
+        → CommittedTo result clock (sent ++ parcel ∷ []) ledger.new (given outlet.new) }
+{
+    let last = is_last(&parcel);
+    let outcomes = ledger.apply(parcel);
+    give_on(rt, outlet, outcomes);
+    last
+}
+
+/// Commits until the last parcel, and gives all replies on, and then the last outcome.
+pub(crate) fn commit_all<R: Wait, G: Gate>(
+    rt: &R,
+    gate: &G,
+    inlet: Inlet<Parcel>,
+    outlet: Outlet<Outcomes>,
+    ledger: Ledger,
+) -> Committed
+    requires { IsCommitted ledger.opening (taken inlet) ledger (given outlet) }
+    ensures same { SameInlet inlet result.inlet × SameOutlet outlet result.outlet }
+    ensures all { AllCommitted ledger.opening (taken result.inlet) result.ledger (given result.outlet) }
+{
+    let mut inlet = inlet;
+    let mut outlet = outlet;
+    let mut ledger = ledger;
+    let mut batches = 0u64;
+    let backoff = Backoff::new();
+    for _ in rt.forever() {
+        match inlet.take() {
+            Some(parcel) => {
+                backoff.reset();
+                if matches!(parcel, Parcel::Batch(_)) {
+                    wait_for(rt, gate, batches);
+                    batches = batches.wrapping_add(1);
+                }
+                if commit(rt, &mut ledger, &mut outlet, parcel) {
+                    return Committed {
+                        inlet,
+                        outlet,
+                        ledger,
+                    };
+                }
+            }
+            None => backoff.snooze(),
+        }
+    }
+    unreachable!()
+}

@@ -1,0 +1,21 @@
+/// Watches the batches of a run and may hold their commits back. Batches are counted from 0 in the order in
+/// which they are sealed, and pulses aren't counted.
+pub trait Gate: Sync {
+    /// The batch was handed to the committer. The batcher calls it once for each batch.
+    fn sealed(&self, batch: u64);
+
+    /// Whether the batch may be committed now. The committer asks before each commit, again and again while
+    /// the answer is no; a gate that never says yes holds the run up for ever.
+    fn may_commit(&self, batch: u64) -> bool;
+}
+
+/// The gate that lets every batch through.
+pub struct Open;
+
+impl Gate for Open {
+    fn sealed(&self, _batch: u64) {}
+
+    fn may_commit(&self, _batch: u64) -> bool {
+        true
+    }
+}

@@ -1,0 +1,82 @@
+//! Opening a pipeline.
+
+ghost use Rattle.std.specs.Prelude.{◌≡◌, ◌≤◌, ◌<◌, ℕ, map, length, slice_index_or, None, OnOk, IfOk, IfErr};
+ghost use Rattle.tb_machine.specs.Clock.{clock_max};
+ghost use Rattle.tb_submit.specs.Ends.{Origin, new_submitter, new_control, new_intake, origin_of, seat_at};
+ghost use Rattle.tb_submit.specs.Refusals.{IsRefusal, queue_refusal};
+ghost use Rattle.tb_work.specs.declared.refusal.Refusal.TheVariants as refusal;
+
+use crate::serving::Pipeline;
+use crate::stages::Stages;
+use std::alloc::Global;
+use tb_core::{Front, Ledger};
+use tb_rings::ring;
+use tb_submit::{Control, Ends, Submitter, open_queue};
+use tb_work::Refusal;
+
+const STAGE_SLOTS: usize = 8;
+
+/// A pipeline with its ends: the submitter of number i is that at index i.
+#[derive(Drop)]
+pub struct Opened {
+    pub pipeline: Pipeline,
+    pub submitters: Vec<Submitter>,
+    pub control: Control,
+}
+
+/// A pipeline whose clock starts at a number of nanoseconds. The limit is the most events of a batch, the
+/// capacity the places of the submission queue, and the credit how many packets each submitter may have queued
+/// with their replies unread; each submitter's reply ring has as many slots. It is refused for the limit
+/// (1 to 8190), then the capacity or the credit (1 to 65,536), then the number of submitters (1 to 16), then
+/// want of memory. All rings and the queue are made here; packets, batches and the state machine take their
+/// memory later. It waits for nobody.
+pub fn open(
+    alloc: Global,
+    clock: u64,
+    limit: u32,
+    capacity: u32,
+    credit: u32,
+    submitters: u32,
+) -> Result<Opened, Refusal>
+    requires { clock ≤ clock_max }
+    ensures clock { IfOk result (λ opened. opened.pipeline.clock ≡ clock) }
+    ensures intake { IfOk result (λ opened. opened.pipeline.intake ≡ new_intake opened.pipeline.intake.queue submitters limit) }
+    ensures submitters { IfOk result (λ opened. opened.submitters.items ≡ map (new_submitter credit) opened.pipeline.submitters) }
+    ensures own { IfOk result (λ opened. map origin_of opened.submitters.items ≡ opened.pipeline.submitters) }
+    ensures number { IfOk result (λ opened. length opened.pipeline.submitters ≡ submitters) }
+    ensures seats { IfOk result (λ opened. (k : ℕ) (d : Origin) → k < submitters → (slice_index_or opened.pipeline.submitters k d).seat ≡ seat_at opened.pipeline.intake k) }
+    ensures control { IfOk result (λ opened. opened.control ≡ new_control opened.pipeline.intake) }
+    ensures opens { OnOk result (queue_refusal limit capacity credit submitters ≡ None) }
+    ensures refusal { IfErr result (λ why. IsRefusal (queue_refusal limit capacity credit submitters) (λ other. other ≡ refusal.NoMemory) why) }
+{
+    let Ends {
+        submitters: opened,
+        control,
+        intake,
+        outlets,
+    } = open_queue(alloc, limit, capacity, credit, submitters)?;
+    let Ok(front) = Front::new(alloc, limit, submitters) else {
+        unreachable!()
+    };
+    let Ok((batches, parcels)) = ring(alloc, STAGE_SLOTS) else {
+        return Err(Refusal::NoMemory);
+    };
+    let Ok((made, outcomes)) = ring(alloc, STAGE_SLOTS) else {
+        return Err(Refusal::NoMemory);
+    };
+    let stages = Stages {
+        intake,
+        front,
+        batches,
+        parcels,
+        ledger: Ledger::new(alloc, clock),
+        made,
+        outcomes,
+        outlets,
+    };
+    Ok(Opened {
+        pipeline: Pipeline { stages },
+        submitters: opened,
+        control,
+    })
+}

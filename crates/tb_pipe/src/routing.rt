@@ -1,0 +1,100 @@
+//! The demultiplexer's stage: each reply into the ring of its submitter.
+
+ghost use Rattle.std.specs.Prelude.{◌≡◌, ℕ, ◌<◌, List, [], ◌∷◌, ◌++◌, true, length};
+ghost use Rattle.tb_core.specs.Run.{replies_in};
+ghost use Rattle.tb_rings.specs.Ends.{given, taken, SameInlet, SameOutlet};
+ghost use Rattle.tb_pipe.specs.Carried.{is_final, answers_in};
+ghost use Rattle.tb_pipe.specs.Outlets.{SameOutlets, AllGiven, AllMore, AllRouted};
+
+use crate::waiting::give_waiting;
+use crossbeam_utils::Backoff;
+use std::snapshot::Snapshot;
+use std::sync::Wait;
+use std::thread::Promise;
+use tb_core::Outcomes;
+use tb_rings::{Inlet, Outlet};
+use tb_work::Reply;
+
+/// What the demultiplexer hands back.
+#[derive(Drop)]
+pub struct Routed {
+    pub inlet: Inlet<Outcomes>,
+    pub outlets: Vec<Outlet<Reply>>,
+}
+
+/// The ring ends that come back are those that were handed over, and all that was taken is handed out.
+#[derive(Drop)]
+pub struct Routing {
+    pub inlet: Snapshot<Inlet<Outcomes>>,
+    pub outlets: Snapshot<Vec<Outlet<Reply>>>,
+}
+
+impl Promise<Routed> for Routing {
+    ghost use Rattle.tb_rings.specs.Ends.{taken, SameInlet};
+    ghost use Rattle.tb_pipe.specs.Outlets.{SameOutlets, AllRouted};
+
+    ghost kept_by = { λ p r. SameInlet p.inlet.value r.inlet × SameOutlets p.outlets.value.items r.outlets.items × AllRouted (taken r.inlet) r.outlets.items };
+}
+
+/// A reply into its submitter's ring. There is room: the ring has as many slots as its submitter may have
+/// packets in flight, so no stage waits for a submitter. Were it full all the same, this would wait until the
+/// submitter reads.
+fn route<R: Wait>(rt: &R, outlets: &mut Vec<Outlet<Reply>>, reply: Reply)
+    ensures same { SameOutlets outlets.old.items outlets.new.items }
+    ensures more { AllMore (reply ∷ []) outlets.old.items outlets.new.items }
+{
+    let k = reply.submitter as usize;
+    if k < outlets.len() {
+        let outlet = &mut outlets[k];
+        give_waiting(rt, outlet, reply);
+    }
+}
+
+/// The replies of an outcome; true where it is the last.
+fn route_all<R: Wait>(rt: &R, outlets: &mut Vec<Outlet<Reply>>, outcomes: Outcomes) -> bool
+    ensures same { SameOutlets outlets.old.items outlets.new.items }
+    ensures more { AllMore (replies_in outcomes) outlets.old.items outlets.new.items }
+    ensures last { result ≡ is_final outcomes }
+{
+    match outcomes {
+        Outcomes::Cut(mut cutter) => {
+            while let Some(reply) = cutter.next() {
+                route(rt, outlets, reply);
+            }
+            false
+        }
+        Outcomes::One(reply) => {
+            route(rt, outlets, reply);
+            false
+        }
+        Outcomes::Nothing => false,
+        Outcomes::Last => true,
+    }
+}
+
+/// Hands replies out until the last outcome.
+pub(crate) fn route_until_last<R: Wait>(
+    rt: &R,
+    inlet: Inlet<Outcomes>,
+    outlets: Vec<Outlet<Reply>>,
+) -> Routed
+    requires { AllGiven (answers_in (taken inlet)) outlets.items }
+    ensures same { SameInlet inlet result.inlet × SameOutlets outlets.items result.outlets.items }
+    ensures all { AllRouted (taken result.inlet) result.outlets.items }
+{
+    let mut inlet = inlet;
+    let mut outlets = outlets;
+    let backoff = Backoff::new();
+    for _ in rt.forever() {
+        match inlet.take() {
+            Some(outcomes) => {
+                backoff.reset();
+                if route_all(rt, &mut outlets, outcomes) {
+                    return Routed { inlet, outlets };
+                }
+            }
+            None => backoff.snooze(),
+        }
+    }
+    unreachable!()
+}

@@ -1,0 +1,63 @@
+//! What a run reports.
+
+ghost use Rattle.std.specs.Prelude.{◌≡◌, ℕ, List, map, length, slice_index_or};
+ghost use Rattle.tb_machine.specs.Replay.{replay};
+ghost use Rattle.tb_core.specs.Grouping.{IsGrouping};
+ghost use Rattle.tb_core.specs.Ledger.{works};
+ghost use Rattle.tb_core.specs.Report.{LawfulReport};
+ghost use Rattle.tb_submit.specs.Ends.{EndedState, control_seat, end_origin, origins, queued_by, replies_of};
+ghost use Rattle.tb_pipe.specs.Run.{IsServed};
+
+use crate::serving::Served;
+use crate::stages::Remains;
+use tb_core::{Ledger, run_is_lawful};
+use tb_submit::{ControlEnd, Ended, settle_queue};
+
+/// What became of all that was queued: the ledger with its journal and its machine, and each submitter's end, in
+/// the order of their numbers, which still gives the replies that it hasn't read.
+#[derive(Drop)]
+pub struct Report {
+    pub ledger: Ledger,
+    pub ends: Vec<Ended>,
+}
+
+fn settle_remains(remains: Remains, ends: Vec<Ended>, control: ControlEnd) -> Report
+    requires served { IsServed remains }
+    requires ends { map end_origin ends.items ≡ origins remains.intake remains.routed.outlets.items }
+    requires control { control.seat ≡ control_seat remains.intake }
+    ensures report { LawfulReport remains.committed.ledger.opening remains.intake.submitters remains.intake.taken (queued_by ends.items control) (works result.ledger) (replay result.ledger.opening (works result.ledger)) result.ledger.stopped (replies_of result.ends.items) }
+    ensures grouping { IsGrouping remains.intake.limit result.ledger.groups }
+    ensures ledger { result.ledger ≡ remains.committed.ledger }
+    ensures long { length result.ends.items ≡ remains.intake.submitters }
+    ensures read { (k : ℕ) (d : EndedState) → (slice_index_or result.ends.items k d).read ≡ (slice_index_or ends.items k d).read }
+{
+    run_is_lawful();
+    let Remains {
+        intake,
+        mut batches,
+        mut committed,
+        mut routed,
+    } = remains;
+    committed.inlet.lying(&mut batches);
+    routed.inlet.lying(&mut committed.outlet);
+    let ends = settle_queue(intake, ends, control, routed.outlets);
+    Report {
+        ledger: committed.ledger,
+        ends,
+    }
+}
+
+/// The report on a run. The ends are those of the submitters that were opened with the pipeline, by rising number,
+/// and the control's is its control's. Takes no memory, and waits for nobody. After it `reply` on an end gives all
+/// replies that are left, and None only after them.
+pub fn settle(served: Served, ends: Vec<Ended>, control: ControlEnd) -> Report
+    requires ends { map end_origin ends.items ≡ served.submitters }
+    requires control { control.seat ≡ control_seat served.intake }
+    ensures report { LawfulReport served.clock served.intake.submitters served.intake.taken (queued_by ends.items control) (works result.ledger) (replay result.ledger.opening (works result.ledger)) result.ledger.stopped (replies_of result.ends.items) }
+    ensures grouping { IsGrouping served.intake.limit result.ledger.groups }
+    ensures ledger { result.ledger ≡ served.ledger }
+    ensures long { length result.ends.items ≡ served.intake.submitters }
+    ensures read { (k : ℕ) (d : EndedState) → (slice_index_or result.ends.items k d).read ≡ (slice_index_or ends.items k d).read }
+{
+    settle_remains(served.remains, ends, control)
+}
