@@ -49,9 +49,11 @@ fn made_look(operation: u8, length: usize) -> (u8, usize, u64, u64) {
 
 /// A queue of this limit, capacity and credit, with one submitter.
 fn ends_of(alloc: Global, limit: u32, capacity: u32, credit: u32) -> Result<Ends, Fail> {
-    Ok(open_queue(alloc, limit, capacity, credit, 1)
-        .ok()
-        .ok_or("refused")?)
+    Ok(
+        open_queue(alloc, limit, capacity, credit, 1)
+            .ok()
+            .ok_or("refused")?,
+    )
 }
 
 /// Submits a packet of so many bytes: its number, or why it was refused; a refused packet comes back as
@@ -76,11 +78,7 @@ fn submit<R: Wait>(
     }
 }
 
-fn pulse<R: Wait>(
-    rt: &R,
-    control: &mut Control,
-    moment: u64,
-) -> Result<Result<(), Refusal>, Fail> {
+fn pulse<R: Wait>(rt: &R, control: &mut Control, moment: u64) -> Result<Result<(), Refusal>, Fail> {
     if control.queued() >= 1 << 56 {
         return Err("too many are queued")?;
     }
@@ -109,10 +107,12 @@ enum Says {
 
 /// Takes the front of the queue, a packet of submitter 0, and gives its reply.
 fn answer<R: Wait>(rt: &R, alloc: Global, ends: &mut Ends, says: Says) -> Result<(), Fail> {
-    let Some(Ticket {
-        sender: 0,
-        item: Item::Packet(job),
-    }) = ends.intake.take(rt)
+    let Some(
+        Ticket {
+            sender: 0,
+            item: Item::Packet(job),
+        },
+    ) = ends.intake.take(rt)
     else {
         return Err("no packet of submitter 0")?;
     };

@@ -76,7 +76,10 @@ fn submit_one<R: Wait>(
         return Err("no submitter")?;
     }
     let before = ends.submitters[0].in_flight();
-    Ok((before, submit(rt, alloc, &mut ends.submitters[0], 129, 128)?))
+    Ok((
+        before,
+        submit(rt, alloc, &mut ends.submitters[0], 129, 128)?,
+    ))
 }
 
 /// Three packets of a credit of three; their replies are read once the submitter has ended.

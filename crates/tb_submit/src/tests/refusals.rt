@@ -33,7 +33,12 @@ fn submit_first<R: Wait>(
 #[test]
 fn full_queue_of_one(rt: HostRuntime) -> Result<(), Fail> {
     let packets = [(129, 128, Ok(0)), (129, 128, Err(Refusal::Full))];
-    submit_first(&rt, rt.alloc(), &mut ends_of(rt.alloc(), 4, 1, 4)?, packets.as_slice())
+    submit_first(
+        &rt,
+        rt.alloc(),
+        &mut ends_of(rt.alloc(), 4, 1, 4)?,
+        packets.as_slice(),
+    )
 }
 
 #[test]
@@ -43,7 +48,12 @@ fn credit_used_up(rt: HostRuntime) -> Result<(), Fail> {
         (129, 128, Err(Refusal::InFlight)),
         (200, 128, Err(Refusal::InvalidOperation)),
     ];
-    submit_first(&rt, rt.alloc(), &mut ends_of(rt.alloc(), 4, 4, 1)?, packets.as_slice())
+    submit_first(
+        &rt,
+        rt.alloc(),
+        &mut ends_of(rt.alloc(), 4, 4, 1)?,
+        packets.as_slice(),
+    )
 }
 
 /// A refused packet uses no number, and of two refusals the earlier one is answered.
@@ -61,11 +71,21 @@ fn refusals_in_order(rt: HostRuntime) -> Result<(), Fail> {
         (129, 1, Err(Refusal::InvalidDataSize)),
         (0, 0, Err(Refusal::InvalidOperation)),
     ];
-    submit_first(&rt, rt.alloc(), &mut ends_of(rt.alloc(), 4, 1, 1)?, packets.as_slice())
+    submit_first(
+        &rt,
+        rt.alloc(),
+        &mut ends_of(rt.alloc(), 4, 1, 1)?,
+        packets.as_slice(),
+    )
 }
 
 /// Submits a packet of each kind of fault, and one without, behind a reply that told of the end.
-fn submit_behind<R: Wait>(rt: &R, alloc: Global, ends: &mut Ends, told: Refusal) -> Result<(), Fail> {
+fn submit_behind<R: Wait>(
+    rt: &R,
+    alloc: Global,
+    ends: &mut Ends,
+    told: Refusal,
+) -> Result<(), Fail> {
     let packets = [
         (129, 128, Err(told)),
         (200, 127, Err(told)),
@@ -104,14 +124,38 @@ fn told_behind<R: Wait>(
 
 #[test]
 fn told_of_a_shutdown(rt: HostRuntime) -> Result<(), Fail> {
-    told_behind(&rt, rt.alloc(), Says::Committed, Says::Shutdown, Refusal::Shutdown)?;
-    told_behind(&rt, rt.alloc(), Says::Shutdown, Says::Stopped, Refusal::Shutdown)
+    told_behind(
+        &rt,
+        rt.alloc(),
+        Says::Committed,
+        Says::Shutdown,
+        Refusal::Shutdown,
+    )?;
+    told_behind(
+        &rt,
+        rt.alloc(),
+        Says::Shutdown,
+        Says::Stopped,
+        Refusal::Shutdown,
+    )
 }
 
 #[test]
 fn told_of_a_stop(rt: HostRuntime) -> Result<(), Fail> {
-    told_behind(&rt, rt.alloc(), Says::Committed, Says::Stopped, Refusal::Stopped)?;
-    told_behind(&rt, rt.alloc(), Says::Stopped, Says::Shutdown, Refusal::Stopped)
+    told_behind(
+        &rt,
+        rt.alloc(),
+        Says::Committed,
+        Says::Stopped,
+        Refusal::Stopped,
+    )?;
+    told_behind(
+        &rt,
+        rt.alloc(),
+        Says::Stopped,
+        Says::Shutdown,
+        Refusal::Stopped,
+    )
 }
 
 #[test]

@@ -111,13 +111,20 @@ fn take_all<R: Wait>(rt: &R, intake: &mut Intake, senders: u32) -> Counts {
 }
 
 /// So many submitters, each in a thread, and one taker; None where a thread can't be started.
-fn run<R: Threads + Wait + Sync>(rt: &R, alloc: Global, submitters: u32, count: u64) -> Option<Counts> {
-    let Ok(Ends {
-        submitters: senders,
-        control,
-        mut intake,
-        outlets: _,
-    }) = open_queue(alloc, 4, 64, 10_000, submitters)
+fn run<R: Threads + Wait + Sync>(
+    rt: &R,
+    alloc: Global,
+    submitters: u32,
+    count: u64,
+) -> Option<Counts> {
+    let Ok(
+        Ends {
+            submitters: senders,
+            control,
+            mut intake,
+            outlets: _,
+        },
+    ) = open_queue(alloc, 4, 64, 10_000, submitters)
     else {
         return None;
     };
