@@ -88,12 +88,14 @@ abbrev pub InView : List View → ℕ → ℕ → Type 0
 InView views pass number = (view : View) × (get_elem? views pass ≡ some view) × Stands number view.entries
 
 -- Each number given out stands in a pass, and no other has a part.
-abbrev pub Kept : List Ticket → List View → Type 0
-Kept items views =
-    (pass_of : ℕ → ℕ) × (reader : ℕ) × (count : ℕ) × (taken : List Ticket)
-    × ((pass : ℕ) (view : View) → get_elem? views pass ≡ some view → Fits pass_of reader count taken items pass view)
-    × ((number : ℕ) → number < count → InView views (pass_of number) number)
-    × ((number : ℕ) → count ≤ number → part number (taken ++ items) ≡ [])
+pub record Kept (items : List Ticket) (views : List View) : Type 0 where
+  pub pass_of : ℕ → ℕ
+  pub reader : ℕ
+  pub count : ℕ
+  pub taken : List Ticket
+  pub fits : (pass : ℕ) (view : View) → get_elem? views pass ≡ some view → Fits pass_of reader count taken items pass view
+  pub stands : (number : ℕ) → number < count → InView views (pass_of number) number
+  pub strangers : (number : ℕ) → count ≤ number → part number (taken ++ items) ≡ []
 
 -- ---- what the intake's pass learns of what is queued
 
