@@ -1,7 +1,7 @@
 //! Opening a pipeline.
 
 ghost use Rattle.std.specs.Prelude.{◌≡◌, ◌≤◌, ◌<◌, ℕ, map, length, slice_index_or, None, OnOk, IfOk, IfErr};
-ghost use Rattle.tb_machine.specs.Clock.{clock_max};
+ghost use Rattle.tb_layout.specs.Limits.{clock_max};
 ghost use Rattle.tb_submit.specs.Ends.{Origin, new_submitter, new_control, new_intake, origin_of, seat_at};
 ghost use Rattle.tb_submit.specs.Refusals.{IsRefusal, queue_refusal};
 ghost use Rattle.tb_work.specs.declared.refusal.Refusal.TheVariants as refusal;
