@@ -1,8 +1,8 @@
 -- What a contract sees of the two ends of a ring.
-use Rattle.std.specs.Prelude.{◌≡◌, List}
+use Rattle.std.specs.Prelude.{◌≡◌, ℕ, List}
 use Rattle.std.specs.declared.alloc.Global.{Global}
 use denote.RawPtr.{Ptr}
-use Rattle.rtrb.specs.Ring.{sent, received, known_items}
+use Rattle.rtrb.specs.Ring.{sent, received, known_items, producer_capacity}
 use Rattle.rtrb.specs.Shared.{Names}
 use Rattle.tb_rings.specs.declared.Outlet.{Outlet}
 use Rattle.tb_rings.specs.declared.Inlet.{Inlet}
@@ -22,6 +22,10 @@ module _ {T : Type 0} where
   -- all that was taken so far, oldest first
   abbrev pub taken : Inlet T → List T
   taken inlet = received inlet.consumer
+
+  -- how many slots its ring has
+  abbrev pub slots : Outlet T → ℕ
+  slots outlet = producer_capacity outlet.producer
 
   -- what the inlet has seen to lie in the ring: the next takes give these
   abbrev pub lies : Inlet T → List T

@@ -6,7 +6,7 @@
 mod tests;
 
 ghost use Rattle.std.specs.Prelude.{◌≡◌, ◌<◌, [], ◌∷◌, ◌++◌, length, OnOk, IfOk, IfErr, IfSome, IfNone, IsSomeAnd};
-ghost use Rattle.tb_rings.specs.Ends.{given, taken, lies, IsRing, SameOutlet, SameInlet};
+ghost use Rattle.tb_rings.specs.Ends.{given, taken, lies, slots, IsRing, SameOutlet, SameInlet};
 
 use rtrb::{Consumer, Producer, PushError, RingBuffer};
 use std::alloc::Global;
@@ -27,6 +27,7 @@ pub struct Inlet<T> {
 /// Both ends of a new ring of so many slots, in which nothing lies. With no slot it is always full.
 pub fn ring<T: Drop>(alloc: Global, capacity: usize) -> Result<(Outlet<T>, Inlet<T>), NoMemory>
     ensures pair { IfOk result (λ ends. IsRing ends.0 ends.1) }
+    ensures slots { IfOk result (λ ends. slots ends.0 ≡ capacity) }
     ensures empty { IfOk result (λ ends. (given ends.0 ≡ []) × (taken ends.1 ≡ []) × (lies ends.1 ≡ [])) }
 {
     let (producer, consumer) = RingBuffer::new(alloc, capacity)?;
