@@ -59,5 +59,5 @@ first_moments submitters queue ends control works behind long committed pulses o
     let rest = moments-ahead (items_in queue) in (
       moments_committed behind ++ rest.0,
       sym (append_assoc (moments_committed works) (moments_committed behind) rest.0) ∙ ap (λ moments. moments ++ rest.0) (sym (moments-append works behind) ∙ ap moments_committed committed) ∙ rest.1
-      ∙ moments-part submitters queue pulses ∙ ap moments_queued (own ∙ last_is_control ends control submitters long),
+          ∙ moments-part submitters queue pulses ∙ ap moments_queued (own ∙ last_is_control ends control submitters long),
     )
