@@ -6,6 +6,7 @@ ghost use Rattle.tb_core.specs.Grouping.{IsGrouping};
 ghost use Rattle.tb_core.specs.Ledger.{works};
 ghost use Rattle.tb_core.specs.Report.{LawfulReport};
 ghost use Rattle.tb_submit.specs.Ends.{EndedState, control_seat, end_origin, origins, queued_by, replies_of};
+ghost use Rattle.tb_pipe.specs.Pulses.{IsPrefixOf, moments_committed, moments_queued};
 ghost use Rattle.tb_pipe.specs.Run.{IsServed};
 
 use crate::serving::Served;
@@ -27,6 +28,7 @@ fn settle_remains(remains: Remains, ends: Vec<Ended>, control: ControlEnd) -> Re
     requires control { control.seat ≡ control_seat remains.intake }
     ensures report { LawfulReport remains.committed.ledger.opening remains.intake.submitters remains.intake.taken (queued_by ends.items control) (works result.ledger) (replay result.ledger.opening (works result.ledger)) result.ledger.stopped (replies_of result.ends.items) }
     ensures grouping { IsGrouping remains.intake.limit result.ledger.groups }
+    ensures pulses { IsPrefixOf (moments_committed (works result.ledger)) (moments_queued control.queued) }
     ensures ledger { result.ledger ≡ remains.committed.ledger }
     ensures long { length result.ends.items ≡ remains.intake.submitters }
     ensures read { (k : ℕ) (d : EndedState) → (slice_index_or result.ends.items k d).read ≡ (slice_index_or ends.items k d).read }
@@ -55,6 +57,7 @@ pub fn settle(served: Served, ends: Vec<Ended>, control: ControlEnd) -> Report
     requires control { control.seat ≡ control_seat served.intake }
     ensures report { LawfulReport served.clock served.intake.submitters served.intake.taken (queued_by ends.items control) (works result.ledger) (replay result.ledger.opening (works result.ledger)) result.ledger.stopped (replies_of result.ends.items) }
     ensures grouping { IsGrouping served.intake.limit result.ledger.groups }
+    ensures pulses { IsPrefixOf (moments_committed (works result.ledger)) (moments_queued control.queued) }
     ensures ledger { result.ledger ≡ served.ledger }
     ensures long { length result.ends.items ≡ served.intake.submitters }
     ensures read { (k : ℕ) (d : EndedState) → (slice_index_or result.ends.items k d).read ≡ (slice_index_or ends.items k d).read }

@@ -28,12 +28,13 @@ impl Model for Control {
 
     ghost view = { λ c. c.sender };
 
-    ghost invariant = { λ c. (c.queued ≡ length c.sender.queued) × ArePulses c.sender.queued };
+    ghost invariant = { λ c. (c.queued ≡ length c.sender.queued) × ArePulses c.sender.queued × (c.sender.seat.number ≡ c.sender.seat.submitters) };
 }
 
 impl Control {
     pub(crate) fn new(sender: Sender) -> Control
-        requires { sender.queued ≡ [] }
+        requires none { sender.queued ≡ [] }
+        requires control { sender.seat.number ≡ sender.seat.submitters }
         ensures { result ≡ sender }
     {
         Control { sender, queued: 0 }

@@ -4,7 +4,10 @@ use Rattle.tb_core.specs.Ledger.{works}
 use Rattle.tb_core.specs.Report.{LawfulReport}
 use Rattle.tb_machine.specs.Replay.{replay}
 use Rattle.tb_rings.specs.Ends.{given, taken, lies}
-use Rattle.tb_submit.specs.Ends.{queued_by, replies_of}
+use Rattle.std.proofs.lemmas.List.{length-map}
+use Rattle.tb_submit.specs.Ends.{end_origin, queued_by, replies_of, seat_at}
+use Rattle.tb_pipe.proofs.Moments.{first_moments}
+use Rattle.tb_pipe.proofs.Origins.{length-origins}
 use Rattle.tb_pipe.specs.Carried.{answers_in}
 use Rattle.tb_pipe.proofs.Drained.{HasRun, drained, grouped, some_of}
 use Rattle.tb_pipe.proofs.settling.settle_remains.Goals as goal
@@ -40,3 +43,11 @@ pub returns-clause-grouping : goal.returns-clause-grouping
 returns-clause-grouping c =
     let remains = c.args.remains in
     grouped remains.intake.limit remains.intake.taken remains.committed.ledger (report c).behind (run c).joined c.settle_queue-ends.ensures.within (report c).committed
+
+pub returns-clause-pulses : goal.returns-clause-pulses
+returns-clause-pulses c =
+    let remains = c.args.remains in
+    let long : length c.args.ends.items ≡ remains.intake.submitters
+    = sym (length-map c.args.ends.items end_origin) ∙ ap length c.requires.ends ∙ length-origins (seat_at remains.intake) 0 remains.routed.outlets.items ∙ c.requires.served.number in
+    first_moments remains.intake.submitters remains.intake.taken c.args.ends.items c.args.control (works remains.committed.ledger) (report c).behind long (report c).committed c.settle_queue-ends.ensures.pulses
+    (c.settle_queue-ends.ensures.queue.parts remains.intake.submitters (omega arith))

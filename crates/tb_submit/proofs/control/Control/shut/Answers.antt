@@ -3,4 +3,4 @@ use Rattle.tb_submit.proofs.Filing.{pulses_filed}
 use Rattle.tb_submit.proofs.control.Control.shut.Goals as goal
 
 pub end-requires : goal.end-requires
-end-requires g c = pulses_filed _ _ _ _ _ refl c.self.invariant.1
+end-requires g c = pulses_filed _ _ _ _ _ c.self.invariant.2 refl c.self.invariant.1
