@@ -1,7 +1,6 @@
 -- One step of the batcher.
-use Rattle.std.proofs.Common.{refl, sym, ap, subst, ◌∙◌, ◌≡◌, ◌<◌, ℕ, zero, suc, Bool, true, false, List, [], ◌∷◌, ◌++◌, map, get_or, replicate, append-nil}
-use Rattle.std.specs.Prelude.{◌||◌, Option, Some, None}
-use Rattle.std.specs.List.{list_any, flat_map}
+use Rattle.std.proofs.Common.{refl, sym, ap, subst, ◌∙◌, ◌≡◌, ℕ, Bool, false, List, [], ◌∷◌, ◌++◌, map, append-nil}
+use Rattle.std.specs.Prelude.{◌||◌}
 use Rattle.std.proofs.lemmas.List.{map-append}
 use Rattle.std.proofs.lemmas.Grind.{flat_map-append}
 use Rattle.tb_work.specs.Job.{Numbered}

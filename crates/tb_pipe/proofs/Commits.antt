@@ -1,7 +1,6 @@
 -- One step of the committer.
 use Rattle.std.proofs.Common.{refl, sym, ap, subst, ◌∙◌, ◌≡◌, ℕ, Bool, true, false, List, [], ◌∷◌, ◌++◌, length, append-nil}
 use Rattle.std.specs.Prelude.{◌||◌}
-use Rattle.std.specs.List.{flat_map}
 use Rattle.std.proofs.lemmas.Grind.{flat_map-append}
 use Rattle.tb_work.specs.Reply.{Replied}
 use Rattle.tb_core.specs.declared.parcel.Parcel.{Parcel}
@@ -13,7 +12,7 @@ use Rattle.tb_core.specs.Grouping.{AreJoined, AreJoinedParcels, IsJoinedParcel}
 use Rattle.tb_core.specs.Ledger.{LedgerState, Applied, giving, halts, applied}
 use Rattle.tb_core.specs.Passage.{Passage}
 use Rattle.tb_core.specs.Run.{Commits, replies_in}
-use Rattle.tb_pipe.specs.Carried.{is_last, has_last, is_final, has_final, answers_in, given_on, IsCommitted, AllCommitted, CommittedTo}
+use Rattle.tb_pipe.specs.Carried.{is_last, is_final, has_final, answers_in, given_on, IsCommitted, CommittedTo}
 use Rattle.tb_pipe.proofs.Lists.{either_same, none_more, any_more, all_first}
 
 -- ---- the last parcel comes to the last outcome, and no other does

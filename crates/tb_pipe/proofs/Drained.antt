@@ -1,7 +1,6 @@
 -- What a run that has ended came to.
 use Rattle.std.proofs.Common.{refl, sym, ap, subst, ◌∙◌, arith, ◌≡◌, ◌<◌, ◌≤◌, ℕ, zero, suc, ◌/◌, Bool, true, false, true≢false, List, [], ◌∷◌, ◌++◌, append-nil, length, map, nat_lt, drop}
-use Rattle.std.specs.Prelude.{◌==◌, ◌%◌, not, IsOk, Result, Ok, Err, Option, Some, None, if◌then◌else◌}
-use Rattle.std.specs.List.{flat_map, AllByRecursion}
+use Rattle.std.specs.Prelude.{◌==◌, ◌%◌, not, IsOk, Result, Ok, Err, Some, None, if◌then◌else◌}
 use Rattle.std.specs.Simd.{first_chunks}
 use Rattle.std.proofs.lemmas.Bool.Decides.{nat_tests}
 use Rattle.std.proofs.lemmas.List.{length-map}

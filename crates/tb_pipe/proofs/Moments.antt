@@ -1,5 +1,5 @@
 -- The pulses that are committed are the first of those that the control queued.
-use Rattle.std.proofs.Common.{refl, sym, ap, subst, ◌∙◌, arith, ◌≡◌, ℕ, zero, suc, Bool, true, false, true≢false, List, [], ◌∷◌, ◌++◌, map, length, append_assoc}
+use Rattle.std.proofs.Common.{refl, sym, ap, ◌∙◌, arith, ◌≡◌, ℕ, zero, suc, Bool, true, false, true≢false, List, [], ◌∷◌, ◌++◌, map, length, append_assoc}
 use Rattle.std.specs.Prelude.{◌==◌, filter, if◌then◌else◌}
 use Rattle.std.proofs.lemmas.Bool.{eq-eqb}
 use Rattle.tb_layout.specs.Work.{Work, Packet, Pulse}

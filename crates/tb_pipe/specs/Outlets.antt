@@ -1,5 +1,5 @@
 -- The reply rings, one for each submitter, by rising number.
-use Rattle.std.specs.Prelude.{◌≡◌, ℕ, ◌<◌, Bool, true, List, [], ◌∷◌, ◌++◌, length, slice_index_or}
+use Rattle.std.specs.Prelude.{◌≡◌, ℕ, ◌<◌, true, List, ◌++◌, length, slice_index_or}
 use Rattle.tb_core.specs.Due.{replies_to}
 use Rattle.tb_core.specs.declared.outcomes.Outcomes.{Outcomes}
 use Rattle.tb_rings.specs.Ends.{given, SameOutlet}

@@ -1,6 +1,6 @@
 -- The stages before they run, and after.
-use Rattle.std.specs.Prelude.{◌≡◌, length}
-use Rattle.tb_rings.specs.Ends.{given, taken, IsRing, SameOutlet, SameInlet}
+use Rattle.std.specs.Prelude.{◌≡◌}
+use Rattle.tb_rings.specs.Ends.{given, taken, SameOutlet, SameInlet}
 use Rattle.tb_pipe.specs.Carried.{IsBatched, AllBatched, IsCommitted, AllCommitted, answers_in}
 use Rattle.tb_pipe.specs.Outlets.{SameOutlets, AllGiven, AllRouted}
 use Rattle.tb_pipe.specs.declared.stages.Stages.{Stages}

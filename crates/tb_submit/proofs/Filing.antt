@@ -1,6 +1,6 @@
 -- What a sender queues, one item after the other.
 use Rattle.std.proofs.Common.{◌≡◌, ◌<◌, ℕ, ◌+◌, true, List, [], ◌∷◌, ◌++◌, length, refl, arith}
-use Rattle.std.specs.Prelude.{not, IsOk}
+use Rattle.std.specs.Prelude.{IsOk}
 use Rattle.std.specs.List.{AllByRecursion}
 use Rattle.tb_work.specs.Admission.{admitted}
 use Rattle.tb_work.specs.Job.{Numbered, numbered}

@@ -1,4 +1,4 @@
-use Rattle.std.proofs.Common.{◌≡◌, ◌∙◌, false, subst, Bool, ◌++◌, ◌∷◌, []}
+use Rattle.std.proofs.Common.{◌∙◌, subst, Bool, ◌++◌, ◌∷◌, []}
 use Rattle.tb_rings.specs.Ends.{given, taken}
 use Rattle.tb_pipe.specs.Carried.{CommittedTo}
 use Rattle.tb_pipe.proofs.committing.commit_all.Goals as goal
