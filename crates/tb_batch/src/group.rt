@@ -93,6 +93,7 @@ impl Group {
         Ok(())
     }
 
+    /// Whether it has no job, which its type rules out.
     pub(crate) fn is_empty(&self) -> bool
         ensures { result ≡ (length self.now == 0) }
     {

@@ -32,6 +32,7 @@ impl Model for Control {
 }
 
 impl Control {
+    /// The control of a queue, over the sender whose number comes after the last submitter's.
     pub(crate) fn new(sender: Sender) -> Control
         requires none { sender.queued ≡ [] }
         requires control { sender.seat.number ≡ sender.seat.submitters }

@@ -36,12 +36,14 @@ impl Model for Sender {
 }
 
 impl Sender {
+    /// Its number among the senders, from 0.
     pub(crate) fn number(&self) -> u32
         ensures { result ≡ self.now.seat.number }
     {
         self.number
     }
 
+    /// The most events of a packet.
     pub(crate) fn limit(&self) -> u32
         ensures { result ≡ self.now.seat.limit }
     {

@@ -58,6 +58,7 @@ fn told_by(outcome: &Outcome) -> Option<Refusal>
 }
 
 impl Submitter {
+    /// A submitter over its sender and its reply ring, with nothing queued and nothing in flight.
     pub(crate) fn new(sender: Sender, inlet: Inlet<Reply>, credit: u32) -> Submitter
         requires among { sender.seat.number < sender.seat.submitters }
         requires limit { sender.seat.limit ≤ 8190 }

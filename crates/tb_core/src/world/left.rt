@@ -31,6 +31,7 @@ impl Model for Left {
 }
 
 impl Left {
+    /// No reply is left.
     pub(crate) fn nothing() -> Left
         ensures { result ≡ [] }
     {
@@ -60,6 +61,7 @@ impl Left {
         }
     }
 
+    /// Whether no reply is left.
     pub(crate) fn is_empty(&self) -> bool
         ensures { result ≡ is_none self.now }
     {

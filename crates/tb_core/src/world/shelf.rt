@@ -78,6 +78,7 @@ impl Model for Shelves {
 }
 
 impl Shelves {
+    /// An empty ring for each of so many submitters, none of which has received anything.
     pub(crate) fn new(alloc: Global, submitters: u32) -> Result<Shelves, NoMemory>
         ensures { IfOk result (λ shelves. shelves ≡ replicate submitters empty_shelf) }
     {
