@@ -8,7 +8,7 @@ use Rattle.std.proofs.lemmas.Bool.Decides.{nat_tests}
 use Rattle.std.proofs.lemmas.List.{map-append}
 use Rattle.std.proofs.lemmas.List.Folds.{list_all-append}
 use Rattle.std.proofs.lemmas.Grind.{flat_map-append}
-use Rattle.tb_work.specs.Admission.{count_of, admitted}
+use Rattle.tb_work.specs.Admission.{count_of, admission_of}
 use Rattle.tb_work.specs.Job.{Numbered, count_of_all, stub_of}
 use Rattle.tb_batch.specs.declared.parts.Parts.{Parts}
 use Rattle.tb_batch.specs.Grouping.{can_share, are_of, joins, is_taken, join_in_turn, IsGroup}
@@ -94,13 +94,13 @@ pub given : {T E : Type 0} (r : Result T E) (P : Type 0) → is_err r ≡ false 
 given (Ok x) P h p = p
 given (Err e) P h p = cc
 
-admitted-push : (jobs : List Numbered) (job : Numbered) → AreAdmitted jobs → IsOk (admitted 8190 job.packet) → AreAdmitted (jobs ++ job ∷ [])
+admitted-push : (jobs : List Numbered) (job : Numbered) → AreAdmitted jobs → IsOk (admission_of 8190 job.packet) → AreAdmitted (jobs ++ job ∷ [])
 admitted-push [] job all ok = (ok, tt)
 admitted-push (first ∷ jobs) job all ok = (all.0, admitted-push jobs job all.1 ok)
 
 -- one job more, for which there was room
 pub batch_more : (old new : Parts) (shares : Bool) (events limit : ℕ) (job : Numbered) → IsGroupOf old shares events → limit ≤ 8190 → is_taken limit old.jobs.items job ≡ true →
-    IsOk (admitted 8190 job.packet) → new.operation ≡ old.operation → new.jobs.items ≡ old.jobs.items ++ job ∷ [] → new.stubs.items ≡ old.stubs.items ++ stub_of job ∷ [] → new.body.items ≡ old.body.items ++ job.packet.bytes →
+    IsOk (admission_of 8190 job.packet) → new.operation ≡ old.operation → new.jobs.items ≡ old.jobs.items ++ job ∷ [] → new.stubs.items ≡ old.stubs.items ++ stub_of job ∷ [] → new.body.items ≡ old.body.items ++ job.packet.bytes →
     HasRoom old.operation (events + count_of job.packet) new.failures new.accounts → IsGroupOf new shares (events + count_of job.packet)
 batch_more old new shares events limit job h few taken ok operation jobs stubs body room =
     let known = both_true shares (can_share job) (old.operation == job.packet.operation) (nat_le (events + count_of job.packet) limit) (sym (taken_by old shares events limit job h) ∙ taken) in

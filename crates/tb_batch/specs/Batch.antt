@@ -6,7 +6,7 @@ use Rattle.tb_layout.specs.Limits.{batch_max}
 use Rattle.tb_layout.specs.Operation.{lookup_accounts}
 use Rattle.tb_layout.specs.declared.account.Account.{Account}
 use Rattle.tb_layout.specs.declared.failure.Failure.{Failure}
-use Rattle.tb_work.specs.Admission.{admitted}
+use Rattle.tb_work.specs.Admission.{admission_of}
 use Rattle.tb_work.specs.Job.{Numbered, count_of_all, stub_of}
 use Rattle.tb_batch.specs.declared.parts.Parts.{Parts}
 use Rattle.tb_batch.specs.Grouping.{can_share, are_of}
@@ -17,7 +17,7 @@ body_of jobs = flat_map (λ job. job.packet.bytes) jobs
 
 -- each packet was admitted
 abbrev pub AreAdmitted : List Numbered → Type 0
-AreAdmitted jobs = AllByRecursion (λ job. IsOk (admitted batch_max job.packet)) jobs
+AreAdmitted jobs = AllByRecursion (λ job. IsOk (admission_of batch_max job.packet)) jobs
 
 -- some admitted packets of one operation, of at most 8190 events together; one that can't share its batch is alone
 pub record IsLawful (operation : ℕ) (jobs : List Numbered) : Type 0 where

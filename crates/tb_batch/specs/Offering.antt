@@ -6,12 +6,12 @@ use Rattle.tb_batch.specs.declared.offered.Offered.TheVariants.{Joined, Sealed, 
 use Rattle.tb_batch.specs.Held.{Held}
 use Rattle.tb_batch.specs.Grouping.{is_taken}
 
-abbrev pub holding : Held → List Numbered → Held
-holding held jobs = record { limit = held.limit; jobs = jobs }
+abbrev pub with_group : Held → List Numbered → Held
+with_group held jobs = record { limit = held.limit; jobs = jobs }
 
 -- where nothing is held a packet begins the group; otherwise it joins it, or the group is sealed and the packet
 -- begins the next one; a packet that was refused comes back, and nothing changed
 abbrev pub Offers : Held → Numbered → Offered → Held → Type 0
-Offers old job Joined new = (new ≡ holding old (old.jobs ++ job ∷ [])) × (is_taken old.limit old.jobs job ≡ true)
-Offers old job (Sealed batch) new = (batch ≡ old.jobs) × (new ≡ holding old (job ∷ [])) × (is_taken old.limit old.jobs job ≡ false)
+Offers old job Joined new = (new ≡ with_group old (old.jobs ++ job ∷ [])) × (is_taken old.limit old.jobs job ≡ true)
+Offers old job (Sealed batch) new = (batch ≡ old.jobs) × (new ≡ with_group old (job ∷ [])) × (is_taken old.limit old.jobs job ≡ false)
 Offers old job (Refused back refused) new = (back ≡ job) × (new ≡ old)

@@ -34,7 +34,7 @@ impl Model for Batcher {
 
 impl Batcher {
     ghost use Rattle.tb_batch.specs.Grouping.{is_taken, IsGroup};
-    ghost use Rattle.tb_batch.specs.Offering.{Offers, holding};
+    ghost use Rattle.tb_batch.specs.Offering.{Offers, with_group};
 
     /// A batcher that holds nothing. The limit is 1 to 8190 events. Takes no memory.
     pub fn new(alloc: Global, limit: u32) -> Result<Batcher, Refusal>
@@ -125,7 +125,7 @@ impl Batcher {
 
     /// The group held, which is then no longer held; None where nothing was. Takes no memory.
     pub fn seal(&mut self) -> Option<Batch>
-        ensures left { self.new ≡ holding self.old [] }
+        ensures left { self.new ≡ with_group self.old [] }
         ensures some { IfSome result (λ batch. (batch ≡ self.old.jobs) × (0 < length self.old.jobs)) }
         ensures none { IfNone result (self.old.jobs ≡ []) }
         ensures lawful { IsGroup self.old.limit self.old.jobs }

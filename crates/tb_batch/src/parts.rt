@@ -3,7 +3,7 @@
 ghost use Rattle.std.specs.Prelude.{◌≡◌, ◌==◌, ◌+◌, ◌<◌, ◌≤◌, ◌++◌, ◌∷◌, [], true, false, length, vec_len, vec_capacity, IsOk, OnOk};
 ghost use Rattle.tb_layout.specs.Limits.{batch_max};
 ghost use Rattle.tb_layout.specs.Operation.{lookup_accounts};
-ghost use Rattle.tb_work.specs.Admission.{admitted};
+ghost use Rattle.tb_work.specs.Admission.{admission_of};
 ghost use Rattle.tb_work.specs.Job.{stub_of};
 
 use std::alloc::Global;
@@ -66,7 +66,7 @@ impl Parts {
     pub(crate) fn append(&mut self, job: Job)
         requires { (vec_len self.old.jobs < vec_capacity self.old.jobs) × (vec_len self.old.stubs < vec_capacity self.old.stubs) × (vec_len self.old.body + length job.packet.bytes ≤ vec_capacity self.old.body) }
         ensures operation { self.new.operation ≡ self.old.operation }
-        ensures admitted { IsOk (admitted batch_max job.packet) }
+        ensures admitted { IsOk (admission_of batch_max job.packet) }
         ensures jobs { self.new.jobs.items ≡ self.old.jobs.items ++ job ∷ [] }
         ensures stubs { self.new.stubs.items ≡ self.old.stubs.items ++ stub_of job ∷ [] }
         ensures body { self.new.body.items ≡ self.old.body.items ++ job.packet.bytes }

@@ -17,8 +17,8 @@ use Rattle.tb_batch.specs.Grouping.{is_taken, IsGroup}
 use Rattle.tb_core.specs.declared.parcel.Cause.TheVariants.{Shutdown, Stopped}
 use Rattle.tb_core.specs.declared.parcel.Parcel.{Parcel}
 use Rattle.tb_core.specs.declared.parcel.Parcel.TheVariants.{Pulse, Return}
-use Rattle.tb_core.specs.Passage.{Passage, Admitted, Returned, passed, Passes, is_close, stops_at}
-use Rattle.tb_core.specs.Front.{FrontState, Taken, IsFront, handing, holding, sealed, with_end, all_ended, ended_after, KnowsEnds, took, took_packet, took_pulse, spelled, spelled_one, held_by}
+use Rattle.tb_core.specs.Passage.{Passage, Admitted, Returned, passages_of_item, Passes, is_close, stops_at}
+use Rattle.tb_core.specs.Front.{FrontState, Taken, IsFront, take_result, with_group, group_as_batch, with_end, all_ended, ends_after, KnowsEnds, take_step, step_of_packet, step_of_pulse, all_passages_in, passages_in, held_by}
 use Rattle.tb_core.specs.Grouping.{AreJoinedParcels}
 use Rattle.tb_core.proofs.Passing.{passes_more}
 
@@ -27,28 +27,28 @@ abbrev pub IsClear : FrontState → Type 0
 IsClear front = (front.closed || front.stopped) ≡ true → front.held ≡ []
 
 abbrev pub IsAccounted : FrontState → Item → Taken → Type 0
-IsAccounted front item taken = spelled taken.parcels ++ held_by taken.front ≡ held_by front ++ passed front.closed taken.front.stopped item
+IsAccounted front item taken = all_passages_in taken.parcels ++ held_by taken.front ≡ held_by front ++ passages_of_item front.closed taken.front.stopped item
 
 abbrev front_of : ℕ → ℕ → List Numbered → Bool → Bool → List Bool → FrontState
 front_of limit submitters held closed stopped ended = record { limit = limit; submitters = submitters; held = held; closed = closed; stopped = stopped; ended = ended }
 
-spelled-sealed : (held : List Numbered) → spelled (sealed held) ≡ map Admitted held
+spelled-sealed : (held : List Numbered) → all_passages_in (group_as_batch held) ≡ map Admitted held
 spelled-sealed [] = refl
 spelled-sealed (job ∷ jobs) = append-nil (map Admitted (job ∷ jobs))
 
-sealed_alone : (held : List Numbered) → spelled (sealed held) ++ [] ≡ map Admitted held ++ []
+sealed_alone : (held : List Numbered) → all_passages_in (group_as_batch held) ++ [] ≡ map Admitted held ++ []
 sealed_alone held = ap (λ passages. passages ++ []) (spelled-sealed held)
 
-sealed_before : (held : List Numbered) (parcel : Parcel) → spelled (sealed held ++ parcel ∷ []) ++ [] ≡ map Admitted held ++ spelled_one parcel
+sealed_before : (held : List Numbered) (parcel : Parcel) → all_passages_in (group_as_batch held ++ parcel ∷ []) ++ [] ≡ map Admitted held ++ passages_in parcel
 sealed_before held parcel =
-    append-nil (spelled (sealed held ++ parcel ∷ [])) ∙ flat_map-append spelled_one (sealed held) (parcel ∷ [])
-    ∙ ap (λ passages. passages ++ (spelled_one parcel ++ [])) (spelled-sealed held) ∙ ap (λ passages. map Admitted held ++ passages) (append-nil (spelled_one parcel))
+    append-nil (all_passages_in (group_as_batch held ++ parcel ∷ [])) ∙ flat_map-append passages_in (group_as_batch held) (parcel ∷ [])
+    ∙ ap (λ passages. passages ++ (passages_in parcel ++ [])) (spelled-sealed held) ∙ ap (λ passages. map Admitted held ++ passages) (append-nil (passages_in parcel))
 
 none_held : (held : List Numbered) (passage : Passage) → held ≡ [] → passage ∷ map Admitted held ≡ map Admitted held ++ passage ∷ []
 none_held held passage none = ap (λ jobs. passage ∷ map Admitted jobs) none ∙ ap (λ jobs. map Admitted jobs ++ passage ∷ []) (sym none)
 
 packet : (refused taken : Bool) (limit submitters : ℕ) (held : List Numbered) (closed stopped : Bool) (ended : List Bool) (job : Numbered) → ((closed || stopped) ≡ true → held ≡ []) → is_taken limit held job ≡ taken →
-    IsAccounted (front_of limit submitters held closed stopped ended) (item.Packet job) (took_packet refused (front_of limit submitters held closed stopped ended) job)
+    IsAccounted (front_of limit submitters held closed stopped ended) (item.Packet job) (step_of_packet refused (front_of limit submitters held closed stopped ended) job)
 packet refused taken limit submitters held true stopped ended job clear is = none_held held (Returned job Shutdown) (clear refl)
 packet refused taken limit submitters held false true ended job clear is = none_held held (Returned job Stopped) (clear refl)
 packet true taken limit submitters held false false ended job clear is = sealed_before held (Return job Stopped)
@@ -56,23 +56,23 @@ packet false true limit submitters held false false ended job clear is = rw is (
 packet false false limit submitters held false false ended job clear is = rw is (ap (λ passages. passages ++ Admitted job ∷ []) (spelled-sealed held))
 
 pulse : (limit submitters : ℕ) (held : List Numbered) (closed stopped : Bool) (ended : List Bool) (moment : ℕ) →
-    IsAccounted (front_of limit submitters held closed stopped ended) (item.Pulse moment) (took_pulse (front_of limit submitters held closed stopped ended) moment)
+    IsAccounted (front_of limit submitters held closed stopped ended) (item.Pulse moment) (step_of_pulse (front_of limit submitters held closed stopped ended) moment)
 pulse limit submitters held true stopped ended moment = sym (append-nil (map Admitted held))
 pulse limit submitters held false true ended moment = sym (append-nil (map Admitted held))
 pulse limit submitters held false false ended moment = sealed_before held (Pulse moment)
 
-end : (front : FrontState) (sender : ℕ) (all : Bool) → IsAccounted front item.End (let next = with_end front sender in if all then handing (holding next []) (sealed front.held) else handing next [])
+end : (front : FrontState) (sender : ℕ) (all : Bool) → IsAccounted front item.End (let next = with_end front sender in if all then take_result (with_group next []) (group_as_batch front.held) else take_result next [])
 end front sender true = sealed_alone front.held
 end front sender false = sym (append-nil (held_by front))
 
-accounted : (refused : Bool) (front : FrontState) (sender : ℕ) (x : Item) → IsClear front → IsAccounted front x (took refused front sender x)
+accounted : (refused : Bool) (front : FrontState) (sender : ℕ) (x : Item) → IsClear front → IsAccounted front x (take_step refused front sender x)
 accounted refused front sender (item.Packet job) is = packet refused (is_taken front.limit front.held job) front.limit front.submitters front.held front.closed front.stopped front.ended job is refl
 accounted refused front sender (item.Pulse moment) is = pulse front.limit front.submitters front.held front.closed front.stopped front.ended moment
 accounted refused front sender item.End is = end front sender (all_ended (with_end front sender))
 accounted refused front sender item.Close is = sealed_alone front.held
 
 -- the same for a front and parcels that have names
-pub taken_is_accounted : (refused : Bool) (front next : FrontState) (sender : ℕ) (x : Item) (parcels : List Parcel) → IsClear front → handing next parcels ≡ took refused front sender x → IsAccounted front x (handing next parcels)
+pub taken_is_accounted : (refused : Bool) (front next : FrontState) (sender : ℕ) (x : Item) (parcels : List Parcel) → IsClear front → take_result next parcels ≡ take_step refused front sender x → IsAccounted front x (take_result next parcels)
 taken_is_accounted refused front next sender x parcels is took_is = subst (IsAccounted front x) (sym took_is) (accounted refused front sender x is)
 
 -- ---- whether it is closed and stopped then
@@ -89,7 +89,7 @@ either_same : {X : Type 0} (view : Taken → X) (b : Bool) (x y : Taken) (v : X)
 either_same view true x y v e f = e
 either_same view false x y v e f = f
 
-closed_then : (refused : Bool) (front : FrontState) (sender : ℕ) (x : Item) → (took refused front sender x).front.closed ≡ (front.closed || is_close x)
+closed_then : (refused : Bool) (front : FrontState) (sender : ℕ) (x : Item) → (take_step refused front sender x).front.closed ≡ (front.closed || is_close x)
 closed_then refused front sender (item.Packet job) =
     let closed : Taken → Bool = λ taken. taken.front.closed in
     either_same closed front.closed _ _ front.closed refl
@@ -100,7 +100,7 @@ closed_then refused front sender item.End = either_same (λ taken. taken.front.c
 closed_then refused front sender item.Close = sym (or_true front.closed)
 
 packet_stops : (refused taken closed stopped : Bool) (front : FrontState) (job : Numbered) → front.closed ≡ closed → front.stopped ≡ stopped → is_taken front.limit front.held job ≡ taken →
-    (took_packet refused front job).front.stopped ≡ (stopped || stops_at refused closed (item.Packet job))
+    (step_of_packet refused front job).front.stopped ≡ (stopped || stops_at refused closed (item.Packet job))
 packet_stops true taken true stopped front job c s t = rw c (s ∙ sym (or_false stopped))
 packet_stops false taken true stopped front job c s t = rw c (s ∙ sym (or_false stopped))
 packet_stops refused taken false true front job c s t = rw (c, s) refl
@@ -108,14 +108,14 @@ packet_stops true taken false false front job c s t = rw (c, s) refl
 packet_stops false true false false front job c s t = rw (c, s, t) refl
 packet_stops false false false false front job c s t = rw (c, s, t) refl
 
-stopped_then : (refused : Bool) (front : FrontState) (sender : ℕ) (x : Item) → (took refused front sender x).front.stopped ≡ (front.stopped || stops_at refused front.closed x)
+stopped_then : (refused : Bool) (front : FrontState) (sender : ℕ) (x : Item) → (take_step refused front sender x).front.stopped ≡ (front.stopped || stops_at refused front.closed x)
 stopped_then refused front sender (item.Packet job) = packet_stops refused (is_taken front.limit front.held job) front.closed front.stopped front job refl refl refl
 stopped_then refused front sender (item.Pulse moment) = either_same (λ taken. taken.front.stopped) (front.closed || front.stopped) _ _ front.stopped refl refl ∙ sym (or_false front.stopped)
 stopped_then refused front sender item.End = either_same (λ taken. taken.front.stopped) (all_ended (with_end front sender)) _ _ front.stopped refl refl ∙ sym (or_false front.stopped)
 stopped_then refused front sender item.Close = sym (or_false front.stopped)
 
 -- a front whose growth isn't refused goes on
-pub goes_on : (front next : FrontState) (sender : ℕ) (x : Item) (parcels : List Parcel) → handing next parcels ≡ took false front sender x → front.stopped ≡ false → next.stopped ≡ false
+pub goes_on : (front next : FrontState) (sender : ℕ) (x : Item) (parcels : List Parcel) → take_result next parcels ≡ take_step false front sender x → front.stopped ≡ false → next.stopped ≡ false
 goes_on front next sender x parcels took_is going =
     ap (λ (taken : Taken). taken.front.stopped) took_is ∙ stopped_then false front sender x ∙ ap (λ b. b || stops_at false front.closed x) going ∙ none x
   where
@@ -127,7 +127,7 @@ goes_on front next sender x parcels took_is going =
 
 -- ---- what stays, and who has ended then
 
-limit_then : (refused : Bool) (front : FrontState) (sender : ℕ) (x : Item) → (took refused front sender x).front.limit ≡ front.limit
+limit_then : (refused : Bool) (front : FrontState) (sender : ℕ) (x : Item) → (take_step refused front sender x).front.limit ≡ front.limit
 limit_then refused front sender (item.Packet job) =
     let limit : Taken → ℕ = λ taken. taken.front.limit in
     either_same limit front.closed _ _ front.limit refl
@@ -136,7 +136,7 @@ limit_then refused front sender (item.Pulse moment) = either_same (λ taken. tak
 limit_then refused front sender item.End = either_same (λ taken. taken.front.limit) (all_ended (with_end front sender)) _ _ front.limit refl refl
 limit_then refused front sender item.Close = refl
 
-pub submitters_then : (refused : Bool) (front : FrontState) (sender : ℕ) (x : Item) → (took refused front sender x).front.submitters ≡ front.submitters
+pub submitters_then : (refused : Bool) (front : FrontState) (sender : ℕ) (x : Item) → (take_step refused front sender x).front.submitters ≡ front.submitters
 submitters_then refused front sender (item.Packet job) =
     let submitters : Taken → ℕ = λ taken. taken.front.submitters in
     either_same submitters front.closed _ _ front.submitters refl
@@ -146,7 +146,7 @@ submitters_then refused front sender (item.Pulse moment) = either_same (λ taken
 submitters_then refused front sender item.End = either_same (λ taken. taken.front.submitters) (all_ended (with_end front sender)) _ _ front.submitters refl refl
 submitters_then refused front sender item.Close = refl
 
-ended_then : (refused : Bool) (front : FrontState) (sender : ℕ) (x : Item) → (took refused front sender x).front.ended ≡ ended_after front.ended sender x
+ended_then : (refused : Bool) (front : FrontState) (sender : ℕ) (x : Item) → (take_step refused front sender x).front.ended ≡ ends_after front.ended sender x
 ended_then refused front sender (item.Packet job) =
     let ended : Taken → List Bool = λ taken. taken.front.ended in
     either_same ended front.closed _ _ front.ended refl
@@ -163,7 +163,7 @@ differ a b h e = let f = sym (ap (λ n. b == n) e ∙ same_number b) ∙ h in cc
 
 -- one ticket more in a queue of which it is known who has ended
 ends_more : (ended : List Bool) (queue : List Ticket) (ticket : Ticket) (sender : ℕ) → ticket.sender < length ended → get_or ended sender false ≡ list_any is_end (part sender queue) →
-    get_or (ended_after ended ticket.sender ticket.item) sender false ≡ list_any is_end (part sender (queue ++ ticket ∷ []))
+    get_or (ends_after ended ticket.sender ticket.item) sender false ≡ list_any is_end (part sender (queue ++ ticket ∷ []))
 ends_more ended queue ticket sender within known =
     by (is_end ticket.item) (ticket.sender == sender) refl refl
     ∙ sym (ap (list_any is_end) (ap (map item_in) (filter-append is_its queue (ticket ∷ [])) ∙ map-append item_in (filter is_its queue) (filter is_its (ticket ∷ [])))
@@ -187,7 +187,7 @@ ends_more ended queue ticket sender within known =
 
 -- ---- the batches are lawful
 
-sealed_joined : (limit : ℕ) (held : List Numbered) (others : List Parcel) → IsGroup limit held → AreJoinedParcels limit others → AreJoinedParcels limit (sealed held ++ others)
+sealed_joined : (limit : ℕ) (held : List Numbered) (others : List Parcel) → IsGroup limit held → AreJoinedParcels limit others → AreJoinedParcels limit (group_as_batch held ++ others)
 sealed_joined limit [] others group is = is
 sealed_joined limit (job ∷ jobs) others group is = (group, is)
 
@@ -195,10 +195,10 @@ either_joined : (limit : ℕ) (b : Bool) (x y : Taken) → AreJoinedParcels limi
 either_joined limit true x y one other = one
 either_joined limit false x y one other = other
 
-alone_joined : (limit : ℕ) (held : List Numbered) → IsGroup limit held → AreJoinedParcels limit (sealed held)
-alone_joined limit held group = subst (AreJoinedParcels limit) (append-nil (sealed held)) (sealed_joined limit held [] group tt)
+alone_joined : (limit : ℕ) (held : List Numbered) → IsGroup limit held → AreJoinedParcels limit (group_as_batch held)
+alone_joined limit held group = subst (AreJoinedParcels limit) (append-nil (group_as_batch held)) (sealed_joined limit held [] group tt)
 
-joined_then : (refused : Bool) (front : FrontState) (sender : ℕ) (x : Item) → IsGroup front.limit front.held → AreJoinedParcels front.limit (took refused front sender x).parcels
+joined_then : (refused : Bool) (front : FrontState) (sender : ℕ) (x : Item) → IsGroup front.limit front.held → AreJoinedParcels front.limit (take_step refused front sender x).parcels
 joined_then refused front sender (item.Packet job) group =
     either_joined front.limit front.closed _ _ (tt, tt)
     (either_joined front.limit front.stopped _ _ (tt, tt)
@@ -211,30 +211,30 @@ joined_then refused front sender item.Close group = alone_joined front.limit fro
 
 -- ---- the queue with the ticket after it
 
-pub taken_passes : (refused : Bool) (front next : FrontState) (sender : ℕ) (x : Item) (parcels : List Parcel) (items : List Item) (sent : List Passage) → IsClear front → handing next parcels ≡ took refused front sender x →
-    Passes items front.closed front.stopped (sent ++ held_by front) → Passes (items ++ x ∷ []) next.closed next.stopped ((sent ++ spelled parcels) ++ held_by next)
+pub taken_passes : (refused : Bool) (front next : FrontState) (sender : ℕ) (x : Item) (parcels : List Parcel) (items : List Item) (sent : List Passage) → IsClear front → take_result next parcels ≡ take_step refused front sender x →
+    Passes items front.closed front.stopped (sent ++ held_by front) → Passes (items ++ x ∷ []) next.closed next.stopped ((sent ++ all_passages_in parcels) ++ held_by next)
 taken_passes refused front next sender x parcels items sent is took_is passes =
     let closed : next.closed ≡ (front.closed || is_close x) = ap (λ (taken : Taken). taken.front.closed) took_is ∙ closed_then refused front sender x in
     let stopped : next.stopped ≡ (front.stopped || stops_at refused front.closed x) = ap (λ (taken : Taken). taken.front.stopped) took_is ∙ stopped_then refused front sender x in
     let account = taken_is_accounted refused front next sender x parcels is took_is in
-    let all : (sent ++ held_by front) ++ passed front.closed next.stopped x ≡ (sent ++ spelled parcels) ++ held_by next =
-    append_assoc sent (held_by front) (passed front.closed next.stopped x) ∙ ap (λ passages. sent ++ passages) (sym account) ∙ sym (append_assoc sent (spelled parcels) (held_by next)) in
+    let all : (sent ++ held_by front) ++ passages_of_item front.closed next.stopped x ≡ (sent ++ all_passages_in parcels) ++ held_by next =
+    append_assoc sent (held_by front) (passages_of_item front.closed next.stopped x) ∙ ap (λ passages. sent ++ passages) (sym account) ∙ sym (append_assoc sent (all_passages_in parcels) (held_by next)) in
     subst (Passes (items ++ x ∷ []) next.closed next.stopped) all
-    (subst (λ b. Passes (items ++ x ∷ []) b next.stopped ((sent ++ held_by front) ++ passed front.closed next.stopped x)) (sym closed)
-    (subst (λ b. Passes (items ++ x ∷ []) (front.closed || is_close x) b ((sent ++ held_by front) ++ passed front.closed b x)) (sym stopped)
+    (subst (λ b. Passes (items ++ x ∷ []) b next.stopped ((sent ++ held_by front) ++ passages_of_item front.closed next.stopped x)) (sym closed)
+    (subst (λ b. Passes (items ++ x ∷ []) (front.closed || is_close x) b ((sent ++ held_by front) ++ passages_of_item front.closed b x)) (sym stopped)
     (passes_more refused items front.closed front.stopped (sent ++ held_by front) x passes)))
 
 -- all that holds of a front that took a ticket
 pub record HasTaken (front next : FrontState) (ticket : Ticket) (parcels : List Parcel) : Type 0 where
-  pub accounted : IsAccounted front ticket.item (handing next parcels)
+  pub accounted : IsAccounted front ticket.item (take_result next parcels)
   pub passes : (items : List Item) (sent : List Passage) → Passes items front.closed front.stopped (sent ++ held_by front) →
-      Passes (items ++ ticket.item ∷ []) next.closed next.stopped ((sent ++ spelled parcels) ++ held_by next)
+      Passes (items ++ ticket.item ∷ []) next.closed next.stopped ((sent ++ all_passages_in parcels) ++ held_by next)
   pub lawful : AreJoinedParcels front.limit parcels
   pub ends : (queue : List Ticket) → KnowsEnds queue front → KnowsEnds (queue ++ ticket ∷ []) next
   pub same : (next.limit ≡ front.limit) × (next.submitters ≡ front.submitters)
 
 pub has_taken : (refused : Bool) (front next : FrontState) (ticket : Ticket) (parcels : List Parcel) → IsFront front → ticket.sender ≤ front.submitters →
-    handing next parcels ≡ took refused front ticket.sender ticket.item → HasTaken front next ticket parcels
+    take_result next parcels ≡ take_step refused front ticket.sender ticket.item → HasTaken front next ticket parcels
 has_taken refused front next ticket parcels is among took_is =
     let sender = ticket.sender in
     let x = ticket.item in
@@ -251,7 +251,7 @@ has_taken refused front next ticket parcels is among took_is =
 
 -- the same where a growth was refused first, and the ticket came back
 pub has_taken_again : (refused : Bool) (front tried next : FrontState) (ticket back : Ticket) (parcels : List Parcel) → IsFront front → ticket.sender ≤ front.submitters → back ≡ ticket → tried ≡ front →
-    handing next parcels ≡ took refused tried back.sender back.item → HasTaken front next ticket parcels
+    take_result next parcels ≡ take_step refused tried back.sender back.item → HasTaken front next ticket parcels
 has_taken_again refused front tried next ticket back parcels is among same_ticket same_front took_is =
     has_taken refused front next ticket parcels is among
-    (took_is ∙ ap (λ (t : Ticket). took refused tried t.sender t.item) same_ticket ∙ ap (λ (f : FrontState). took refused f ticket.sender ticket.item) same_front)
+    (took_is ∙ ap (λ (t : Ticket). take_step refused tried t.sender t.item) same_ticket ∙ ap (λ (f : FrontState). take_step refused f ticket.sender ticket.item) same_front)

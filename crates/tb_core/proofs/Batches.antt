@@ -14,7 +14,7 @@ use Rattle.tb_machine.specs.Joining.{JoiningIsInvisible}
 use Rattle.tb_machine.specs.Replay.{State, accounts_found, answer_of, after_packet}
 use Rattle.tb_layout.specs.declared.answer.Answer.TheVariants.{Accounts as Looked_up}
 use Rattle.tb_work.specs.declared.outcome.Outcome.TheVariants.{Committed}
-use Rattle.tb_work.specs.Admission.{event_size, admitted_of_size, count_of, count_of_size}
+use Rattle.tb_work.specs.Admission.{event_size, admission_of_size, count_of, count_of_size}
 use Rattle.tb_work.specs.Job.{Numbered, events_in, count_of_all, is_lookup, stub_of, is_open as is_open_packet}
 use Rattle.tb_work.specs.Reply.{reply_with}
 use Rattle.tb_work.specs.Work.{work_of}
@@ -33,11 +33,11 @@ pub data Kind (operation : ℕ) : Type 0 where
   OfTransfers : (operation == 129) ≡ false → (operation == 130) ≡ true → Kind operation
   OfIds : (operation == 129) ≡ false → (operation == 130) ≡ false → (operation == 131) ≡ true → Kind operation
 
-pub kind_of : (operation : ℕ) (bytes : List ℕ) → IsOk (admitted_of_size 8190 bytes (event_size operation)) → Kind operation
+pub kind_of : (operation : ℕ) (bytes : List ℕ) → IsOk (admission_of_size 8190 bytes (event_size operation)) → Kind operation
 kind_of operation bytes ok = by (operation == 129) (operation == 130) (operation == 131) refl refl refl ok
   where
     by : (a b c : Bool) → (operation == 129) ≡ a → (operation == 130) ≡ b → (operation == 131) ≡ c →
-        IsOk (admitted_of_size 8190 bytes (if a then Some 128 else if b then Some 128 else if c then Some 16 else None)) → Kind operation
+        IsOk (admission_of_size 8190 bytes (if a then Some 128 else if b then Some 128 else if c then Some 16 else None)) → Kind operation
     by true b c is_a is_b is_c ok = OfAccounts is_a
     by false true c is_a is_b is_c ok = OfTransfers is_a is_b
     by false false true is_a is_b is_c ok = OfIds is_a is_b is_c
@@ -46,7 +46,7 @@ kind_of operation bytes ok = by (operation == 129) (operation == 130) (operation
 kind_of_batch : (operation : ℕ) (jobs : List Numbered) → 0 < length jobs → are_of operation jobs ≡ true → AreAdmitted jobs → Kind operation
 kind_of_batch operation [] some one all = absurd (omega arith)
 kind_of_batch operation (job ∷ jobs) some one all =
-    kind_of operation job.packet.bytes (subst (λ op. IsOk (admitted_of_size 8190 job.packet.bytes (event_size op))) (first_is operation job jobs one).0 all.0)
+    kind_of operation job.packet.bytes (subst (λ op. IsOk (admission_of_size 8190 job.packet.bytes (event_size op))) (first_is operation job jobs one).0 all.0)
 
 pub size_of_accounts : (operation : ℕ) → (operation == 129) ≡ true → event_size operation ≡ Some 128
 size_of_accounts operation is = ap (λ b. if b then Some 128 else if operation == 130 then Some 128 else if operation == 131 then Some 16 else None) is

@@ -6,7 +6,7 @@ use Rattle.std.proofs.lemmas.List.{map-append, take-append-le, drop-append-le, l
 use Rattle.std.proofs.Math.Seq.{take-append_seam, drop-append_seam}
 use Rattle.std.proofs.lemmas.Bool.{eqb-true, and_parts}
 use Rattle.tb_layout.specs.Events.{rows, events_of}
-use Rattle.tb_work.specs.Admission.{event_size, admitted, admitted_of_size, count_of, count_of_size}
+use Rattle.tb_work.specs.Admission.{event_size, admission_of, admission_of_size, count_of, count_of_size}
 use Rattle.tb_work.specs.Job.{Numbered, stub_of}
 use Rattle.tb_layout.specs.Work.{Packet as Packet_of}
 use Rattle.tb_work.specs.Work.{work_of}
@@ -15,7 +15,7 @@ use Rattle.tb_work.specs.declared.refusal.Refusal.{Refusal}
 use Rattle.tb_work.specs.declared.refusal.Refusal.TheVariants.{InvalidDataSize}
 use Rattle.tb_batch.specs.Grouping.{are_of}
 use Rattle.tb_batch.specs.Batch.{body_of, AreAdmitted}
-use Rattle.tb_machine.specs.Joining.{laid}
+use Rattle.tb_machine.specs.Joining.{events_in_turn}
 use Rattle.tb_core.specs.Ledger.{size_of, packets_of}
 
 -- ---- rows
@@ -45,9 +45,9 @@ not_refused true refusal rest ok = refl
 not_refused false refusal rest ok = cc
 
 -- the data is whole events
-pub whole_events : (packet : Packet) (size : ℕ) → event_size packet.operation ≡ Some size → IsOk (admitted 8190 packet) → length packet.bytes % size ≡ 0
+pub whole_events : (packet : Packet) (size : ℕ) → event_size packet.operation ≡ Some size → IsOk (admission_of 8190 packet) → length packet.bytes % size ≡ 0
 whole_events packet size is ok =
-    eqb-true (length packet.bytes % size) 0 (not_refused (length packet.bytes % size == 0) InvalidDataSize _ (subst (λ s. IsOk (admitted_of_size 8190 packet.bytes s)) is ok))
+    eqb-true (length packet.bytes % size) 0 (not_refused (length packet.bytes % size == 0) InvalidDataSize _ (subst (λ s. IsOk (admission_of_size 8190 packet.bytes s)) is ok))
 
 -- its operation, of a batch's first packet
 pub first_is : (operation : ℕ) (job : Numbered) (jobs : List Numbered) → are_of operation (job ∷ jobs) ≡ true → (job.packet.operation ≡ operation) × (are_of operation jobs ≡ true)
@@ -73,7 +73,7 @@ packets_of-jobs operation size (job ∷ jobs) is exact one all =
 
 -- the events of the body are those of its packets, laid one behind the other
 pub laid-rows : {Event : Type 0} (f : List ℕ → Event) (operation : ℕ) (jobs : List Numbered) → event_size operation ≡ Some 128 → are_of operation jobs ≡ true → AreAdmitted jobs →
-    map f (rows 128 (body_of jobs)) ≡ laid (map (λ (job : Numbered). map f (rows 128 job.packet.bytes)) jobs)
+    map f (rows 128 (body_of jobs)) ≡ events_in_turn (map (λ (job : Numbered). map f (rows 128 job.packet.bytes)) jobs)
 laid-rows f operation [] is one all = refl
 laid-rows f operation (job ∷ jobs) is one all =
     let first = first_is operation job jobs one in

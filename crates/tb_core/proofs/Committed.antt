@@ -15,9 +15,9 @@ use Rattle.tb_core.specs.declared.parcel.Parcel.TheVariants as parcel
 use Rattle.tb_core.specs.declared.outcomes.Outcomes.{Outcomes}
 use Rattle.tb_core.specs.declared.outcomes.Outcomes.TheVariants.{Cut, Nothing}
 use Rattle.tb_core.specs.Answered.{committed_from}
-use Rattle.tb_core.specs.Due.{committed_as, outcome_at, outcome_of, works_in, replies_from}
-use Rattle.tb_core.specs.Front.{spelled_one}
-use Rattle.tb_core.specs.Ledger.{LedgerState, IsLedger, Applied, giving, works, halts, halting, entering, committing, applied}
+use Rattle.tb_core.specs.Due.{outcome_with, outcome_at, outcome_of, works_in, replies_from}
+use Rattle.tb_core.specs.Front.{passages_in}
+use Rattle.tb_core.specs.Ledger.{LedgerState, IsLedger, Applied, apply_result, works, must_stop, with_stop, with_entry, step_of_batch, apply_step}
 use Rattle.tb_core.specs.Passage.{Passage, Admitted, Pulsed, Returned, Ahead}
 use Rattle.tb_core.specs.Run.{replies_in, Commits, HasPackets}
 use Rattle.tb_core.proofs.Growing.{works-more, fold-append}
@@ -44,7 +44,7 @@ at_seam [] y ys = refl
 at_seam (x ∷ xs) y ys = at_seam xs y ys
 
 abbrev told : ℕ → ℕ → List Work → Option Work → Outcome
-told clock place before found = committed_as place (answer_to (replay clock before) found)
+told clock place before found = outcome_with place (answer_to (replay clock before) found)
 
 outcome_within : (clock place : ℕ) (journal others : List Work) → place < length journal → outcome_at clock (journal ++ others) (Ahead place) ≡ outcome_at clock journal (Ahead place)
 outcome_within clock place journal others h =
@@ -59,7 +59,7 @@ pub outcome_here : (clock place : ℕ) (state : State) (before : List Work) (job
     outcome_at clock (before ++ work_of job ∷ rest) (Ahead place) ≡ outcome.Committed place (answer_of state (events_in job.packet))
 outcome_here clock place state before job rest place_is state_is =
     let others = work_of job ∷ rest in
-    ap (λ n. committed_as place (answer_to (replay clock (take n (before ++ others))) (slice_get (before ++ others) n))) place_is
+    ap (λ n. outcome_with place (answer_to (replay clock (take n (before ++ others))) (slice_get (before ++ others) n))) place_is
     ∙ ap (λ its. told clock place its (slice_get (before ++ others) (length before))) (take-append_seam before others)
     ∙ ap (λ found. told clock place before found) (at_seam before (work_of job) rest)
     ∙ ap (λ s. outcome.Committed place (answer_of s (events_in job.packet))) (sym state_is)
@@ -117,14 +117,14 @@ replies_from-committed clock place state journal before (job ∷ jobs) all place
 
 -- a batch that the machine took, and the journal has as one entry, is applied
 pub batch_applied : (ledger : LedgerState) (state : State) (places : ℕ) (groups : List (List Work)) (jobs batch : List Numbered) (replies : List Replied) → IsLedger ledger state places →
-    groups ≡ ledger.groups ++ map work_of jobs ∷ [] → jobs ≡ batch → replies ≡ committed_from places state jobs → halts false ledger (length batch) ≡ false →
-    giving (record { opening = ledger.opening; groups = groups; stopped = ledger.stopped }) (Cut replies) ≡ applied false ledger (parcel.Batch batch)
+    groups ≡ ledger.groups ++ map work_of jobs ∷ [] → jobs ≡ batch → replies ≡ committed_from places state jobs → must_stop false ledger (length batch) ≡ false →
+    apply_result (record { opening = ledger.opening; groups = groups; stopped = ledger.stopped }) (Cut replies) ≡ apply_step false ledger (parcel.Batch batch)
 batch_applied ledger state places groups jobs batch replies is groups_is same replies_is goes =
-    let next = entering ledger (map work_of batch) in
+    let next = with_entry ledger (map work_of batch) in
     let answers = replies_is ∙ ap (λ js. committed_from places state js) same ∙ ap (λ n. committed_from n state batch) is.counted
     ∙ replies_from-committed ledger.opening (length (works ledger)) state (works next) (works ledger) batch (works-more ledger.groups (map work_of batch)) refl is.machine in
-    ap (λ gs. giving (record { opening = ledger.opening; groups = gs; stopped = ledger.stopped }) (Cut replies)) (groups_is ∙ ap (λ js. ledger.groups ++ map work_of js ∷ []) same)
-    ∙ ap (λ rs. giving next (Cut rs)) answers ∙ ap (λ b. if b then giving (halting ledger) (Cut (map (reply_with outcome.Stopped) batch)) else committing ledger batch) (sym goes)
+    ap (λ gs. apply_result (record { opening = ledger.opening; groups = gs; stopped = ledger.stopped }) (Cut replies)) (groups_is ∙ ap (λ js. ledger.groups ++ map work_of js ∷ []) same)
+    ∙ ap (λ rs. apply_result next (Cut rs)) answers ∙ ap (λ b. if b then apply_result (with_stop ledger) (Cut (map (reply_with outcome.Stopped) batch)) else step_of_batch ledger batch) (sym goes)
 
 -- ---- a parcel more
 
@@ -144,7 +144,7 @@ module _ (clock : ℕ) (sent : List Passage) (ledger next : LedgerState) (replie
   ThenCommits passages = Commits clock (sent ++ passages) next (replies ++ replies_in outcomes)
 
   -- all of them are committed
-  entered : (group : List Work) (passages : List Passage) → ledger.stopped ≡ false → next ≡ entering ledger group → works_in passages ≡ group →
+  entered : (group : List Work) (passages : List Passage) → ledger.stopped ≡ false → next ≡ with_entry ledger group → works_in passages ≡ group →
       replies_in outcomes ≡ replies_from clock (journal ++ group) (length journal) passages → ThenCommits passages
   entered group passages goes next_is group_is answers =
       let longer : works next ≡ journal ++ group = ap works next_is ∙ works-more ledger.groups group in
@@ -183,7 +183,7 @@ module _ (clock : ℕ) (sent : List Passage) (ledger next : LedgerState) (replie
       (λ e. ap (λ (l : LedgerState). l.stopped) next_is ∙ is.unstopped (sym (append-nil is.behind) ∙ ap (λ ws. is.behind ++ ws) (sym none) ∙ e)) (λ place far. answers place)
 
   -- the ledger is marked
-  halted : (first : Work) (others : List Work) (passages : List Passage) → next ≡ halting ledger → works_in passages ≡ first ∷ others →
+  halted : (first : Work) (others : List Work) (passages : List Passage) → next ≡ with_stop ledger → works_in passages ≡ first ∷ others →
       ((place : ℕ) → length journal ≤ place → replies_in outcomes ≡ replies_from clock journal place passages) → ThenCommits passages
   halted first others passages next_is some answers =
       kept passages (ap (λ (l : LedgerState). l.opening) next_is) (ap works next_is) (λ on. (let e = sym (ap (λ (l : LedgerState). l.stopped) next_is) ∙ on in cc))
@@ -195,8 +195,8 @@ module _ (clock : ℕ) (sent : List Passage) (ledger next : LedgerState) (replie
   abbrev replies_of : Applied → List Replied
   replies_of a = replies_in a.outcomes
 
-  pub batch : (refused b : Bool) (jobs : List Numbered) → halts refused ledger (length jobs) ≡ b → 0 < length jobs →
-      giving next outcomes ≡ (if b then giving (halting ledger) (Cut (map (reply_with outcome.Stopped) jobs)) else committing ledger jobs) → ThenCommits (map Admitted jobs)
+  pub batch : (refused b : Bool) (jobs : List Numbered) → must_stop refused ledger (length jobs) ≡ b → 0 < length jobs →
+      apply_result next outcomes ≡ (if b then apply_result (with_stop ledger) (Cut (map (reply_with outcome.Stopped) jobs)) else step_of_batch ledger jobs) → ThenCommits (map Admitted jobs)
   batch refused b [] h some e = absurd (omega (arith, some))
   batch refused true (job ∷ jobs) h some e =
       halted (work_of job) (map work_of jobs) (map Admitted (job ∷ jobs)) (ap next_of e) (works_in-admitted (job ∷ jobs))
@@ -205,16 +205,16 @@ module _ (clock : ℕ) (sent : List Passage) (ledger next : LedgerState) (replie
       let group = map work_of (job ∷ jobs) in
       let passages = map Admitted (job ∷ jobs) in
       entered group passages (or_parts ledger.stopped _ h).0 (ap next_of e) (works_in-admitted (job ∷ jobs))
-      (ap replies_of e ∙ ap (λ start. replies_from start (works (entering ledger group)) (length journal) passages) is.from
+      (ap replies_of e ∙ ap (λ start. replies_from start (works (with_entry ledger group)) (length journal) passages) is.from
       ∙ ap (λ ws. replies_from clock ws (length journal) passages) (works-more ledger.groups group))
 
-  pub pulse : (refused b : Bool) (moment : ℕ) → halts refused ledger 1 ≡ b → giving next outcomes ≡ (if b then giving (halting ledger) Nothing else giving (entering ledger (work.Pulse moment ∷ [])) Nothing) →
+  pub pulse : (refused b : Bool) (moment : ℕ) → must_stop refused ledger 1 ≡ b → apply_result next outcomes ≡ (if b then apply_result (with_stop ledger) Nothing else apply_result (with_entry ledger (work.Pulse moment ∷ [])) Nothing) →
       ThenCommits (Pulsed moment ∷ [])
   pulse refused true moment h e = halted (work.Pulse moment) [] (Pulsed moment ∷ []) (ap next_of e) refl (λ place far. ap replies_of e)
   pulse refused false moment h e = entered (work.Pulse moment ∷ []) (Pulsed moment ∷ []) (or_parts ledger.stopped _ h).0 (ap next_of e) refl (ap replies_of e)
 
-  pub commits_more : (refused : Bool) (handed : Parcel) → HasPackets handed → giving next outcomes ≡ applied refused ledger handed → ThenCommits (spelled_one handed)
-  commits_more refused (parcel.Batch jobs) some e = batch refused (halts refused ledger (length jobs)) jobs refl some.0 e
-  commits_more refused (parcel.Pulse moment) some e = pulse refused (halts refused ledger 1) moment refl e
+  pub commits_more : (refused : Bool) (handed : Parcel) → HasPackets handed → apply_result next outcomes ≡ apply_step refused ledger handed → ThenCommits (passages_in handed)
+  commits_more refused (parcel.Batch jobs) some e = batch refused (must_stop refused ledger (length jobs)) jobs refl some.0 e
+  commits_more refused (parcel.Pulse moment) some e = pulse refused (must_stop refused ledger 1) moment refl e
   commits_more refused (parcel.Return job cause) some e = aside (Returned job cause ∷ []) (ap next_of e) refl (λ place. ap replies_of e)
   commits_more refused parcel.Last some e = aside [] (ap next_of e) refl (λ place. ap replies_of e)

@@ -7,10 +7,10 @@ use Rattle.std.proofs.lemmas.List.{length-map}
 use Rattle.std.proofs.lemmas.Bool.{and_parts}
 use Rattle.tb_layout.specs.declared.failure.Failure.{Failure}
 use Rattle.tb_layout.specs.Events.{Events, events_of, rows, is_last_linked, is_open}
-use Rattle.tb_layout.specs.Failures.{RiseWithin, cut}
+use Rattle.tb_layout.specs.Failures.{RiseWithin, failures_within}
 use Rattle.tb_layout.specs.Limits.{clock_max}
 use Rattle.tb_machine.specs.Replay.{State, failures_of, answer_of, after_packet}
-use Rattle.tb_machine.specs.Joining.{laid, none_open, cuts, failures_each, JoiningIsInvisible}
+use Rattle.tb_machine.specs.Joining.{events_in_turn, none_open, cuts, failures_each, JoiningIsInvisible}
 use Rattle.tb_layout.specs.declared.answer.Answer.TheVariants.{Failures}
 use Rattle.tb_work.specs.declared.outcome.Outcome.TheVariants.{Committed}
 use Rattle.tb_work.specs.Admission.{event_size, count_of, count_of_size}
@@ -54,22 +54,22 @@ module _ {Event : Type 0} (is_linked : Event → Bool) (number : ℕ) (f : List 
       ap (count_of_size job.packet.bytes) (ap event_size is ∙ size)
       ∙ sym (length-map (rows 128 job.packet.bytes) f ∙ length-chunks 128 (length job.packet.bytes / 128) job.packet.bytes)
 
-  body_is : (jobs : List Numbered) → are_of number jobs ≡ true → AreAdmitted jobs → events_of number (body_of jobs) ≡ packet_of (laid (map own jobs))
+  body_is : (jobs : List Numbered) → are_of number jobs ≡ true → AreAdmitted jobs → events_of number (body_of jobs) ≡ packet_of (events_in_turn (map own jobs))
   body_is jobs one all = events_is (body_of jobs) ∙ ap packet_of (laid-rows f number jobs size one all)
 
-  count_all : (jobs : List Numbered) → are_of number jobs ≡ true → length (laid (map own jobs)) ≡ count_of_all jobs
+  count_all : (jobs : List Numbered) → are_of number jobs ≡ true → length (events_in_turn (map own jobs)) ≡ count_of_all jobs
   count_all [] one = refl
   count_all (job ∷ jobs) one =
       let first = first_is number job jobs one in
-      omega (arith, length-append (own job) (laid (map own jobs)), count_is job first.0, count_all jobs first.1)
+      omega (arith, length-append (own job) (events_in_turn (map own jobs)), count_is job first.0, count_all jobs first.1)
 
   -- cut by the packets' counts, or by their events
   replies_cut : (place offset : ℕ) (failures : List Failure) (jobs : List Numbered) → are_of number jobs ≡ true → replies_from place offset failures jobs ≡ replied place jobs (cuts offset (map own jobs) failures)
   replies_cut place offset failures [] one = refl
   replies_cut place offset failures (job ∷ jobs) one =
       let first = first_is number job jobs one in
-      ap (λ n. reply_with (Committed place (Failures (cut offset n failures))) job ∷ replies_from (place + 1) (offset + n) failures jobs) (count_is job first.0)
-      ∙ ap (λ replies. reply_with (Committed place (Failures (cut offset (length (own job)) failures))) job ∷ replies) (replies_cut (place + 1) (offset + length (own job)) failures jobs first.1)
+      ap (λ n. reply_with (Committed place (Failures (failures_within offset n failures))) job ∷ replies_from (place + 1) (offset + n) failures jobs) (count_is job first.0)
+      ∙ ap (λ replies. reply_with (Committed place (Failures (failures_within offset (length (own job)) failures))) job ∷ replies) (replies_cut (place + 1) (offset + length (own job)) failures jobs first.1)
 
   -- each by itself
   replies_each : (place : ℕ) (state : State) (jobs : List Numbered) → are_of number jobs ≡ true → committed_from place state jobs ≡ replied place jobs (failures_each state (map packet_of (map own jobs)))
@@ -102,8 +102,8 @@ module _ {Event : Type 0} (is_linked : Event → Bool) (number : ℕ) (f : List 
       let joined = law state (map own jobs) in_range (λ more. closed_all jobs one (share (omega (arith, more, length-map jobs own)))) in
       let body = body_is jobs one all in
       record {
-        replies = ap (λ events. replies_from place 0 (failures_of state events) jobs) body ∙ replies_cut place 0 (failures_of state (packet_of (laid (map own jobs)))) jobs one
+        replies = ap (λ events. replies_from place 0 (failures_of state events) jobs) body ∙ replies_cut place 0 (failures_of state (packet_of (events_in_turn (map own jobs)))) jobs one
             ∙ ap (replied place jobs) joined.failures ∙ sym (replies_each place state jobs one);
         states = ap (after_packet state) body ∙ joined.state_after ∙ states_each state jobs one;
-        rises = subst (RiseWithin 0 (count_of_all jobs)) (sym (ap (failures_of state) body)) (subst (λ high. RiseWithin 0 high (failures_of state (packet_of (laid (map own jobs))))) (count_all jobs one) joined.rise);
+        rises = subst (RiseWithin 0 (count_of_all jobs)) (sym (ap (failures_of state) body)) (subst (λ high. RiseWithin 0 high (failures_of state (packet_of (events_in_turn (map own jobs))))) (count_all jobs one) joined.rise);
       }

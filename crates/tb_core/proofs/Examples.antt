@@ -7,7 +7,7 @@ use Rattle.tb_work.specs.declared.outcome.Outcome.TheVariants.{Committed, Shutdo
 use Rattle.tb_work.specs.declared.item.Item.{Item}
 use Rattle.tb_work.specs.declared.item.Item.TheVariants as item
 use Rattle.tb_work.specs.declared.item.Ticket.{Ticket}
-use Rattle.tb_work.specs.Job.{Numbered, numbered}
+use Rattle.tb_work.specs.Job.{Numbered, numbered_packet}
 use Rattle.tb_work.specs.Queue.{ahead}
 use Rattle.tb_work.specs.Reply.{Replied}
 use Rattle.tb_work.specs.Work.{work_of}
@@ -19,7 +19,7 @@ abbrev event : ℕ → List ℕ
 event id = id ∷ replicate 111 0 ++ 1 ∷ 0 ∷ 0 ∷ 0 ∷ 1 ∷ replicate 11 0
 
 abbrev job : ℕ → ℕ → List ℕ → Numbered
-job submitter number bytes = numbered submitter number (record { operation = 129; bytes = bytes; user = 7 })
+job submitter number bytes = numbered_packet submitter number (record { operation = 129; bytes = bytes; user = 7 })
 
 abbrev packet : Numbered → Ticket
 packet job = record { sender = job.submitter; item = item.Packet job }

@@ -9,7 +9,7 @@ use Rattle.tb_layout.specs.Transfer.{transfer_of}
 use Rattle.tb_layout.specs.Bytes.{little_endian}
 use Rattle.tb_layout.specs.Events.{Accounts, Transfers, Ids, events_of, rows, accounts_of, transfers_of, ids_of, is_open, count_of as count_of_events}
 use Rattle.tb_layout.specs.Work.{Work, Pulse}
-use Rattle.tb_work.specs.Admission.{admitted, count_of, count_of_size}
+use Rattle.tb_work.specs.Admission.{admission_of, count_of, count_of_size}
 use Rattle.tb_work.specs.Job.{Numbered, events_in, count_of_all, is_lookup}
 use Rattle.tb_work.specs.Work.{work_of}
 use Rattle.tb_batch.specs.Batch.{AreAdmitted}
@@ -18,7 +18,7 @@ use Rattle.tb_core.specs.declared.outcomes.Outcomes.{Outcomes}
 use Rattle.tb_core.specs.declared.parcel.Parcel.{Parcel}
 use Rattle.tb_core.specs.declared.parcel.Parcel.TheVariants as parcel
 use Rattle.tb_core.specs.Grouping.{operation_of, can_join, can_stand_with, events_together, joins_group, join_one_by_one, IsJoined, AreJoined, IsJoinedParcel}
-use Rattle.tb_core.specs.Ledger.{LedgerState, Applied, giving, halts, applied}
+use Rattle.tb_core.specs.Ledger.{LedgerState, Applied, apply_result, must_stop, apply_step}
 use Rattle.tb_core.specs.Run.{HasPackets}
 use Rattle.tb_core.proofs.Batches.{Kind, OfAccounts, OfTransfers, OfIds, kind_of, size_of_accounts, size_of_transfers, size_of_ids}
 use Rattle.tb_core.proofs.Committing.{length-chunks}
@@ -31,7 +31,7 @@ record IsSeen (job : Numbered) : Type 0 where
   count : count_of_events (events_in job.packet) ≡ count_of job.packet
   joinable : can_share job ≡ true → can_join (events_in job.packet) ≡ true
 
-seen : (job : Numbered) → IsOk (admitted 8190 job.packet) → IsSeen job
+seen : (job : Numbered) → IsOk (admission_of 8190 job.packet) → IsSeen job
 seen job ok = by (kind_of job.packet.operation job.packet.bytes ok)
   where
     bytes : List ℕ
@@ -75,7 +75,7 @@ count_all : (jobs : List Numbered) → AreAdmitted jobs → events_together (map
 count_all [] all = refl
 count_all (job ∷ jobs) all = omega (arith, (seen job all.0).count, count_all jobs all.1)
 
-stand_all : (job : Numbered) (group : List Numbered) → IsOk (admitted 8190 job.packet) → AreAdmitted group → list_all can_share group ≡ true → are_of job.packet.operation group ≡ true →
+stand_all : (job : Numbered) (group : List Numbered) → IsOk (admission_of 8190 job.packet) → AreAdmitted group → list_all can_share group ≡ true → are_of job.packet.operation group ≡ true →
     list_all (can_stand_with (events_in job.packet)) (map work_of group) ≡ true
 stand_all job [] ok all share one = refl
 stand_all job (first ∷ group) ok all share one =
@@ -86,7 +86,7 @@ stand_all job (first ∷ group) ok all share one =
     both (can_join (events_in first.packet) && (operation_of (events_in first.packet) == operation_of (events_in job.packet))) (list_all (can_stand_with (events_in job.packet)) (map work_of group))
     (both (can_join (events_in first.packet)) _ ((seen first all.0).joinable shares.0) same) (stand_all job group ok all.1 shares.1 ones.1)
 
-joins_seen : (limit : ℕ) (group : List Numbered) (job : Numbered) → AreAdmitted group → IsOk (admitted 8190 job.packet) → joins limit group job ≡ true → joins_group limit (map work_of group) (work_of job) ≡ true
+joins_seen : (limit : ℕ) (group : List Numbered) (job : Numbered) → AreAdmitted group → IsOk (admission_of 8190 job.packet) → joins limit group job ≡ true → joins_group limit (map work_of group) (work_of job) ≡ true
 joins_seen limit group job all ok is =
     let first = and_parts (list_all can_share group) _ is in
     let second = and_parts (can_share job) _ first.1 in
@@ -95,7 +95,7 @@ joins_seen limit group job all ok is =
     ap (λ n. nat_le (n + count_of_events (events_in job.packet)) limit) (count_all group all) ∙ ap (λ n. nat_le (count_of_all group + n) limit) (seen job ok).count ∙ third.1 in
     both (list_all (can_stand_with (events_in job.packet)) (map work_of group)) _ (stand_all job group ok all first.0 third.0) (both (can_join (events_in job.packet)) _ ((seen job ok).joinable second.0) few)
 
-admitted_push : (group : List Numbered) (job : Numbered) → AreAdmitted group → IsOk (admitted 8190 job.packet) → AreAdmitted (group ++ job ∷ [])
+admitted_push : (group : List Numbered) (job : Numbered) → AreAdmitted group → IsOk (admission_of 8190 job.packet) → AreAdmitted (group ++ job ∷ [])
 admitted_push [] job all ok = (ok, tt)
 admitted_push (first ∷ group) job all ok = (all.0, admitted_push group job all.1 ok)
 
@@ -116,7 +116,7 @@ joined_push : (limit : ℕ) (groups : List (List Work)) (group : List Work) → 
 joined_push limit [] group all one = (one, tt)
 joined_push limit (first ∷ groups) group all one = (all.0, joined_push limit groups group all.1 one)
 
-pub joined_more : (refused : Bool) (ledger next : LedgerState) (handed : Parcel) (outcomes : Outcomes) (limit : ℕ) → HasPackets handed → giving next outcomes ≡ applied refused ledger handed → IsJoinedParcel limit handed →
+pub joined_more : (refused : Bool) (ledger next : LedgerState) (handed : Parcel) (outcomes : Outcomes) (limit : ℕ) → HasPackets handed → apply_result next outcomes ≡ apply_step refused ledger handed → IsJoinedParcel limit handed →
     AreJoined limit ledger.groups → AreJoined limit next.groups
 joined_more refused ledger next handed outcomes limit some is joined all = subst (λ (a : Applied). AreJoined limit a.ledger.groups) (sym is) (by handed some joined)
   where
@@ -124,8 +124,8 @@ joined_more refused ledger next handed outcomes limit some is joined all = subst
     either true x y one other = one
     either false x y one other = other
 
-    by : (p : Parcel) → HasPackets p → IsJoinedParcel limit p → AreJoined limit (applied refused ledger p).ledger.groups
-    by (parcel.Batch jobs) some joined = either (halts refused ledger (length jobs)) _ _ all (joined_push limit ledger.groups (map work_of jobs) all (group_joined limit jobs some joined))
-    by (parcel.Pulse moment) some joined = either (halts refused ledger 1) _ _ all (joined_push limit ledger.groups (Pulse moment ∷ []) all refl)
+    by : (p : Parcel) → HasPackets p → IsJoinedParcel limit p → AreJoined limit (apply_step refused ledger p).ledger.groups
+    by (parcel.Batch jobs) some joined = either (must_stop refused ledger (length jobs)) _ _ all (joined_push limit ledger.groups (map work_of jobs) all (group_joined limit jobs some joined))
+    by (parcel.Pulse moment) some joined = either (must_stop refused ledger 1) _ _ all (joined_push limit ledger.groups (Pulse moment ∷ []) all refl)
     by (parcel.Return job cause) some joined = all
     by parcel.Last some joined = all

@@ -14,7 +14,7 @@ use Rattle.tb_work.specs.Work.{work_of}
 use Rattle.tb_batch.specs.Batch.{body_of}
 use Rattle.tb_batch.specs.declared.parts.Parts.{Parts}
 use Rattle.tb_core.specs.Answered.{AreAnswered}
-use Rattle.tb_core.specs.Ledger.{LedgerState, IsLedger, works, halts}
+use Rattle.tb_core.specs.Ledger.{LedgerState, IsLedger, works, must_stop}
 use Rattle.tb_core.proofs.Batches.{JoinInvisibly, gives_each, gives_one}
 
 -- what holds of a call that succeeded
@@ -30,7 +30,7 @@ pub works-more : (groups : List (List Work)) (group : List Work) → flat_map (�
 works-more groups group = flat_map-append (λ g. g) groups (group ∷ []) ∙ ap (λ rest. flat_map (λ g. g) groups ++ rest) (append-nil group)
 
 -- there were places
-within : (refused : Bool) (ledger : LedgerState) (count : ℕ) → halts refused ledger count ≡ false → length (works ledger) + count ≤ 2 ^ 63
+within : (refused : Bool) (ledger : LedgerState) (count : ℕ) → must_stop refused ledger count ≡ false → length (works ledger) + count ≤ 2 ^ 63
 within refused ledger count goes = by ledger.stopped refused (nat_lt (2 ^ 63) (length (works ledger) + count)) refl goes
   where
     at_most : (n most : ℕ) → nat_lt most n ≡ false → n ≤ most
@@ -63,7 +63,7 @@ batch_state law state parts answered =
     by false is = (gives_each law 0 parts.operation state parts.jobs.items answered.in_range answered.lawful is).states
 
 pub batch_entered : (law : JoinInvisibly) (ledger : LedgerState) (state next : State) (places : ℕ) (groups : List (List Work)) (parts : Parts) (count : ℕ) → IsLedger ledger state places → AreAnswered state parts →
-    next ≡ after_packet state (events_of parts.operation parts.body.items) → groups ≡ ledger.groups ++ map work_of parts.jobs.items ∷ [] → count ≡ length parts.jobs.items → halts false ledger count ≡ false →
+    next ≡ after_packet state (events_of parts.operation parts.body.items) → groups ≡ ledger.groups ++ map work_of parts.jobs.items ∷ [] → count ≡ length parts.jobs.items → must_stop false ledger count ≡ false →
     IsLedger (record ledger { groups = groups }) next (places + count)
 batch_entered law ledger state next places groups parts count is answered next_is groups_is count_is goes =
     let group = map work_of parts.jobs.items in

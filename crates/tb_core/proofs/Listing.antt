@@ -8,9 +8,9 @@ use Rattle.tb_work.specs.declared.item.Item.{Item}
 use Rattle.tb_work.specs.declared.item.Ticket.{Ticket}
 use Rattle.tb_core.specs.declared.parcel.Parcel.{Parcel}
 use Rattle.tb_core.specs.declared.outcomes.Outcomes.{Outcomes}
-use Rattle.tb_core.specs.Front.{FrontState, IsFront, handing, took, spelled, spelled_one, held_by}
+use Rattle.tb_core.specs.Front.{FrontState, IsFront, take_result, take_step, all_passages_in, passages_in, held_by}
 use Rattle.tb_core.specs.Grouping.{AreJoined, AreWithin, IsGrouping, IsJoinedParcel, AreJoinedParcels}
-use Rattle.tb_core.specs.Ledger.{LedgerState, giving, applied}
+use Rattle.tb_core.specs.Ledger.{LedgerState, apply_result, apply_step}
 use Rattle.tb_core.specs.Passage.{Passage, Passes}
 use Rattle.tb_core.specs.Report.{IsListed}
 use Rattle.tb_core.specs.Run.{Commits, GoesOn, IsRunning, IsThrough, HasPackets, replies_in}
@@ -35,8 +35,8 @@ none_left (x ∷ xs) count is zero = absurd (omega (arith, is, zero))
 
 -- ---- parcels one after the other
 
-pub goes_on_more : (clock limit : ℕ) (sent : List Passage) (ledger next : LedgerState) (replies : List Replied) (handed : Parcel) (outcomes : Outcomes) → HasPackets handed → giving next outcomes ≡ applied false ledger handed →
-    next.stopped ≡ false → IsJoinedParcel limit handed → GoesOn clock limit sent ledger replies → GoesOn clock limit (sent ++ spelled_one handed) next (replies ++ replies_in outcomes)
+pub goes_on_more : (clock limit : ℕ) (sent : List Passage) (ledger next : LedgerState) (replies : List Replied) (handed : Parcel) (outcomes : Outcomes) → HasPackets handed → apply_result next outcomes ≡ apply_step false ledger handed →
+    next.stopped ≡ false → IsJoinedParcel limit handed → GoesOn clock limit sent ledger replies → GoesOn clock limit (sent ++ passages_in handed) next (replies ++ replies_in outcomes)
 goes_on_more clock limit sent ledger next replies handed outcomes some is goes joined on = record {
   commits = commits_more clock sent ledger next replies outcomes on.commits false handed some is;
   unmarked = goes;
@@ -47,7 +47,7 @@ goes_on_more clock limit sent ledger next replies handed outcomes some is goes j
 pub record HaveApplied (parcels rest : List Parcel) (ledger : LedgerState) (replies : List Replied) (now : LedgerState) (given : List Replied) : Type 0 where
   pub front : List Parcel
   pub parts : parcels ≡ front ++ rest
-  pub on : (clock limit : ℕ) (sent : List Passage) → AreJoinedParcels limit front → GoesOn clock limit sent ledger replies → GoesOn clock limit (sent ++ spelled front) now given
+  pub on : (clock limit : ℕ) (sent : List Passage) → AreJoinedParcels limit front → GoesOn clock limit sent ledger replies → GoesOn clock limit (sent ++ all_passages_in front) now given
 
 pub none_applied : (parcels rest : List Parcel) (ledger : LedgerState) (replies : List Replied) → parcels ≡ rest → HaveApplied parcels rest ledger replies ledger replies
 none_applied parcels rest ledger replies same = record {
@@ -62,41 +62,41 @@ front_joined limit (first ∷ front) rest all = let parts = front_joined limit f
 
 pub one_applied : (parcels : List Parcel) (handed : Parcel) (rest others : List Parcel) (ledger : LedgerState) (replies : List Replied) (now : LedgerState) (given : List Replied) (next : LedgerState) (new : List Replied) →
     HaveApplied parcels rest ledger replies now given → rest ≡ handed ∷ others →
-    ((clock limit : ℕ) (sent : List Passage) → IsJoinedParcel limit handed → GoesOn clock limit sent now given → GoesOn clock limit (sent ++ spelled_one handed) next new) → HaveApplied parcels others ledger replies next new
+    ((clock limit : ℕ) (sent : List Passage) → IsJoinedParcel limit handed → GoesOn clock limit sent now given → GoesOn clock limit (sent ++ passages_in handed) next new) → HaveApplied parcels others ledger replies next new
 one_applied parcels handed rest others ledger replies now given next new have same one =
     let front = have.front in
-    let spelling : spelled (front ++ handed ∷ []) ≡ spelled front ++ spelled_one handed = flat_map-append spelled_one front (handed ∷ []) ∙ ap (λ ps. spelled front ++ ps) (append-nil (spelled_one handed)) in
+    let spelling : all_passages_in (front ++ handed ∷ []) ≡ all_passages_in front ++ passages_in handed = flat_map-append passages_in front (handed ∷ []) ∙ ap (λ ps. all_passages_in front ++ ps) (append-nil (passages_in handed)) in
     record {
       front = front ++ handed ∷ [];
       parts = have.parts ∙ ap (λ ps. front ++ ps) same ∙ sym (append_assoc front (handed ∷ []) others);
       on = λ clock limit sent joined is.
           let parts = front_joined limit front (handed ∷ []) joined in
-          subst (λ passages. GoesOn clock limit passages next new) (append_assoc sent (spelled front) (spelled_one handed) ∙ ap (λ ps. sent ++ ps) (sym spelling))
-          (one clock limit (sent ++ spelled front) parts.1.0 (have.on clock limit sent parts.0 is));
+          subst (λ passages. GoesOn clock limit passages next new) (append_assoc sent (all_passages_in front) (passages_in handed) ∙ ap (λ ps. sent ++ ps) (sym spelling))
+          (one clock limit (sent ++ all_passages_in front) parts.1.0 (have.on clock limit sent parts.0 is));
     }
 
 pub all_applied : (parcels rest : List Parcel) (ledger : LedgerState) (replies : List Replied) (now : LedgerState) (given : List Replied) → HaveApplied parcels rest ledger replies now given → rest ≡ [] →
-    (clock limit : ℕ) (sent : List Passage) → AreJoinedParcels limit parcels → GoesOn clock limit sent ledger replies → GoesOn clock limit (sent ++ spelled parcels) now given
+    (clock limit : ℕ) (sent : List Passage) → AreJoinedParcels limit parcels → GoesOn clock limit sent ledger replies → GoesOn clock limit (sent ++ all_passages_in parcels) now given
 all_applied parcels rest ledger replies now given have none clock limit sent joined is =
     let all : parcels ≡ have.front = have.parts ∙ ap (λ ps. have.front ++ ps) none ∙ append-nil have.front in
-    subst (λ ps. GoesOn clock limit (sent ++ spelled ps) now given) (sym all) (have.on clock limit sent (subst (AreJoinedParcels limit) all joined) is)
+    subst (λ ps. GoesOn clock limit (sent ++ all_passages_in ps) now given) (sym all) (have.on clock limit sent (subst (AreJoinedParcels limit) all joined) is)
 
 -- ---- a front and a ledger
 
 pub running_more : (clock limit : ℕ) (items : List Item) (front next : FrontState) (ticket : Ticket) (parcels : List Parcel) (ledger : LedgerState) (replies : List Replied) (now : LedgerState) (given : List Replied) → IsFront front →
-    ticket.sender ≡ 0 → handing next parcels ≡ took false front ticket.sender ticket.item → (run : IsRunning clock limit items front ledger replies) → GoesOn clock limit (run.sent ++ spelled parcels) now given →
+    ticket.sender ≡ 0 → take_result next parcels ≡ take_step false front ticket.sender ticket.item → (run : IsRunning clock limit items front ledger replies) → GoesOn clock limit (run.sent ++ all_passages_in parcels) now given →
     IsRunning clock limit (items ++ ticket.item ∷ []) next now given
 running_more clock limit items front next ticket parcels ledger replies now given is first took_is run on =
     let taken = has_taken false front next ticket parcels is (omega (arith, first)) took_is in
     record {
-      sent = run.sent ++ spelled parcels;
+      sent = run.sent ++ all_passages_in parcels;
       under = taken.same.0 ∙ run.under;
       passed = taken.passes items run.sent run.passed;
       goes_on = on;
       unstopped = goes_on front next ticket.sender ticket.item parcels took_is run.unstopped;
     }
 
-pub joined_under : (front next : FrontState) (ticket : Ticket) (parcels : List Parcel) (limit : ℕ) → IsFront front → ticket.sender ≡ 0 → handing next parcels ≡ took false front ticket.sender ticket.item → front.limit ≡ limit →
+pub joined_under : (front next : FrontState) (ticket : Ticket) (parcels : List Parcel) (limit : ℕ) → IsFront front → ticket.sender ≡ 0 → take_result next parcels ≡ take_step false front ticket.sender ticket.item → front.limit ≡ limit →
     AreJoinedParcels limit parcels
 joined_under front next ticket parcels limit is first took_is under = subst (λ n. AreJoinedParcels n parcels) under (has_taken false front next ticket parcels is (omega (arith, first)) took_is).lawful
 

@@ -8,15 +8,15 @@ use Rattle.tb_work.specs.Queue.{ahead}
 use Rattle.tb_work.specs.declared.item.Item.{Item}
 use Rattle.tb_work.specs.declared.item.Item.TheVariants as item
 use Rattle.tb_core.specs.declared.parcel.Cause.TheVariants.{Stopped}
-use Rattle.tb_core.specs.Passage.{Passage, Returned, passed, Place, Ahead, Behind, is_behind, next_place, place_behind, is_stopped_at, passed_at, passed_from, all_passed, IsPacket, Passes, is_close, stops_at}
+use Rattle.tb_core.specs.Passage.{Passage, Returned, passages_of_item, Place, Ahead, Behind, is_behind, next_place, place_behind, is_stopped_at, passages_at, passages_from, passages_of, IsPacket, Passes, is_close, stops_at}
 
 -- ---- one item more, at the place behind the others
 
-passed_from-push : (stop : Option ℕ) (place : Place) (items : List Item) (x : Item) → passed_from stop place (items ++ x ∷ []) ≡ passed_from stop place items ++ passed_at stop (place_behind place items) x
-passed_from-push stop place [] x = append-nil (passed_at stop place x)
+passed_from-push : (stop : Option ℕ) (place : Place) (items : List Item) (x : Item) → passages_from stop place (items ++ x ∷ []) ≡ passages_from stop place items ++ passages_at stop (place_behind place items) x
+passed_from-push stop place [] x = append-nil (passages_at stop place x)
 passed_from-push stop place (first ∷ items) x =
-    ap (λ passages. passed_at stop place first ++ passages) (passed_from-push stop (next_place place first) items x)
-    ∙ sym (append_assoc (passed_at stop place first) (passed_from stop (next_place place first) items) (passed_at stop (place_behind (next_place place first) items) x))
+    ap (λ passages. passages_at stop place first ++ passages) (passed_from-push stop (next_place place first) items x)
+    ∙ sym (append_assoc (passages_at stop place first) (passages_from stop (next_place place first) items) (passages_at stop (place_behind (next_place place first) items) x))
 
 place_behind-push : (place : Place) (items : List Item) (x : Item) → place_behind place (items ++ x ∷ []) ≡ next_place (place_behind place items) x
 place_behind-push place [] x = refl
@@ -63,25 +63,25 @@ before_all : (k through : ℕ) → k < through → (if nat_lt k through then fal
 before_all k through h = grind (arith, nat_tests)
 
 -- after a Close it doesn't matter whether the front stopped
-passed-behind : (s t : Bool) (x : Item) → passed true s x ≡ passed true t x
+passed-behind : (s t : Bool) (x : Item) → passages_of_item true s x ≡ passages_of_item true t x
 passed-behind s t (item.Packet job) = refl
 passed-behind s t (item.Pulse moment) = refl
 passed-behind s t item.End = refl
 passed-behind s t item.Close = refl
 
-passed_from-behind : (stop other : Option ℕ) (items : List Item) → passed_from stop Behind items ≡ passed_from other Behind items
+passed_from-behind : (stop other : Option ℕ) (items : List Item) → passages_from stop Behind items ≡ passages_from other Behind items
 passed_from-behind stop other [] = refl
 passed_from-behind stop other (x ∷ items) =
-    ap (λ passages. passages ++ passed_from stop Behind items) (passed-behind (is_some stop) (is_some other) x) ∙ ap (λ passages. passed true (is_some other) x ++ passages) (passed_from-behind stop other items)
+    ap (λ passages. passages ++ passages_from stop Behind items) (passed-behind (is_some stop) (is_some other) x) ∙ ap (λ passages. passages_of_item true (is_some other) x ++ passages) (passed_from-behind stop other items)
 
-pub never_stops : (k through : ℕ) (items : List Item) → k + length (ahead items) ≤ through → passed_from None (Ahead k) items ≡ passed_from (Some through) (Ahead k) items
+pub never_stops : (k through : ℕ) (items : List Item) → k + length (ahead items) ≤ through → passages_from None (Ahead k) items ≡ passages_from (Some through) (Ahead k) items
 never_stops k through [] h = refl
 never_stops k through (item.Packet job ∷ items) h =
-    ap (λ b. passed false b (item.Packet job) ++ passed_from None (Ahead (k + 1)) items) (sym (before_all k through (omega (arith, h))))
-    ∙ ap (λ passages. passed false (is_stopped_at (Some through) k) (item.Packet job) ++ passages) (never_stops (k + 1) through items (omega (arith, h)))
+    ap (λ b. passages_of_item false b (item.Packet job) ++ passages_from None (Ahead (k + 1)) items) (sym (before_all k through (omega (arith, h))))
+    ∙ ap (λ passages. passages_of_item false (is_stopped_at (Some through) k) (item.Packet job) ++ passages) (never_stops (k + 1) through items (omega (arith, h)))
 never_stops k through (item.Pulse moment ∷ items) h =
-    ap (λ b. passed false b (item.Pulse moment) ++ passed_from None (Ahead (k + 1)) items) (sym (before_all k through (omega (arith, h))))
-    ∙ ap (λ passages. passed false (is_stopped_at (Some through) k) (item.Pulse moment) ++ passages) (never_stops (k + 1) through items (omega (arith, h)))
+    ap (λ b. passages_of_item false b (item.Pulse moment) ++ passages_from None (Ahead (k + 1)) items) (sym (before_all k through (omega (arith, h))))
+    ∙ ap (λ passages. passages_of_item false (is_stopped_at (Some through) k) (item.Pulse moment) ++ passages) (never_stops (k + 1) through items (omega (arith, h)))
 never_stops k through (item.End ∷ items) h = never_stops k through items h
 never_stops k through (item.Close ∷ items) h = passed_from-behind None (Some through) items
 
@@ -111,14 +111,14 @@ at_packet_more (Some k) items x h = packet_stays items x k h
 module _ (items : List Item) (passages : List Passage) (x : Item) where
   -- behind the Close
   closed_more : (stopped refused : Bool) → Passes items true stopped passages →
-      Passes (items ++ x ∷ []) true (stopped || stops_at refused true x) (passages ++ passed true (stopped || stops_at refused true x) x)
+      Passes (items ++ x ∷ []) true (stopped || stops_at refused true x) (passages ++ passages_of_item true (stopped || stops_at refused true x) x)
   closed_more stopped refused passes =
       let place = at_place (place_behind (Ahead 0) items) (sym passes.shut) in
       let same : (stopped || stops_at refused true x) ≡ stopped = ap (λ b. stopped || b) (no_stop refused x) ∙ or_false stopped in
-      subst (λ b. Passes (items ++ x ∷ []) true b (passages ++ passed true b x)) (sym same)
+      subst (λ b. Passes (items ++ x ∷ []) true b (passages ++ passages_of_item true b x)) (sym same)
       (record {
         stop = passes.stop;
-        all = ap (λ ps. ps ++ passed true stopped x) passes.all ∙ ap (λ ps. all_passed passes.stop items ++ ps) (passed-behind stopped (is_some passes.stop) x ∙ ap (λ at. passed_at passes.stop at x) (sym place))
+        all = ap (λ ps. ps ++ passages_of_item true stopped x) passes.all ∙ ap (λ ps. passages_of passes.stop items ++ ps) (passed-behind stopped (is_some passes.stop) x ∙ ap (λ at. passages_at passes.stop at x) (sym place))
             ∙ sym (passed_from-push passes.stop (Ahead 0) items x);
         shut = sym (ap is_behind (place_behind-push (Ahead 0) items x ∙ ap (λ at. next_place at x) place));
         stops = passes.stops;
@@ -130,37 +130,37 @@ module _ (items : List Item) (passages : List Passage) (x : Item) where
       at_place Behind h = refl
 
   -- ahead of it, with what the item comes to at its place
-  open_more : (stopped next : Bool) (stop : Option ℕ) → is_behind (place_behind (Ahead 0) items) ≡ false → passages ≡ all_passed stop items → passed_at stop (Ahead (length (ahead items))) x ≡ passed false next x →
+  open_more : (stopped next : Bool) (stop : Option ℕ) → is_behind (place_behind (Ahead 0) items) ≡ false → passages ≡ passages_of stop items → passages_at stop (Ahead (length (ahead items))) x ≡ passages_of_item false next x →
       next ≡ is_some stop → IfSome stop (λ k. IsPacket (slice_get (ahead (items ++ x ∷ [])) k)) →
-      Passes (items ++ x ∷ []) (is_close x) next (passages ++ passed false next x)
+      Passes (items ++ x ∷ []) (is_close x) next (passages ++ passages_of_item false next x)
   open_more stopped next stop open_one all here is at_packet =
       let place : place_behind (Ahead 0) items ≡ Ahead (length (ahead items)) = place_is 0 items open_one ∙ ap Ahead (omega arith) in
       record {
         stop = stop;
-        all = ap (λ ps. ps ++ passed false next x) all ∙ ap (λ ps. all_passed stop items ++ ps) (sym here ∙ ap (λ at. passed_at stop at x) (sym place)) ∙ sym (passed_from-push stop (Ahead 0) items x);
+        all = ap (λ ps. ps ++ passages_of_item false next x) all ∙ ap (λ ps. passages_of stop items ++ ps) (sym here ∙ ap (λ at. passages_at stop at x) (sym place)) ∙ sym (passed_from-push stop (Ahead 0) items x);
         shut = sym (ap is_behind (place_behind-push (Ahead 0) items x ∙ ap (λ at. next_place at x) place) ∙ behind_ahead (length (ahead items)) x);
         stops = is;
         at_packet = at_packet;
       }
 
   -- it had stopped
-  stopped_more : (refused : Bool) → Passes items false true passages → Passes (items ++ x ∷ []) (is_close x) true (passages ++ passed false true x)
+  stopped_more : (refused : Bool) → Passes items false true passages → Passes (items ++ x ∷ []) (is_close x) true (passages ++ passages_of_item false true x)
   stopped_more refused passes = by passes.stop passes.all passes.stops passes.at_packet
     where
       past : (through k : ℕ) → through < k → (if nat_lt k through then false else true) ≡ true
       past through k h = grind (arith, nat_tests)
 
-      by : (stop : Option ℕ) → passages ≡ all_passed stop items → true ≡ is_some stop → IfSome stop (λ k. IsPacket (slice_get (ahead items) k)) → Passes (items ++ x ∷ []) (is_close x) true (passages ++ passed false true x)
+      by : (stop : Option ℕ) → passages ≡ passages_of stop items → true ≡ is_some stop → IfSome stop (λ k. IsPacket (slice_get (ahead items) k)) → Passes (items ++ x ∷ []) (is_close x) true (passages ++ passages_of_item false true x)
       by None all is packet = cc
       by (Some through) all is packet =
-          open_more true true (Some through) (sym passes.shut) all (ap (λ b. passed false b x) (past through (length (ahead items)) (packet_within (ahead items) through packet))) refl
+          open_more true true (Some through) (sym passes.shut) all (ap (λ b. passages_of_item false b x) (past through (length (ahead items)) (packet_within (ahead items) through packet))) refl
           (packet_stays items x through packet)
 
   -- it goes on
-  going_more : Passes items false false passages → Passes (items ++ x ∷ []) (is_close x) false (passages ++ passed false false x)
+  going_more : Passes items false false passages → Passes (items ++ x ∷ []) (is_close x) false (passages ++ passages_of_item false false x)
   going_more passes = by passes.stop passes.all passes.stops
     where
-      by : (stop : Option ℕ) → passages ≡ all_passed stop items → false ≡ is_some stop → Passes (items ++ x ∷ []) (is_close x) false (passages ++ passed false false x)
+      by : (stop : Option ℕ) → passages ≡ passages_of stop items → false ≡ is_some stop → Passes (items ++ x ∷ []) (is_close x) false (passages ++ passages_of_item false false x)
       by None all is = open_more false false None (sym passes.shut) all refl refl tt
       by (Some through) all is = cc
 
@@ -171,14 +171,14 @@ stopping_more items passages job passes = by passes.stop passes.all passes.stops
     here : (k : ℕ) → (if nat_lt k k then false else true) ≡ true
     here k = grind (arith, nat_tests)
 
-    by : (stop : Option ℕ) → passages ≡ all_passed stop items → false ≡ is_some stop → Passes (items ++ item.Packet job ∷ []) false true (passages ++ Returned job Stopped ∷ [])
+    by : (stop : Option ℕ) → passages ≡ passages_of stop items → false ≡ is_some stop → Passes (items ++ item.Packet job ∷ []) false true (passages ++ Returned job Stopped ∷ [])
     by None all is =
         let k = length (ahead items) in
-        open_more items passages (item.Packet job) false true (Some k) (sym passes.shut) (all ∙ never_stops 0 k items (omega arith)) (ap (λ b. passed false b (item.Packet job)) (here k)) refl (packet_last 0 items job (sym passes.shut))
+        open_more items passages (item.Packet job) false true (Some k) (sym passes.shut) (all ∙ never_stops 0 k items (omega arith)) (ap (λ b. passages_of_item false b (item.Packet job)) (here k)) refl (packet_last 0 items job (sym passes.shut))
     by (Some through) all is = cc
 
 pub passes_more : (refused : Bool) (items : List Item) (closed stopped : Bool) (passages : List Passage) (x : Item) → Passes items closed stopped passages →
-    Passes (items ++ x ∷ []) (closed || is_close x) (stopped || stops_at refused closed x) (passages ++ passed closed (stopped || stops_at refused closed x) x)
+    Passes (items ++ x ∷ []) (closed || is_close x) (stopped || stops_at refused closed x) (passages ++ passages_of_item closed (stopped || stops_at refused closed x) x)
 passes_more refused items true stopped passages x passes = closed_more items passages x stopped refused passes
 passes_more refused items false true passages x passes = stopped_more items passages x refused passes
 passes_more true items false false passages (item.Packet job) passes = stopping_more items passages job passes

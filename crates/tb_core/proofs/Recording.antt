@@ -13,7 +13,7 @@ use Rattle.tb_work.specs.Job.{Numbered, is_lookup, count_of_all}
 use Rattle.tb_work.specs.Reply.{reply_with}
 use Rattle.tb_batch.specs.Grouping.{are_of}
 use Rattle.tb_batch.specs.declared.parts.Parts.{Parts}
-use Rattle.tb_demux.specs.Cutting.{replies_to, replies_from, replies_answered, IsOutcomeOfAll, IsAnswerToAll}
+use Rattle.tb_demux.specs.Cutting.{replies_to, replies_from, replies_with_answer, IsOutcomeOfAll, IsAnswerToAll}
 use Rattle.tb_core.specs.Answered.{AreAnswered, answer_in, committed_from}
 use Rattle.tb_core.proofs.Bodies.{first_is}
 use Rattle.tb_core.proofs.Batches.{JoinInvisibly, gives_each, gives_one}
@@ -35,10 +35,10 @@ recorded law place state parts few answered = by (parts.operation == 131) refl
     chosen : Bool → Answer
     chosen b = if b then Accounts parts.accounts.items else Failures parts.failures.items
 
-    of_answer : (b : Bool) → (parts.operation == 131) ≡ b → IsAnswerToAll (chosen b) parts.jobs.items → replies_answered place (chosen b) parts.jobs.items ≡ committed_from place state parts.jobs.items → IsRecorded place state parts
+    of_answer : (b : Bool) → (parts.operation == 131) ≡ b → IsAnswerToAll (chosen b) parts.jobs.items → replies_with_answer place (chosen b) parts.jobs.items ≡ committed_from place state parts.jobs.items → IsRecorded place state parts
     of_answer b is fits replies = record {
       fits = (few, subst (λ c. IsAnswerToAll (chosen c) parts.jobs.items) (sym is) fits);
-      replies = ap (λ c. replies_answered place (chosen c) parts.jobs.items) is ∙ replies;
+      replies = ap (λ c. replies_with_answer place (chosen c) parts.jobs.items) is ∙ replies;
     }
 
     by : (b : Bool) → (parts.operation == 131) ≡ b → IsRecorded place state parts

@@ -15,7 +15,7 @@ use Rattle.tb_work.specs.declared.item.Item.TheVariants as item
 use Rattle.tb_work.specs.declared.item.Ticket.{Ticket}
 use Rattle.tb_core.specs.Due.{outcome_at, reply_due, all_due_from, all_due, replies_to, works_in, replies_from}
 use Rattle.tb_core.specs.Ledger.{LedgerState, works}
-use Rattle.tb_core.specs.Passage.{Passage, Place, Ahead, Behind, next_place, passed, is_stopped_at, passed_from, all_passed, IsPacket}
+use Rattle.tb_core.specs.Passage.{Passage, Place, Ahead, Behind, next_place, passages_of_item, is_stopped_at, passages_from, passages_of, IsPacket}
 use Rattle.tb_core.specs.Report.{is_stopped, tell_a_stop, NothingStopped, IsListed}
 use Rattle.tb_core.specs.Run.{Ran, RunIsLawful}
 use Rattle.tb_core.proofs.Committed.{outcome_past, outcome_here}
@@ -30,8 +30,8 @@ goes_here : (k through : ℕ) → k < through → is_stopped_at (Some through) k
 goes_here k through h = grind (arith, nat_tests)
 
 -- after the Close each packet comes back
-behind_close : (clock place : ℕ) (stop : Option ℕ) (items : List Item) → (works_in (passed_from stop Behind items) ≡ [])
-    × ((journal : List Work) → replies_from clock journal place (passed_from stop Behind items) ≡ all_due_from clock journal Behind items)
+behind_close : (clock place : ℕ) (stop : Option ℕ) (items : List Item) → (works_in (passages_from stop Behind items) ≡ [])
+    × ((journal : List Work) → replies_from clock journal place (passages_from stop Behind items) ≡ all_due_from clock journal Behind items)
 behind_close clock place stop [] = (refl, λ journal. refl)
 behind_close clock place stop (item.Packet job ∷ items) =
     let others = behind_close clock place stop items in
@@ -41,24 +41,24 @@ behind_close clock place stop (item.End ∷ items) = behind_close clock place st
 behind_close clock place stop (item.Close ∷ items) = behind_close clock place stop items
 
 -- from the stop on each packet comes back, as one that the journal doesn't reach
-from_stop : (clock place through k : ℕ) (items : List Item) → through ≤ k → (works_in (passed_from (Some through) (Ahead k) items) ≡ [])
-    × ((journal : List Work) → length journal ≤ k → replies_from clock journal place (passed_from (Some through) (Ahead k) items) ≡ all_due_from clock journal (Ahead k) items)
+from_stop : (clock place through k : ℕ) (items : List Item) → through ≤ k → (works_in (passages_from (Some through) (Ahead k) items) ≡ [])
+    × ((journal : List Work) → length journal ≤ k → replies_from clock journal place (passages_from (Some through) (Ahead k) items) ≡ all_due_from clock journal (Ahead k) items)
 from_stop clock place through k [] h = (refl, λ journal far. refl)
 from_stop clock place through k (item.Packet job ∷ items) h =
-    let later = passed_from (Some through) (Ahead (k + 1)) items in
+    let later = passages_from (Some through) (Ahead (k + 1)) items in
     let others = from_stop clock place through (k + 1) items (omega (arith, h)) in
-    subst (λ b. (works_in (passed false b (item.Packet job) ++ later) ≡ [])
-    × ((journal : List Work) → length journal ≤ k → replies_from clock journal place (passed false b (item.Packet job) ++ later) ≡ all_due_from clock journal (Ahead k) (item.Packet job ∷ items)))
+    subst (λ b. (works_in (passages_of_item false b (item.Packet job) ++ later) ≡ [])
+    × ((journal : List Work) → length journal ≤ k → replies_from clock journal place (passages_of_item false b (item.Packet job) ++ later) ≡ all_due_from clock journal (Ahead k) (item.Packet job ∷ items)))
     (sym (stops_here k through h)) (
       others.0,
       λ journal far. ap (λ rs. reply_with outcome.Stopped job ∷ rs) (others.1 journal (omega (arith, far)))
           ∙ ap (λ o. reply_with o job ∷ all_due_from clock journal (Ahead (k + 1)) items) (sym (outcome_past clock k journal far)),
     )
 from_stop clock place through k (item.Pulse moment ∷ items) h =
-    let later = passed_from (Some through) (Ahead (k + 1)) items in
+    let later = passages_from (Some through) (Ahead (k + 1)) items in
     let others = from_stop clock place through (k + 1) items (omega (arith, h)) in
-    subst (λ b. (works_in (passed false b (item.Pulse moment) ++ later) ≡ [])
-    × ((journal : List Work) → length journal ≤ k → replies_from clock journal place (passed false b (item.Pulse moment) ++ later) ≡ all_due_from clock journal (Ahead k) (item.Pulse moment ∷ items)))
+    subst (λ b. (works_in (passages_of_item false b (item.Pulse moment) ++ later) ≡ [])
+    × ((journal : List Work) → length journal ≤ k → replies_from clock journal place (passages_of_item false b (item.Pulse moment) ++ later) ≡ all_due_from clock journal (Ahead k) (item.Pulse moment ∷ items)))
     (sym (stops_here k through h)) (others.0, λ journal far. others.1 journal (omega (arith, far)))
 from_stop clock place through k (item.End ∷ items) h = from_stop clock place through k items h
 from_stop clock place through k (item.Close ∷ items) h =
@@ -77,7 +77,7 @@ no_items : {X : Type 0} (xs : List X) → length xs ≤ 0 → xs ≡ []
 no_items [] h = refl
 no_items (x ∷ xs) h = absurd (omega (arith, h))
 
-let_through : (clock most through k : ℕ) (items : List Item) → through ≡ k + most → LetsThrough clock k most items (passed_from (Some through) (Ahead k) items)
+let_through : (clock most through k : ℕ) (items : List Item) → through ≡ k + most → LetsThrough clock k most items (passages_from (Some through) (Ahead k) items)
 let_through clock zero through k items h =
     let none = from_stop clock k through k items (omega (arith, h)) in
     record {
@@ -89,9 +89,9 @@ let_through clock zero through k items h =
     }
 let_through clock (suc most) through k [] h = record { rest = []; parts = refl; few = omega arith; all = λ short. refl; due = λ journal far. refl }
 let_through clock (suc most) through k (item.Packet job ∷ items) h =
-    let later = passed_from (Some through) (Ahead (k + 1)) items in
+    let later = passages_from (Some through) (Ahead (k + 1)) items in
     let others = let_through clock most through (k + 1) items (omega (arith, h)) in
-    subst (λ b. LetsThrough clock k (suc most) (item.Packet job ∷ items) (passed false b (item.Packet job) ++ later)) (sym (goes_here k through (omega (arith, h))))
+    subst (λ b. LetsThrough clock k (suc most) (item.Packet job ∷ items) (passages_of_item false b (item.Packet job) ++ later)) (sym (goes_here k through (omega (arith, h))))
     (record {
       rest = others.rest;
       parts = ap (λ ws. work_of job ∷ ws) others.parts;
@@ -100,9 +100,9 @@ let_through clock (suc most) through k (item.Packet job ∷ items) h =
       due = λ journal far. ap (λ rs. reply_with (outcome_at clock journal (Ahead k)) job ∷ rs) (others.due journal (omega (arith, far)));
     })
 let_through clock (suc most) through k (item.Pulse moment ∷ items) h =
-    let later = passed_from (Some through) (Ahead (k + 1)) items in
+    let later = passages_from (Some through) (Ahead (k + 1)) items in
     let others = let_through clock most through (k + 1) items (omega (arith, h)) in
-    subst (λ b. LetsThrough clock k (suc most) (item.Pulse moment ∷ items) (passed false b (item.Pulse moment) ++ later)) (sym (goes_here k through (omega (arith, h))))
+    subst (λ b. LetsThrough clock k (suc most) (item.Pulse moment ∷ items) (passages_of_item false b (item.Pulse moment) ++ later)) (sym (goes_here k through (omega (arith, h))))
     (record {
       rest = others.rest;
       parts = ap (λ ws. work.Pulse moment ∷ ws) others.parts;
@@ -128,7 +128,7 @@ abbrev pub most_of : Option ℕ → List Item → ℕ
 most_of None items = length (ahead items)
 most_of (Some through) items = through
 
-pub passed_through : (clock : ℕ) (stop : Option ℕ) (items : List Item) → LetsThrough clock 0 (most_of stop items) items (all_passed stop items)
+pub passed_through : (clock : ℕ) (stop : Option ℕ) (items : List Item) → LetsThrough clock 0 (most_of stop items) items (passages_of stop items)
 passed_through clock None items =
     let most = length (ahead items) in
     subst (LetsThrough clock 0 most items) (sym (never_stops 0 most items (omega arith))) (let_through clock most most 0 items (omega arith))

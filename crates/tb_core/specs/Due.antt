@@ -18,13 +18,13 @@ use Rattle.tb_core.specs.Passage.{Passage, Admitted, Pulsed, Returned, Place, Ah
 -- ---- by places
 
 -- a packet is committed where the journal reaches as far as its place
-abbrev pub committed_as : ℕ → Option Answer → Outcome
-committed_as place (Some answer) = Committed place answer
-committed_as place None = Stopped
+abbrev pub outcome_with : ℕ → Option Answer → Outcome
+outcome_with place (Some answer) = Committed place answer
+outcome_with place None = Stopped
 
 -- what a packet at a place of the queue comes to, with these packets and pulses committed from a clock on
 abbrev pub outcome_at : ℕ → List Work → Place → Outcome
-outcome_at clock works (Ahead place) = committed_as place (answer_at clock works place)
+outcome_at clock works (Ahead place) = outcome_with place (answer_at clock works place)
 outcome_at clock works Behind = Shutdown
 
 abbrev pub reply_due : Outcome → Item → List Replied

@@ -37,16 +37,16 @@ pub record Taken : Type 0 where
   pub front : FrontState
   pub parcels : List Parcel
 
-abbrev pub handing : FrontState → List Parcel → Taken
-handing front parcels = record { front = front; parcels = parcels }
+abbrev pub take_result : FrontState → List Parcel → Taken
+take_result front parcels = record { front = front; parcels = parcels }
 
-abbrev pub holding : FrontState → List Numbered → FrontState
-holding front jobs = record front { held = jobs }
+abbrev pub with_group : FrontState → List Numbered → FrontState
+with_group front jobs = record front { held = jobs }
 
 -- the group held as a batch, where there is one
-abbrev pub sealed : List Numbered → List Parcel
-sealed [] = []
-sealed (job ∷ jobs) = Batch (job ∷ jobs) ∷ []
+abbrev pub group_as_batch : List Numbered → List Parcel
+group_as_batch [] = []
+group_as_batch (job ∷ jobs) = Batch (job ∷ jobs) ∷ []
 
 -- whether an End or Close of each sender was taken; the control is the sender behind the last submitter
 abbrev pub all_ended : FrontState → Bool
@@ -57,54 +57,54 @@ with_end front sender = record front { ended = slice_set front.ended sender true
 
 -- a packet behind a Close or a stop comes back; one whose growth is refused stops the front; any other joins the group
 -- held, or that is sealed and the packet begins the next one
-abbrev pub took_packet : Bool → FrontState → Numbered → Taken
-took_packet refused front job =
-    if front.closed then handing front (Return job Shutdown ∷ [])
-    else if front.stopped then handing front (Return job Stopped ∷ [])
-    else if refused then handing (record front { held = []; stopped = true }) (sealed front.held ++ Return job Stopped ∷ [])
-    else if is_taken front.limit front.held job then handing (holding front (front.held ++ job ∷ [])) []
-    else handing (holding front (job ∷ [])) (sealed front.held)
+abbrev pub step_of_packet : Bool → FrontState → Numbered → Taken
+step_of_packet refused front job =
+    if front.closed then take_result front (Return job Shutdown ∷ [])
+    else if front.stopped then take_result front (Return job Stopped ∷ [])
+    else if refused then take_result (record front { held = []; stopped = true }) (group_as_batch front.held ++ Return job Stopped ∷ [])
+    else if is_taken front.limit front.held job then take_result (with_group front (front.held ++ job ∷ [])) []
+    else take_result (with_group front (job ∷ [])) (group_as_batch front.held)
 
-abbrev pub took_pulse : FrontState → ℕ → Taken
-took_pulse front moment =
-    if front.closed || front.stopped then handing front [] else handing (holding front []) (sealed front.held ++ Pulse moment ∷ [])
+abbrev pub step_of_pulse : FrontState → ℕ → Taken
+step_of_pulse front moment =
+    if front.closed || front.stopped then take_result front [] else take_result (with_group front []) (group_as_batch front.held ++ Pulse moment ∷ [])
 
 -- the last End seals the group
-abbrev pub took_end : FrontState → ℕ → Taken
-took_end front sender =
+abbrev pub step_of_end : FrontState → ℕ → Taken
+step_of_end front sender =
     let next = with_end front sender in
-    if all_ended next then handing (holding next []) (sealed front.held) else handing next []
+    if all_ended next then take_result (with_group next []) (group_as_batch front.held) else take_result next []
 
-abbrev pub took_close : FrontState → ℕ → Taken
-took_close front sender = handing (record (with_end front sender) { held = []; closed = true }) (sealed front.held)
+abbrev pub step_of_close : FrontState → ℕ → Taken
+step_of_close front sender = take_result (record (with_end front sender) { held = []; closed = true }) (group_as_batch front.held)
 
 -- one ticket taken, where `refused` says that the growth which it needs is refused
-abbrev pub took : Bool → FrontState → ℕ → Item → Taken
-took refused front sender (item.Packet job) = took_packet refused front job
-took refused front sender (item.Pulse moment) = took_pulse front moment
-took refused front sender item.End = took_end front sender
-took refused front sender item.Close = took_close front sender
+abbrev pub take_step : Bool → FrontState → ℕ → Item → Taken
+take_step refused front sender (item.Packet job) = step_of_packet refused front job
+take_step refused front sender (item.Pulse moment) = step_of_pulse front moment
+take_step refused front sender item.End = step_of_end front sender
+take_step refused front sender item.Close = step_of_close front sender
 
 -- ---- without batches
 
-abbrev pub spelled_one : Parcel → List Passage
-spelled_one (Batch jobs) = map Admitted jobs
-spelled_one (Pulse moment) = Pulsed moment ∷ []
-spelled_one (Return job cause) = Returned job cause ∷ []
-spelled_one Last = []
+abbrev pub passages_in : Parcel → List Passage
+passages_in (Batch jobs) = map Admitted jobs
+passages_in (Pulse moment) = Pulsed moment ∷ []
+passages_in (Return job cause) = Returned job cause ∷ []
+passages_in Last = []
 
 -- parcels as packets, pulses and returned packets
-abbrev pub spelled : List Parcel → List Passage
-spelled parcels = flat_map spelled_one parcels
+abbrev pub all_passages_in : List Parcel → List Passage
+all_passages_in parcels = flat_map passages_in parcels
 
 -- the group held
 abbrev pub held_by : FrontState → List Passage
 held_by front = map Admitted front.held
 
 -- the group that a batcher gives back, where it gives one
-abbrev pub spelled_batch : Option (List Numbered) → List Passage
-spelled_batch None = []
-spelled_batch (Some jobs) = map Admitted jobs
+abbrev pub passages_in_batch : Option (List Numbered) → List Passage
+passages_in_batch None = []
+passages_in_batch (Some jobs) = map Admitted jobs
 
 -- what is held is one group, and behind a Close or a stop nothing is held
 pub record IsFront (front : FrontState) : Type 0 where
@@ -116,8 +116,8 @@ pub record IsFront (front : FrontState) : Type 0 where
 -- ---- who has ended
 
 -- of each sender, whether its End or Close was taken, after one ticket more
-abbrev pub ended_after : List Bool → ℕ → Item → List Bool
-ended_after ended sender item = if is_end item then slice_set ended sender true else ended
+abbrev pub ends_after : List Bool → ℕ → Item → List Bool
+ends_after ended sender item = if is_end item then slice_set ended sender true else ended
 
 -- the front knows of each sender whether its End or Close is in this queue
 abbrev pub KnowsEnds : List Ticket → FrontState → Type 0

@@ -61,30 +61,30 @@ pub record Applied : Type 0 where
   pub ledger : LedgerState
   pub outcomes : Outcomes
 
-abbrev pub giving : LedgerState → Outcomes → Applied
-giving ledger outcomes = record { ledger = ledger; outcomes = outcomes }
+abbrev pub apply_result : LedgerState → Outcomes → Applied
+apply_result ledger outcomes = record { ledger = ledger; outcomes = outcomes }
 
-abbrev pub halting : LedgerState → LedgerState
-halting ledger = record ledger { stopped = true }
+abbrev pub with_stop : LedgerState → LedgerState
+with_stop ledger = record ledger { stopped = true }
 
-abbrev pub entering : LedgerState → List Work → LedgerState
-entering ledger group = record ledger { groups = ledger.groups ++ group ∷ [] }
+abbrev pub with_entry : LedgerState → List Work → LedgerState
+with_entry ledger group = record ledger { groups = ledger.groups ++ group ∷ [] }
 
 -- whether so many packets or pulses are not committed: it had stopped, their growth is refused, or there are no places
-abbrev pub halts : Bool → LedgerState → ℕ → Bool
-halts refused ledger count = ledger.stopped || (refused || nat_lt (2 ^ 63) (length (works ledger) + count))
+abbrev pub must_stop : Bool → LedgerState → ℕ → Bool
+must_stop refused ledger count = ledger.stopped || (refused || nat_lt (2 ^ 63) (length (works ledger) + count))
 
 -- a batch committed as one entry: each packet is answered by its place in the journal
-abbrev pub committing : LedgerState → List Numbered → Applied
-committing ledger jobs =
-    let next = entering ledger (map work_of jobs) in giving next (Cut (replies_from ledger.opening (works next) (length (works ledger)) (map Admitted jobs)))
+abbrev pub step_of_batch : LedgerState → List Numbered → Applied
+step_of_batch ledger jobs =
+    let next = with_entry ledger (map work_of jobs) in apply_result next (Cut (replies_from ledger.opening (works next) (length (works ledger)) (map Admitted jobs)))
 
 -- one parcel applied, where `refused` says that the growth which it needs is refused
-abbrev pub applied : Bool → LedgerState → Parcel → Applied
-applied refused ledger (parcel.Batch jobs) =
-    if halts refused ledger (length jobs) then giving (halting ledger) (Cut (map (reply_with outcome.Stopped) jobs))
-    else committing ledger jobs
-applied refused ledger (parcel.Pulse moment) =
-    if halts refused ledger 1 then giving (halting ledger) Nothing else giving (entering ledger (Pulse moment ∷ [])) Nothing
-applied refused ledger (parcel.Return job cause) = giving ledger (One (reply_with (outcome_of cause) job))
-applied refused ledger parcel.Last = giving ledger Last
+abbrev pub apply_step : Bool → LedgerState → Parcel → Applied
+apply_step refused ledger (parcel.Batch jobs) =
+    if must_stop refused ledger (length jobs) then apply_result (with_stop ledger) (Cut (map (reply_with outcome.Stopped) jobs))
+    else step_of_batch ledger jobs
+apply_step refused ledger (parcel.Pulse moment) =
+    if must_stop refused ledger 1 then apply_result (with_stop ledger) Nothing else apply_result (with_entry ledger (Pulse moment ∷ [])) Nothing
+apply_step refused ledger (parcel.Return job cause) = apply_result ledger (One (reply_with (outcome_of cause) job))
+apply_step refused ledger parcel.Last = apply_result ledger Last

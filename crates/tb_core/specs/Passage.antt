@@ -18,12 +18,12 @@ pub data Passage : Type 0 where
 -- ---- one item
 
 -- what an item comes to, where a Close was taken before it, or a growth was refused before it or at it
-abbrev pub passed : Bool → Bool → Item → List Passage
-passed closed stopped (item.Packet job) =
+abbrev pub passages_of_item : Bool → Bool → Item → List Passage
+passages_of_item closed stopped (item.Packet job) =
     (if closed then Returned job Shutdown else if stopped then Returned job Stopped else Admitted job) ∷ []
-passed closed stopped (item.Pulse moment) = if closed || stopped then [] else Pulsed moment ∷ []
-passed closed stopped item.End = []
-passed closed stopped item.Close = []
+passages_of_item closed stopped (item.Pulse moment) = if closed || stopped then [] else Pulsed moment ∷ []
+passages_of_item closed stopped item.End = []
+passages_of_item closed stopped item.Close = []
 
 -- ---- a queue
 
@@ -54,17 +54,17 @@ is_stopped_at None k = false
 is_stopped_at (Some through) k = if nat_lt k through then false else true
 
 -- what an item comes to at its place, where just so many were let through before a growth was refused, or all were
-abbrev pub passed_at : Option ℕ → Place → Item → List Passage
-passed_at stop (Ahead k) item = passed false (is_stopped_at stop k) item
-passed_at stop Behind item = passed true (is_some stop) item
+abbrev pub passages_at : Option ℕ → Place → Item → List Passage
+passages_at stop (Ahead k) item = passages_of_item false (is_stopped_at stop k) item
+passages_at stop Behind item = passages_of_item true (is_some stop) item
 
-abbrev pub passed_from : Option ℕ → Place → List Item → List Passage
-passed_from stop place [] = []
-passed_from stop place (item ∷ items) = passed_at stop place item ++ passed_from stop (next_place place item) items
+abbrev pub passages_from : Option ℕ → Place → List Item → List Passage
+passages_from stop place [] = []
+passages_from stop place (item ∷ items) = passages_at stop place item ++ passages_from stop (next_place place item) items
 
 -- what a queue comes to
-abbrev pub all_passed : Option ℕ → List Item → List Passage
-all_passed stop items = passed_from stop (Ahead 0) items
+abbrev pub passages_of : Option ℕ → List Item → List Passage
+passages_of stop items = passages_from stop (Ahead 0) items
 
 abbrev pub IsPacket : Option Work → Type 0
 IsPacket None = ⊥
@@ -75,7 +75,7 @@ IsPacket (Some (work.Pulse moment)) = ⊥
 -- did so at a packet ahead of the Close, and let through just what is in front of that
 pub record Passes (items : List Item) (closed stopped : Bool) (passages : List Passage) : Type 0 where
   pub stop : Option ℕ
-  pub all : passages ≡ all_passed stop items
+  pub all : passages ≡ passages_of stop items
   pub shut : closed ≡ is_behind (place_behind (Ahead 0) items)
   pub stops : stopped ≡ is_some stop
   pub at_packet : IfSome stop (λ through. IsPacket (slice_get (ahead items) through))

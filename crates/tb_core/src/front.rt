@@ -52,8 +52,8 @@ impl Front {
     ghost use Rattle.tb_work.specs.declared.item.Ticket.{Ticket as TicketValue};
     ghost use Rattle.tb_core.specs.declared.parcel.Parcel.TheVariants as parcel;
     ghost use Rattle.tb_core.specs.Grouping.{AreJoinedParcels};
-    ghost use Rattle.tb_core.specs.Passage.{Passage, Passes, passed};
-    ghost use Rattle.tb_core.specs.Front.{FrontState, IsFront, opening_refusal, handing, holding, sealed, all_ended, took, took_packet, took_pulse, took_end, took_close, spelled, spelled_batch, held_by, KnowsEnds, HaveAllEnded};
+    ghost use Rattle.tb_core.specs.Passage.{Passage, Passes, passages_of_item};
+    ghost use Rattle.tb_core.specs.Front.{FrontState, IsFront, opening_refusal, take_result, with_group, group_as_batch, all_ended, take_step, step_of_packet, step_of_pulse, step_of_end, step_of_close, all_passages_in, passages_in_batch, held_by, KnowsEnds, HaveAllEnded};
 
     /// A front that took nothing. The limit is 1 to 8190 events, and there are 1 to 16 submitters; the
     /// limit is looked at first. Takes no memory.
@@ -88,12 +88,12 @@ impl Front {
 
     /// The group held, which is then no longer held; None where nothing was. Takes no memory.
     pub fn idle(&mut self) -> Option<Batch>
-        ensures left { self.new ≡ holding self.old [] }
+        ensures left { self.new ≡ with_group self.old [] }
         ensures some { IfSome result (λ batch. (batch ≡ self.old.held) × (0 < length self.old.held)) }
         ensures none { IfNone result (self.old.held ≡ []) }
         ensures lawful { IsGroup self.old.limit self.old.held }
         ensures passes { (items : List ItemValue) (sent : List Passage) → Passes items self.old.closed self.old.stopped (sent ++ held_by self.old)
-            → Passes items self.new.closed self.new.stopped ((sent ++ spelled_batch result) ++ held_by self.new) }
+            → Passes items self.new.closed self.new.stopped ((sent ++ passages_in_batch result) ++ held_by self.new) }
     {
         self.batcher.seal()
     }
@@ -107,8 +107,8 @@ impl Front {
 
     /// The group held, as a parcel.
     fn seal(&mut self) -> ArrayVec<Parcel, 2>
-        ensures left { self.new ≡ holding self.old [] }
-        ensures sealed { result.items ≡ sealed self.old.held }
+        ensures left { self.new ≡ with_group self.old [] }
+        ensures sealed { result.items ≡ group_as_batch self.old.held }
     {
         let mut parcels = ArrayVec::new();
         if let Some(batch) = self.batcher.seal() {
@@ -118,8 +118,8 @@ impl Front {
     }
 
     fn seal_before(&mut self, parcel: Parcel) -> ArrayVec<Parcel, 2>
-        ensures left { self.new ≡ holding self.old [] }
-        ensures sealed { result.items ≡ sealed self.old.held ++ parcel ∷ [] }
+        ensures left { self.new ≡ with_group self.old [] }
+        ensures sealed { result.items ≡ group_as_batch self.old.held ++ parcel ∷ [] }
     {
         let mut parcels = self.seal();
         parcels.push(parcel);
@@ -136,7 +136,7 @@ impl Front {
 
     /// A packet. It comes back where its growth is refused, and nothing has changed.
     fn offer(&mut self, job: Job) -> Result<ArrayVec<Parcel, 2>, Job>
-        ensures ok { IfOk result (λ parcels. handing self.new parcels.items ≡ took_packet false self.old job) }
+        ensures ok { IfOk result (λ parcels. take_result self.new parcels.items ≡ step_of_packet false self.old job) }
         ensures err { IfErr result (λ back. (back ≡ job) × (self.new ≡ self.old)) }
         ensures front { IsFront self.old }
     {
@@ -159,7 +159,7 @@ impl Front {
 
     /// A packet whose growth is refused.
     fn refuse(&mut self, job: Job) -> ArrayVec<Parcel, 2>
-        ensures took { handing self.new result.items ≡ took_packet true self.old job }
+        ensures took { take_result self.new result.items ≡ step_of_packet true self.old job }
         ensures front { IsFront self.old }
     {
         if self.closed {
@@ -174,7 +174,7 @@ impl Front {
     }
 
     fn pulse(&mut self, moment: Moment) -> ArrayVec<Parcel, 2>
-        ensures took { handing self.new result.items ≡ took_pulse self.old moment }
+        ensures took { take_result self.new result.items ≡ step_of_pulse self.old moment }
         ensures front { IsFront self.old }
     {
         if self.closed || self.stopped {
@@ -185,7 +185,7 @@ impl Front {
 
     fn end(&mut self, sender: u32) -> ArrayVec<Parcel, 2>
         requires { sender ≤ self.old.submitters }
-        ensures took { handing self.new result.items ≡ took_end self.old sender }
+        ensures took { take_result self.new result.items ≡ step_of_end self.old sender }
         ensures front { IsFront self.old }
     {
         self.ended[sender as usize] = true;
@@ -198,7 +198,7 @@ impl Front {
 
     fn close(&mut self, sender: u32) -> ArrayVec<Parcel, 2>
         requires { sender ≤ self.old.submitters }
-        ensures took { handing self.new result.items ≡ took_close self.old sender }
+        ensures took { take_result self.new result.items ≡ step_of_close self.old sender }
         ensures front { IsFront self.old }
     {
         self.ended[sender as usize] = true;
@@ -210,7 +210,7 @@ impl Front {
     /// One ticket, where its growth isn't refused. Otherwise it comes back, and nothing has changed.
     pub(crate) fn try_take(&mut self, ticket: Ticket) -> Result<ArrayVec<Parcel, 2>, Ticket>
         requires { ticket.sender ≤ self.old.submitters }
-        ensures ok { IfOk result (λ parcels. handing self.new parcels.items ≡ took false self.old ticket.sender ticket.item) }
+        ensures ok { IfOk result (λ parcels. take_result self.new parcels.items ≡ take_step false self.old ticket.sender ticket.item) }
         ensures err { IfErr result (λ back. (back ≡ ticket) × (self.new ≡ self.old)) }
         ensures front { IsFront self.old }
     {
@@ -232,7 +232,7 @@ impl Front {
     /// One ticket, whose growth is refused.
     fn step_refused(&mut self, ticket: Ticket) -> ArrayVec<Parcel, 2>
         requires { ticket.sender ≤ self.old.submitters }
-        ensures took { handing self.new result.items ≡ took true self.old ticket.sender ticket.item }
+        ensures took { take_result self.new result.items ≡ take_step true self.old ticket.sender ticket.item }
         ensures front { IsFront self.old }
     {
         let Ticket { sender, item } = ticket;
@@ -247,9 +247,9 @@ impl Front {
     /// One ticket, as `take` takes it where its growth is refused. Takes no memory.
     pub fn take_as_refused(&mut self, ticket: Ticket) -> ArrayVec<Parcel, 2>
         requires { ticket.sender ≤ self.old.submitters }
-        ensures took { handing self.new result.items ≡ took true self.old ticket.sender ticket.item }
+        ensures took { take_result self.new result.items ≡ take_step true self.old ticket.sender ticket.item }
         ensures passes { (items : List ItemValue) (sent : List Passage) → Passes items self.old.closed self.old.stopped (sent ++ held_by self.old)
-            → Passes (items ++ ticket.item ∷ []) self.new.closed self.new.stopped ((sent ++ spelled result.items) ++ held_by self.new) }
+            → Passes (items ++ ticket.item ∷ []) self.new.closed self.new.stopped ((sent ++ all_passages_in result.items) ++ held_by self.new) }
         ensures lawful { AreJoinedParcels self.old.limit result.items }
         ensures ends { (queue : List TicketValue) → KnowsEnds queue self.old → KnowsEnds (queue ++ ticket ∷ []) self.new }
         ensures same { (self.new.limit ≡ self.old.limit) × (self.new.submitters ≡ self.old.submitters) }
@@ -262,10 +262,10 @@ impl Front {
     /// behind a Close comes back; so does one whose growth is refused, and each after that.
     pub fn take(&mut self, ticket: Ticket) -> ArrayVec<Parcel, 2>
         requires { ticket.sender ≤ self.old.submitters }
-        ensures took { (refused : Bool) × (handing self.new result.items ≡ took refused self.old ticket.sender ticket.item) }
-        ensures accounted { spelled result.items ++ held_by self.new ≡ held_by self.old ++ passed self.old.closed self.new.stopped ticket.item }
+        ensures took { (refused : Bool) × (take_result self.new result.items ≡ take_step refused self.old ticket.sender ticket.item) }
+        ensures accounted { all_passages_in result.items ++ held_by self.new ≡ held_by self.old ++ passages_of_item self.old.closed self.new.stopped ticket.item }
         ensures passes { (items : List ItemValue) (sent : List Passage) → Passes items self.old.closed self.old.stopped (sent ++ held_by self.old)
-            → Passes (items ++ ticket.item ∷ []) self.new.closed self.new.stopped ((sent ++ spelled result.items) ++ held_by self.new) }
+            → Passes (items ++ ticket.item ∷ []) self.new.closed self.new.stopped ((sent ++ all_passages_in result.items) ++ held_by self.new) }
         ensures lawful { AreJoinedParcels self.old.limit result.items }
         ensures ends { (queue : List TicketValue) → KnowsEnds queue self.old → KnowsEnds (queue ++ ticket ∷ []) self.new }
         ensures same { (self.new.limit ≡ self.old.limit) × (self.new.submitters ≡ self.old.submitters) }

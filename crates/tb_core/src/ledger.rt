@@ -125,11 +125,11 @@ impl Ledger {
     ghost use Rattle.tb_core.specs.declared.parcel.Parcel.TheVariants as parcel;
     ghost use Rattle.tb_core.specs.declared.outcomes.Outcomes.TheVariants.{Nothing as NothingComes};
     ghost use Rattle.tb_work.specs.Reply.{Replied};
-    ghost use Rattle.tb_core.specs.Front.{spelled_one};
+    ghost use Rattle.tb_core.specs.Front.{passages_in};
     ghost use Rattle.tb_core.specs.Grouping.{AreJoined, IsJoinedParcel};
     ghost use Rattle.tb_core.specs.Passage.{Passage};
     ghost use Rattle.tb_core.specs.Run.{Commits, HasPackets, replies_in};
-    ghost use Rattle.tb_core.specs.Ledger.{LedgerState, Applied, works, giving, halting, entering, halts, committing, applied};
+    ghost use Rattle.tb_core.specs.Ledger.{LedgerState, Applied, works, apply_result, with_stop, with_entry, must_stop, step_of_batch, apply_step};
 
     /// A ledger without entries, whose clock starts at a number. Takes no memory.
     pub fn new(alloc: Global, clock: u64) -> Ledger
@@ -183,14 +183,14 @@ impl Ledger {
 
     /// Whether so many packets or pulses more aren't committed, however much memory there is.
     fn halts_at(&self, count: usize) -> bool
-        ensures { result ≡ halts false self.now count }
+        ensures { result ≡ must_stop false self.now count }
     {
         self.stopped || count as u64 > MOST_PLACES - self.places
     }
 
     /// A batch. Where a growth is refused it comes back, and nothing has changed.
     fn commit(&mut self, batch: Batch) -> Result<Outcomes, Batch>
-        ensures ok { IfOk result (λ outcomes. giving self.new outcomes ≡ applied false self.old (parcel.Batch batch)) }
+        ensures ok { IfOk result (λ outcomes. apply_result self.new outcomes ≡ apply_step false self.old (parcel.Batch batch)) }
         ensures err { IfErr result (λ back. (back ≡ batch) × (self.new ≡ self.old)) }
         ensures some { (0 < length batch) × AreAdmitted batch }
     {
@@ -215,7 +215,7 @@ impl Ledger {
 
     /// A pulse. Where a growth is refused nothing has changed.
     fn pulse(&mut self, moment: Moment) -> Result<(), NoMemory>
-        ensures ok { OnOk result (giving self.new NothingComes ≡ applied false self.old (parcel.Pulse moment)) }
+        ensures ok { OnOk result (apply_result self.new NothingComes ≡ apply_step false self.old (parcel.Pulse moment)) }
         ensures err { OnErr result (self.new ≡ self.old) }
     {
         if self.halts_at(1) {
@@ -231,7 +231,7 @@ impl Ledger {
 
     /// One parcel, where its growth isn't refused. Otherwise it comes back, and nothing has changed.
     pub(crate) fn try_apply(&mut self, parcel: Parcel) -> Result<Outcomes, Parcel>
-        ensures ok { IfOk result (λ outcomes. giving self.new outcomes ≡ applied false self.old parcel) }
+        ensures ok { IfOk result (λ outcomes. apply_result self.new outcomes ≡ apply_step false self.old parcel) }
         ensures err { IfErr result (λ back. (back ≡ parcel) × (self.new ≡ self.old)) }
         ensures some { HasPackets parcel }
     {
@@ -251,7 +251,7 @@ impl Ledger {
 
     /// One parcel, whose growth is refused.
     fn refuse(&mut self, parcel: Parcel) -> Outcomes
-        ensures applied { giving self.new result ≡ applied true self.old parcel }
+        ensures applied { apply_result self.new result ≡ apply_step true self.old parcel }
         ensures some { HasPackets parcel }
     {
         match parcel {
@@ -270,9 +270,9 @@ impl Ledger {
 
     /// One parcel, as `apply` applies it where its growth is refused. Takes no memory.
     pub fn apply_as_refused(&mut self, parcel: Parcel) -> Outcomes
-        ensures applied { giving self.new result ≡ applied true self.old parcel }
+        ensures applied { apply_result self.new result ≡ apply_step true self.old parcel }
         ensures commits { (clock : ℕ) (passages : List Passage) (replies : List Replied) → Commits clock passages self.old replies
-            → Commits clock (passages ++ spelled_one parcel) self.new (replies ++ replies_in result) }
+            → Commits clock (passages ++ passages_in parcel) self.new (replies ++ replies_in result) }
         ensures joined { (limit : ℕ) → IsJoinedParcel limit parcel → AreJoined limit self.old.groups → AreJoined limit self.new.groups }
     {
         self.refuse(parcel)
@@ -283,9 +283,9 @@ impl Ledger {
     /// there are no places left, nothing is committed, the ledger stops, and each packet of a batch is answered
     /// Stopped. It takes memory for the facts and for the journal.
     pub fn apply(&mut self, parcel: Parcel) -> Outcomes
-        ensures applied { (refused : Bool) × (giving self.new result ≡ applied refused self.old parcel) }
+        ensures applied { (refused : Bool) × (apply_result self.new result ≡ apply_step refused self.old parcel) }
         ensures commits { (clock : ℕ) (passages : List Passage) (replies : List Replied) → Commits clock passages self.old replies
-            → Commits clock (passages ++ spelled_one parcel) self.new (replies ++ replies_in result) }
+            → Commits clock (passages ++ passages_in parcel) self.new (replies ++ replies_in result) }
         ensures joined { (limit : ℕ) → IsJoinedParcel limit parcel → AreJoined limit self.old.groups → AreJoined limit self.new.groups }
     {
         match self.try_apply(parcel) {

@@ -5,7 +5,7 @@ ghost use Rattle.tb_layout.specs.Limits.{batch_max};
 ghost use Rattle.tb_layout.specs.Limits.{clock_max};
 ghost use Rattle.tb_work.specs.Queue.{ahead};
 ghost use Rattle.tb_work.specs.declared.item.Item.{Item as ItemValue};
-ghost use Rattle.tb_core.specs.Front.{held_by, spelled, spelled_one};
+ghost use Rattle.tb_core.specs.Front.{held_by, all_passages_in, passages_in};
 ghost use Rattle.tb_core.specs.Grouping.{AreWithin, IsGrouping, IsJoinedParcel, AreJoinedParcels};
 ghost use Rattle.tb_core.specs.Passage.{Passage};
 ghost use Rattle.tb_core.specs.Report.{IsListed};
@@ -46,7 +46,7 @@ fn put(outcomes: Outcomes, replies: &mut Vec<Reply>) -> Result<(), NoMemory>
 /// Applies a parcel to a ledger that goes on, and keeps the replies. A ledger that stops is want of memory here.
 fn apply(ledger: &mut Ledger, replies: &mut Vec<Reply>, parcel: Parcel) -> Result<(), NoMemory>
     ensures { (clock : ℕ) (limit : ℕ) (sent : List Passage) → IsJoinedParcel limit parcel → GoesOn clock limit sent ledger.old replies.old.items
-        → OnOk result (GoesOn clock limit (sent ++ spelled_one parcel) ledger.new replies.new.items) }
+        → OnOk result (GoesOn clock limit (sent ++ passages_in parcel) ledger.new replies.new.items) }
 {
     let Ok(outcomes) = ledger.try_apply(parcel) else {
         return Err(NoMemory);
@@ -64,7 +64,7 @@ fn apply_all(
     parcels: ArrayVec<Parcel, 2>,
 ) -> Result<(), NoMemory>
     ensures { (clock : ℕ) (limit : ℕ) (sent : List Passage) → AreJoinedParcels limit parcels.items → GoesOn clock limit sent ledger.old replies.old.items
-        → OnOk result (GoesOn clock limit (sent ++ spelled parcels.items) ledger.new replies.new.items) }
+        → OnOk result (GoesOn clock limit (sent ++ all_passages_in parcels.items) ledger.new replies.new.items) }
 {
     for parcel in parcels {
         apply(ledger, replies, parcel)?;

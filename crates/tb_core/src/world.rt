@@ -5,7 +5,7 @@ ghost use Rattle.tb_layout.specs.Limits.{clock_max, submitters_max};
 ghost use Rattle.tb_work.specs.declared.refusal.Refusal.TheVariants.{NoMemory as NoMemoryRefusal};
 ghost use Rattle.tb_core.specs.Front.{opening_refusal};
 ghost use Rattle.tb_core.specs.world.Pushing.{newcomer};
-ghost use Rattle.tb_core.specs.world.World.{left_by, opened, IsMove, batch_push};
+ghost use Rattle.tb_core.specs.world.World.{left_by, new_world, IsMove, batch_push};
 
 mod event;
 mod left;
@@ -104,7 +104,7 @@ impl World {
     /// limit is looked at first, and memory last.
     pub fn new(alloc: Global, clock: u64, limit: u32, submitters: u32) -> Result<World, Refusal>
         requires { clock ≤ clock_max }
-        ensures world { IfOk result (λ world. world ≡ opened clock limit submitters) }
+        ensures world { IfOk result (λ world. world ≡ new_world clock limit submitters) }
         ensures opens { OnOk result (opening_refusal limit submitters ≡ None) }
         ensures refusal { IfErr result (λ refusal. (opening_refusal limit submitters ≡ Some refusal) ⊎ ((opening_refusal limit submitters ≡ None) × (refusal ≡ NoMemoryRefusal))) }
     {

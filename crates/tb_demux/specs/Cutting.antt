@@ -2,7 +2,7 @@
 use Rattle.std.specs.Prelude.{◌≡◌, ◌≤◌, ◌^◌, ℕ, ◌+◌, true, not, List, [], ◌∷◌, length, map}
 use Rattle.std.specs.List.{list_all}
 use Rattle.tb_layout.specs.declared.failure.Failure.{Failure}
-use Rattle.tb_layout.specs.Failures.{RiseWithin, cut}
+use Rattle.tb_layout.specs.Failures.{RiseWithin, failures_within}
 use Rattle.tb_layout.specs.declared.answer.Answer.{Answer}
 use Rattle.tb_layout.specs.declared.answer.Answer.TheVariants.{Failures, Accounts}
 use Rattle.tb_work.specs.declared.outcome.Outcome.{Outcome}
@@ -13,20 +13,20 @@ use Rattle.tb_work.specs.Reply.{Replied, reply_with}
 
 -- the reply to one packet of a batch that failed so: its own failures, counted from its first event
 abbrev pub reply_at : ℕ → ℕ → List Failure → Numbered → Replied
-reply_at place offset failures job = reply_with (Committed place (Failures (cut offset (count_of job.packet) failures))) job
+reply_at place offset failures job = reply_with (Committed place (Failures (failures_within offset (count_of job.packet) failures))) job
 
 -- packet after packet, each one place further and behind the events of those before it
 abbrev pub replies_from : ℕ → ℕ → List Failure → List Numbered → List Replied
 replies_from place offset failures [] = []
 replies_from place offset failures (job ∷ jobs) = reply_at place offset failures job ∷ replies_from (place + 1) (offset + count_of job.packet) failures jobs
 
-abbrev pub replies_answered : ℕ → Answer → List Numbered → List Replied
-replies_answered place (Failures failures) jobs = replies_from place 0 failures jobs
-replies_answered place (Accounts accounts) jobs = map (reply_with (Committed place (Accounts accounts))) jobs
+abbrev pub replies_with_answer : ℕ → Answer → List Numbered → List Replied
+replies_with_answer place (Failures failures) jobs = replies_from place 0 failures jobs
+replies_with_answer place (Accounts accounts) jobs = map (reply_with (Committed place (Accounts accounts))) jobs
 
 -- the replies to the packets of a batch with this outcome
 abbrev pub replies_to : Outcome → List Numbered → List Replied
-replies_to (Committed place answer) jobs = replies_answered place answer jobs
+replies_to (Committed place answer) jobs = replies_with_answer place answer jobs
 replies_to Shutdown jobs = map (reply_with Shutdown) jobs
 replies_to Stopped jobs = map (reply_with Stopped) jobs
 

@@ -14,14 +14,14 @@ use Rattle.tb_demux.specs.declared.source.Source.TheVariants.{Failures, Lookup, 
 use Rattle.tb_demux.specs.Cutting.{replies_from}
 
 -- the failures not yet given
-abbrev pub left : Uncut → List Failure
-left uncut = drop uncut.taken uncut.failures.items
+abbrev pub failures_left : Uncut → List Failure
+failures_left uncut = drop uncut.taken uncut.failures.items
 
 -- they are those of the packets still to come
 pub record IsUncut (uncut : Uncut) (jobs : List Numbered) : Type 0 where
   pub places : uncut.place + length jobs ≤ 2 ^ 63
   pub taken : uncut.taken ≤ length uncut.failures.items
-  pub rise : RiseWithin uncut.offset (uncut.offset + count_of_all jobs) (left uncut)
+  pub rise : RiseWithin uncut.offset (uncut.offset + count_of_all jobs) (failures_left uncut)
   pub no_lookup : list_all (λ job. not (is_lookup job.packet)) jobs ≡ true
 
 -- the answer of a lookup goes to one packet
@@ -37,7 +37,7 @@ IsSourceOf Stopped jobs = Unit {0}
 
 -- the replies to the packets still to come
 abbrev pub replies_left : Source → List Numbered → List Replied
-replies_left (Failures uncut) jobs = replies_from uncut.place uncut.offset (left uncut) jobs
+replies_left (Failures uncut) jobs = replies_from uncut.place uncut.offset (failures_left uncut) jobs
 replies_left (Lookup outcome) jobs = map (reply_with outcome) jobs
 replies_left Shutdown jobs = map (reply_with ShutdownOutcome) jobs
 replies_left Stopped jobs = map (reply_with StoppedOutcome) jobs

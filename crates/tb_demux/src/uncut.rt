@@ -1,14 +1,14 @@
 //! The failures of a batch that aren't cut yet.
 
 ghost use Rattle.std.specs.Prelude.{◌≡◌, ◌⊎◌, ◌<◌, ◌≤◌, ◌+◌, ◌^◌, ℕ, [], false, length, drop, take};
-ghost use Rattle.tb_layout.specs.Failures.{RiseWithin, cut};
+ghost use Rattle.tb_layout.specs.Failures.{RiseWithin, failures_within};
 ghost use Rattle.tb_work.specs.Admission.{count_of};
 ghost use Rattle.tb_work.specs.Job.{is_lookup};
 ghost use Rattle.tb_work.specs.Reply.{reply_with};
 ghost use Rattle.tb_layout.specs.declared.answer.Answer.TheVariants.{Failures as FailuresOf};
 ghost use Rattle.tb_work.specs.declared.outcome.Outcome.TheVariants.{Committed as CommittedAt};
-ghost use Rattle.tb_demux.specs.Leading.{leading};
-ghost use Rattle.tb_demux.specs.Left.{left};
+ghost use Rattle.tb_demux.specs.Leading.{count_below};
+ghost use Rattle.tb_demux.specs.Left.{failures_left};
 
 use tb_layout::Failure;
 use tb_work::{Job, Reply};
@@ -24,8 +24,8 @@ pub(crate) struct Uncut {
 }
 
 /// How many failures lie in front of the first one whose index isn't below `end`.
-fn leading(failures: &[Failure], end: u64) -> usize
-    ensures value { result ≡ leading end failures.now }
+fn count_below(failures: &[Failure], end: u64) -> usize
+    ensures value { result ≡ count_below end failures.now }
     ensures within { result ≤ length failures.now }
 {
     for (place, failure) in failures.iter().enumerate() {
@@ -46,11 +46,11 @@ fn offset_up_to(index: u32, end: u64) -> u32
 
 /// The offset behind a packet's events. Where no failure is left it doesn't matter, and may be too
 /// large to be told.
-fn offset_behind(left: &[Failure], offset: u32, end: u64) -> u32
-    requires { (high : ℕ) × RiseWithin end high left.now }
-    ensures { (result ≡ end) ⊎ (left.now ≡ []) }
+fn offset_behind(failures_left: &[Failure], offset: u32, end: u64) -> u32
+    requires { (high : ℕ) × RiseWithin end high failures_left.now }
+    ensures { (result ≡ end) ⊎ (failures_left.now ≡ []) }
 {
-    match left.first() {
+    match failures_left.first() {
         Some(next) => offset_up_to(next.index, end),
         None => offset,
     }
@@ -61,17 +61,17 @@ impl Uncut {
     pub(crate) fn reply(&mut self, job: Job) -> Reply
         requires place { self.old.place < 2 ^ 63 }
         requires taken { self.old.taken ≤ length self.old.failures.items }
-        requires rise { (high : ℕ) × RiseWithin self.old.offset high (left self.old) }
+        requires rise { (high : ℕ) × RiseWithin self.old.offset high (failures_left self.old) }
         requires no_lookup { is_lookup job.packet ≡ false }
-        ensures reply { result ≡ reply_with (CommittedAt self.old.place (FailuresOf (cut self.old.offset (count_of job.packet) (left self.old)))) job }
-        ensures left { left self.new ≡ drop (leading (self.old.offset + count_of job.packet) (left self.old)) (left self.old) }
+        ensures reply { result ≡ reply_with (CommittedAt self.old.place (FailuresOf (failures_within self.old.offset (count_of job.packet) (failures_left self.old)))) job }
+        ensures left { failures_left self.new ≡ drop (count_below (self.old.offset + count_of job.packet) (failures_left self.old)) (failures_left self.old) }
         ensures taken { self.new.taken ≤ length self.new.failures.items }
-        ensures offset { (self.new.offset ≡ self.old.offset + count_of job.packet) ⊎ (left self.new ≡ []) }
+        ensures offset { (self.new.offset ≡ self.old.offset + count_of job.packet) ⊎ (failures_left self.new ≡ []) }
         ensures place { self.new.place ≡ self.old.place + 1 }
     {
         let end = u64::from(self.offset) + u64::from(job.stub().count);
         let (_, uncut) = self.failures.as_slice().split_at(self.taken);
-        let (own, behind) = uncut.split_at(leading(uncut, end));
+        let (own, behind) = uncut.split_at(count_below(uncut, end));
         let reply = Reply::committed(job, self.place, own, self.offset);
         self.offset = offset_behind(behind, self.offset, end);
         self.taken += own.len();

@@ -8,7 +8,7 @@ use Rattle.std.proofs.lemmas.List.{take_at, drop-drop, take-append-drop, drop_al
 use Rattle.std.proofs.lemmas.Slice.{take-put_mid}
 use Rattle.std.specs.Int.{byte_at, bytes_low_first}
 use borrow.Rule.Slice.PartMut.{put_mid}
-use Rattle.tb_layout.specs.Bytes.{little_endian, number_at, bytes_of, laid}
+use Rattle.tb_layout.specs.Bytes.{little_endian, number_at, bytes_of, bytes_in_turn}
 
 pub length-bytes_of : (size number : ℕ) → length (bytes_of size number) ≡ size
 unfolding bytes_of
@@ -92,20 +92,20 @@ abbrev pub size_of : List (ℕ × ℕ) → ℕ
 size_of [] = 0
 size_of ((size, number) ∷ fields) = size + size_of fields
 
-drop-laid : (front back : List (ℕ × ℕ)) → drop (size_of front) (laid (front ++ back)) ≡ laid back
+drop-laid : (front back : List (ℕ × ℕ)) → drop (size_of front) (bytes_in_turn (front ++ back)) ≡ bytes_in_turn back
 drop-laid [] back = refl
 drop-laid ((size, number) ∷ front) back =
-    ap (λ n. drop (n + size_of front) (bytes_of size number ++ laid (front ++ back))) (sym (length-bytes_of size number))
-    ∙ drop-append-add (bytes_of size number) (laid (front ++ back)) (size_of front) ∙ drop-laid front back
+    ap (λ n. drop (n + size_of front) (bytes_of size number ++ bytes_in_turn (front ++ back))) (sym (length-bytes_of size number))
+    ∙ drop-append-add (bytes_of size number) (bytes_in_turn (front ++ back)) (size_of front) ∙ drop-laid front back
 
 -- a number is found where it lies
 pub number_at-laid : (front : List (ℕ × ℕ)) (size number : ℕ) (back : List (ℕ × ℕ)) → number < 256 ^ size →
-    number_at (laid (front ++ (size, number) ∷ back)) (size_of front) size ≡ number
+    number_at (bytes_in_turn (front ++ (size, number) ∷ back)) (size_of front) size ≡ number
 number_at-laid front size number back h =
     let count : size_of front + size - size_of front ≡ size = omega arith in
-    ap (λ n. little_endian (take n (drop (size_of front) (laid (front ++ (size, number) ∷ back))))) count
+    ap (λ n. little_endian (take n (drop (size_of front) (bytes_in_turn (front ++ (size, number) ∷ back))))) count
     ∙ ap (λ bytes. little_endian (take size bytes)) (drop-laid front ((size, number) ∷ back))
-    ∙ ap little_endian (take_at (bytes_of size number) (laid back) size (length-bytes_of size number))
+    ∙ ap little_endian (take_at (bytes_of size number) (bytes_in_turn back) size (length-bytes_of size number))
     ∙ little_endian-bytes_of size number h
 
 -- the numbers of these sizes, from an offset on
@@ -123,7 +123,7 @@ end_of-le (size ∷ sizes) offset = omega (arith, end_of-le sizes (offset + size
 
 -- laid again, they are the bytes
 pub laid-fields_from : (sizes : List ℕ) (offset : ℕ) (bytes : List ℕ) → end_of sizes offset ≡ length bytes → All (λ byte. byte < 256) bytes →
-    laid (fields_from sizes offset bytes) ≡ drop offset bytes
+    bytes_in_turn (fields_from sizes offset bytes) ≡ drop offset bytes
 laid-fields_from [] offset bytes h small = sym (drop_all offset bytes (omega arith))
 laid-fields_from (size ∷ sizes) offset bytes h small =
     let within = end_of-le sizes (offset + size) in
@@ -134,6 +134,6 @@ laid-fields_from (size ∷ sizes) offset bytes h small =
     ap (λ n. bytes_of size (little_endian (take n (drop offset bytes)))) count
     ∙ ap (λ n. bytes_of n (little_endian part)) (sym long)
     ∙ bytes_of-little_endian part (All-take (λ byte. byte < 256) size (drop offset bytes) (All-drop (λ byte. byte < 256) offset bytes small)) in
-    ap (λ front. front ++ laid (fields_from sizes (offset + size) bytes)) first
+    ap (λ front. front ++ bytes_in_turn (fields_from sizes (offset + size) bytes)) first
     ∙ ap (λ back. part ++ back) (laid-fields_from sizes (offset + size) bytes h small ∙ sym (drop-drop size offset bytes))
     ∙ take-append-drop size (drop offset bytes)

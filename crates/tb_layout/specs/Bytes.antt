@@ -16,9 +16,9 @@ bytes_of zero number = []
 bytes_of (suc size) number = number % 256 ∷ bytes_of size (number / 256)
 
 -- the bytes of numbers that lie one after another, each with its size
-abbrev pub laid : List (ℕ × ℕ) → List ℕ
-laid [] = []
-laid ((size, number) ∷ fields) = bytes_of size number ++ laid fields
+abbrev pub bytes_in_turn : List (ℕ × ℕ) → List ℕ
+bytes_in_turn [] = []
+bytes_in_turn ((size, number) ∷ fields) = bytes_of size number ++ bytes_in_turn fields
 
 -- a row of so many bytes
 pub record IsBytes (size : ℕ) (bytes : List ℕ) : Type 0 where

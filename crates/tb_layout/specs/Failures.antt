@@ -12,9 +12,9 @@ abbrev pub is_within : ℕ → ℕ → Failure → Bool
 is_within offset count failure = nat_le offset failure.index && nat_lt failure.index (offset + count)
 
 -- its index counted from an offset
-abbrev pub rebased : ℕ → Failure → Failure
-rebased offset failure = record failure { index = failure.index - offset }
+abbrev pub from_offset : ℕ → Failure → Failure
+from_offset offset failure = record failure { index = failure.index - offset }
 
 -- the failures of so many events from an offset on, with indices from 0
-abbrev pub cut : ℕ → ℕ → List Failure → List Failure
-cut offset count failures = map (rebased offset) (filter (is_within offset count) failures)
+abbrev pub failures_within : ℕ → ℕ → List Failure → List Failure
+failures_within offset count failures = map (from_offset offset) (filter (is_within offset count) failures)

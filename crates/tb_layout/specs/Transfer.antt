@@ -1,7 +1,7 @@
 -- A transfer: its place in 128 bytes, and its flags.
 use Rattle.std.specs.Prelude.{ℕ, List, [], ◌∷◌, Bool, ◌||◌}
 use Rattle.tb_layout.specs.declared.transfer.Transfer.{Transfer}
-use Rattle.tb_layout.specs.Bytes.{number_at, laid}
+use Rattle.tb_layout.specs.Bytes.{number_at, bytes_in_turn}
 use Rattle.tb_layout.specs.Flags.{has_flag}
 
 -- the transfer in 128 bytes
@@ -24,7 +24,7 @@ transfer_of bytes = record {
 
 -- the 128 bytes of a transfer
 abbrev pub transfer_bytes : Transfer → List ℕ
-transfer_bytes transfer = laid (
+transfer_bytes transfer = bytes_in_turn (
     (16, transfer.id) ∷ (16, transfer.debit_account_id) ∷ (16, transfer.credit_account_id) ∷ (16, transfer.amount) ∷
     (16, transfer.pending_id) ∷ (16, transfer.user_data_128) ∷ (8, transfer.user_data_64) ∷ (4, transfer.user_data_32) ∷
     (4, transfer.timeout) ∷ (4, transfer.ledger) ∷ (2, transfer.code) ∷ (2, transfer.flags) ∷

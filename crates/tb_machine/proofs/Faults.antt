@@ -7,7 +7,7 @@ use Rattle.tb_layout.specs.Events.{is_last_linked}
 use Rattle.tb_tables.specs.Facts.{Facts}
 use Rattle.tb_machine.specs.declared.fault.Fault.{Fault}
 use Rattle.tb_machine.specs.Clock.{next_timestamp, clock_after}
-use Rattle.tb_machine.specs.Chain.{Operation, Outcome, examined, stored_at, first_fault, failed_results, closed_outcome, chain_outcome, all_but_last}
+use Rattle.tb_machine.specs.Chain.{Operation, Outcome, verdict_at, facts_with, first_fault, failed_results, closed_outcome, chain_outcome, all_but_last}
 use Rattle.tb_machine.specs.Examining.{LiesBelow}
 
 pub eqb-false : (a b : ℕ) → a ≢ b → (a == b) ≡ false
@@ -25,9 +25,9 @@ first_fault-below : {Event : Type 0} (operation : Operation Event) (index clock 
     LiesBelow end (first_fault operation index clock facts events)
 first_fault-below operation index clock facts [] end h = tt
 first_fault-below operation index clock facts (event ∷ events) end h =
-    let code = examined operation facts (next_timestamp clock) event in
+    let code = verdict_at operation facts (next_timestamp clock) event in
     chosen (code == 0) code index end event _ refl (omega arith)
-    (first_fault-below operation (index + 1) (clock_after clock 1) (stored_at operation facts (next_timestamp clock) event) events end (omega arith))
+    (first_fault-below operation (index + 1) (clock_after clock 1) (facts_with operation facts (next_timestamp clock) event) events end (omega arith))
 
 -- the same for events that rows of bytes hold
 pub fault-below : {Row Event : Type 0} (operation : Operation Event) (f : Row → Event) (clock : ℕ) (facts : Facts) (rows : List Row) → LiesBelow (length rows) (first_fault operation 0 clock facts (map f rows))

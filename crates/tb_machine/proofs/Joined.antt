@@ -5,14 +5,14 @@ use Rattle.std.proofs.lemmas.Bool.Decides.{nat_tests}
 use Rattle.std.proofs.lemmas.List.Elements.{filter-append}
 use Rattle.tb_layout.specs.declared.failure.Failure.{Failure}
 use Rattle.tb_layout.specs.Events.{Events, is_last_linked}
-use Rattle.tb_layout.specs.Failures.{RiseWithin, is_within, rebased, cut}
+use Rattle.tb_layout.specs.Failures.{RiseWithin, is_within, from_offset, failures_within}
 use Rattle.tb_tables.specs.Facts.{Facts}
 use Rattle.tb_layout.specs.Limits.{clock_max}
 use Rattle.tb_machine.specs.Clock.{clock_after}
 use Rattle.tb_machine.specs.Chain.{Operation, Outcome, before_chains, chains_of, chain_outcome, chains_outcome, then_outcome}
 use Rattle.tb_machine.specs.Packet.{events_outcome, failures_from}
 use Rattle.tb_machine.specs.Replay.{State, outcome_of, after_events, after_packet, failures_of}
-use Rattle.tb_machine.specs.Joining.{laid, none_open, cuts, failures_each, GiveAsEach, JoiningIsInvisible}
+use Rattle.tb_machine.specs.Joining.{events_in_turn, none_open, cuts, failures_each, GiveAsEach, JoiningIsInvisible}
 use Rattle.tb_machine.proofs.Faults.{length-chain_outcome}
 use Rattle.tb_machine.proofs.Failures.{failures_from-append, failing}
 
@@ -41,12 +41,12 @@ chains_of-append is_linked (x ∷ y ∷ xs) ys closed =
     ap (before_if (is_linked x) x) (chains_of-append is_linked (y ∷ xs) ys closed)
     ∙ before_if-append (is_linked x) x (chains_of is_linked (y ∷ xs)) (chains_of is_linked ys) (before_if-some (is_linked y) y (chains_of is_linked xs))
 
-laid-before_if : {Event : Type 0} (is_linked : Bool) (event : Event) (chains : List (List Event)) → laid (before_if is_linked event chains) ≡ event ∷ laid chains
+laid-before_if : {Event : Type 0} (is_linked : Bool) (event : Event) (chains : List (List Event)) → events_in_turn (before_if is_linked event chains) ≡ event ∷ events_in_turn chains
 laid-before_if true event [] = refl
 laid-before_if true event (chain ∷ chains) = refl
 laid-before_if false event chains = refl
 
-laid-chains_of : {Event : Type 0} (is_linked : Event → Bool) (events : List Event) → laid (chains_of is_linked events) ≡ events
+laid-chains_of : {Event : Type 0} (is_linked : Event → Bool) (events : List Event) → events_in_turn (chains_of is_linked events) ≡ events
 laid-chains_of is_linked [] = refl
 laid-chains_of is_linked (event ∷ events) = laid-before_if (is_linked event) event (chains_of is_linked events) ∙ ap (λ es. event ∷ es) (laid-chains_of is_linked events)
 
@@ -55,28 +55,28 @@ laid-chains_of is_linked (event ∷ events) = laid-before_if (is_linked event) e
 clock_after-more : (clock m n : ℕ) → clock_after clock (m + n) ≡ clock_after (clock_after clock m) n
 clock_after-more clock m n = omega arith
 
-length-results : {Event : Type 0} (operation : Operation Event) (clock : ℕ) (facts : Facts) (chains : List (List Event)) → length (chains_outcome operation clock facts chains).results ≡ length (laid chains)
+length-results : {Event : Type 0} (operation : Operation Event) (clock : ℕ) (facts : Facts) (chains : List (List Event)) → length (chains_outcome operation clock facts chains).results ≡ length (events_in_turn chains)
 length-results operation clock facts [] = refl
 length-results operation clock facts (chain ∷ chains) =
     let first = chain_outcome operation clock facts chain in
     let rest = chains_outcome operation (clock_after clock (length chain)) first.facts chains in
-    omega (arith, length-append first.results rest.results, length-append chain (laid chains), length-chain_outcome operation clock facts chain, length-results operation (clock_after clock (length chain)) first.facts chains)
+    omega (arith, length-append first.results rest.results, length-append chain (events_in_turn chains), length-chain_outcome operation clock facts chain, length-results operation (clock_after clock (length chain)) first.facts chains)
 
 then_outcome-assoc : (a b c : Outcome) → then_outcome a (then_outcome b c) ≡ then_outcome (then_outcome a b) c
 then_outcome-assoc a b c = ap (λ results. record { results = results; facts = c.facts }) (sym (append_assoc a.results b.results c.results))
 
 chains_outcome-append : {Event : Type 0} (operation : Operation Event) (clock : ℕ) (facts : Facts) (chains more : List (List Event)) → clock ≤ clock_max →
     let first = chains_outcome operation clock facts chains in
-    chains_outcome operation clock facts (chains ++ more) ≡ then_outcome first (chains_outcome operation (clock_after clock (length (laid chains))) first.facts more)
+    chains_outcome operation clock facts (chains ++ more) ≡ then_outcome first (chains_outcome operation (clock_after clock (length (events_in_turn chains))) first.facts more)
 chains_outcome-append operation clock facts [] more h = ap (λ c. chains_outcome operation c facts more) (let e : clock ≡ clock_after clock 0 = omega arith in e)
 chains_outcome-append operation clock facts (chain ∷ chains) more h =
     let first = chain_outcome operation clock facts chain in
     let next = clock_after clock (length chain) in
     let rest = chains_outcome operation next first.facts chains in
-    let later : clock_after next (length (laid chains)) ≡ clock_after clock (length (laid (chain ∷ chains))) =
-    sym (clock_after-more clock (length chain) (length (laid chains))) ∙ ap (clock_after clock) (sym (length-append chain (laid chains))) in
+    let later : clock_after next (length (events_in_turn chains)) ≡ clock_after clock (length (events_in_turn (chain ∷ chains))) =
+    sym (clock_after-more clock (length chain) (length (events_in_turn chains))) ∙ ap (clock_after clock) (sym (length-append chain (events_in_turn chains))) in
     ap (then_outcome first) (chains_outcome-append operation next first.facts chains more (omega arith))
-    ∙ then_outcome-assoc first rest (chains_outcome operation (clock_after next (length (laid chains))) rest.facts more)
+    ∙ then_outcome-assoc first rest (chains_outcome operation (clock_after next (length (events_in_turn chains))) rest.facts more)
     ∙ ap (λ c. then_outcome (then_outcome first rest) (chains_outcome operation c rest.facts more)) later
 
 events_outcome-append : {Event : Type 0} (operation : Operation Event) (clock : ℕ) (facts : Facts) (xs ys : List Event) → clock ≤ clock_max → is_last_linked operation.is_linked xs ≡ false →
@@ -137,21 +137,21 @@ none_above offset count low high (failure ∷ failures) rise h =
     ∙ none_above offset count (failure.index + 1) high failures rise.2 (omega (arith, rise.0))
 
 rebased-chosen : (offset : ℕ) (b : Bool) (failure : Failure) (failures : List Failure) →
-    map (rebased offset) (if b then failures else failure ∷ failures) ≡ (if b then map (rebased offset) failures else rebased offset failure ∷ map (rebased offset) failures)
+    map (from_offset offset) (if b then failures else failure ∷ failures) ≡ (if b then map (from_offset offset) failures else from_offset offset failure ∷ map (from_offset offset) failures)
 rebased-chosen offset true failure failures = refl
 rebased-chosen offset false failure failures = refl
 
-rebased-failures : (offset index : ℕ) (codes : List ℕ) → map (rebased offset) (failures_from (offset + index) codes) ≡ failures_from index codes
+rebased-failures : (offset index : ℕ) (codes : List ℕ) → map (from_offset offset) (failures_from (offset + index) codes) ≡ failures_from index codes
 rebased-failures offset index [] = refl
 rebased-failures offset index (code ∷ codes) =
     let here : offset + index - offset ≡ index = omega arith in
     let next : offset + index + 1 ≡ offset + (index + 1) = omega arith in
     rebased-chosen offset (code == 0) (record { index = offset + index; code = code }) (failures_from (offset + index + 1) codes)
-    ∙ ap (failing (offset + index - offset) code) (ap (λ i. map (rebased offset) (failures_from i codes)) next ∙ rebased-failures offset (index + 1) codes)
+    ∙ ap (failing (offset + index - offset) code) (ap (λ i. map (from_offset offset) (failures_from i codes)) next ∙ rebased-failures offset (index + 1) codes)
     ∙ ap (λ i. failing i code (failures_from (index + 1) codes)) here
 
 -- those of some results in the middle
-pub cut-middle : (before codes after : List ℕ) → cut (length before) (length codes) (failures_from 0 (before ++ (codes ++ after))) ≡ failures_from 0 codes
+pub cut-middle : (before codes after : List ℕ) → failures_within (length before) (length codes) (failures_from 0 (before ++ (codes ++ after))) ≡ failures_from 0 codes
 cut-middle before codes after =
     let offset = length before in
     let count = length codes in
@@ -169,7 +169,7 @@ cut-middle before codes after =
     ∙ ap (λ back. mid ++ back) (none_above offset count (offset + count) (offset + count + length after) last (failures_rise (offset + count) after) (omega arith))
     ∙ append-nil mid in
     let start : offset ≡ offset + 0 = omega arith in
-    ap (λ fs. map (rebased offset) (test fs)) whole ∙ ap (map (rebased offset)) only ∙ ap (λ i. map (rebased offset) (failures_from i codes)) start ∙ rebased-failures offset 0 codes
+    ap (λ fs. map (from_offset offset) (test fs)) whole ∙ ap (map (from_offset offset)) only ∙ ap (λ i. map (from_offset offset) (failures_from i codes)) start ∙ rebased-failures offset 0 codes
 
 -- ---- the law
 
@@ -197,25 +197,25 @@ module _ {Event : Type 0} (operation : Operation Event) (packet_of : List Event 
 
   -- the outcome of a first packet and of those after it, which begin in the state that it leaves
   first_and_rest : (state : State) (packet : List Event) (packets : List (List Event)) → state.clock ≤ clock_max → is_last_linked operation.is_linked packet ≡ false →
-      outcome_in state (laid (packet ∷ packets)) ≡ then_outcome (outcome_in state packet) (outcome_in (after_packet state (packet_of packet)) (laid packets))
+      outcome_in state (events_in_turn (packet ∷ packets)) ≡ then_outcome (outcome_in state packet) (outcome_in (after_packet state (packet_of packet)) (events_in_turn packets))
   first_and_rest state packet packets h closed =
-      events_outcome-append operation state.clock state.facts packet (laid packets) h closed
-      ∙ ap (λ (s : State). then_outcome (outcome_in state packet) (outcome_in s (laid packets))) (sym (are.after state packet))
+      events_outcome-append operation state.clock state.facts packet (events_in_turn packets) h closed
+      ∙ ap (λ (s : State). then_outcome (outcome_in state packet) (outcome_in s (events_in_turn packets))) (sym (are.after state packet))
 
   -- after some results, which stand for the packets before
   cuts_after : (before : List ℕ) (state : State) (packets : List (List Event)) → state.clock ≤ clock_max → none_open operation.is_linked packets ≡ true →
-      cuts (length before) packets (failures_from 0 (before ++ (outcome_in state (laid packets)).results)) ≡ failures_each state (map packet_of packets)
+      cuts (length before) packets (failures_from 0 (before ++ (outcome_in state (events_in_turn packets)).results)) ≡ failures_each state (map packet_of packets)
   cuts_after before state [] h closed = refl
   cuts_after before state (packet ∷ packets) h closed =
       let first = outcome_in state packet in
       let next = after_packet state (packet_of packet) in
-      let rest = outcome_in next (laid packets) in
+      let rest = outcome_in next (events_in_turn packets) in
       let count = length-outcome operation state.clock state.facts packet in
       let failures = failures_from 0 (before ++ (first.results ++ rest.results)) in
       let results = ap (λ (o : Outcome). o.results) (first_and_rest state packet packets h (closed-first (is_last_linked operation.is_linked packet) (none_open operation.is_linked packets) closed)) in
       let offset : length (before ++ first.results) ≡ length before + length packet = length-append before first.results ∙ ap (λ n. length before + n) count in
-      let own : cut (length before) (length packet) failures ≡ failures_of state (packet_of packet) =
-      ap (λ n. cut (length before) n failures) (sym count) ∙ cut-middle before first.results rest.results
+      let own : failures_within (length before) (length packet) failures ≡ failures_of state (packet_of packet) =
+      ap (λ n. failures_within (length before) n failures) (sym count) ∙ cut-middle before first.results rest.results
       ∙ ap (λ (o : Outcome). failures_from 0 o.results) (sym (are.outcome state packet)) in
       let later : cuts (length before + length packet) packets failures ≡ failures_each next (map packet_of packets) =
       ap (λ n. cuts n packets failures) (sym offset) ∙ ap (λ codes. cuts (length (before ++ first.results)) packets (failures_from 0 codes)) (sym (append_assoc before first.results rest.results))
@@ -224,32 +224,32 @@ module _ {Event : Type 0} (operation : Operation Event) (packet_of : List Event 
       ∙ ap (λ fs. fs ∷ cuts (length before + length packet) packets failures) own ∙ ap (λ fss. failures_of state (packet_of packet) ∷ fss) later
 
   state_after : (state : State) (packets : List (List Event)) → state.clock ≤ clock_max → none_open operation.is_linked packets ≡ true →
-      after_packet state (packet_of (laid packets)) ≡ fold after_packet state (map packet_of packets)
+      after_packet state (packet_of (events_in_turn packets)) ≡ fold after_packet state (map packet_of packets)
   state_after state [] h closed =
       let same : clock_after state.clock 0 ≡ state.clock = omega arith in
       are.after state [] ∙ ap (λ c. record { clock = c; facts = state.facts }) same
   state_after state (packet ∷ packets) h closed =
       let next = after_packet state (packet_of packet) in
       let facts = ap (λ (o : Outcome). o.facts) (first_and_rest state packet packets h (closed-first (is_last_linked operation.is_linked packet) (none_open operation.is_linked packets) closed)) in
-      let clock : clock_after state.clock (length (packet ++ laid packets)) ≡ clock_after next.clock (length (laid packets)) =
-      ap (clock_after state.clock) (length-append packet (laid packets)) ∙ clock_after-more state.clock (length packet) (length (laid packets))
-      ∙ ap (λ (s : State). clock_after s.clock (length (laid packets))) (sym (are.after state packet)) in
-      let both : after_packet state (packet_of (laid (packet ∷ packets))) ≡ after_packet next (packet_of (laid packets)) =
-      are.after state (laid (packet ∷ packets)) ∙ (λ i. record { clock = clock i; facts = facts i }) ∙ sym (are.after next (laid packets)) in
+      let clock : clock_after state.clock (length (packet ++ events_in_turn packets)) ≡ clock_after next.clock (length (events_in_turn packets)) =
+      ap (clock_after state.clock) (length-append packet (events_in_turn packets)) ∙ clock_after-more state.clock (length packet) (length (events_in_turn packets))
+      ∙ ap (λ (s : State). clock_after s.clock (length (events_in_turn packets))) (sym (are.after state packet)) in
+      let both : after_packet state (packet_of (events_in_turn (packet ∷ packets))) ≡ after_packet next (packet_of (events_in_turn packets)) =
+      are.after state (events_in_turn (packet ∷ packets)) ∙ (λ i. record { clock = clock i; facts = facts i }) ∙ sym (are.after next (events_in_turn packets)) in
       both ∙ state_after next packets (in_range state packet) (closed-rest (is_last_linked operation.is_linked packet) (none_open operation.is_linked packets) closed)
 
-  rise : (state : State) (packets : List (List Event)) → RiseWithin 0 (length (laid packets)) (failures_of state (packet_of (laid packets)))
+  rise : (state : State) (packets : List (List Event)) → RiseWithin 0 (length (events_in_turn packets)) (failures_of state (packet_of (events_in_turn packets)))
   rise state packets =
-      let results = (outcome_in state (laid packets)).results in
-      let count : 0 + length results ≡ length (laid packets) = omega (arith, length-outcome operation state.clock state.facts (laid packets)) in
-      subst (λ (o : Outcome). RiseWithin 0 (length (laid packets)) (failures_from 0 o.results)) (sym (are.outcome state (laid packets)))
+      let results = (outcome_in state (events_in_turn packets)).results in
+      let count : 0 + length results ≡ length (events_in_turn packets) = omega (arith, length-outcome operation state.clock state.facts (events_in_turn packets)) in
+      subst (λ (o : Outcome). RiseWithin 0 (length (events_in_turn packets)) (failures_from 0 o.results)) (sym (are.outcome state (events_in_turn packets)))
       (subst (λ high. RiseWithin 0 high (failures_from 0 results)) count (failures_rise 0 results))
 
   -- packets of which none is open
   pub joining : (state : State) (packets : List (List Event)) → state.clock ≤ clock_max → none_open operation.is_linked packets ≡ true → GiveAsEach packet_of state packets
   joining state packets h closed = record {
     rise = rise state packets;
-    failures = ap (λ (o : Outcome). cuts 0 packets (failures_from 0 o.results)) (are.outcome state (laid packets)) ∙ cuts_after [] state packets h closed;
+    failures = ap (λ (o : Outcome). cuts 0 packets (failures_from 0 o.results)) (are.outcome state (events_in_turn packets)) ∙ cuts_after [] state packets h closed;
     state_after = state_after state packets h closed;
   }
 
@@ -262,9 +262,9 @@ module _ {Event : Type 0} (operation : Operation Event) (packet_of : List Event 
       record {
         rise = rise state (packet ∷ []);
         failures =
-            ap (λ events. cut 0 (length packet) (failures_of state (packet_of events)) ∷ []) (append-nil packet)
-            ∙ ap (λ n. cut 0 n (failures_from 0 results) ∷ []) count
-            ∙ ap (λ codes. cut 0 (length results) (failures_from 0 codes) ∷ []) (sym (append-nil results)) ∙ ap (λ fs. fs ∷ []) (cut-middle [] results []);
+            ap (λ events. failures_within 0 (length packet) (failures_of state (packet_of events)) ∷ []) (append-nil packet)
+            ∙ ap (λ n. failures_within 0 n (failures_from 0 results) ∷ []) count
+            ∙ ap (λ codes. failures_within 0 (length results) (failures_from 0 codes) ∷ []) (sym (append-nil results)) ∙ ap (λ fs. fs ∷ []) (cut-middle [] results []);
         state_after = ap (λ events. after_packet state (packet_of events)) (append-nil packet);
       }
 

@@ -21,7 +21,7 @@ use Rattle.tb_tables.proofs.Finding.{found-id}
 use Rattle.tb_layout.specs.Limits.{clock_max, nanoseconds_per_second}
 use Rattle.tb_machine.specs.AccountVerdict.{u128_max}
 use Rattle.tb_machine.specs.Table.{first_row}
-use Rattle.tb_machine.specs.TransferVerdict.{transfer_verdict, event_checks, against_id, stored_checks, new_id_checks, resolving_checks, resolving_verdict, against_named, pending_checks, against_status, moving_checks, moving_verdict, between_found, balance_checks, resolved, resolved_by, stored_by, has_exclusive_flags}
+use Rattle.tb_machine.specs.TransferVerdict.{transfer_verdict, event_checks, against_id, stored_checks, new_id_checks, resolving_checks, resolving_verdict, against_named, pending_checks, against_status, moving_checks, moving_verdict, between_found, balance_checks, resolved_transfer, resolved_transfer_of, stored_transfer, has_exclusive_flags}
 
 -- ---- where a table doesn't end in a failure, none of its checks applies
 
@@ -68,7 +68,7 @@ is_new facts timestamp event ok = by (transfer_with facts event.id) refl (passes
   where
     by : (found : Option Transfer) → transfer_with facts event.id ≡ found → number_of (against_id facts timestamp found event) ≡ 0 → IsNew facts timestamp event
     by (Some stored) is ok =
-        let exists : 46 ≡ 0 = (passes (stored_checks stored (resolved_by (transfer_with facts stored.pending_id) event)) Exists refl ok).rest in
+        let exists : 46 ≡ 0 = (passes (stored_checks stored (resolved_transfer_of (transfer_with facts stored.pending_id) event)) Exists refl ok).rest in
         absurd (omega (arith, exists))
     by None is ok =
         let p = passes (new_id_checks facts event) (if is_resolving event then resolving_verdict facts timestamp event else moving_verdict facts timestamp event) refl ok in
@@ -114,9 +114,9 @@ expires_by timestamp timeout h check = by (timeout == 0) refl check
         omega arith
     by false is check = at_most clock_max (timestamp + timeout * nanoseconds_per_second) check
 
-pub resolves_nothing : (found : Option Transfer) (event : Transfer) → is_resolving event ≡ false → resolved_by found event ≡ event
+pub resolves_nothing : (found : Option Transfer) (event : Transfer) → is_resolving event ≡ false → resolved_transfer_of found event ≡ event
 resolves_nothing None event plain = refl
-resolves_nothing (Some pending) event plain = ap (λ b. if b then resolved pending event else event) plain
+resolves_nothing (Some pending) event plain = ap (λ b. if b then resolved_transfer pending event else event) plain
 
 -- a plain or pending transfer whose checks find nothing is between two accounts
 stands_between : (facts : Facts) (timestamp : ℕ) (event : Transfer) → number_of (transfer_verdict facts timestamp event) ≡ 0 → is_resolving event ≡ false → IsBetween facts timestamp event
@@ -136,13 +136,13 @@ has_credit facts timestamp event ok plain None is none = let there = (stands_bet
 has_credit facts timestamp event ok plain (Some place) is at = cc
 
 pub may_add : (facts : Facts) (timestamp : ℕ) (event : Transfer) → timestamp ≤ clock_max → number_of (transfer_verdict facts timestamp event) ≡ 0 → is_resolving event ≡ false →
-    MayAdd facts (stored_by facts timestamp event)
+    MayAdd facts (stored_transfer facts timestamp event)
 may_add facts timestamp event clock ok plain =
     let id = is_new facts timestamp event ok in
     let found = stands_between facts timestamp event ok plain in
     let debit_id = found-id (λ (account : Account). account.id) event.debit_account_id facts.accounts found.debit found.debit_there in
     let credit_id = found-id (λ (account : Account). account.id) event.credit_account_id facts.accounts found.credit found.credit_there in
-    let stored : stored_by facts timestamp event ≡ record event { timestamp = timestamp } = ap (λ (e : Transfer). record e { timestamp = timestamp }) (resolves_nothing (transfer_with facts event.pending_id) event plain) in
+    let stored : stored_transfer facts timestamp event ≡ record event { timestamp = timestamp } = ap (λ (e : Transfer). record e { timestamp = timestamp }) (resolves_nothing (transfer_with facts event.pending_id) event plain) in
     subst (MayAdd facts) (sym stored)
     (record {
       new = id.new;
@@ -167,7 +167,7 @@ status_pending Expired due ok = let e : 35 ≡ 0 = ok in absurd (omega (arith, e
 record Names (facts : Facts) (event : Transfer) : Type 0 where
   pending : Transfer
   named : transfer_with facts event.pending_id ≡ Some pending
-  checks : AllByRecursion (λ (check : Bool × TransferCode). check.0 ≡ false) (pending_checks pending (resolved pending event))
+  checks : AllByRecursion (λ (check : Bool × TransferCode). check.0 ≡ false) (pending_checks pending (resolved_transfer pending event))
   status : status_of facts pending.id ≡ Pending
 
 names : (facts : Facts) (timestamp : ℕ) (event : Transfer) → number_of (resolving_verdict facts timestamp event) ≡ 0 → Names facts event
@@ -177,7 +177,7 @@ names facts timestamp event ok =
     by : (found : Option Transfer) → transfer_with facts event.pending_id ≡ found → number_of (against_named facts timestamp found event) ≡ 0 → Names facts event
     by None is ok = let e : 25 ≡ 0 = ok in absurd (omega (arith, e))
     by (Some pending) is ok =
-        let p = passes (pending_checks pending (resolved pending event)) (against_status (status_of facts pending.id) (is_due timestamp pending)) refl ok in
+        let p = passes (pending_checks pending (resolved_transfer pending event)) (against_status (status_of facts pending.id) (is_due timestamp pending)) refl ok in
         record { pending = pending; named = is; checks = p.none; status = status_pending (status_of facts pending.id) (is_due timestamp pending) p.rest }
 
 post_or_void : (p a b : Bool) → ((p && a) || (p && b) || (a && b)) ≡ false → (a || b) ≡ true → (b ≡ not a) × (p ≡ false)
@@ -193,32 +193,32 @@ equal : (a b : ℕ) → not (a == b) ≡ false → a ≡ b
 equal a b h = eqb-true a b (not_not (a == b) h)
 
 -- resolving leaves the ids
-pub same_id : (found : Option Transfer) (event : Transfer) → (resolved_by found event).id ≡ event.id
+pub same_id : (found : Option Transfer) (event : Transfer) → (resolved_transfer_of found event).id ≡ event.id
 same_id None event = refl
 same_id (Some pending) event = by (is_resolving event)
   where
-    by : (b : Bool) → (if b then resolved pending event else event).id ≡ event.id
+    by : (b : Bool) → (if b then resolved_transfer pending event else event).id ≡ event.id
     by true = refl
     by false = refl
 
-pub same_pending_id : (found : Option Transfer) (event : Transfer) → (resolved_by found event).pending_id ≡ event.pending_id
+pub same_pending_id : (found : Option Transfer) (event : Transfer) → (resolved_transfer_of found event).pending_id ≡ event.pending_id
 same_pending_id None event = refl
 same_pending_id (Some pending) event = by (is_resolving event)
   where
-    by : (b : Bool) → (if b then resolved pending event else event).pending_id ≡ event.pending_id
+    by : (b : Bool) → (if b then resolved_transfer pending event else event).pending_id ≡ event.pending_id
     by true = refl
     by false = refl
 
-pub may_resolve : (facts : Facts) (timestamp : ℕ) (event : Transfer) → number_of (transfer_verdict facts timestamp event) ≡ 0 → is_resolving event ≡ true → MayResolve facts (stored_by facts timestamp event)
+pub may_resolve : (facts : Facts) (timestamp : ℕ) (event : Transfer) → number_of (transfer_verdict facts timestamp event) ≡ 0 → is_resolving event ≡ true → MayResolve facts (stored_transfer facts timestamp event)
 may_resolve facts timestamp event ok resolves =
     let id = is_new facts timestamp event ok in
     let verdict : number_of (resolving_verdict facts timestamp event) ≡ 0 =
     sym (ap (λ b. number_of (if b then resolving_verdict facts timestamp event else moving_verdict facts timestamp event)) resolves) ∙ id.rest in
     let one = names facts timestamp event verdict in
     let kind = post_or_void (is_pending event) (is_post event) (is_void event) id.apart resolves in
-    let stored : stored_by facts timestamp event ≡ record (resolved one.pending event) { timestamp = timestamp } =
-    ap (λ found. record (resolved_by found event) { timestamp = timestamp }) one.named
-    ∙ ap (λ b. record (if b then resolved one.pending event else event) { timestamp = timestamp }) resolves in
+    let stored : stored_transfer facts timestamp event ≡ record (resolved_transfer one.pending event) { timestamp = timestamp } =
+    ap (λ found. record (resolved_transfer_of found event) { timestamp = timestamp }) one.named
+    ∙ ap (λ b. record (if b then resolved_transfer one.pending event else event) { timestamp = timestamp }) resolves in
     let pending_id = found-id (λ (transfer : Transfer). transfer.id) event.pending_id facts.transfers one.pending one.named in
     subst (MayResolve facts) (sym stored)
     (record {
@@ -229,7 +229,7 @@ may_resolve facts timestamp event ok resolves =
       named = one.named;
       is_pending_one = not_not (is_pending one.pending) one.checks.0;
       unresolved = ap (status_of facts) (sym pending_id) ∙ one.status;
-      same_debit = equal (resolved one.pending event).debit_account_id one.pending.debit_account_id one.checks.1.0;
-      same_credit = equal (resolved one.pending event).credit_account_id one.pending.credit_account_id one.checks.1.1.0;
-      at_most = at_most one.pending.amount (resolved one.pending event).amount one.checks.1.1.1.1.1.0;
+      same_debit = equal (resolved_transfer one.pending event).debit_account_id one.pending.debit_account_id one.checks.1.0;
+      same_credit = equal (resolved_transfer one.pending event).credit_account_id one.pending.credit_account_id one.checks.1.1.0;
+      at_most = at_most one.pending.amount (resolved_transfer one.pending event).amount one.checks.1.1.1.1.1.0;
     })

@@ -38,26 +38,26 @@ all_but_last (event ∷ []) = []
 all_but_last (event ∷ next ∷ events) = event ∷ all_but_last (next ∷ events)
 
 -- an event that is examined, with its timestamp if it has one
-abbrev pub examined : {Event : Type 0} → Operation Event → Facts → Option ℕ → Event → ℕ
-examined operation facts (Some timestamp) event = operation.verdict facts timestamp event
-examined operation facts None event = clock_exhausted
+abbrev pub verdict_at : {Event : Type 0} → Operation Event → Facts → Option ℕ → Event → ℕ
+verdict_at operation facts (Some timestamp) event = operation.verdict facts timestamp event
+verdict_at operation facts None event = clock_exhausted
 
-abbrev pub stored_at : {Event : Type 0} → Operation Event → Facts → Option ℕ → Event → Facts
-stored_at operation facts (Some timestamp) event = operation.stored facts timestamp event
-stored_at operation facts None event = facts
+abbrev pub facts_with : {Event : Type 0} → Operation Event → Facts → Option ℕ → Event → Facts
+facts_with operation facts (Some timestamp) event = operation.stored facts timestamp event
+facts_with operation facts None event = facts
 
 -- the facts once all of the events are stored
-abbrev pub stored_all : {Event : Type 0} → Operation Event → ℕ → Facts → List Event → Facts
-stored_all operation clock facts [] = facts
-stored_all operation clock facts (event ∷ events) =
-    stored_all operation (clock_after clock 1) (stored_at operation facts (next_timestamp clock) event) events
+abbrev pub facts_with_all : {Event : Type 0} → Operation Event → ℕ → Facts → List Event → Facts
+facts_with_all operation clock facts [] = facts
+facts_with_all operation clock facts (event ∷ events) =
+    facts_with_all operation (clock_after clock 1) (facts_with operation facts (next_timestamp clock) event) events
 
 -- the first event whose verdict, on the facts with those before it stored, is a fault; the first event has this index
 abbrev pub first_fault : {Event : Type 0} → Operation Event → ℕ → ℕ → Facts → List Event → Option (Fault Event)
 first_fault operation index clock facts [] = None
 first_fault operation index clock facts (event ∷ events) =
-    let code = examined operation facts (next_timestamp clock) event in
-    if code == 0 then first_fault operation (index + 1) (clock_after clock 1) (stored_at operation facts (next_timestamp clock) event) events
+    let code = verdict_at operation facts (next_timestamp clock) event in
+    if code == 0 then first_fault operation (index + 1) (clock_after clock 1) (facts_with operation facts (next_timestamp clock) event) events
     else Some (record { index = index; event = event; code = code })
 
 -- the results of so many events that fail together: the first fault has its own code
@@ -77,7 +77,7 @@ pub record Outcome : Type 0 where
 
 -- a chain that is not open succeeds where it has no fault
 abbrev pub closed_outcome : {Event : Type 0} → Operation Event → ℕ → Facts → List Event → Option (Fault Event) → Outcome
-closed_outcome operation clock facts chain None = record { results = replicate (length chain) 0; facts = stored_all operation clock facts chain }
+closed_outcome operation clock facts chain None = record { results = replicate (length chain) 0; facts = facts_with_all operation clock facts chain }
 closed_outcome operation clock facts chain (Some fault) =
     record { results = failed_results (length chain) (Some fault); facts = left_behind operation facts (Some fault) }
 

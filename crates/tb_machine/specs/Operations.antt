@@ -11,7 +11,7 @@ use Rattle.tb_layout.specs.Account.{is_linked as is_linked_account}
 use Rattle.tb_layout.specs.Transfer.{is_linked as is_linked_transfer}
 use Rattle.tb_tables.specs.Facts.{Facts, is_failed, add_account, add_transfer, add_failed}
 use Rattle.tb_machine.specs.AccountVerdict.{account_verdict}
-use Rattle.tb_machine.specs.TransferVerdict.{transfer_verdict, stored_by}
+use Rattle.tb_machine.specs.TransferVerdict.{transfer_verdict, stored_transfer}
 use Rattle.tb_machine.specs.Chain.{Operation}
 
 -- an account is stored with its timestamp, and a fault leaves nothing behind
@@ -40,6 +40,6 @@ abbrev pub transfers_operation : Operation Transfer
 transfers_operation = record {
   is_linked = is_linked_transfer;
   verdict = λ facts timestamp event. transfer_number (transfer_verdict facts timestamp event);
-  stored = λ facts timestamp event. add_transfer facts (stored_by facts timestamp event);
+  stored = λ facts timestamp event. add_transfer facts (stored_transfer facts timestamp event);
   remembered = λ facts code event. if is_transient code then with_failed facts event.id else facts;
 }

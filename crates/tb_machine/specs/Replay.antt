@@ -62,14 +62,14 @@ after_packet state (Ids ids) = state
 -- ---- a pulse
 
 -- the clock is raised to the moment, and whatever is due then expires
-abbrev pub pulsed : State → ℕ → State
-pulsed state moment = record { clock = max state.clock moment; facts = expire_due (max state.clock moment) state.facts }
+abbrev pub after_pulse : State → ℕ → State
+after_pulse state moment = record { clock = max state.clock moment; facts = expire_due (max state.clock moment) state.facts }
 
 -- ---- packets and pulses
 
 abbrev pub after_work : State → Work → State
 after_work state (Packet submitter number events) = after_packet state events
-after_work state (Pulse moment) = pulsed state moment
+after_work state (Pulse moment) = after_pulse state moment
 
 -- the state after packets and pulses in order, from a clock and no facts
 abbrev pub replay : ℕ → List Work → State

@@ -26,8 +26,8 @@ unless_zero field otherwise = if field == 0 then otherwise else field
 abbrev pub means_whole_amount : Transfer → Bool
 means_whole_amount event = (is_post event && (event.amount == u128_max)) || (is_void event && (event.amount == 0))
 
-abbrev pub resolved : Transfer → Transfer → Transfer
-resolved pending event =
+abbrev pub resolved_transfer : Transfer → Transfer → Transfer
+resolved_transfer pending event =
     record event {
       debit_account_id = unless_zero event.debit_account_id pending.debit_account_id;
       credit_account_id = unless_zero event.credit_account_id pending.credit_account_id;
@@ -40,13 +40,13 @@ resolved pending event =
     }
 
 -- any other event has no fields to resolve
-abbrev pub resolved_by : Option Transfer → Transfer → Transfer
-resolved_by (Some pending) event = if is_resolving event then resolved pending event else event
-resolved_by None event = event
+abbrev pub resolved_transfer_of : Option Transfer → Transfer → Transfer
+resolved_transfer_of (Some pending) event = if is_resolving event then resolved_transfer pending event else event
+resolved_transfer_of None event = event
 
 -- what is stored: the event with its timestamp, and a post or a void with its fields resolved
-abbrev pub stored_by : Facts → ℕ → Transfer → Transfer
-stored_by facts timestamp event = record (resolved_by (transfer_with facts event.pending_id) event) { timestamp = timestamp }
+abbrev pub stored_transfer : Facts → ℕ → Transfer → Transfer
+stored_transfer facts timestamp event = record (resolved_transfer_of (transfer_with facts event.pending_id) event) { timestamp = timestamp }
 
 -- ---- each table has its checks in their order, and what follows where none applies
 
@@ -95,7 +95,7 @@ against_pending facts timestamp pending event = first_row (pending_checks pendin
 
 abbrev pub against_named : Facts → ℕ → Option Transfer → Transfer → TransferCode
 against_named facts timestamp None event = PendingTransferNotFound
-against_named facts timestamp (Some pending) event = against_pending facts timestamp pending (resolved pending event)
+against_named facts timestamp (Some pending) event = against_pending facts timestamp pending (resolved_transfer pending event)
 
 abbrev pub resolving_checks : Transfer → List (Bool × TransferCode)
 resolving_checks event =
@@ -167,7 +167,7 @@ abbrev pub of_new_id : Facts → ℕ → Transfer → TransferCode
 of_new_id facts timestamp event = first_row (new_id_checks facts event) (if is_resolving event then resolving_verdict facts timestamp event else moving_verdict facts timestamp event)
 
 abbrev pub against_id : Facts → ℕ → Option Transfer → Transfer → TransferCode
-against_id facts timestamp (Some stored) event = against_stored stored (resolved_by (transfer_with facts stored.pending_id) event)
+against_id facts timestamp (Some stored) event = against_stored stored (resolved_transfer_of (transfer_with facts stored.pending_id) event)
 against_id facts timestamp None event = of_new_id facts timestamp event
 
 abbrev pub event_checks : Transfer → List (Bool × TransferCode)

@@ -1,10 +1,10 @@
 //! A packet's chains, one by one.
 
 ghost use Rattle.std.specs.Prelude.{◌≡◌, ◌+◌, ◌^◌, ◌<◌, ◌≤◌, ◌++◌, [], length, map, vec_len, vec_capacity, Ok, None, IfOk, OnOk};
-ghost use Rattle.tb_tables.specs.History.{mark_of, undone, Extends};
+ghost use Rattle.tb_tables.specs.History.{mark_of, back_to, Extends};
 ghost use Rattle.tb_layout.specs.Limits.{clock_max};
 ghost use Rattle.tb_machine.specs.Clock as spec;
-ghost use Rattle.tb_machine.specs.Chain.{examined, stored_at, stored_all, first_fault, left_behind, open_outcome, closed_outcome, chain_outcome};
+ghost use Rattle.tb_machine.specs.Chain.{verdict_at, facts_with, facts_with_all, first_fault, left_behind, open_outcome, closed_outcome, chain_outcome};
 ghost use Rattle.tb_machine.specs.Packet.{events_outcome, failures_from};
 
 use crate::chain::first_chain_length;
@@ -24,8 +24,8 @@ const CLOCK_EXHAUSTED: u32 = 201;
 fn examine_at<E: Event>(clock: u64, tables: &mut Tables, event: &E) -> Result<u32, NoMemory>
     requires { clock ≤ clock_max }
     ensures extends { Extends tables.old tables.new }
-    ensures code { IfOk result (λ code. code ≡ examined E.operation tables.old.now (spec.next_timestamp clock) event.now) }
-    ensures stored { result ≡ Ok 0 → tables.new.now ≡ stored_at E.operation tables.old.now (spec.next_timestamp clock) event.now }
+    ensures code { IfOk result (λ code. code ≡ verdict_at E.operation tables.old.now (spec.next_timestamp clock) event.now) }
+    ensures stored { result ≡ Ok 0 → tables.new.now ≡ facts_with E.operation tables.old.now (spec.next_timestamp clock) event.now }
 {
     match next_timestamp(clock) {
         Some(timestamp) => event.examine(tables, timestamp),
@@ -42,7 +42,7 @@ fn examine_all<E: Event>(
     requires { clock ≤ clock_max }
     ensures extends { Extends tables.old tables.new }
     ensures fault { IfOk result (λ fault. fault ≡ first_fault E.operation 0 clock tables.old.now (map E.event_of rows.now)) }
-    ensures stored { result ≡ Ok None → tables.new.now ≡ stored_all E.operation clock tables.old.now (map E.event_of rows.now) }
+    ensures stored { result ≡ Ok None → tables.new.now ≡ facts_with_all E.operation clock tables.old.now (map E.event_of rows.now) }
 {
     let mut clock = clock;
     for (index, row) in rows.iter().enumerate() {
@@ -63,8 +63,8 @@ fn take_back<E: Event>(
     fault: Option<Fault<E>>,
 ) -> Result<(), NoMemory>
     requires { mark ≤ mark_of tables.old }
-    ensures extends { Extends (undone mark tables.old) tables.new }
-    ensures facts { OnOk result (tables.new.now ≡ left_behind E.operation (undone mark tables.old).now fault) }
+    ensures extends { Extends (back_to mark tables.old) tables.new }
+    ensures facts { OnOk result (tables.new.now ≡ left_behind E.operation (back_to mark tables.old).now fault) }
 {
     tables.undo_to(mark);
     match fault {

@@ -5,10 +5,10 @@ ghost use Rattle.tb_layout.specs.Account.{account_of};
 ghost use Rattle.tb_layout.specs.Transfer.{transfer_of};
 ghost use Rattle.tb_layout.specs.TransferCode.{number_of};
 ghost use Rattle.tb_tables.specs.Facts.{add_transfer};
-ghost use Rattle.tb_tables.specs.History.{changed, Extends};
+ghost use Rattle.tb_tables.specs.History.{with_change, Extends};
 ghost use Rattle.tb_layout.specs.Limits.{clock_max};
 ghost use Rattle.tb_machine.specs.Chain.{Operation};
-ghost use Rattle.tb_machine.specs.TransferVerdict.{stored_by, transfer_verdict as verdict_of};
+ghost use Rattle.tb_machine.specs.TransferVerdict.{stored_transfer, transfer_verdict as verdict_of};
 ghost use Rattle.tb_machine.specs.Prefetch.{IsTarget, IsPrefetched};
 ghost use Rattle.tb_machine.specs.declared.prefetch.Target.TheVariants.{Between, Named};
 ghost use Rattle.tb_machine.specs.Operations as spec;
@@ -40,7 +40,7 @@ pub trait Event: Copy {
     fn examine(&self, tables: &mut Tables, timestamp: u64) -> Result<u32, NoMemory>
         requires { timestamp ≤ clock_max }
         ensures code { IfOk result (λ code. code ≡ operation.verdict tables.old.now timestamp self.now) }
-        ensures stored { result ≡ Ok 0 → tables.new ≡ changed tables.old (operation.stored tables.old.now timestamp self.now) }
+        ensures stored { result ≡ Ok 0 → tables.new ≡ with_change tables.old (operation.stored tables.old.now timestamp self.now) }
         ensures same { result ≢ Ok 0 → tables.new ≡ tables.old };
 
     /// Notes what the event's failing with this code leaves behind.
@@ -131,7 +131,7 @@ fn store_between(
     requires target { IsTarget tables.old.now event.now (Between sides) }
     requires clock { timestamp ≤ clock_max }
     requires ok { number_of (verdict_of tables.old.now timestamp event.now) ≡ 0 }
-    ensures ok { OnOk result (tables.new ≡ changed tables.old (add_transfer tables.old.now (stored_by tables.old.now timestamp event.now))) }
+    ensures ok { OnOk result (tables.new ≡ with_change tables.old (add_transfer tables.old.now (stored_transfer tables.old.now timestamp event.now))) }
     ensures err { OnErr result (tables.new ≡ tables.old) }
 {
     let Some(debit) = sides.debit else {
@@ -158,7 +158,7 @@ fn store_resolved(
     requires key { key ≡ event.now.id }
     requires target { IsTarget tables.old.now event.now (Named pending) }
     requires ok { number_of (verdict_of tables.old.now timestamp event.now) ≡ 0 }
-    ensures ok { OnOk result (tables.new ≡ changed tables.old (add_transfer tables.old.now (stored_by tables.old.now timestamp event.now))) }
+    ensures ok { OnOk result (tables.new ≡ with_change tables.old (add_transfer tables.old.now (stored_transfer tables.old.now timestamp event.now))) }
     ensures err { OnErr result (tables.new ≡ tables.old) }
 {
     let transfer = Transfer {
@@ -178,7 +178,7 @@ fn store(
     requires prefetch { IsPrefetched tables.old.now event.now prefetch.now }
     requires clock { timestamp ≤ clock_max }
     requires ok { number_of (verdict_of tables.old.now timestamp event.now) ≡ 0 }
-    ensures ok { OnOk result (tables.new ≡ changed tables.old (add_transfer tables.old.now (stored_by tables.old.now timestamp event.now))) }
+    ensures ok { OnOk result (tables.new ≡ with_change tables.old (add_transfer tables.old.now (stored_transfer tables.old.now timestamp event.now))) }
     ensures err { OnErr result (tables.new ≡ tables.old) }
 {
     match prefetch.target {

@@ -37,7 +37,7 @@ impl Model for Machine {
 }
 
 impl Machine {
-    ghost use Rattle.tb_machine.specs.Replay.{opening, failures_of, accounts_found, balanced_accounts, after_events, after_packet, pulsed};
+    ghost use Rattle.tb_machine.specs.Replay.{opening, failures_of, accounts_found, balanced_accounts, after_events, after_packet, after_pulse};
 
     /// A machine without facts. Its clock starts at a number of nanoseconds, 0 to `CLOCK_MAX`; the first event gets
     /// the next one as its timestamp. Takes no memory.
@@ -121,7 +121,7 @@ impl Machine {
     /// and takes no memory.
     pub fn pulse(&mut self, moment: u64)
         requires { moment ≤ moment_max }
-        ensures { self.new ≡ pulsed self.old moment }
+        ensures { self.new ≡ after_pulse self.old moment }
     {
         self.clock = self.clock.max(moment);
         self.tables.expire_due(self.clock);

@@ -52,7 +52,7 @@ fn means_whole_amount(event: &Transfer) -> bool
 
 /// A post or a void with its fields resolved.
 pub fn resolved(pending: &Transfer, event: &Transfer) -> Transfer
-    ensures { result ≡ spec.resolved pending.now event.now }
+    ensures { result ≡ spec.resolved_transfer pending.now event.now }
 {
     Transfer {
         debit_account_id: unless_zero_u128(event.debit_account_id, pending.debit_account_id),
@@ -74,7 +74,7 @@ pub fn resolved(pending: &Transfer, event: &Transfer) -> Transfer
 /// A post or a void with its fields resolved against the transfer under a key.
 pub fn resolved_under(tables: &Tables, pending: Key, event: &Transfer) -> Transfer
     requires { is_resolving_event event.now ≡ true }
-    ensures { result ≡ spec.resolved_by (transfer_with tables.now.now pending) event.now }
+    ensures { result ≡ spec.resolved_transfer_of (transfer_with tables.now.now pending) event.now }
 {
     match tables.transfer_under(pending) {
         Some(pending) => resolved(&pending, event),
@@ -84,7 +84,7 @@ pub fn resolved_under(tables: &Tables, pending: Key, event: &Transfer) -> Transf
 
 /// An event with its fields resolved against the transfer with an id, where it is a post or a void.
 pub fn resolved_by(tables: &Tables, pending_id: u128, event: &Transfer) -> Transfer
-    ensures { result ≡ spec.resolved_by (transfer_with tables.now.now pending_id) event.now }
+    ensures { result ≡ spec.resolved_transfer_of (transfer_with tables.now.now pending_id) event.now }
 {
     if is_resolving(event) {
         resolved_under(tables, Key::of(pending_id), event)

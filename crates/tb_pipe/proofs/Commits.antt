@@ -7,9 +7,9 @@ use Rattle.tb_core.specs.declared.parcel.Parcel.{Parcel}
 use Rattle.tb_core.specs.declared.parcel.Parcel.TheVariants as parcel
 use Rattle.tb_core.specs.declared.outcomes.Outcomes.{Outcomes}
 use Rattle.tb_core.specs.declared.outcomes.Outcomes.TheVariants as outcomes
-use Rattle.tb_core.specs.Front.{spelled, spelled_one}
+use Rattle.tb_core.specs.Front.{all_passages_in, passages_in}
 use Rattle.tb_core.specs.Grouping.{AreJoined, AreJoinedParcels, IsJoinedParcel}
-use Rattle.tb_core.specs.Ledger.{LedgerState, Applied, giving, halts, applied}
+use Rattle.tb_core.specs.Ledger.{LedgerState, Applied, apply_result, must_stop, apply_step}
 use Rattle.tb_core.specs.Passage.{Passage}
 use Rattle.tb_core.specs.Run.{Commits, replies_in}
 use Rattle.tb_pipe.specs.Carried.{is_last, is_final, has_final, answers_in, given_on, IsCommitted, CommittedTo}
@@ -17,11 +17,11 @@ use Rattle.tb_pipe.proofs.Lists.{either_same, none_more, any_more, all_first}
 
 -- ---- the last parcel comes to the last outcome, and no other does
 
-final_is : (refused : Bool) (ledger next : LedgerState) (handed : Parcel) (given : Outcomes) → giving next given ≡ applied refused ledger handed → is_final given ≡ is_last handed
+final_is : (refused : Bool) (ledger next : LedgerState) (handed : Parcel) (given : Outcomes) → apply_result next given ≡ apply_step refused ledger handed → is_final given ≡ is_last handed
 final_is refused ledger next (parcel.Batch jobs) given is =
-    let view : Applied → Bool = λ step. is_final step.outcomes in ap view is ∙ either_same view (halts refused ledger (length jobs)) _ _ false refl refl
+    let view : Applied → Bool = λ step. is_final step.outcomes in ap view is ∙ either_same view (must_stop refused ledger (length jobs)) _ _ false refl refl
 final_is refused ledger next (parcel.Pulse moment) given is =
-    let view : Applied → Bool = λ step. is_final step.outcomes in ap view is ∙ either_same view (halts refused ledger 1) _ _ false refl refl
+    let view : Applied → Bool = λ step. is_final step.outcomes in ap view is ∙ either_same view (must_stop refused ledger 1) _ _ false refl refl
 final_is refused ledger next (parcel.Return job cause) given is = ap (λ (step : Applied). is_final step.outcomes) is
 final_is refused ledger next parcel.Last given is = ap (λ (step : Applied). is_final step.outcomes) is
 
@@ -48,8 +48,8 @@ last_of limit [] handed all = all.0
 last_of limit (first ∷ sent) handed all = last_of limit sent handed all.1
 
 pub parcel_more : (clock : ℕ) (sent : List Parcel) (handed : Parcel) (last : Bool) (ledger next : LedgerState) (before : List Outcomes) (given : Outcomes) → last ≡ is_last handed →
-    (refused : Bool) × (giving next given ≡ applied refused ledger handed) →
-    ((clock : ℕ) (sent : List Passage) (replies : List Replied) → Commits clock sent ledger replies → Commits clock (sent ++ spelled_one handed) next (replies ++ replies_in given)) →
+    (refused : Bool) × (apply_result next given ≡ apply_step refused ledger handed) →
+    ((clock : ℕ) (sent : List Passage) (replies : List Replied) → Commits clock sent ledger replies → Commits clock (sent ++ passages_in handed) next (replies ++ replies_in given)) →
     ((limit : ℕ) → IsJoinedParcel limit handed → AreJoined limit ledger.groups → AreJoined limit next.groups) → IsCommitted clock sent ledger before →
     CommittedTo last clock (sent ++ handed ∷ []) next (before ++ given_on given)
 parcel_more clock sent handed last ledger next before given last_is step more joined_more is = by last last_is
@@ -57,11 +57,11 @@ parcel_more clock sent handed last ledger next before given last_is step more jo
     final : is_final given ≡ is_last handed
     final = final_is step.0 ledger next handed given step.1
 
-    spelling : spelled (sent ++ handed ∷ []) ≡ spelled sent ++ spelled_one handed
-    spelling = flat_map-append spelled_one sent (handed ∷ []) ∙ ap (λ ps. spelled sent ++ ps) (append-nil (spelled_one handed))
+    spelling : all_passages_in (sent ++ handed ∷ []) ≡ all_passages_in sent ++ passages_in handed
+    spelling = flat_map-append passages_in sent (handed ∷ []) ∙ ap (λ ps. all_passages_in sent ++ ps) (append-nil (passages_in handed))
 
-    commits : Commits clock (spelled (sent ++ handed ∷ [])) next (answers_in before ++ replies_in given)
-    commits = subst (λ ps. Commits clock ps next (answers_in before ++ replies_in given)) (sym spelling) (more clock (spelled sent) (answers_in before) is.commits)
+    commits : Commits clock (all_passages_in (sent ++ handed ∷ [])) next (answers_in before ++ replies_in given)
+    commits = subst (λ ps. Commits clock ps next (answers_in before ++ replies_in given)) (sym spelling) (more clock (all_passages_in sent) (answers_in before) is.commits)
 
     joined : (limit : ℕ) → AreJoinedParcels limit (sent ++ handed ∷ []) → AreJoined limit next.groups
     joined limit all = joined_more limit (last_of limit sent handed all) (is.joined limit (all_first (IsJoinedParcel limit) sent (handed ∷ []) all))
@@ -72,13 +72,13 @@ parcel_more clock sent handed last ledger next before given last_is step more jo
         record {
           before = before;
           parts = ap (λ (o : Outcomes). before ++ given_on o) end;
-          commits = subst (λ rs. Commits clock (spelled (sent ++ handed ∷ [])) next rs) (ap (λ (o : Outcomes). answers_in before ++ replies_in o) end ∙ append-nil (answers_in before)) commits;
+          commits = subst (λ rs. Commits clock (all_passages_in (sent ++ handed ∷ [])) next rs) (ap (λ (o : Outcomes). answers_in before ++ replies_in o) end ∙ append-nil (answers_in before)) commits;
           joined = joined;
           ended = any_more is_last sent handed (sym ends);
           unfinished = is.unfinished;
         }
     by false ends = record {
-      commits = subst (λ rs. Commits clock (spelled (sent ++ handed ∷ [])) next rs) (ap (λ rs. answers_in before ++ rs) (sym (answers-given_on given)) ∙ sym (flat_map-append replies_in before (given_on given))) commits;
+      commits = subst (λ rs. Commits clock (all_passages_in (sent ++ handed ∷ [])) next rs) (ap (λ rs. answers_in before ++ rs) (sym (answers-given_on given)) ∙ sym (flat_map-append replies_in before (given_on given))) commits;
       joined = joined;
       unended = none_more is_last sent (handed ∷ []) is.unended (ap (λ found. found || false) (sym ends));
       unfinished = none_more is_final before (given_on given) is.unfinished (none_final given (final ∙ sym ends));

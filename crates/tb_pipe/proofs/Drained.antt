@@ -10,7 +10,7 @@ use Rattle.tb_layout.specs.Account.{account_of}
 use Rattle.tb_layout.specs.Bytes.{little_endian}
 use Rattle.tb_layout.specs.Transfer.{transfer_of}
 use Rattle.tb_layout.specs.Events.{Accounts, Transfers, Ids, accounts_of, transfers_of, ids_of, rows, count_of}
-use Rattle.tb_work.specs.Admission.{admitted, admitted_of_size}
+use Rattle.tb_work.specs.Admission.{admission_of, admission_of_size}
 use Rattle.tb_work.specs.Job.{events_in}
 use Rattle.tb_work.specs.Queue.{ahead, ahead_of, items_in}
 use Rattle.tb_work.specs.Reply.{Replied}
@@ -24,7 +24,7 @@ use Rattle.tb_core.specs.declared.parcel.Parcel.{Parcel}
 use Rattle.tb_core.specs.declared.parcel.Parcel.TheVariants as parcel
 use Rattle.tb_core.specs.declared.outcomes.Outcomes.{Outcomes}
 use Rattle.tb_core.specs.declared.outcomes.Outcomes.TheVariants as outcomes
-use Rattle.tb_core.specs.Front.{spelled, spelled_one}
+use Rattle.tb_core.specs.Front.{all_passages_in, passages_in}
 use Rattle.tb_core.specs.Grouping.{AreJoined, AreJoinedParcels, IsJoinedParcel, IsGrouping, IsWithin as IsWorkWithin, AreWithin as AreWorksWithin}
 use Rattle.tb_core.specs.Ledger.{LedgerState, works}
 use Rattle.tb_core.specs.Run.{Commits, Ran, replies_in}
@@ -43,16 +43,16 @@ pub drained : (clock limit submitters : ℕ) (queue : List Ticket) (given_parcel
     HasRun clock limit queue ledger (answers_in taken_outcomes)
 drained clock limit submitters queue given_parcels taken_parcels left_parcels ledger given_outcomes taken_outcomes left_outcomes batched committed parcels_are outcomes_are final =
     let all_parcels : taken_parcels ≡ batched.before ++ parcel.Last ∷ [] = all_taken is_last batched.before parcel.Last taken_parcels left_parcels batched.unended (parcels_are ∙ batched.parts) committed.ended in
-    let spelling : spelled taken_parcels ≡ spelled batched.before = ap spelled all_parcels ∙ flat_map-append spelled_one batched.before (parcel.Last ∷ []) ∙ append-nil (spelled batched.before) in
+    let spelling : all_passages_in taken_parcels ≡ all_passages_in batched.before = ap all_passages_in all_parcels ∙ flat_map-append passages_in batched.before (parcel.Last ∷ []) ∙ append-nil (all_passages_in batched.before) in
     let all_outcomes : taken_outcomes ≡ committed.before ++ outcomes.Last ∷ [] = all_taken is_final committed.before outcomes.Last taken_outcomes left_outcomes committed.unfinished (outcomes_are ∙ committed.parts) final in
     let answers : answers_in taken_outcomes ≡ answers_in committed.before = ap answers_in all_outcomes ∙ flat_map-append replies_in committed.before (outcomes.Last ∷ []) ∙ append-nil (answers_in committed.before) in
     record {
       ran = record {
         closed = batched.closed;
         stopped = batched.stopped;
-        passages = spelled batched.before;
+        passages = all_passages_in batched.before;
         passed = batched.passes;
-        commits = subst (λ rs. Commits clock (spelled batched.before) ledger rs) (sym answers) (subst (λ ps. Commits clock ps ledger (answers_in committed.before)) spelling committed.commits);
+        commits = subst (λ rs. Commits clock (all_passages_in batched.before) ledger rs) (sym answers) (subst (λ ps. Commits clock ps ledger (answers_in committed.before)) spelling committed.commits);
       };
       joined = committed.joined limit (subst (AreJoinedParcels limit) (sym all_parcels) (all_more (IsJoinedParcel limit) batched.before (parcel.Last ∷ []) batched.joined (tt, tt)));
     }
@@ -66,7 +66,7 @@ length-rows size (suc n) bytes = ap suc (length-rows size n (drop size bytes))
 abbrev result_of : Result ℕ Refusal → Result ℕ Refusal
 result_of result = result
 
-few : (limit : ℕ) (bytes : List ℕ) (size : ℕ) → IsOk (admitted_of_size limit bytes (Some size)) → length (rows size bytes) ≤ limit
+few : (limit : ℕ) (bytes : List ℕ) (size : ℕ) → IsOk (admission_of_size limit bytes (Some size)) → length (rows size bytes) ≤ limit
 few limit bytes size ok = by (not (length bytes % size == 0)) (nat_lt limit (length bytes / size)) refl ok
   where
     below : nat_lt limit (length bytes / size) ≡ false → length bytes / size ≤ limit
@@ -81,13 +81,13 @@ few limit bytes size ok = by (not (length bytes % size == 0)) (nat_lt limit (len
 few_mapped : {A : Type 0} (limit : ℕ) (f : List ℕ → A) (all : List (List ℕ)) → length all ≤ limit → length (map f all) ≤ limit
 few_mapped limit f all most = subst (λ n. n ≤ limit) (sym (length-map all f)) most
 
-few_events : (limit : ℕ) (packet : Packet) → IsOk (admitted limit packet) → count_of (events_in packet) ≤ limit
+few_events : (limit : ℕ) (packet : Packet) → IsOk (admission_of limit packet) → count_of (events_in packet) ≤ limit
 few_events limit packet ok = by (packet.operation == 129) (packet.operation == 130) (packet.operation == 131) ok
   where
     bytes : List ℕ
     bytes = packet.bytes
 
-    by : (accounts transfers lookup : Bool) → IsOk (admitted_of_size limit bytes (if accounts then Some 128 else if transfers then Some 128 else if lookup then Some 16 else None)) →
+    by : (accounts transfers lookup : Bool) → IsOk (admission_of_size limit bytes (if accounts then Some 128 else if transfers then Some 128 else if lookup then Some 16 else None)) →
         count_of (if accounts then Accounts (accounts_of bytes) else if transfers then Transfers (transfers_of bytes) else Ids (ids_of bytes)) ≤ limit
     by true transfers lookup ok = few_mapped limit account_of (rows 128 bytes) (few limit bytes 128 ok)
     by false true lookup ok = few_mapped limit transfer_of (rows 128 bytes) (few limit bytes 128 ok)

@@ -8,7 +8,7 @@ use Rattle.tb_core.specs.declared.parcel.Parcel.{Parcel}
 use Rattle.tb_core.specs.declared.parcel.Parcel.TheVariants as parcel
 use Rattle.tb_core.specs.declared.outcomes.Outcomes.{Outcomes}
 use Rattle.tb_core.specs.declared.outcomes.Outcomes.TheVariants as outcomes
-use Rattle.tb_core.specs.Front.{FrontState, spelled, held_by, KnowsEnds, HaveAllEnded}
+use Rattle.tb_core.specs.Front.{FrontState, all_passages_in, held_by, KnowsEnds, HaveAllEnded}
 use Rattle.tb_core.specs.Grouping.{AreJoined, AreJoinedParcels}
 use Rattle.tb_core.specs.Ledger.{LedgerState}
 use Rattle.tb_core.specs.Passage.{Passes}
@@ -47,7 +47,7 @@ given_on outcomes.Last = outcomes.Last ∷ []
 pub record IsBatched (limit submitters : ℕ) (queue : List Ticket) (front : FrontState) (given : List Parcel) : Type 0 where
   pub under : front.limit ≡ limit
   pub among : front.submitters ≡ submitters
-  pub passes : Passes (items_in queue) front.closed front.stopped (spelled given ++ held_by front)
+  pub passes : Passes (items_in queue) front.closed front.stopped (all_passages_in given ++ held_by front)
   pub joined : AreJoinedParcels limit given
   pub unended : has_last given ≡ false
   pub knows : KnowsEnds queue front
@@ -58,14 +58,14 @@ pub record AllBatched (limit submitters : ℕ) (queue : List Ticket) (given : Li
   pub stopped : Bool
   pub before : List Parcel
   pub parts : given ≡ before ++ parcel.Last ∷ []
-  pub passes : Passes (items_in queue) closed stopped (spelled before)
+  pub passes : Passes (items_in queue) closed stopped (all_passages_in before)
   pub joined : AreJoinedParcels limit before
   pub unended : has_last before ≡ false
   pub ended : HaveAllEnded submitters queue
 
 -- a ledger took these parcels, and these outcomes were given on
 pub record IsCommitted (clock : ℕ) (taken : List Parcel) (ledger : LedgerState) (given : List Outcomes) : Type 0 where
-  pub commits : Commits clock (spelled taken) ledger (answers_in given)
+  pub commits : Commits clock (all_passages_in taken) ledger (answers_in given)
   pub joined : (limit : ℕ) → AreJoinedParcels limit taken → AreJoined limit ledger.groups
   pub unended : has_last taken ≡ false
   pub unfinished : has_final given ≡ false
@@ -74,7 +74,7 @@ pub record IsCommitted (clock : ℕ) (taken : List Parcel) (ledger : LedgerState
 pub record AllCommitted (clock : ℕ) (taken : List Parcel) (ledger : LedgerState) (given : List Outcomes) : Type 0 where
   pub before : List Outcomes
   pub parts : given ≡ before ++ outcomes.Last ∷ []
-  pub commits : Commits clock (spelled taken) ledger (answers_in before)
+  pub commits : Commits clock (all_passages_in taken) ledger (answers_in before)
   pub joined : (limit : ℕ) → AreJoinedParcels limit taken → AreJoined limit ledger.groups
   pub ended : has_last taken ≡ true
   pub unfinished : has_final before ≡ false

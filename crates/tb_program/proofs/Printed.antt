@@ -3,7 +3,7 @@ use Rattle.std.proofs.Common.{◌≡◌, ℕ, ◌+◌, List, [], ◌∷◌, ◌+
 use Rattle.std.specs.Prelude.{Result, Ok, Err, OnOk, IsOk, codes}
 use Rattle.std.specs.List.{flat_map}
 use Rattle.tb_machine.specs.Replay.{State, replay, balanced_accounts}
-use Rattle.tb_work.specs.Job.{numbered}
+use Rattle.tb_work.specs.Job.{numbered_packet}
 use Rattle.tb_work.specs.Queue.{ahead}
 use Rattle.tb_work.specs.Reply.{Replied, reply_with}
 use Rattle.tb_layout.specs.Work.{Work}
@@ -20,7 +20,7 @@ use Rattle.tb_program.specs.Output.{reply_line, pulse_line, refused_line, refuse
 use Rattle.tb_program.specs.Printing.{as_place, printed_from}
 
 pub admitted_is_queued : (items : List work.Item) (submission : Submission) (r : Result ℕ Refusal) → IsOk r →
-    packet_as items submission r ≡ Packet (numbered submission.submitter (number_in submission.submitter items) (packet_of submission))
+    packet_as items submission r ≡ Packet (numbered_packet submission.submitter (number_in submission.submitter items) (packet_of submission))
 admitted_is_queued items submission (Ok count) is = refl
 admitted_is_queued items submission (Err refusal) is = cc
 

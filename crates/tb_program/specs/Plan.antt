@@ -2,8 +2,8 @@
 -- refused.
 use Rattle.std.specs.Prelude.{ℕ, ◌==◌, ◌^◌, nat_lt, Bool, false, List, [], ◌∷◌, ◌++◌, count_by, map, Result, Ok, Err, if◌then◌else◌}
 use Rattle.std.specs.List.{flat_map}
-use Rattle.tb_work.specs.Admission.{admitted}
-use Rattle.tb_work.specs.Job.{Numbered, numbered}
+use Rattle.tb_work.specs.Admission.{admission_of}
+use Rattle.tb_work.specs.Job.{Numbered, numbered_packet}
 use Rattle.tb_work.specs.declared.item.Item as work
 use Rattle.tb_work.specs.declared.item.Item.TheVariants as queue
 use Rattle.tb_work.specs.declared.packet.Packet as packets
@@ -48,7 +48,7 @@ packet_of submission = record { operation = submission.operation; bytes = submis
 
 -- a packet behind what is queued
 abbrev pub packet_as : List work.Item → Submission → Result ℕ Refusal → Planned
-packet_as items submission (Ok count) = Packet (numbered submission.submitter (number_in submission.submitter items) (packet_of submission))
+packet_as items submission (Ok count) = Packet (numbered_packet submission.submitter (number_in submission.submitter items) (packet_of submission))
 packet_as items submission (Err refusal) = RefusedPacket submission.submitter refusal
 
 -- a moment above 2^62 is refused
@@ -56,7 +56,7 @@ abbrev pub pulse_as : ℕ → Planned
 pulse_as moment = if nat_lt (2 ^ 62) moment then RefusedPulse else Pulse moment
 
 abbrev pub planned_as : ℕ → List work.Item → Item → Planned
-planned_as limit items (script.Packet submission) = packet_as items submission (admitted limit (packet_of submission))
+planned_as limit items (script.Packet submission) = packet_as items submission (admission_of limit (packet_of submission))
 planned_as limit items (script.Pulse moment) = pulse_as moment
 planned_as limit items script.Shut = Close
 

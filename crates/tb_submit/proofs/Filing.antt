@@ -2,8 +2,8 @@
 use Rattle.std.proofs.Common.{◌≡◌, ◌<◌, ℕ, ◌+◌, true, List, [], ◌∷◌, ◌++◌, length, refl, arith}
 use Rattle.std.specs.Prelude.{IsOk}
 use Rattle.std.specs.List.{AllByRecursion}
-use Rattle.tb_work.specs.Admission.{admitted}
-use Rattle.tb_work.specs.Job.{Numbered, numbered}
+use Rattle.tb_work.specs.Admission.{admission_of}
+use Rattle.tb_work.specs.Job.{Numbered, numbered_packet}
 use Rattle.tb_work.specs.Queue.{is_end, IsUnended, IsSubmitted, AreNumbered}
 use Rattle.tb_work.specs.declared.item.Item.{Item}
 use Rattle.tb_work.specs.declared.item.Item.TheVariants.{Packet, Pulse, End, Close}
@@ -12,7 +12,7 @@ use Rattle.tb_submit.specs.Lists.{IsWithin, IsPulseOfControl, ArePackets, ArePul
 -- ---- packets
 
 pub packets_more : (limit sender number : ℕ) (items : List Item) (job : Numbered) → ArePackets limit sender number items →
-    job.submitter ≡ sender → job.number ≡ number + length items → IsOk (admitted limit job.packet) → ArePackets limit sender number (items ++ Packet job ∷ [])
+    job.submitter ≡ sender → job.number ≡ number + length items → IsOk (admission_of limit job.packet) → ArePackets limit sender number (items ++ Packet job ∷ [])
 packets_more limit sender number [] job all own is within = (own, omega (arith, is), within, tt)
 packets_more limit sender number (Packet first ∷ items) job all own is within = (all.0, all.1, all.2, packets_more limit sender (number + 1) items job all.3 own (omega (arith, is)) within)
 packets_more limit sender number (Pulse moment ∷ items) job all own is within = absurd all
@@ -97,11 +97,11 @@ pulses_unended (Close ∷ items) all = absurd all
 
 filed : (limit submitters sender : ℕ) (items : List Item) (last : Item) → sender ≡ submitters → is_end last ≡ true → IsSubmitted submitters sender last → IsWithin limit last → IsPulseOfControl submitters sender last → AreNumbered sender 0 (last ∷ []) → ArePulses items →
     IsFiled limit submitters sender (items ++ last ∷ [])
-filed limit submitters sender items last control ends own within pulse numbered all = record {
+filed limit submitters sender items last control ends own within pulse numbered_packet all = record {
   submitted = pulses_all (IsSubmitted submitters sender) items last (λ moment. tt) own all;
   within = pulses_all (IsWithin limit) items last (λ moment. tt) within all;
   pulses = pulses_all (IsPulseOfControl submitters sender) items last (λ moment. control) pulse all;
-  numbered = pulses_numbered sender items last numbered all;
+  numbered = pulses_numbered sender items last numbered_packet all;
   ended = record { body = items; last = last; parts = refl; unended = pulses_unended items all; ends = ends };
 }
 

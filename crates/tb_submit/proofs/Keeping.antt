@@ -15,7 +15,7 @@ use Rattle.tb_work.specs.declared.item.Ticket.{Ticket}
 use Rattle.tb_submit.specs.declared.rule.Entry.{Entry}
 use Rattle.tb_submit.specs.declared.rule.Mark.{Mark}
 use Rattle.tb_submit.specs.declared.rule.View.{View}
-use Rattle.tb_submit.specs.Rule.{sender, intake, opening, spent, next_of, counted, newcomer, gathered, with_pushed, with_taken, Stands, FitsEntry, FitsMark, Fits, InView, Kept, IsWhole, Tells}
+use Rattle.tb_submit.specs.Rule.{sender, intake, opening, empty_view, next_of, view_counting_on, newcomer, both_views, with_pushed, with_taken, Stands, FitsEntry, FitsMark, Fits, InView, Kept, IsWhole, Tells}
 
 -- a new value at a place that is taken
 put_here : {A : Type 0} (l : List A) (i : ℕ) (a b : A) → get_elem? l i ≡ some a → get_elem? (set l i b) i ≡ some b
@@ -190,7 +190,7 @@ passed_else pass_of n pass s e = ap (λ (b : Bool). cond b pass (pass_of s)) (ne
 in_longer : (views : List View) (r : View) (p s : ℕ) → InView views p s → InView (views ++ r ∷ []) p s
 in_longer views r p s h = (h.0, at_longer views (r ∷ []) p h.0 h.1, h.2)
 
-forks_here : (pass : ℕ) (es : List Entry) (got : List Ticket) (n : ℕ) → Forks Kept pass (intake es got n) (counted (intake es got n)) (newcomer (intake es got n))
+forks_here : (pass : ℕ) (es : List Entry) (got : List Ticket) (n : ℕ) → Forks Kept pass (intake es got n) (view_counting_on (intake es got n)) (newcomer (intake es got n))
 forks_here pass es got n items views h at =
     let l : View = intake es got (n + 1) in
     let r : View = sender n [] in
@@ -224,13 +224,13 @@ forks_here pass es got n items views h at =
       strangers = λ s above. h.strangers s (omega arith);
     }
 
-pub forks : (pass : ℕ) (v : View) (es : List Entry) (got : List Ticket) (n : ℕ) → v ≡ intake es got n → Forks Kept pass v (counted v) (newcomer v)
-forks pass v es got n is = subst (λ (u : View). Forks Kept pass u (counted u) (newcomer u)) (sym is) (forks_here pass es got n)
+pub forks : (pass : ℕ) (v : View) (es : List Entry) (got : List Ticket) (n : ℕ) → v ≡ intake es got n → Forks Kept pass v (view_counting_on v) (newcomer v)
+forks pass v es got n is = subst (λ (u : View). Forks Kept pass u (view_counting_on u) (newcomer u)) (sym is) (forks_here pass es got n)
 
 -- any two passes may be joined: the numbers of the second one stand in the first from then on
-pub merges : (pass : ℕ) (v : View) (other : ℕ) (u : View) → Merges Kept pass v other u (gathered v u) spent
+pub merges : (pass : ℕ) (v : View) (other : ℕ) (u : View) → Merges Kept pass v other u (both_views v u) empty_view
 merges pass v other u items views h at two at' =
-    let both : View = gathered v u in
+    let both : View = both_views v u in
     let vs : List View = set views pass both in
     let all : List Ticket = h.taken ++ items in
     let was : get_elem? views other ≡ some u = ⊎_elim (λ x. absurd (two x.0)) (λ x. x.1) (at_set views pass other both u at') in
@@ -252,23 +252,23 @@ merges pass v other u items views h at two at' =
     ))
     (λ j y _ e no. (each_map (FitsEntry h.pass_of h.count all j) (FitsEntry pass_of h.count all j) y.entries (λ x. apart j x no) (h.fits j y e).0, (h.fits j y e).1)) in
     let two' : pass ≢ other = λ e. two (sym e) in
-    let here : get_elem? (set vs other spent) pass ≡ some both = set_else vs other pass spent two' ∙ put_here views pass v both at in
+    let here : get_elem? (set vs other empty_view) pass ≡ some both = set_else vs other pass empty_view two' ∙ put_here views pass v both at in
     record {
       pass_of = pass_of;
       reader = h.reader;
       count = h.count;
       taken = h.taken;
-      fits = all_set (Fits pass_of h.reader h.count h.taken items) vs other spent (tt, tt) (λ j y no e. now j y e no);
+      fits = all_set (Fits pass_of h.reader h.count h.taken items) vs other empty_view (tt, tt) (λ j y no e. now j y e no);
       stands = λ s below. let c = h.stands s below in ⊎_elim
-          (λ (is : h.pass_of s ≡ other). subst (λ (p : ℕ). InView (set vs other spent) p s) (sym (moved s is)) (
+          (λ (is : h.pass_of s ≡ other). subst (λ (p : ℕ). InView (set vs other empty_view) p s) (sym (moved s is)) (
             both,
             here,
             stands_right s v.entries u.entries
                 (subst (λ (y : View). Stands s y.entries) (some-injective c.0 u (sym c.1 ∙ ap (get_elem? views) is ∙ was)) c.2),
           ))
-          (λ (no : h.pass_of s ≢ other). subst (λ (p : ℕ). InView (set vs other spent) p s) (sym (stays s no))
+          (λ (no : h.pass_of s ≢ other). subst (λ (p : ℕ). InView (set vs other empty_view) p s) (sym (stays s no))
           (let d = in_set views pass v both at (λ t x. stands_left t v.entries u.entries x) (h.pass_of s) s c in
-          (d.0, set_else vs other (h.pass_of s) spent no ∙ d.1, d.2)))
+          (d.0, set_else vs other (h.pass_of s) empty_view no ∙ d.1, d.2)))
           (cases_eq (h.pass_of s) other);
       strangers = h.strangers;
     }

@@ -2,7 +2,7 @@
 use Rattle.std.proofs.Common.{◌≡◌, ◌≢◌, ◌<◌, ◌≤◌, ℕ, ◌+◌, ◌-◌, min, Bool, true, false, true≢false, List, [], ◌∷◌, ◌++◌, length, length-append, sym, refl, ap, ◌∙◌, arith, Some, None, Option, ◌==◌, is_some}
 use Rattle.std.specs.Prelude.{IsOk, if◌then◌else◌}
 use Rattle.std.proofs.lemmas.Bool.{eqb-false}
-use Rattle.tb_work.specs.Admission.{admitted}
+use Rattle.tb_work.specs.Admission.{admission_of}
 use Rattle.tb_work.specs.Job.{Numbered}
 use Rattle.tb_work.specs.Reply.{Replied}
 use Rattle.tb_work.specs.declared.item.Item.{Item}
@@ -30,13 +30,13 @@ apart false none = refl
 pub credit_left : (s : SubmitterState) (packet : PacketValue) → submit_refusal s packet ≡ None → in_flight s ≤ s.credit → in_flight s < s.credit
 credit_left s packet none most =
     let told = told_in s.read in
-    let refused = refusal_in (admitted s.origin.seat.limit packet) in
+    let refused = refusal_in (admission_of s.origin.seat.limit packet) in
     let full = if in_flight s == s.credit then Some InFlight else None in
     let other : in_flight s ≢ s.credit = eqb-false (in_flight s) s.credit (apart (in_flight s == s.credit) (or_none refused full (or_none told (or_else refused full) none))) in
     omega (arith, most, other)
 
 pub counts_packet : (seat : Seat) (queued : List Item) (count credit seen : ℕ) (first : Option Refusal) (read : List Replied) (job : Numbered) → IsSubmitter seat queued count credit seen first read →
-    job.submitter ≡ seat.number → job.number ≡ count → IsOk (admitted seat.limit job.packet) → length queued - length read < credit → IsSubmitter seat (queued ++ Packet job ∷ []) (count + 1) credit seen first read
+    job.submitter ≡ seat.number → job.number ≡ count → IsOk (admission_of seat.limit job.packet) → length queued - length read < credit → IsSubmitter seat (queued ++ Packet job ∷ []) (count + 1) credit seen first read
 counts_packet seat queued count credit seen first read job is own number within left = record {
   among = is.among;
   limited = is.limited;

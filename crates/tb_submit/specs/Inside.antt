@@ -14,8 +14,8 @@ use Rattle.tb_submit.specs.Lists.{ArePackets, IsFiled}
 use Rattle.tb_submit.specs.Refusals.{told_in}
 use Rattle.tb_submit.specs.Rule.{entry, sender}
 
-abbrev pub known : Pass Ticket View → View
-known pass = view pass
+abbrev pub view_of : Pass Ticket View → View
+view_of pass = view pass
 
 abbrev pub first_pushed : List Entry → List Item
 first_pushed [] = []
@@ -36,21 +36,21 @@ pub record ReaderState : Type 0 where
   pub taken : List Ticket
   pub count : ℕ
 
-abbrev pub seated : Option TableId → ℕ → ℕ → ℕ → Seat
-seated queue submitters limit number = record { queue = queue; submitters = submitters; limit = limit; number = number }
+abbrev pub seat_with : Option TableId → ℕ → ℕ → ℕ → Seat
+seat_with queue submitters limit number = record { queue = queue; submitters = submitters; limit = limit; number = number }
 
-abbrev pub pushing : Pass Ticket View → ℕ → ℕ → ℕ → SenderState
-pushing pass submitters limit number = record { seat = seated (Some pass.table_id) submitters limit number; queued = first_pushed (known pass).entries }
+abbrev pub state_while_open : Pass Ticket View → ℕ → ℕ → ℕ → SenderState
+state_while_open pass submitters limit number = record { seat = seat_with (Some pass.table_id) submitters limit number; queued = first_pushed (view_of pass).entries }
 
 -- a sender that has ended, whose pass may be gone
-abbrev pub left : Option (Pass Ticket View) → ℕ → ℕ → ℕ → SenderState
-left None submitters limit number = record { seat = seated None submitters limit number; queued = [] }
-left (Some pass) submitters limit number = pushing pass submitters limit number
+abbrev pub state_once_ended : Option (Pass Ticket View) → ℕ → ℕ → ℕ → SenderState
+state_once_ended None submitters limit number = record { seat = seat_with None submitters limit number; queued = [] }
+state_once_ended (Some pass) submitters limit number = state_while_open pass submitters limit number
 
 abbrev pub IsLeft : Option (Pass Ticket View) → ℕ → ℕ → ℕ → Type 0
 IsLeft None submitters limit number = ⊤
 IsLeft (Some pass) submitters limit number =
-    (pass.me.1 ≡ []) × (known pass ≡ sender number (first_pushed (known pass).entries)) × IsFiled limit submitters number (first_pushed (known pass).entries)
+    (pass.me.1 ≡ []) × (view_of pass ≡ sender number (first_pushed (view_of pass).entries)) × IsFiled limit submitters number (first_pushed (view_of pass).entries)
 
 -- a submitter's counts: of what it queued, and of the replies read, as far as 64 bits go
 pub record IsSubmitter (seat : Seat) (queued : List Item) (count credit seen : ℕ) (first : Option Refusal) (read : List Replied) : Type 0 where

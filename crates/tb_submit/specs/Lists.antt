@@ -1,7 +1,7 @@
 -- What a sender queues.
 use Rattle.std.specs.Prelude.{◌≡◌, ℕ, ◌+◌, List, [], ◌∷◌, IsOk}
 use Rattle.std.specs.List.{AllByRecursion}
-use Rattle.tb_work.specs.Admission.{admitted}
+use Rattle.tb_work.specs.Admission.{admission_of}
 use Rattle.tb_work.specs.Queue.{IsSubmitted, AreNumbered, IsEnded}
 use Rattle.tb_work.specs.declared.item.Item.{Item}
 use Rattle.tb_work.specs.declared.item.Item.TheVariants.{Packet, Pulse, End, Close}
@@ -9,7 +9,7 @@ use Rattle.tb_work.specs.declared.item.Ticket.{Ticket}
 
 -- a packet was admitted, and so has at most so many events
 abbrev pub IsWithin : ℕ → Item → Type 0
-IsWithin limit (Packet job) = IsOk (admitted limit job.packet)
+IsWithin limit (Packet job) = IsOk (admission_of limit job.packet)
 IsWithin limit (Pulse moment) = Unit {0}
 IsWithin limit End = Unit {0}
 IsWithin limit Close = Unit {0}
@@ -30,7 +30,7 @@ ArePulsesOfControl submitters queue = AllByRecursion (λ (ticket : Ticket). IsPu
 -- packets alone, a submitter's own, numbered from a number on, each admitted under the limit
 abbrev pub ArePackets : ℕ → ℕ → ℕ → List Item → Type 0
 ArePackets limit sender number [] = Unit {0}
-ArePackets limit sender number (Packet job ∷ items) = (job.submitter ≡ sender) × (job.number ≡ number) × IsOk (admitted limit job.packet) × ArePackets limit sender (number + 1) items
+ArePackets limit sender number (Packet job ∷ items) = (job.submitter ≡ sender) × (job.number ≡ number) × IsOk (admission_of limit job.packet) × ArePackets limit sender (number + 1) items
 ArePackets limit sender number (Pulse moment ∷ items) = ⊥
 ArePackets limit sender number (End ∷ items) = ⊥
 ArePackets limit sender number (Close ∷ items) = ⊥

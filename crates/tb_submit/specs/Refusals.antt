@@ -1,7 +1,7 @@
 -- Why a call is refused.
 use Rattle.std.specs.Prelude.{◌≡◌, ℕ, ◌-◌, ◌==◌, ◌||◌, if◌then◌else◌, nat_lt, List, [], ◌∷◌, length, Option, Some, None, Result, Ok, Err}
 use Rattle.tb_core.specs.Front.{opening_refusal}
-use Rattle.tb_work.specs.Admission.{admitted}
+use Rattle.tb_work.specs.Admission.{admission_of}
 use Rattle.tb_work.specs.Reply.{Replied}
 use Rattle.tb_work.specs.declared.outcome.Outcome.{Outcome}
 use Rattle.tb_work.specs.declared.outcome.Outcome.TheVariants as outcome
@@ -53,4 +53,4 @@ in_flight submitter = length submitter.queued - length submitter.read
 abbrev pub submit_refusal : SubmitterState → Packet → Option Refusal
 submit_refusal submitter packet =
     or_else (told_in submitter.read)
-    (or_else (refusal_in (admitted submitter.origin.seat.limit packet)) (if in_flight submitter == submitter.credit then Some InFlight else None))
+    (or_else (refusal_in (admission_of submitter.origin.seat.limit packet)) (if in_flight submitter == submitter.credit then Some InFlight else None))

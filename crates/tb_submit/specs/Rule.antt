@@ -15,23 +15,23 @@ use Rattle.tb_submit.specs.declared.rule.View.{View}
 abbrev pub entry : ℕ → List Item → Entry
 entry number pushed = record { number = number; pushed = pushed }
 
-abbrev pub viewing : List Entry → Option Mark → View
-viewing entries mark = record { entries = entries; mark = mark }
+abbrev pub view_with : List Entry → Option Mark → View
+view_with entries mark = record { entries = entries; mark = mark }
 
 -- a sender's pass: one number, and what was pushed under it
 abbrev pub sender : ℕ → List Item → View
-sender number pushed = viewing (entry number pushed ∷ []) None
+sender number pushed = view_with (entry number pushed ∷ []) None
 
 -- the intake's pass: what was taken, and how many numbers were given out
 abbrev pub intake : List Entry → List Ticket → ℕ → View
-intake entries taken count = viewing entries (Some (record { taken = taken; count = count }))
+intake entries taken count = view_with entries (Some (record { taken = taken; count = count }))
 
 abbrev pub opening : View
 opening = intake [] [] 0
 
 -- a pass that was joined to another
-abbrev pub spent : View
-spent = viewing [] None
+abbrev pub empty_view : View
+empty_view = view_with [] None
 
 -- ---- what a step makes of them
 
@@ -39,32 +39,32 @@ abbrev pub next_of : Option Mark → ℕ
 next_of None = 0
 next_of (Some mark) = mark.count
 
-abbrev pub raised : Option Mark → Option Mark
-raised None = None
-raised (Some mark) = Some (record { taken = mark.taken; count = mark.count + 1 })
+abbrev pub one_number_more : Option Mark → Option Mark
+one_number_more None = None
+one_number_more (Some mark) = Some (record { taken = mark.taken; count = mark.count + 1 })
 
-abbrev pub counted : View → View
-counted view = viewing view.entries (raised view.mark)
+abbrev pub view_counting_on : View → View
+view_counting_on view = view_with view.entries (one_number_more view.mark)
 
 abbrev pub newcomer : View → View
 newcomer view = sender (next_of view.mark) []
 
-abbrev pub gathered : View → View → View
-gathered view other = viewing (view.entries ++ other.entries) view.mark
+abbrev pub both_views : View → View → View
+both_views view other = view_with (view.entries ++ other.entries) view.mark
 
-abbrev pub pushed_first : Item → List Entry → List Entry
-pushed_first item [] = []
-pushed_first item (e ∷ entries) = entry e.number (e.pushed ++ item ∷ []) ∷ entries
+abbrev pub first_entry_with : Item → List Entry → List Entry
+first_entry_with item [] = []
+first_entry_with item (e ∷ entries) = entry e.number (e.pushed ++ item ∷ []) ∷ entries
 
 abbrev pub with_pushed : View → Ticket → View
-with_pushed view ticket = viewing (pushed_first ticket.item view.entries) view.mark
+with_pushed view ticket = view_with (first_entry_with ticket.item view.entries) view.mark
 
 abbrev pub taken_more : Ticket → Option Mark → Option Mark
 taken_more ticket None = None
 taken_more ticket (Some mark) = Some (record { taken = mark.taken ++ ticket ∷ []; count = mark.count })
 
 abbrev pub with_taken : View → Ticket → View
-with_taken view ticket = viewing view.entries (taken_more ticket view.mark)
+with_taken view ticket = view_with view.entries (taken_more ticket view.mark)
 
 -- ---- the rule
 

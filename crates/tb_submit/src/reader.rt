@@ -2,7 +2,7 @@
 
 ghost use Rattle.std.specs.Prelude.{◌≡◌, ◌+◌, ◌<◌, [], ◌∷◌, ◌++◌, List, Some, OnOk, IfOk, IfSome, IfNone};
 ghost use Rattle.tb_work.specs.declared.item.Ticket.{Ticket};
-ghost use Rattle.tb_submit.specs.Inside.{seated};
+ghost use Rattle.tb_submit.specs.Inside.{seat_with};
 ghost use Rattle.tb_submit.specs.Lists.{IsFiled};
 ghost use Rattle.tb_submit.specs.Rule.{entry, IsWhole};
 
@@ -24,14 +24,14 @@ impl Model for Reader {
     ghost use Rattle.std.specs.Prelude.{◌≡◌};
     ghost use Rattle.std.specs.Arc.{arc_value};
     ghost use Rattle.crossbeam_queue.specs.Passes.{IsPassOf};
-    ghost use Rattle.tb_submit.specs.Inside.{ReaderState, taken_of, count_of, known};
+    ghost use Rattle.tb_submit.specs.Inside.{ReaderState, taken_of, count_of, view_of};
     ghost use Rattle.tb_submit.specs.Rule.{intake};
 
     ghost Value = { ReaderState };
 
-    ghost view = { λ s. record { queue = s.place.table_id; entries = (known s.place).entries; taken = taken_of (known s.place).mark; count = count_of (known s.place).mark } };
+    ghost view = { λ s. record { queue = s.place.table_id; entries = (view_of s.place).entries; taken = taken_of (view_of s.place).mark; count = count_of (view_of s.place).mark } };
 
-    ghost invariant = { λ s. IsPassOf (arc_value s.queue) s.place × (known s.place ≡ intake (known s.place).entries (taken_of (known s.place).mark) (count_of (known s.place).mark)) };
+    ghost invariant = { λ s. IsPassOf (arc_value s.queue) s.place × (view_of s.place ≡ intake (view_of s.place).entries (taken_of (view_of s.place).mark) (count_of (view_of s.place).mark)) };
 }
 
 impl Reader {
@@ -55,7 +55,7 @@ impl Reader {
         requires { number ≡ self.old.count }
         ensures same { (self.new.queue ≡ self.old.queue) × (self.new.entries ≡ self.old.entries) × (self.new.taken ≡ self.old.taken) }
         ensures count { OnOk result (self.new.count ≡ self.old.count + 1) }
-        ensures sender { IfOk result (λ sender. sender ≡ record { seat = seated (Some self.old.queue) submitters limit number; queued = [] }) }
+        ensures sender { IfOk result (λ sender. sender ≡ record { seat = seat_with (Some self.old.queue) submitters limit number; queued = [] }) }
     {
         let queue = Arc::try_clone(&self.queue)?;
         let place = self.queue.another::<Newcomer>(&mut self.place);

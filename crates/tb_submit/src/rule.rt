@@ -38,9 +38,9 @@ impl Protocol<Ticket, View> for PerSender {
 pub struct Newcomer;
 
 impl Split<View> for Newcomer {
-    ghost use Rattle.tb_submit.specs.Rule.{counted, newcomer};
+    ghost use Rattle.tb_submit.specs.Rule.{view_counting_on, newcomer};
 
-    ghost left = { counted };
+    ghost left = { view_counting_on };
 
     ghost right = { newcomer };
 }
@@ -49,11 +49,11 @@ impl Split<View> for Newcomer {
 pub struct Gathers;
 
 impl Join<View> for Gathers {
-    ghost use Rattle.tb_submit.specs.Rule.{gathered, spent};
+    ghost use Rattle.tb_submit.specs.Rule.{both_views, empty_view};
 
-    ghost both = { gathered };
+    ghost both = { both_views };
 
-    ghost spent = { spent };
+    ghost spent = { empty_view };
 }
 
 pub struct Pushed;

@@ -25,14 +25,14 @@ impl Model for Sender {
     ghost use Rattle.std.specs.Arc.{arc_value};
     ghost use Rattle.crossbeam_queue.specs.Passes.{IsPassOf};
     ghost use Rattle.tb_submit.specs.Ends.{SenderState};
-    ghost use Rattle.tb_submit.specs.Inside.{first_pushed, known, pushing};
+    ghost use Rattle.tb_submit.specs.Inside.{first_pushed, view_of, state_while_open};
     ghost use Rattle.tb_submit.specs.Rule.{sender};
 
     ghost Value = { SenderState };
 
-    ghost view = { λ s. pushing s.place s.submitters s.limit s.number };
+    ghost view = { λ s. state_while_open s.place s.submitters s.limit s.number };
 
-    ghost invariant = { λ s. IsPassOf (arc_value s.queue) s.place × (known s.place ≡ sender s.number (first_pushed (known s.place).entries)) };
+    ghost invariant = { λ s. IsPassOf (arc_value s.queue) s.place × (view_of s.place ≡ sender s.number (first_pushed (view_of s.place).entries)) };
 }
 
 impl Sender {
@@ -107,11 +107,11 @@ pub(crate) struct EndedSender {
 
 impl Model for EndedSender {
     ghost use Rattle.tb_submit.specs.Ends.{SenderState};
-    ghost use Rattle.tb_submit.specs.Inside.{left, IsLeft};
+    ghost use Rattle.tb_submit.specs.Inside.{state_once_ended, IsLeft};
 
     ghost Value = { SenderState };
 
-    ghost view = { λ s. left s.place s.submitters s.limit s.number };
+    ghost view = { λ s. state_once_ended s.place s.submitters s.limit s.number };
 
     ghost invariant = { λ s. IsLeft s.place s.submitters s.limit s.number };
 }

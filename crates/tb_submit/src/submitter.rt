@@ -5,7 +5,7 @@ ghost use Rattle.tb_rings.specs.Ends.{inlet_ring, taken, lies};
 ghost use Rattle.tb_submit.specs.Ends.{ended_with, with_item, new_submitter};
 ghost use Rattle.tb_submit.specs.Refusals as spec;
 ghost use Rattle.tb_submit.specs.Refusals.{IsRefusal, in_flight, submit_refusal};
-ghost use Rattle.tb_work.specs.Job.{numbered};
+ghost use Rattle.tb_work.specs.Job.{numbered_packet};
 ghost use Rattle.tb_work.specs.declared.item.Item.TheVariants as item;
 ghost use Rattle.tb_work.specs.declared.refusal.Refusal.TheVariants as refusal;
 
@@ -120,7 +120,7 @@ impl Submitter {
         packet: Packet,
     ) -> Result<u64, (Packet, Refusal)>
         requires { length self.old.queued < 2 ^ 56 }
-        ensures ok { IfOk result (λ number. (number ≡ length self.old.queued) × (self.new ≡ with_item self.old (item.Packet (numbered self.old.origin.seat.number number packet)))) }
+        ensures ok { IfOk result (λ number. (number ≡ length self.old.queued) × (self.new ≡ with_item self.old (item.Packet (numbered_packet self.old.origin.seat.number number packet)))) }
         ensures admitted { OnOk result (submit_refusal self.old packet ≡ None) }
         ensures back { IfErr result (λ refused. (refused.0 ≡ packet) × (self.new ≡ self.old)) }
         ensures refusal { IfErr result (λ refused. IsRefusal (submit_refusal self.old packet) (λ other. (other ≡ refusal.NoMemory) ⊎ (other ≡ refusal.Full)) refused.1) }

@@ -16,10 +16,10 @@ use Rattle.tb_tables.specs.Status.{expire_due, is_posted, is_voided, is_resolved
 use Rattle.tb_tables.specs.Changes.{Lists, facts_of, transfers_in, expired_in, past_of, history_of}
 use Rattle.tb_tables.specs.Lawful.{IsLawful, AreLawful}
 use Rattle.tb_tables.specs.Expiries.{same_pair}
-use Rattle.tb_tables.specs.Expiring.{lapses, with_lapse, with_lapses}
+use Rattle.tb_tables.specs.Expiring.{expires_among, with_expiry, with_expiries}
 use Rattle.tb_tables.specs.Sums.{sums_of, with_amount, account_rows, AreAt, CanTake}
-use Rattle.tb_tables.specs.Kept.{Stored, made, lists_of, row_of, row_in, transfer_rows, has_expired, is_timed, expects_of, expects, IsGrounded, AreGrounded, AreUndoable, AreKept, IsKept}
-use Rattle.tb_tables.specs.Storing.{CanLapse, HasLapsed}
+use Rattle.tb_tables.specs.Kept.{Stored, account_made, lists_of, row_of, row_in, transfer_rows, has_expired, is_timed, expects_of, expects, IsGrounded, AreGrounded, AreUndoable, AreKept, IsKept}
+use Rattle.tb_tables.specs.Storing.{CanExpire, HasExpired}
 use Rattle.tb_tables.specs.declared.change.Change.{Change}
 use Rattle.tb_tables.specs.declared.places.Places.{Places}
 use Rattle.tb_tables.specs.declared.status.Status.TheVariants.{Pending, Posted, Voided, Expired}
@@ -28,11 +28,11 @@ use Rattle.tb_tables.proofs.Keeping.{made-rows, marked, rows-marked}
 use Rattle.tb_tables.proofs.Added.{rows-same}
 use Rattle.tb_tables.proofs.Forgetting.{all-there}
 use Rattle.tb_tables.proofs.Expiring.{facts_of-expired}
-use Rattle.tb_tables.proofs.Lapsing.{map-set, expired-set, transfers-set, sums-after, lawful-after, rows-after, expects-after}
+use Rattle.tb_tables.proofs.OneExpiry.{map-set, expired-set, transfers-set, sums-after, lawful-after, rows-after, expects-after}
 
 -- ---- one expires
 
-module _ (old : Stored) (place : ℕ) (can : CanLapse old place) where
+module _ (old : Stored) (place : ℕ) (can : CanExpire old place) where
   abbrev facts : Facts
   facts = facts_of (lists_of old)
 
@@ -77,14 +77,14 @@ module _ (old : Stored) (place : ℕ) (can : CanLapse old place) where
     are = is ∙ can.kept.accounts ∙ released;
   })
 
-  pub lapsed : (new : Stored) → new.failed ≡ old.failed → new.changes ≡ [] → new.accounts ≡ account_rows (sums_of after) (lists_of old).accounts →
+  pub after-expiry : (new : Stored) → new.failed ≡ old.failed → new.changes ≡ [] → new.accounts ≡ account_rows (sums_of after) (lists_of old).accounts →
       new.transfers ≡ set_value_at old.transfers place (record (row_in facts can.transfer) { status = Some Expired }) → IsDistinct nat_eq (keys_of old.transfers) →
-      ((m p : ℕ) → new.is_indexed m p ≡ (not (same_pair (expires_at can.transfer) place m p) && old.is_indexed m p)) → HasLapsed old new place can.transfer
-  lapsed new failed none accounts transfers apart indexed =
+      ((m p : ℕ) → new.is_indexed m p ≡ (not (same_pair (expires_at can.transfer) place m p) && old.is_indexed m p)) → HasExpired old new place can.transfer
+  after-expiry new failed none accounts transfers apart indexed =
       let more = λ (id : ℕ). expired-set id (lists_of old).rows place can.transfer (has_expired (status_in facts can.transfer)) mark-at in
       let stands : lists_of new ≡ lists-after =
       λ i. record {
-        accounts = (ap (map made) accounts ∙ made-rows (sums_of after) old.accounts) i;
+        accounts = (ap (map account_made) accounts ∙ made-rows (sums_of after) old.accounts) i;
         rows = (ap (map row_of) transfers ∙ map-set row_of old.transfers place can.transfer.id (row_in facts can.transfer) (record (row_in facts can.transfer) { status = Some Expired }) row-at) i;
         failed = failed i;
       } in
@@ -107,7 +107,7 @@ module _ (old : Stored) (place : ℕ) (can : CanLapse old place) where
 -- ---- the loop
 
 -- a transfer whose pair is in the index, and due
-pub due-one : (old : Stored) (kept : IsKept old) (none : old.changes ≡ []) (moment place : ℕ) → old.is_indexed moment place ≡ true → (can : CanLapse old place) × (expires_at can.transfer ≡ moment) × (is_timed can.transfer ≡ true)
+pub due-one : (old : Stored) (kept : IsKept old) (none : old.changes ≡ []) (moment place : ℕ) → old.is_indexed moment place ≡ true → (can : CanExpire old place) × (expires_at can.transfer ≡ moment) × (is_timed can.transfer ≡ true)
 due-one old kept none moment place is =
     by (slice_get (facts_of (lists_of old)).transfers place) refl (sym (kept.indexed moment place ∙ ap (λ cs. expects (facts_of (lists_of old)) cs moment place) none) ∙ is)
   where
@@ -117,27 +117,27 @@ due-one old kept none moment place is =
     each true false r h = cc
     each false e r h = cc
 
-    by : (o : Option Transfer) → slice_get (facts_of (lists_of old)).transfers place ≡ o → expects_of (facts_of (lists_of old)) [] moment place o ≡ true → (can : CanLapse old place) × (expires_at can.transfer ≡ moment) × (is_timed can.transfer ≡ true)
+    by : (o : Option Transfer) → slice_get (facts_of (lists_of old)).transfers place ≡ o → expects_of (facts_of (lists_of old)) [] moment place o ≡ true → (can : CanExpire old place) × (expires_at can.transfer ≡ moment) × (is_timed can.transfer ≡ true)
     by None at h = absurd (true≢false (sym h))
     by (Some t) at h =
         let all = each (is_timed t) (expires_at t == moment) (is_reserving (facts_of (lists_of old)) t) h in
         (record { kept = kept; none = none; transfer = t; at = at; reserves = all.2 }, eqb-true (expires_at t) moment all.1, all.0)
 
 -- marking it changes nothing in what is left to mark
-lapse-first : (clock : ℕ) (ts : List Transfer) (t : Transfer) (b : Bool) → lapses clock ts t ≡ true → with_lapse clock ts (t, true) ≡ with_lapse clock ts (t, b)
-lapse-first clock ts t b is = ap (λ c. (t, c)) (sym (ap (λ c. b || c) is ∙ or_true b))
+expiry-first : (clock : ℕ) (ts : List Transfer) (t : Transfer) (b : Bool) → expires_among clock ts t ≡ true → with_expiry clock ts (t, true) ≡ with_expiry clock ts (t, b)
+expiry-first clock ts t b is = ap (λ c. (t, c)) (sym (ap (λ c. b || c) is ∙ or_true b))
   where
     or_true : (c : Bool) → (c || true) ≡ true
     or_true true = refl
     or_true false = refl
 
-pub lapses-same : (clock : ℕ) (ts : List Transfer) (rows : List (Transfer × Bool)) (place : ℕ) (t : Transfer) (b : Bool) → slice_get rows place ≡ Some (t, b) → lapses clock ts t ≡ true →
-    with_lapses clock ts (set rows place (t, true)) ≡ with_lapses clock ts rows
-lapses-same clock ts [] place t b at is = refl
-lapses-same clock ts (row ∷ rows) zero t b at is =
+pub expiries-same : (clock : ℕ) (ts : List Transfer) (rows : List (Transfer × Bool)) (place : ℕ) (t : Transfer) (b : Bool) → slice_get rows place ≡ Some (t, b) → expires_among clock ts t ≡ true →
+    with_expiries clock ts (set rows place (t, true)) ≡ with_expiries clock ts rows
+expiries-same clock ts [] place t b at is = refl
+expiries-same clock ts (row ∷ rows) zero t b at is =
     let first : row ≡ (t, b) = cc in
-    ap (λ r. r ∷ with_lapses clock ts rows) (lapse-first clock ts t b is ∙ ap (with_lapse clock ts) (sym first))
-lapses-same clock ts (row ∷ rows) (suc place) t b at is = ap (λ rs. with_lapse clock ts row ∷ rs) (lapses-same clock ts rows place t b at is)
+    ap (λ r. r ∷ with_expiries clock ts rows) (expiry-first clock ts t b is ∙ ap (with_expiry clock ts) (sym first))
+expiries-same clock ts (row ∷ rows) (suc place) t b at is = ap (λ rs. with_expiry clock ts row ∷ rs) (expiries-same clock ts rows place t b at is)
 
 is-due : (clock : ℕ) (t : Transfer) → is_timed t ≡ true → expires_at t ≤ clock → is_due clock t ≡ true
 is-due clock t timed within = by (is_pending t) (t.timeout == 0) timed
@@ -150,8 +150,8 @@ is-due clock t timed within = by (is_pending t) (t.timeout == 0) timed
     by true true h = cc
     by false z h = cc
 
-pub due-lapses : (facts : Facts) (clock : ℕ) (t : Transfer) → is_timed t ≡ true → expires_at t ≤ clock → is_reserving facts t ≡ true → lapses clock facts.transfers t ≡ true
-due-lapses facts clock t timed within reserves = by (is_pending t) (is_resolved facts t.id) (is_expired facts t.id) reserves (is-due clock t timed within)
+pub due-expires : (facts : Facts) (clock : ℕ) (t : Transfer) → is_timed t ≡ true → expires_at t ≤ clock → is_reserving facts t ≡ true → expires_among clock facts.transfers t ≡ true
+due-expires facts clock t timed within reserves = by (is_pending t) (is_resolved facts t.id) (is_expired facts t.id) reserves (is-due clock t timed within)
   where
     by : (p r e : Bool) → (p && not r && not e) ≡ true → is_due clock t ≡ true → (p && not r && is_due clock t) ≡ true
     by true false e h d = d
@@ -159,19 +159,19 @@ due-lapses facts clock t timed within reserves = by (is_pending t) (is_resolved 
     by false r e h d = cc
 
 -- where no pair is due, all is marked
-none-left : (facts : Facts) (clock : ℕ) (xs : List Transfer) → ((p : ℕ) (t : Transfer) → slice_get xs p ≡ Some t → lapses clock facts.transfers t ≡ true → has_expired (status_in facts t) ≡ true) →
-    with_lapses clock facts.transfers (map (marked facts) xs) ≡ map (marked facts) xs
+none-left : (facts : Facts) (clock : ℕ) (xs : List Transfer) → ((p : ℕ) (t : Transfer) → slice_get xs p ≡ Some t → expires_among clock facts.transfers t ≡ true → has_expired (status_in facts t) ≡ true) →
+    with_expiries clock facts.transfers (map (marked facts) xs) ≡ map (marked facts) xs
 none-left facts clock [] all = refl
 none-left facts clock (x ∷ xs) all =
-    cc (by (has_expired (status_in facts x)) (lapses clock facts.transfers x) (all 0 x refl), none-left facts clock xs (λ p. all (suc p)))
+    cc (by (has_expired (status_in facts x)) (expires_among clock facts.transfers x) (all 0 x refl), none-left facts clock xs (λ p. all (suc p)))
   where
     by : (b c : Bool) → (c ≡ true → b ≡ true) → ◌≡◌ {A = Transfer × Bool} (x, b || c) (x, b)
     by true c h = refl
     by false false h = refl
     by false true h = let no : false ≡ true = h refl in cc
 
--- one that lapses and isn't marked reserves its amount
-unmarked-reserves : (facts : Facts) (clock : ℕ) (t : Transfer) → lapses clock facts.transfers t ≡ true → has_expired (status_in facts t) ≡ false → is_reserving facts t ≡ true
+-- one that expires and isn't marked reserves its amount
+unmarked-reserves : (facts : Facts) (clock : ℕ) (t : Transfer) → expires_among clock facts.transfers t ≡ true → has_expired (status_in facts t) ≡ false → is_reserving facts t ≡ true
 unmarked-reserves facts clock t is unmarked = by (is_pending t) (is_resolved facts t.id) (is_posted facts t.id) (is_voided facts t.id) (is_expired facts t.id) is (resolved_either t.id facts.transfers) unmarked
   where
     by : (p r a b e : Bool) → (p && not r && is_due clock t) ≡ true → r ≡ (a || b) → has_expired (if p then Some (if a then Posted else if b then Voided else if e then Expired else Pending) else None) ≡ false → (p && not r && not e) ≡ true
@@ -182,8 +182,8 @@ unmarked-reserves facts clock t is unmarked = by (is_pending t) (is_resolved fac
     by true false false false true h k l = cc
     by true false false false false h k l = refl
 
-timed-lapses : (facts : Facts) (clock : ℕ) (t : Transfer) → lapses clock facts.transfers t ≡ true → (is_timed t ≡ true) × (expires_at t ≤ clock)
-timed-lapses facts clock t is = by (is_pending t) (is_resolved facts t.id) (t.timeout == 0) (nat_le (expires_at t) clock) refl is
+timed-expires : (facts : Facts) (clock : ℕ) (t : Transfer) → expires_among clock facts.transfers t ≡ true → (is_timed t ≡ true) × (expires_at t ≤ clock)
+timed-expires facts clock t is = by (is_pending t) (is_resolved facts t.id) (t.timeout == 0) (nat_le (expires_at t) clock) refl is
   where
     by : (p r z l : Bool) → nat_le (expires_at t) clock ≡ l → (p && not r && (not z && l)) ≡ true → ((p && not z) ≡ true) × (expires_at t ≤ clock)
     by true false false true e h = (refl, grind (arith, nat_tests, e))
@@ -193,13 +193,13 @@ timed-lapses facts clock t is = by (is_pending t) (is_resolved facts t.id) (t.ti
     by false r z l e h = cc
 
 pub all-marked : (old : Stored) (kept : IsKept old) (none : old.changes ≡ []) (clock : ℕ) → ((m p : ℕ) → old.is_indexed m p ≡ true → clock < m) →
-    with_lapses clock (transfers_in (lists_of old).rows) (lists_of old).rows ≡ (lists_of old).rows
+    with_expiries clock (transfers_in (lists_of old).rows) (lists_of old).rows ≡ (lists_of old).rows
 all-marked old kept none clock later =
     let facts = facts_of (lists_of old) in
     let rows : (lists_of old).rows ≡ map (marked facts) facts.transfers = ap (map row_of) kept.transfers ∙ rows-marked facts facts.transfers in
-    ap (with_lapses clock facts.transfers) rows ∙ none-left facts clock facts.transfers each ∙ sym rows
+    ap (with_expiries clock facts.transfers) rows ∙ none-left facts clock facts.transfers each ∙ sym rows
   where
-    each : (p : ℕ) (t : Transfer) → slice_get (facts_of (lists_of old)).transfers p ≡ Some t → lapses clock (facts_of (lists_of old)).transfers t ≡ true → has_expired (status_in (facts_of (lists_of old)) t) ≡ true
+    each : (p : ℕ) (t : Transfer) → slice_get (facts_of (lists_of old)).transfers p ≡ Some t → expires_among clock (facts_of (lists_of old)).transfers t ≡ true → has_expired (status_in (facts_of (lists_of old)) t) ≡ true
     each p t at is = by (has_expired (status_in (facts_of (lists_of old)) t)) refl
       where
         by : (b : Bool) → has_expired (status_in (facts_of (lists_of old)) t) ≡ b → b ≡ true
@@ -207,7 +207,7 @@ all-marked old kept none clock later =
         by false e =
             let facts = facts_of (lists_of old) in
             let reserves = unmarked-reserves facts clock t is e in
-            let timed = timed-lapses facts clock t is in
+            let timed = timed-expires facts clock t is in
             let there : expects_of facts [] (expires_at t) p (Some t) ≡ true =
             cc (timed.0, eqb-refl (expires_at t), reserves) in
             let indexed = kept.indexed (expires_at t) p ∙ ap (λ cs. expects facts cs (expires_at t) p) none ∙ ap (expects_of facts [] (expires_at t) p) at ∙ there in
@@ -225,27 +225,27 @@ pub record StillDue (clock : ℕ) (old now : Stored) : Type 0 where
   pub none : now.changes ≡ []
   pub accounts : (lists_of now).accounts ≡ (lists_of old).accounts
   pub failed : (lists_of now).failed ≡ (lists_of old).failed
-  pub rows : with_lapses clock (transfers_in (lists_of now).rows) (lists_of now).rows ≡ with_lapses clock (transfers_in (lists_of old).rows) (lists_of old).rows
+  pub rows : with_expiries clock (transfers_in (lists_of now).rows) (lists_of now).rows ≡ with_expiries clock (transfers_in (lists_of old).rows) (lists_of old).rows
 
-pub still-due : (clock : ℕ) (old now new : Stored) (place : ℕ) (can : CanLapse now place) → is_timed can.transfer ≡ true → expires_at can.transfer ≤ clock → new.changes ≡ [] → HasLapsed now new place can.transfer → StillDue clock old now → StillDue clock old new
-still-due clock old now new place can timed within none lapsed due =
+pub still-due : (clock : ℕ) (old now new : Stored) (place : ℕ) (can : CanExpire now place) → is_timed can.transfer ≡ true → expires_at can.transfer ≤ clock → new.changes ≡ [] → HasExpired now new place can.transfer → StillDue clock old now → StillDue clock old new
+still-due clock old now new place can timed within none after-expiry due =
     let facts = facts_of (lists_of now) in
     let mark = mark-at now place can in
     let same = transfers-set (lists_of now).rows place can.transfer (has_expired (status_in facts can.transfer)) mark in
     record {
-      kept = lapsed.kept;
+      kept = after-expiry.kept;
       none = none;
-      accounts = ap (λ (ls : Lists). ls.accounts) lapsed.lists ∙ due.accounts;
-      failed = ap (λ (ls : Lists). ls.failed) lapsed.lists ∙ due.failed;
+      accounts = ap (λ (ls : Lists). ls.accounts) after-expiry.lists ∙ due.accounts;
+      failed = ap (λ (ls : Lists). ls.failed) after-expiry.lists ∙ due.failed;
       rows =
-          ap (λ (ls : Lists). with_lapses clock (transfers_in ls.rows) ls.rows) lapsed.lists
-          ∙ ap (λ ts. with_lapses clock ts (set (lists_of now).rows place (can.transfer, true))) same
-          ∙ lapses-same clock facts.transfers (lists_of now).rows place can.transfer (has_expired (status_in facts can.transfer)) mark (due-lapses facts clock can.transfer timed within can.reserves)
+          ap (λ (ls : Lists). with_expiries clock (transfers_in ls.rows) ls.rows) after-expiry.lists
+          ∙ ap (λ ts. with_expiries clock ts (set (lists_of now).rows place (can.transfer, true))) same
+          ∙ expiries-same clock facts.transfers (lists_of now).rows place can.transfer (has_expired (status_in facts can.transfer)) mark (due-expires facts clock can.transfer timed within can.reserves)
           ∙ due.rows;
     }
 
 pub none-due : (clock : ℕ) (old now : Stored) → StillDue clock old now → ((m p : ℕ) → now.is_indexed m p ≡ true → clock < m) →
-    lists_of now ≡ record (lists_of old) { rows = with_lapses clock (transfers_in (lists_of old).rows) (lists_of old).rows }
+    lists_of now ≡ record (lists_of old) { rows = with_expiries clock (transfers_in (lists_of old).rows) (lists_of old).rows }
 none-due clock old now due later =
     let rows = sym (all-marked now due.kept due.none clock later) ∙ due.rows in
     λ i. record { accounts = due.accounts i; rows = rows i; failed = due.failed i }
@@ -257,5 +257,5 @@ no-changes [] lists none = refl
 no-changes (change ∷ changes) lists none = cc
 
 pub expired : (clock : ℕ) (lists : Lists) → IsLawful (facts_of lists) →
-    history_of {T = Places} [] (record lists { rows = with_lapses clock (transfers_in lists.rows) lists.rows }) ≡ record { now = expire_due clock (facts_of lists); past = [] }
+    history_of {T = Places} [] (record lists { rows = with_expiries clock (transfers_in lists.rows) lists.rows }) ≡ record { now = expire_due clock (facts_of lists); past = [] }
 expired clock lists lawful = ap (λ (facts : Facts). record { now = facts; past = [] }) (facts_of-expired clock lists lawful)

@@ -10,7 +10,7 @@ use Rattle.tb_tables.specs.Facts.{Facts, is_expired}
 use Rattle.tb_tables.specs.Status.{is_resolved, is_reserving, is_due, expire_due}
 use Rattle.tb_tables.specs.Lawful.{IsLawful, AreLawful, has_id, ids_distinct}
 use Rattle.tb_tables.specs.Changes.{Lists, facts_of, transfers_in, expired_in, past_of, history_of}
-use Rattle.tb_tables.specs.Expiring.{lapses, with_lapse, with_lapses}
+use Rattle.tb_tables.specs.Expiring.{expires_among, with_expiry, with_expiries}
 use Rattle.tb_tables.specs.declared.change.Change.{Change}
 use Rattle.tb_tables.proofs.Sums.{amount_if, amounts-most, or-left, or-right, not_and-left, not_and-right}
 use Rattle.tb_tables.proofs.Laws.{reserves, total}
@@ -61,9 +61,9 @@ marked (row ∷ rows) distinct =
 
 -- ---- the rows with their new marks are seen as the facts after the expiry
 
-transfers-with_lapses : (clock : ℕ) (transfers : List Transfer) (rows : List (Transfer × Bool)) → transfers_in (with_lapses clock transfers rows) ≡ transfers_in rows
-transfers-with_lapses clock transfers [] = refl
-transfers-with_lapses clock transfers (row ∷ rows) = ap (λ ts. row.0 ∷ ts) (transfers-with_lapses clock transfers rows)
+transfers-with_expiries : (clock : ℕ) (transfers : List Transfer) (rows : List (Transfer × Bool)) → transfers_in (with_expiries clock transfers rows) ≡ transfers_in rows
+transfers-with_expiries clock transfers [] = refl
+transfers-with_expiries clock transfers (row ∷ rows) = ap (λ ts. row.0 ∷ ts) (transfers-with_expiries clock transfers rows)
 
 abbrev expires : ℕ → Facts → Transfer → Bool
 expires clock facts transfer = is_expired facts transfer.id || (is_reserving facts transfer && is_due clock transfer)
@@ -74,27 +74,27 @@ expires-bits false true true d = refl
 expires-bits false true false d = refl
 expires-bits false false r d = refl
 
-expired-with_lapses : (clock : ℕ) (facts : Facts) (rows : List (Transfer × Bool)) → AllByRecursion (IsMarkedAmong facts.expired) rows →
-    expired_in (with_lapses clock facts.transfers rows) ≡ map (λ (t : Transfer). t.id) (filter (expires clock facts) (transfers_in rows))
-expired-with_lapses clock facts [] all = refl
-expired-with_lapses clock facts (row ∷ rows) all =
+expired-with_expiries : (clock : ℕ) (facts : Facts) (rows : List (Transfer × Bool)) → AllByRecursion (IsMarkedAmong facts.expired) rows →
+    expired_in (with_expiries clock facts.transfers rows) ≡ map (λ (t : Transfer). t.id) (filter (expires clock facts) (transfers_in rows))
+expired-with_expiries clock facts [] all = refl
+expired-with_expiries clock facts (row ∷ rows) all =
     let t = row.0 in
-    let test : (row.1 || lapses clock facts.transfers t) ≡ expires clock facts t =
-    ap (λ b. b || lapses clock facts.transfers t) (sym all.0) ∙ sym (expires-bits (is_expired facts t.id) (is_pending t) (is_resolved facts t.id) (is_due clock t)) in
-    ap (λ b. map (λ (r : Transfer × Bool). r.0.id) (cond b (with_lapse clock facts.transfers row ∷ filter (λ (r : Transfer × Bool). r.1) (with_lapses clock facts.transfers rows)) (filter (λ (r : Transfer × Bool). r.1) (with_lapses clock facts.transfers rows)))) test
-    ∙ by (expires clock facts t) (expired-with_lapses clock facts rows all.1)
+    let test : (row.1 || expires_among clock facts.transfers t) ≡ expires clock facts t =
+    ap (λ b. b || expires_among clock facts.transfers t) (sym all.0) ∙ sym (expires-bits (is_expired facts t.id) (is_pending t) (is_resolved facts t.id) (is_due clock t)) in
+    ap (λ b. map (λ (r : Transfer × Bool). r.0.id) (cond b (with_expiry clock facts.transfers row ∷ filter (λ (r : Transfer × Bool). r.1) (with_expiries clock facts.transfers rows)) (filter (λ (r : Transfer × Bool). r.1) (with_expiries clock facts.transfers rows)))) test
+    ∙ by (expires clock facts t) (expired-with_expiries clock facts rows all.1)
   where
-    by : (b : Bool) → expired_in (with_lapses clock facts.transfers rows) ≡ map (λ (t : Transfer). t.id) (filter (expires clock facts) (transfers_in rows)) →
-        map (λ (r : Transfer × Bool). r.0.id) (cond b (with_lapse clock facts.transfers row ∷ filter (λ (r : Transfer × Bool). r.1) (with_lapses clock facts.transfers rows)) (filter (λ (r : Transfer × Bool). r.1) (with_lapses clock facts.transfers rows)))
+    by : (b : Bool) → expired_in (with_expiries clock facts.transfers rows) ≡ map (λ (t : Transfer). t.id) (filter (expires clock facts) (transfers_in rows)) →
+        map (λ (r : Transfer × Bool). r.0.id) (cond b (with_expiry clock facts.transfers row ∷ filter (λ (r : Transfer × Bool). r.1) (with_expiries clock facts.transfers rows)) (filter (λ (r : Transfer × Bool). r.1) (with_expiries clock facts.transfers rows)))
         ≡ map (λ (t : Transfer). t.id) (cond b (row.0 ∷ filter (expires clock facts) (transfers_in rows)) (filter (expires clock facts) (transfers_in rows)))
     by true h = ap (λ ids. row.0.id ∷ ids) h
     by false h = h
 
 pub facts_of-expired : (clock : ℕ) (lists : Lists) → IsLawful (facts_of lists) →
-    facts_of (record lists { rows = with_lapses clock (transfers_in lists.rows) lists.rows }) ≡ expire_due clock (facts_of lists)
+    facts_of (record lists { rows = with_expiries clock (transfers_in lists.rows) lists.rows }) ≡ expire_due clock (facts_of lists)
 facts_of-expired clock lists lawful =
-    let transfers = transfers-with_lapses clock (transfers_in lists.rows) lists.rows in
-    let expired = expired-with_lapses clock (facts_of lists) lists.rows (marked lists.rows lawful.distinct) in
+    let transfers = transfers-with_expiries clock (transfers_in lists.rows) lists.rows in
+    let expired = expired-with_expiries clock (facts_of lists) lists.rows (marked lists.rows lawful.distinct) in
     λ i. record { accounts = lists.accounts; transfers = transfers i; expired = expired i; failed = lists.failed }
 
 -- ---- which are lawful
@@ -152,13 +152,13 @@ expire_due_lawful clock facts lawful = record {
 
 -- ---- the history then
 
-expired_history : (clock : ℕ) {T : Type 0} (changes : List (Change T)) (lists : Lists) (rows : List (Transfer × Bool)) → past_of changes lists ≡ [] → rows ≡ with_lapses clock (transfers_in lists.rows) lists.rows → IsLawful (facts_of lists) →
+expired_history : (clock : ℕ) {T : Type 0} (changes : List (Change T)) (lists : Lists) (rows : List (Transfer × Bool)) → past_of changes lists ≡ [] → rows ≡ with_expiries clock (transfers_in lists.rows) lists.rows → IsLawful (facts_of lists) →
     history_of changes (record lists { rows = rows }) ≡ record { now = expire_due clock (facts_of lists); past = [] }
 expired_history clock [] lists rows none is lawful =
     ap (λ (facts : Facts). record { now = facts; past = [] }) (ap (λ rs. facts_of (record lists { rows = rs })) is ∙ facts_of-expired clock lists lawful)
 expired_history clock (change ∷ changes) lists rows none is lawful = cc
 
-pub history_expired : (clock : ℕ) {T : Type 0} (changes : List (Change T)) (lists : Lists) (rows : List (Transfer × Bool)) → past_of changes lists ≡ [] → rows ≡ with_lapses clock (transfers_in lists.rows) lists.rows → AreLawful (history_of changes lists) →
+pub history_expired : (clock : ℕ) {T : Type 0} (changes : List (Change T)) (lists : Lists) (rows : List (Transfer × Bool)) → past_of changes lists ≡ [] → rows ≡ with_expiries clock (transfers_in lists.rows) lists.rows → AreLawful (history_of changes lists) →
     (history_of changes (record lists { rows = rows }) ≡ record { now = expire_due clock (facts_of lists); past = [] }) × AreLawful (history_of changes (record lists { rows = rows }))
 history_expired clock changes lists rows none is all =
     let e = expired_history clock changes lists rows none is all.now in

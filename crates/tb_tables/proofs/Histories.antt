@@ -4,7 +4,7 @@ use Rattle.std.specs.List.{AllByRecursion}
 use Rattle.std.proofs.Math.Seq.{take-append_seam, take-length}
 use Rattle.std.proofs.lemmas.List.{take-append-le, get_or_past}
 use Rattle.tb_tables.specs.Facts.{Facts}
-use Rattle.tb_tables.specs.History.{History, changed, mark_of, undone, Extends}
+use Rattle.tb_tables.specs.History.{History, with_change, mark_of, back_to, Extends}
 use Rattle.tb_tables.specs.Lawful.{IsLawful, AreLawful}
 use Rattle.tb_tables.specs.Changes.{Lists, facts_of, without_last, before, oldest, past_of, history_of}
 use Rattle.tb_tables.specs.declared.change.Change.{Change}
@@ -27,12 +27,12 @@ length-past_of [] lists = refl
 length-past_of (first ∷ changes) lists = ap suc (length-past_of changes lists)
 
 -- one entry more is one change more
-pub history_of-push : {T : Type 0} (changes : List (Change T)) (change : Change T) (old new : Lists) → before change new ≡ old → history_of (changes ++ change ∷ []) new ≡ changed (history_of changes old) (facts_of new)
+pub history_of-push : {T : Type 0} (changes : List (Change T)) (change : Change T) (old new : Lists) → before change new ≡ old → history_of (changes ++ change ∷ []) new ≡ with_change (history_of changes old) (facts_of new)
 history_of-push changes change old new e =
     ap (λ past. record { now = facts_of new; past = past }) (past_of-push changes change new ∙ ap (λ lists. past_of changes lists ++ facts_of lists ∷ []) e)
 
 -- the history with the last change on it again
-pub history_of-pop : {T : Type 0} (changes : List (Change T)) (change : Change T) (lists : Lists) → changed (history_of changes (before change lists)) (facts_of lists) ≡ history_of (changes ++ change ∷ []) lists
+pub history_of-pop : {T : Type 0} (changes : List (Change T)) (change : Change T) (lists : Lists) → with_change (history_of changes (before change lists)) (facts_of lists) ≡ history_of (changes ++ change ∷ []) lists
 history_of-pop changes change lists = sym (history_of-push changes change (before change lists) lists refl)
 
 get_or-push : {X : Type 0} (xs : List X) (place : ℕ) (x d : X) → place ≤ length xs → get_or (xs ++ x ∷ []) place d ≡ get_or xs place x
@@ -42,14 +42,14 @@ get_or-push (y ∷ xs) zero x d h = refl
 get_or-push (y ∷ xs) (suc place) x d h = get_or-push xs place x d (omega arith)
 
 -- a later change doesn't matter to what was before it
-pub undone-changed : (mark : ℕ) (history : History) (facts : Facts) → mark ≤ length history.past → undone mark (changed history facts) ≡ undone mark history
+pub undone-changed : (mark : ℕ) (history : History) (facts : Facts) → mark ≤ length history.past → back_to mark (with_change history facts) ≡ back_to mark history
 undone-changed mark history facts h =
     let now = get_or-push history.past mark history.now facts h in
     let past = take-append-le mark history.past (history.now ∷ []) h in
     λ i. record { now = now i; past = past i }
 
 -- at the mark itself nothing is taken back
-pub undone-mark : (history : History) → undone (length history.past) history ≡ history
+pub undone-mark : (history : History) → back_to (length history.past) history ≡ history
 undone-mark history =
     let now = get_or_past history.past (length history.past) history.now (omega arith) in
     let past = take-length history.past in
@@ -58,7 +58,7 @@ undone-mark history =
 pub extends_itself : (history : History) → Extends history history
 extends_itself history = record { more = omega arith; same = λ mark within. refl }
 
-pub extends_changed : (history : History) (facts : Facts) → Extends history (changed history facts)
+pub extends_changed : (history : History) (facts : Facts) → Extends history (with_change history facts)
 extends_changed history facts = record {
   more = omega (arith, length-append history.past (history.now ∷ []));
   same = λ mark within. undone-changed mark history facts within;
@@ -71,7 +71,7 @@ extends_through a b c first next = record {
 }
 
 -- back at the mark, the history is what it was there
-pub undone-extended : (old new : History) → Extends old new → undone (mark_of old) new ≡ old
+pub undone-extended : (old new : History) → Extends old new → back_to (mark_of old) new ≡ old
 undone-extended old new extended = extended.same (mark_of old) (omega arith) ∙ undone-mark old
 
 -- ---- the facts of each moment stay lawful
@@ -86,10 +86,10 @@ all_pop P (y ∷ xs) x all =
     let rest = all_pop P xs x all.1 in
     ((all.0, rest.0), rest.1)
 
-pub lawful_changed : (history : History) (facts : Facts) → AreLawful history → IsLawful facts → AreLawful (changed history facts)
+pub lawful_changed : (history : History) (facts : Facts) → AreLawful history → IsLawful facts → AreLawful (with_change history facts)
 lawful_changed history facts old new = record { now = new; past = all_push IsLawful history.past history.now old.past old.now }
 
-pub lawful_before : (history : History) (facts : Facts) → AreLawful (changed history facts) → AreLawful history
+pub lawful_before : (history : History) (facts : Facts) → AreLawful (with_change history facts) → AreLawful history
 lawful_before history facts all =
     let past = all_pop IsLawful history.past history.now all.past in
     record { now = past.1; past = past.0 }

@@ -5,11 +5,11 @@ use Rattle.tb_layout.specs.declared.account.Account.{Account as AccountRecord}
 use Rattle.tb_layout.specs.declared.transfer.Transfer.{Transfer as TransferRecord}
 use Rattle.tb_tables.specs.Facts.{Facts, add_transfer}
 use Rattle.tb_tables.specs.Status.{status_in}
-use Rattle.tb_tables.specs.History.{changed}
+use Rattle.tb_tables.specs.History.{with_change}
 use Rattle.tb_tables.specs.Lawful.{IsLawful, AreLawful}
 use Rattle.tb_tables.specs.Changes.{Lists, facts_of, without_last, before, oldest, history_of}
 use Rattle.tb_tables.specs.Sums.{Sums, sums_of, account_rows, AreAt}
-use Rattle.tb_tables.specs.Kept.{Stored, made, row_of, has_expired, lists_of, transfer_rows, expects, AreGrounded, MayStore, WasStored, IsUndoable, AreUndoable, AreKept, IsKept}
+use Rattle.tb_tables.specs.Kept.{Stored, account_made, row_of, has_expired, lists_of, transfer_rows, expects, AreGrounded, MayStore, WasStored, IsUndoable, AreUndoable, AreKept, IsKept}
 use Rattle.tb_tables.specs.declared.places.Places.{Places}
 use Rattle.tb_tables.specs.declared.change.Change.{Change}
 use Rattle.tb_tables.specs.declared.change.Change.TheVariants.{Transfer}
@@ -32,9 +32,9 @@ undoable-pop (first ∷ changes) change lists all =
 
 -- ---- what the maps stand for
 
-pub made-rows : (sums : Sums) (entries : List (ℕ × AccountRecord)) → map made (account_rows sums (map made entries)) ≡ map made entries
+pub made-rows : (sums : Sums) (entries : List (ℕ × AccountRecord)) → map account_made (account_rows sums (map account_made entries)) ≡ map account_made entries
 made-rows sums [] = refl
-made-rows sums (entry ∷ entries) = ap (λ xs. made entry ∷ xs) (made-rows sums entries)
+made-rows sums (entry ∷ entries) = ap (λ xs. account_made entry ∷ xs) (made-rows sums entries)
 
 -- beside each transfer, whether it expired
 abbrev pub marked : Facts → TransferRecord → TransferRecord × Bool
@@ -65,7 +65,7 @@ module _ (old : Stored) (kept : IsKept old) (t : TransferRecord) (places : Place
       ((moment place : ℕ) → new.is_indexed moment place ≡ expects (add_transfer facts t) (old.changes ++ Transfer places ∷ []) moment place) →
       MarksSame facts (add_transfer facts t) → has_expired (status_in (add_transfer facts t) t) ≡ false →
       IsLawful (add_transfer facts t) → AreGrounded (add_transfer facts t) → AreAt (lists_of old).accounts places t.debit_account_id t.credit_account_id → MayStore facts t places.pending →
-      IsKept new × (history_of new.changes (lists_of new) ≡ changed (history_of old.changes (lists_of old)) (add_transfer facts t))
+      IsKept new × (history_of new.changes (lists_of new) ≡ with_change (history_of old.changes (lists_of old)) (add_transfer facts t))
   kept-transfer new failed changes accounts transfers indexed marks unmarked lawful grounded are_at may =
       let after = facts_of-push (lists_of old) t in
       let rows : (lists_of new).rows ≡ with_row.rows =
@@ -74,7 +74,7 @@ module _ (old : Stored) (kept : IsKept old) (t : TransferRecord) (places : Place
       ∙ ap (λ xs. xs ++ marked (add_transfer facts t) t ∷ []) (map-same (marked (add_transfer facts t)) (marked facts) facts.transfers (λ y. ap (λ b. (y, b)) (marks y)) ∙ sym (rows-marked facts facts.transfers) ∙ sym (ap (map row_of) kept.transfers))
       ∙ ap (λ b. (lists_of old).rows ++ (t, b) ∷ []) unmarked in
       let stands : lists_of new ≡ with_row =
-      λ i. record { accounts = (ap (map made) accounts ∙ made-rows (sums_of (add_transfer facts t)) old.accounts) i; rows = rows i; failed = failed i } in
+      λ i. record { accounts = (ap (map account_made) accounts ∙ made-rows (sums_of (add_transfer facts t)) old.accounts) i; rows = rows i; failed = failed i } in
       let before_grounded = subst (λ ls. AreGrounded (facts_of ls)) (sym back) kept.grounded in
       let stored : WasStored places (before (Transfer places) with_row) with_row = subst (λ ls. WasStored places ls with_row) (sym back) (record { transfer = t; stored = refl; are_at = are_at; may = may }) in
       let as_lists : AreKept new with_row = record {
@@ -86,7 +86,7 @@ module _ (old : Stored) (kept : IsKept old) (t : TransferRecord) (places : Place
         lawful = subst (λ cs. AreLawful (history_of cs with_row)) (sym changes) (lawful_push old.changes (Transfer places) (lists_of old) with_row back (subst IsLawful (sym after) lawful) kept.lawful);
       } in (
         subst (AreKept new) (sym stands) as_lists,
-        ap (history_of new.changes) stands ∙ ap (λ cs. history_of cs with_row) changes ∙ history_of-push old.changes (Transfer places) (lists_of old) with_row back ∙ ap (changed (history_of old.changes (lists_of old))) after,
+        ap (history_of new.changes) stands ∙ ap (λ cs. history_of cs with_row) changes ∙ history_of-push old.changes (Transfer places) (lists_of old) with_row back ∙ ap (with_change (history_of old.changes (lists_of old))) after,
       )
 
 -- ---- the last transfer taken back
@@ -117,7 +117,7 @@ module _ (old : Stored) (kept : IsKept old) (changes : List (Change Places)) (pl
       new.transfers ≡ transfer_rows (facts_of lists) (facts_of lists).transfers →
       ((moment place : ℕ) → new.is_indexed moment place ≡ expects (facts_of lists) changes moment place) →
       MarksSame (facts_of lists) (facts_of (lists_of old)) →
-      IsKept new × (changed (history_of new.changes (lists_of new)) (facts_of (lists_of old)) ≡ history_of old.changes (lists_of old))
+      IsKept new × (with_change (history_of new.changes (lists_of new)) (facts_of (lists_of old)) ≡ history_of old.changes (lists_of old))
   kept-undo new failed changes_are accounts transfers indexed marks =
       let rows : (lists_of new).rows ≡ lists.rows =
       ap (map row_of) transfers ∙ rows-marked (facts_of lists) (facts_of lists).transfers
@@ -125,7 +125,7 @@ module _ (old : Stored) (kept : IsKept old) (changes : List (Change Places)) (pl
       ∙ ap (λ ts. without_last (map (marked (facts_of (lists_of old))) ts)) (sym (ap (λ (fs : Facts). fs.transfers) facts-now))
       ∙ ap without_last (sym (rows-marked (facts_of (lists_of old)) (facts_of (lists_of old)).transfers) ∙ sym (ap (map row_of) kept.transfers)) in
       let stands : lists_of new ≡ lists =
-      λ i. record { accounts = (ap (map made) accounts ∙ made-rows (sums_of (facts_of lists)) old.accounts) i; rows = rows i; failed = failed i } in
+      λ i. record { accounts = (ap (map account_made) accounts ∙ made-rows (sums_of (facts_of lists)) old.accounts) i; rows = rows i; failed = failed i } in
       let undoable = (undoable-pop changes (Transfer places) (lists_of old) (subst (λ cs. AreUndoable cs (lists_of old)) popped kept.undoable)).0 in
       let as_lists : AreKept new lists = record {
         accounts = accounts;
@@ -136,6 +136,6 @@ module _ (old : Stored) (kept : IsKept old) (changes : List (Change Places)) (pl
         lawful = subst (λ cs. AreLawful (history_of cs lists)) (sym changes_are) was_lawful;
       } in (
         subst (AreKept new) (sym stands) as_lists,
-        ap (λ h. changed h (facts_of (lists_of old))) (ap (history_of new.changes) stands ∙ ap (λ cs. history_of cs lists) changes_are)
+        ap (λ h. with_change h (facts_of (lists_of old))) (ap (history_of new.changes) stands ∙ ap (λ cs. history_of cs lists) changes_are)
             ∙ history_of-pop changes (Transfer places) (lists_of old) ∙ ap (λ cs. history_of cs (lists_of old)) (sym popped),
       )

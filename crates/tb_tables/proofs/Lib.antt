@@ -19,5 +19,5 @@ pub mod Opening
 pub mod Locating
 pub mod Stepping
 pub mod Forgetting
-pub mod Lapsing
+pub mod OneExpiry
 pub mod Due

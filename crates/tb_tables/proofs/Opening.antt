@@ -10,11 +10,11 @@ use Rattle.tb_tables.specs.Facts.{Facts, account_with, add_account, add_failed}
 use Rattle.tb_tables.specs.Status.{is_reserving}
 use Rattle.tb_tables.specs.Balances.{is_posting}
 use Rattle.tb_tables.specs.Conditions.{HasNoBalances}
-use Rattle.tb_tables.specs.History.{changed}
+use Rattle.tb_tables.specs.History.{with_change}
 use Rattle.tb_tables.specs.Lawful.{AreLawful}
 use Rattle.tb_tables.specs.Changes.{Lists, facts_of, without_last, before, history_of}
 use Rattle.tb_tables.specs.Sums.{sums_of, with_sums, account_rows}
-use Rattle.tb_tables.specs.Kept.{Stored, made, lists_of, resolves_at, is_resolved_at, expects_of, expects, has_account, IsGrounded, AreGrounded, AreUndoable, AreKept, IsKept}
+use Rattle.tb_tables.specs.Kept.{Stored, account_made, lists_of, resolves_at, is_resolved_at, expects_of, expects, has_account, IsGrounded, AreGrounded, AreUndoable, AreKept, IsKept}
 use Rattle.tb_tables.specs.declared.places.Places.{Places}
 use Rattle.tb_tables.specs.declared.change.Change.{Change}
 use Rattle.tb_tables.specs.declared.change.Change.TheVariants.{Account, Failed}
@@ -72,7 +72,7 @@ module _ (facts : Facts) (grounded : AreGrounded facts) (account : AccountRecord
       let cpo = none.credits_posted ∙ sym (amounts-none is_posting (λ x. x.credit_account_id) account.id facts.transfers credits) in
       λ i. record account { debits_pending = dp i; debits_posted = dpo i; credits_pending = cp i; credits_posted = cpo i }
 
-  made-new : made (account.id, account) ≡ account
+  made-new : account_made (account.id, account) ≡ account
   made-new = λ i. record account { debits_pending = sym none.debits_pending i; debits_posted = sym none.debits_posted i; credits_pending = sym none.credits_pending i; credits_posted = sym none.credits_posted i }
 
 -- a change that names no transfer leaves what the index has
@@ -98,7 +98,7 @@ module _ (old : Stored) (kept : IsKept old) where
 
     lists-are : lists_of with_account ≡ lists_with
     lists-are = ap (λ accounts. record (lists_of old) { accounts = accounts })
-        (map-append made old.accounts ((account.id, account) ∷ []) ∙ ap (λ a. map made old.accounts ++ a ∷ []) (made-new (facts_of (lists_of old)) kept.grounded account fresh none))
+        (map-append account_made old.accounts ((account.id, account) ∷ []) ∙ ap (λ a. map account_made old.accounts ++ a ∷ []) (made-new (facts_of (lists_of old)) kept.grounded account fresh none))
 
     back : before {T = Places} Account lists_with ≡ lists_of old
     back = ap (λ accounts. record (lists_of old) { accounts = accounts }) (without_last-push (lists_of old).accounts account)
@@ -109,7 +109,7 @@ module _ (old : Stored) (kept : IsKept old) where
         ∙ ap (λ a. account_rows (sums_of (facts_of (lists_of old))) (lists_of old).accounts ++ (account.id, a) ∷ []) (new-account (facts_of (lists_of old)) kept.grounded account fresh none)
         ∙ sym (map-append (λ (a : AccountRecord). (a.id, with_sums (sums_of (facts_of (lists_of old))) a)) (lists_of old).accounts (account ∷ []))
 
-    pub kept-account : IsKept with_account × (history_of with_account.changes (lists_of with_account) ≡ changed (history_of old.changes (lists_of old)) (add_account (facts_of (lists_of old)) account))
+    pub kept-account : IsKept with_account × (history_of with_account.changes (lists_of with_account) ≡ with_change (history_of old.changes (lists_of old)) (add_account (facts_of (lists_of old)) account))
     kept-account =
         let lawful = kept.lawful.now in
         let as_lists : AreKept with_account lists_with = record {
@@ -131,7 +131,7 @@ module _ (old : Stored) (kept : IsKept old) where
     back-failed : before {T = Places} Failed (lists_of with_failed) ≡ lists_of old
     back-failed = ap (λ failed. record (lists_of old) { failed = failed }) (without_last-push old.failed id)
 
-    pub kept-failed : IsKept with_failed × (history_of with_failed.changes (lists_of with_failed) ≡ changed (history_of old.changes (lists_of old)) (add_failed (facts_of (lists_of old)) id))
+    pub kept-failed : IsKept with_failed × (history_of with_failed.changes (lists_of with_failed) ≡ with_change (history_of old.changes (lists_of old)) (add_failed (facts_of (lists_of old)) id))
     kept-failed =
         let lawful = kept.lawful.now in (
           record {
@@ -159,10 +159,10 @@ module _ (old : Stored) (kept : IsKept old) where
     abbrev pub without_account : Stored
     without_account = record old { accounts = without_last old.accounts; changes = changes }
 
-    pub kept-unaccount : old.changes ≡ changes ++ Account ∷ [] → IsKept without_account × (changed (history_of changes (lists_of without_account)) (facts_of (lists_of old)) ≡ history_of old.changes (lists_of old))
+    pub kept-unaccount : old.changes ≡ changes ++ Account ∷ [] → IsKept without_account × (with_change (history_of changes (lists_of without_account)) (facts_of (lists_of old)) ≡ history_of old.changes (lists_of old))
     kept-unaccount popped =
         let lists = before {T = Places} Account (lists_of old) in
-        let stands : lists_of without_account ≡ lists = ap (λ accounts. record (lists_of old) { accounts = accounts }) (map-without_last made old.accounts) in
+        let stands : lists_of without_account ≡ lists = ap (λ accounts. record (lists_of old) { accounts = accounts }) (map-without_last account_made old.accounts) in
         let undoable = undoable-pop changes Account (lists_of old) (subst (λ cs. AreUndoable cs (lists_of old)) popped kept.undoable) in
         let as_lists : AreKept without_account lists = record {
           accounts = ap without_last kept.accounts ∙ sym (map-without_last (λ (a : AccountRecord). (a.id, with_sums (sums_of (facts_of (lists_of old))) a)) (lists_of old).accounts);
@@ -173,13 +173,13 @@ module _ (old : Stored) (kept : IsKept old) where
           lawful = lawful_pop changes Account (lists_of old) (subst (λ cs. AreLawful (history_of cs (lists_of old))) popped kept.lawful);
         } in (
           subst (AreKept without_account) (sym stands) as_lists,
-          ap (λ ls. changed (history_of changes ls) (facts_of (lists_of old))) stands ∙ history_of-pop changes Account (lists_of old) ∙ ap (λ cs. history_of cs (lists_of old)) (sym popped),
+          ap (λ ls. with_change (history_of changes ls) (facts_of (lists_of old))) stands ∙ history_of-pop changes Account (lists_of old) ∙ ap (λ cs. history_of cs (lists_of old)) (sym popped),
         )
 
     abbrev pub without_failed : Stored
     without_failed = record old { failed = without_last old.failed; changes = changes }
 
-    pub kept-unfailed : old.changes ≡ changes ++ Failed ∷ [] → IsKept without_failed × (changed (history_of changes (lists_of without_failed)) (facts_of (lists_of old)) ≡ history_of old.changes (lists_of old))
+    pub kept-unfailed : old.changes ≡ changes ++ Failed ∷ [] → IsKept without_failed × (with_change (history_of changes (lists_of without_failed)) (facts_of (lists_of old)) ≡ history_of old.changes (lists_of old))
     kept-unfailed popped =
         let undoable = undoable-pop changes Failed (lists_of old) (subst (λ cs. AreUndoable cs (lists_of old)) popped kept.undoable) in (
           record {

@@ -7,7 +7,7 @@ use Rattle.std.specs.Map.{keys_of}
 use Rattle.std.proofs.lemmas.Bool.{eq-eqb}
 use Rattle.indexmap.specs.IndexMap.{set_value_at}
 use Rattle.tb_layout.specs.declared.account.Account.{Account}
-use Rattle.tb_tables.specs.Sums.{Sums, HasRoom, HasAmount, debits_in, credits_in, balance_of, more_at, raised, raise_balance, lower_balance, with_sums, account_rows}
+use Rattle.tb_tables.specs.Sums.{Sums, HasRoom, HasAmount, debits_in, credits_in, balance_of, more_at, with_more, raise_balance, lower_balance, with_sums, account_rows}
 use Rattle.tb_tables.specs.declared.balance.Balance.{Balance}
 use Rattle.tb_tables.specs.declared.balance.Balance.TheVariants.{DebitsPending, DebitsPosted, CreditsPending, CreditsPosted}
 use Rattle.tb_tables.proofs.Laws.{==_swap}
@@ -21,13 +21,13 @@ more_elsewhere id amount sum other apart =
     let e : (if id == other then amount else 0) ≡ 0 = ap (λ b. if b then amount else 0) (==_swap id other ∙ apart) in
     omega arith
 
-raised-here : (balance : Balance) (amount : ℕ) (sums : Sums) (account : Account) → with_sums (raised balance account.id amount sums) account ≡ raise_balance balance amount (with_sums sums account)
+raised-here : (balance : Balance) (amount : ℕ) (sums : Sums) (account : Account) → with_sums (with_more balance account.id amount sums) account ≡ raise_balance balance amount (with_sums sums account)
 raised-here DebitsPending amount sums account = ap (λ n. record (with_sums sums account) { debits_pending = n }) (more_here account.id amount sums.debits_pending)
 raised-here DebitsPosted amount sums account = ap (λ n. record (with_sums sums account) { debits_posted = n }) (more_here account.id amount sums.debits_posted)
 raised-here CreditsPending amount sums account = ap (λ n. record (with_sums sums account) { credits_pending = n }) (more_here account.id amount sums.credits_pending)
 raised-here CreditsPosted amount sums account = ap (λ n. record (with_sums sums account) { credits_posted = n }) (more_here account.id amount sums.credits_posted)
 
-raised-elsewhere : (balance : Balance) (id amount : ℕ) (sums : Sums) (account : Account) → (account.id == id) ≡ false → with_sums (raised balance id amount sums) account ≡ with_sums sums account
+raised-elsewhere : (balance : Balance) (id amount : ℕ) (sums : Sums) (account : Account) → (account.id == id) ≡ false → with_sums (with_more balance id amount sums) account ≡ with_sums sums account
 raised-elsewhere DebitsPending id amount sums account apart = ap (λ n. record (with_sums sums account) { debits_pending = n }) (more_elsewhere id amount sums.debits_pending account.id apart)
 raised-elsewhere DebitsPosted id amount sums account apart = ap (λ n. record (with_sums sums account) { debits_posted = n }) (more_elsewhere id amount sums.debits_posted account.id apart)
 raised-elsewhere CreditsPending id amount sums account apart = ap (λ n. record (with_sums sums account) { credits_pending = n }) (more_elsewhere id amount sums.credits_pending account.id apart)
@@ -50,22 +50,22 @@ row-is sums accounts place account row at there =
 
 module _ (balance : Balance) (amount : ℕ) (sums : Sums) (accounts : List Account) (place : ℕ) (account : Account) (at : slice_get accounts place ≡ Some account) where
   pub rows-raised : (entries : List (ℕ × Account)) (row : ℕ × Account) → slice_get entries place ≡ Some row → IsDistinct nat_eq (keys_of entries) → entries ≡ account_rows sums accounts →
-      set_value_at entries place (raise_balance balance amount row.1) ≡ account_rows (raised balance account.id amount sums) accounts
+      set_value_at entries place (raise_balance balance amount row.1) ≡ account_rows (with_more balance account.id amount sums) accounts
   rows-raised entries row there apart is =
       let was = row-is sums accounts place account row at (rw is at there) in
       let value = ap (raise_balance balance amount) was ∙ sym (raised-here balance amount sums account) in
       ap (λ es. set_value_at es place (raise_balance balance amount row.1)) is
       ∙ ap (set_value_at (account_rows sums accounts) place) value
-      ∙ rows-set (λ (a : Account). a.id) (with_sums sums) (with_sums (raised balance account.id amount sums)) accounts place account at (rw is at apart) (λ other differs. raised-elsewhere balance account.id amount sums other differs)
+      ∙ rows-set (λ (a : Account). a.id) (with_sums sums) (with_sums (with_more balance account.id amount sums)) accounts place account at (rw is at apart) (λ other differs. raised-elsewhere balance account.id amount sums other differs)
 
-  pub rows-lowered : (entries : List (ℕ × Account)) (row : ℕ × Account) → slice_get entries place ≡ Some row → IsDistinct nat_eq (keys_of entries) → entries ≡ account_rows (raised balance account.id amount sums) accounts →
+  pub rows-lowered : (entries : List (ℕ × Account)) (row : ℕ × Account) → slice_get entries place ≡ Some row → IsDistinct nat_eq (keys_of entries) → entries ≡ account_rows (with_more balance account.id amount sums) accounts →
       set_value_at entries place (lower_balance balance amount row.1) ≡ account_rows sums accounts
   rows-lowered entries row there apart is =
-      let was = row-is (raised balance account.id amount sums) accounts place account row at (rw is at there) in
+      let was = row-is (with_more balance account.id amount sums) accounts place account row at (rw is at there) in
       let value = ap (lower_balance balance amount) (was ∙ raised-here balance amount sums account) ∙ lowered-raised balance amount (with_sums sums account) in
       ap (λ es. set_value_at es place (lower_balance balance amount row.1)) is
-      ∙ ap (set_value_at (account_rows (raised balance account.id amount sums) accounts) place) value
-      ∙ rows-set (λ (a : Account). a.id) (with_sums (raised balance account.id amount sums)) (with_sums sums) accounts place account at (rw is at apart) (λ other differs. sym (raised-elsewhere balance account.id amount sums other differs))
+      ∙ ap (set_value_at (account_rows (with_more balance account.id amount sums) accounts) place) value
+      ∙ rows-set (λ (a : Account). a.id) (with_sums (with_more balance account.id amount sums)) (with_sums sums) accounts place account at (rw is at apart) (λ other differs. sym (raised-elsewhere balance account.id amount sums other differs))
 
 at-row : (sums : Sums) (accounts : List Account) (place : ℕ) (account : Account) → slice_get accounts place ≡ Some account → slice_get (account_rows sums accounts) place ≡ Some (account.id, with_sums sums account)
 at-row sums accounts place account at = slice_get-map (λ (a : Account). (a.id, with_sums sums a)) accounts place ∙ ap (option_map (λ (a : Account). (a.id, with_sums sums a))) at
@@ -76,18 +76,18 @@ has_room sums accounts place account balance amount entries at is fits =
     rw is (record { row = (account.id, with_sums sums account); there = at-row sums accounts place account at; fits = fits })
 
 -- a raised balance contains what it was raised by
-contains : (balance : Balance) (amount : ℕ) (sums : Sums) (account : Account) → amount ≤ balance_of balance (with_sums (raised balance account.id amount sums) account)
+contains : (balance : Balance) (amount : ℕ) (sums : Sums) (account : Account) → amount ≤ balance_of balance (with_sums (with_more balance account.id amount sums) account)
 contains DebitsPending amount sums account = omega (arith, more_here account.id amount sums.debits_pending)
 contains DebitsPosted amount sums account = omega (arith, more_here account.id amount sums.debits_posted)
 contains CreditsPending amount sums account = omega (arith, more_here account.id amount sums.credits_pending)
 contains CreditsPosted amount sums account = omega (arith, more_here account.id amount sums.credits_posted)
 
 pub has_amount : (sums : Sums) (accounts : List Account) (place : ℕ) (account : Account) (balance : Balance) (amount : ℕ) (entries : List (ℕ × Account)) → slice_get accounts place ≡ Some account →
-    entries ≡ account_rows (raised balance account.id amount sums) accounts → HasAmount entries place balance amount
+    entries ≡ account_rows (with_more balance account.id amount sums) accounts → HasAmount entries place balance amount
 has_amount sums accounts place account balance amount entries at is =
-    rw is (record { row = (account.id, with_sums (raised balance account.id amount sums) account); there = at-row (raised balance account.id amount sums) accounts place account at; has = contains balance amount sums account })
+    rw is (record { row = (account.id, with_sums (with_more balance account.id amount sums) account); there = at-row (with_more balance account.id amount sums) accounts place account at; has = contains balance amount sums account })
 
 -- a raised debit leaves the credits
-pub credits-kept : (pending : Bool) (id amount : ℕ) (sums : Sums) (account : Account) → balance_of (credits_in pending) (with_sums (raised (debits_in pending) id amount sums) account) ≡ balance_of (credits_in pending) (with_sums sums account)
+pub credits-kept : (pending : Bool) (id amount : ℕ) (sums : Sums) (account : Account) → balance_of (credits_in pending) (with_sums (with_more (debits_in pending) id amount sums) account) ≡ balance_of (credits_in pending) (with_sums sums account)
 credits-kept true id amount sums account = refl
 credits-kept false id amount sums account = refl

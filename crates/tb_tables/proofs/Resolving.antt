@@ -8,7 +8,7 @@ use Rattle.tb_tables.specs.Facts.{Facts, is_expired, add_transfer}
 use Rattle.tb_tables.specs.Status.{is_posted, is_voided, is_resolved, status_of}
 use Rattle.tb_tables.specs.Conditions.{MayResolve}
 use Rattle.tb_tables.specs.Lawful.{IsLawful}
-use Rattle.tb_tables.specs.Storing.{settled}
+use Rattle.tb_tables.specs.Storing.{status_after}
 use Rattle.tb_tables.specs.Sums.{Sums, sums_of, with_amount, posted_if}
 use Rattle.tb_tables.specs.declared.status.Status.TheVariants.{Pending, Posted, Voided, Expired}
 use Rattle.tb_tables.proofs.Sums.{amount_if, amounts, amounts-push, but_for, but_for-found, or-left, or-right}
@@ -31,7 +31,7 @@ module _ (facts : Facts) (t : Transfer) (may : MayResolve facts t) where
       let voided : is_voided (add_transfer facts t) id ≡ is_voided facts id = any-push (λ other. is_void other && (other.pending_id == id)) facts.transfers t ∙ one-more is_void id apart (is_voided facts id) in
       λ i. if posted i then Posted else if voided i then Voided else if is_expired facts id then Expired else Pending
 
-  pub status-named : status_of (add_transfer facts t) t.pending_id ≡ settled (is_post t)
+  pub status-named : status_of (add_transfer facts t) t.pending_id ≡ status_after (is_post t)
   status-named =
       let id = t.pending_id in
       let s = pending_is (is_posted facts id) (is_voided facts id) (is_expired facts id) may.unresolved in
@@ -42,7 +42,7 @@ module _ (facts : Facts) (t : Transfer) (may : MayResolve facts t) where
       (λ i. if posted i then Posted else if voided i then Voided else if is_expired facts id then Expired else Pending)
       ∙ by (is_post t) (is_void t) (id == id) (is_expired facts id) (eq-eqb id id refl) may.post_or_void
     where
-      by : (p v e x : Bool) → e ≡ true → v ≡ not p → (if p && e then Posted else if v && e then Voided else if x then Expired else Pending) ≡ settled p
+      by : (p v e x : Bool) → e ≡ true → v ≡ not p → (if p && e then Posted else if v && e then Voided else if x then Expired else Pending) ≡ status_after p
       by true v true x h k = refl
       by false true true x h k = refl
       by false false true x h k = cc

@@ -16,7 +16,7 @@ use Rattle.tb_tables.specs.Status.{status_of, expires_at}
 use Rattle.tb_tables.specs.Conditions.{MayAdd}
 use Rattle.tb_tables.specs.Sums.{sums_of, with_amount, posted_if, account_rows, CanAdd, CanTake}
 use Rattle.tb_tables.specs.Kept.{row_in, transfer_rows, MayPost, MayStore}
-use Rattle.tb_tables.specs.Storing.{Allow, new_row, settled, IsPushed, IsPopped}
+use Rattle.tb_tables.specs.Storing.{Allow, new_row, status_after, IsPushed, IsPopped}
 use Rattle.tb_tables.specs.declared.places.Places.{Places}
 use Rattle.tb_tables.specs.declared.row.Row.{Row}
 use Rattle.tb_tables.specs.declared.status.Status.TheVariants.{Pending}
@@ -95,7 +95,7 @@ module _ (facts : Facts) (rows : List Account) (t : Transfer) (places : Places) 
         let differs : (t.pending_id == y.id) ≡ false = ==_swap t.pending_id y.id ∙ ap (λ k. y.id == k) (sym named-id) ∙ apart in
         ap (λ s. record { transfer = y; status = if is_pending y then Some s else None }) (status-other facts t posted.may y.id differs)
 
-    row-settled : record (row_in facts named) { status = Some (settled (is_post t)) } ≡ row_in (add_transfer facts t) named
+    row-settled : record (row_in facts named) { status = Some (status_after (is_post t)) } ≡ row_in (add_transfer facts t) named
     row-settled =
         ap (λ s. record { transfer = named; status = Some s }) (sym (status-named facts t posted.may) ∙ ap (status_of (add_transfer facts t)) (sym named-id))
         ∙ ap (λ b. record { transfer = named; status = if b then Some (status_of (add_transfer facts t) named.id) else None }) (sym posted.may.is_pending_one)
@@ -107,10 +107,10 @@ module _ (facts : Facts) (rows : List Account) (t : Transfer) (places : Places) 
 
     -- the status of what it names, set
     pub rows-settled : (account_entries : List (ℕ × Account)) (entries : List (ℕ × Row)) → IsPushed facts rows t places account_entries entries → IsDistinct nat_eq (keys_of entries) →
-        set_value_at entries pending (record (row_in facts named) { status = Some (settled (is_post t)) }) ≡ transfer_rows (add_transfer facts t) (facts.transfers ++ t ∷ [])
+        set_value_at entries pending (record (row_in facts named) { status = Some (status_after (is_post t)) }) ≡ transfer_rows (add_transfer facts t) (facts.transfers ++ t ∷ [])
     rows-settled account_entries entries pushed apart =
         let is = pushed-rows entries pushed.transfers_are in
-        ap (λ es. set_value_at es pending (record (row_in facts named) { status = Some (settled (is_post t)) })) is
+        ap (λ es. set_value_at es pending (record (row_in facts named) { status = Some (status_after (is_post t)) })) is
         ∙ ap (set_value_at (transfer_rows facts (facts.transfers ++ t ∷ [])) pending) row-settled
         ∙ rows-set (λ (x : Transfer). x.id) (row_in facts) (row_in (add_transfer facts t)) (facts.transfers ++ t ∷ []) pending named (slice_get-append facts.transfers (t ∷ []) pending named posted.pending_at) (rw is at apart) others
 

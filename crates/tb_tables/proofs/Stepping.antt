@@ -7,13 +7,13 @@ use Rattle.tb_layout.specs.Transfer.{is_pending, is_post}
 use Rattle.tb_tables.specs.Facts.{Facts, transfer_with, is_expired, add_transfer}
 use Rattle.tb_tables.specs.Status.{status_in, status_of, expires_at}
 use Rattle.tb_tables.specs.Conditions.{MayAdd, MayResolve}
-use Rattle.tb_tables.specs.History.{changed}
+use Rattle.tb_tables.specs.History.{with_change}
 use Rattle.tb_tables.specs.Lawful.{IsLawful, has_id}
 use Rattle.tb_tables.specs.Changes.{Lists, facts_of, before, history_of}
 use Rattle.tb_tables.specs.Expiries.{same_pair}
 use Rattle.tb_tables.specs.Sums.{sums_of, account_rows, AreAt}
 use Rattle.tb_tables.specs.Kept.{Stored, has_expired, lists_of, transfer_rows, is_timed, expects_of, expects, AreGrounded, MayPost, MayStore, WasStored, IsKept}
-use Rattle.tb_tables.specs.Storing.{Allow, new_row, settled, IsPushed, IsStored, Hold}
+use Rattle.tb_tables.specs.Storing.{Allow, new_row, status_after, IsPushed, IsStored, Hold}
 use Rattle.tb_tables.specs.declared.places.Places.{Places}
 use Rattle.tb_tables.specs.declared.row.Row.{Row}
 use Rattle.tb_tables.specs.declared.status.Status.TheVariants.{Pending}
@@ -51,7 +51,7 @@ added-stores facts t changes places lawful grounded not_expired none may = recor
   indexed = expects-add facts t may grounded not_expired changes places none;
 }
 
-settled-unmarked : (b p : Bool) → has_expired (if b then Some (settled p) else None) ≡ has_expired (if b then Some Pending else None)
+settled-unmarked : (b p : Bool) → has_expired (if b then Some (status_after p) else None) ≡ has_expired (if b then Some Pending else None)
 settled-unmarked true true = refl
 settled-unmarked true false = refl
 settled-unmarked false p = refl
@@ -63,7 +63,7 @@ resolved-marks facts t may y = by (t.pending_id == y.id) refl
     by false apart = ap (λ s. has_expired (if is_pending y then Some s else None)) (status-other facts t may y.id apart)
     by true is =
         let same : t.pending_id ≡ y.id = eqb-true t.pending_id y.id is in
-        let new : status_of (add_transfer facts t) y.id ≡ settled (is_post t) = ap (status_of (add_transfer facts t)) (sym same) ∙ status-named facts t may in
+        let new : status_of (add_transfer facts t) y.id ≡ status_after (is_post t) = ap (status_of (add_transfer facts t)) (sym same) ∙ status-named facts t may in
         let old : status_of facts y.id ≡ Pending = ap (status_of facts) (sym same) ∙ may.unresolved in
         ap (λ s. has_expired (if is_pending y then Some s else None)) new ∙ settled-unmarked (is_pending y) (is_post t) ∙ ap (λ s. has_expired (if is_pending y then Some s else None)) (sym old)
 
@@ -129,7 +129,7 @@ module _ (old : Stored) (kept : IsKept old) (t : TransferRecord) (places : Place
 
   pub stored : (new : Stored) → new.failed ≡ old.failed → new.changes ≡ old.changes ++ Transfer places ∷ [] → IsStored (facts_of (lists_of old)) (lists_of old).accounts t places new.accounts new.transfers →
       ((m p : ℕ) → new.is_indexed m p ≡ ((is_timed t && same_pair (expires_at t) (length (facts_of (lists_of old)).transfers) m p) || old.is_indexed m p)) →
-      IsKept new × (history_of new.changes (lists_of new) ≡ changed (history_of old.changes (lists_of old)) (add_transfer (facts_of (lists_of old)) t))
+      IsKept new × (history_of new.changes (lists_of new) ≡ with_change (history_of old.changes (lists_of old)) (add_transfer (facts_of (lists_of old)) t))
   stored new failed changes is indexed =
       let facts = facts_of (lists_of old) in
       let s = stores facts t old.changes places kept.lawful.now kept.grounded is.allow.not_expired may in
@@ -164,7 +164,7 @@ module _ (old : Stored) (kept : IsKept old) (changes : List (Change Places)) (pl
 
   pub taken : (new : Stored) → new.failed ≡ old.failed → new.changes ≡ changes → Hold (facts_of lists) lists.accounts new.accounts new.transfers →
       ((m p : ℕ) → new.is_indexed m p ≡ (not (is_timed was.transfer && same_pair (expires_at was.transfer) (length (facts_of lists).transfers) m p) && old.is_indexed m p)) →
-      IsKept new × (changed (history_of new.changes (lists_of new)) (facts_of (lists_of old)) ≡ history_of old.changes (lists_of old))
+      IsKept new × (with_change (history_of new.changes (lists_of new)) (facts_of (lists_of old)) ≡ history_of old.changes (lists_of old))
   taken new failed changes_are hold indexed =
       let t = was.transfer in
       let facts = facts_of lists in

@@ -8,22 +8,22 @@ pub record History : Type 0 where
   pub past : List Facts
 
 -- one change more
-abbrev pub changed : History → Facts → History
-changed history facts = record { now = facts; past = history.past ++ history.now ∷ [] }
+abbrev pub with_change : History → Facts → History
+with_change history facts = record { now = facts; past = history.past ++ history.now ∷ [] }
 
 -- the mark: how many changes can be taken back
 abbrev pub mark_of : History → ℕ
 mark_of history = length history.past
 
 -- back to a mark: the facts there, and what could be taken back there
-abbrev pub undone : ℕ → History → History
-undone mark history = record { now = slice_index_or history.past mark history.now; past = take mark history.past }
+abbrev pub back_to : ℕ → History → History
+back_to mark history = record { now = slice_index_or history.past mark history.now; past = take mark history.past }
 
 -- the changes stand
-abbrev pub kept : History → History
-kept history = record { now = history.now; past = [] }
+abbrev pub without_past : History → History
+without_past history = record { now = history.now; past = [] }
 
 -- whatever could be taken back still can, with the same facts
 pub record Extends (old new : History) : Type 0 where
   pub more : mark_of old ≤ mark_of new
-  pub same : (mark : ℕ) → mark ≤ mark_of old → undone mark new ≡ undone mark old
+  pub same : (mark : ℕ) → mark ≤ mark_of old → back_to mark new ≡ back_to mark old

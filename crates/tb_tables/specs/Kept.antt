@@ -26,8 +26,8 @@ pub record Stored : Type 0 where
   pub is_indexed : ℕ → ℕ → Bool
 
 -- an account as it was made
-abbrev pub made : ℕ × AccountRecord → AccountRecord
-made entry = record entry.1 { debits_pending = 0; debits_posted = 0; credits_pending = 0; credits_posted = 0 }
+abbrev pub account_made : ℕ × AccountRecord → AccountRecord
+account_made entry = record entry.1 { debits_pending = 0; debits_posted = 0; credits_pending = 0; credits_posted = 0 }
 
 abbrev pub has_expired : Option Status → Bool
 has_expired (Some Expired) = true
@@ -41,7 +41,7 @@ row_of entry = (entry.1.transfer, has_expired entry.1.status)
 
 -- the plain lists that they stand for, and their history
 abbrev pub lists_in : List (ℕ × AccountRecord) → List (ℕ × Row) → List ℕ → Lists
-lists_in accounts transfers failed = record { accounts = map made accounts; rows = map row_of transfers; failed = failed }
+lists_in accounts transfers failed = record { accounts = map account_made accounts; rows = map row_of transfers; failed = failed }
 
 abbrev pub lists_of : Stored → Lists
 lists_of stored = lists_in stored.accounts stored.transfers stored.failed

@@ -51,9 +51,9 @@ pub record Hold (facts : Facts) (accounts : List Account) (account_entries : Lis
   pub transfers_are : transfer_entries ≡ transfer_rows facts facts.transfers
 
 -- the status of what a post or a void names
-abbrev pub settled : Bool → Status
-settled true = Posted
-settled false = Voided
+abbrev pub status_after : Bool → Status
+status_after true = Posted
+status_after false = Voided
 
 -- what a change names is there, and the moment at which it expires can be written down
 pub record CanForget (facts : Facts) (change : Change Places) (transfer_entries : List (ℕ × Row)) : Type 0 where
@@ -65,7 +65,7 @@ abbrev pub stored_for_good : List (ℕ × Account) → List (ℕ × Row) → Lis
 stored_for_good accounts transfers failed indexed = record { accounts = accounts; transfers = transfers; failed = failed; changes = []; is_indexed = indexed }
 
 -- the transfer at a place reserves its amount, and nothing can be taken back
-pub record CanLapse (stored : Stored) (place : ℕ) : Type 0 where
+pub record CanExpire (stored : Stored) (place : ℕ) : Type 0 where
   pub kept : IsKept stored
   pub none : stored.changes ≡ []
   pub transfer : Transfer
@@ -73,6 +73,6 @@ pub record CanLapse (stored : Stored) (place : ℕ) : Type 0 where
   pub reserves : is_reserving (facts_of (lists_of stored)) transfer ≡ true
 
 -- it has expired, and nothing else changed
-pub record HasLapsed (old new : Stored) (place : ℕ) (transfer : Transfer) : Type 0 where
+pub record HasExpired (old new : Stored) (place : ℕ) (transfer : Transfer) : Type 0 where
   pub kept : IsKept new
   pub lists : lists_of new ≡ record (lists_of old) { rows = set (lists_of old).rows place (transfer, true) }

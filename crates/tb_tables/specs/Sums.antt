@@ -28,11 +28,11 @@ abbrev pub more_at : ℕ → ℕ → (ℕ → ℕ) → ℕ → ℕ
 more_at id amount sum other = sum other + (if id == other then amount else 0)
 
 -- one balance of one account raised
-abbrev pub raised : Balance → ℕ → ℕ → Sums → Sums
-raised DebitsPending id amount sums = record sums { debits_pending = more_at id amount sums.debits_pending }
-raised DebitsPosted id amount sums = record sums { debits_posted = more_at id amount sums.debits_posted }
-raised CreditsPending id amount sums = record sums { credits_pending = more_at id amount sums.credits_pending }
-raised CreditsPosted id amount sums = record sums { credits_posted = more_at id amount sums.credits_posted }
+abbrev pub with_more : Balance → ℕ → ℕ → Sums → Sums
+with_more DebitsPending id amount sums = record sums { debits_pending = more_at id amount sums.debits_pending }
+with_more DebitsPosted id amount sums = record sums { debits_posted = more_at id amount sums.debits_posted }
+with_more CreditsPending id amount sums = record sums { credits_pending = more_at id amount sums.credits_pending }
+with_more CreditsPosted id amount sums = record sums { credits_posted = more_at id amount sums.credits_posted }
 
 abbrev pub raise_balance : Balance → ℕ → Account → Account
 raise_balance DebitsPending amount account = record account { debits_pending = account.debits_pending + amount }
@@ -77,7 +77,7 @@ credits_in false = CreditsPosted
 
 -- an amount more between two accounts
 abbrev pub with_amount : Bool → ℕ → ℕ → ℕ → Sums → Sums
-with_amount pending debit credit amount sums = raised (credits_in pending) credit amount (raised (debits_in pending) debit amount sums)
+with_amount pending debit credit amount sums = with_more (credits_in pending) credit amount (with_more (debits_in pending) debit amount sums)
 
 abbrev pub posted_if : Bool → ℕ → ℕ → ℕ → Sums → Sums
 posted_if true debit credit amount sums = with_amount false debit credit amount sums

@@ -2,7 +2,7 @@
 
 ghost use Rattle.std.specs.Prelude.{◌≡◌, ◌<◌, ◌≤◌, ◌+◌, ◌^◌, Some, List, slice_get};
 ghost use Rattle.tb_layout.specs.declared.account.Account.{Account as AccountRecord};
-ghost use Rattle.tb_tables.specs.Sums.{Sums, HasRoom, HasAmount, balance_of, raise_balance as raise, lower_balance as lower, raised, account_rows};
+ghost use Rattle.tb_tables.specs.Sums.{Sums, HasRoom, HasAmount, balance_of, raise_balance as raise, lower_balance as lower, with_more, account_rows};
 
 use crate::by_id::ById;
 use tb_layout::Account;
@@ -46,7 +46,7 @@ fn lower_balance(account: &mut Account, balance: Balance, amount: u128)
 pub fn raise_at(accounts: &mut ById<Account>, place: usize, balance: Balance, amount: u128)
     requires { HasRoom accounts.old.entries place balance amount }
     ensures { (sums : Sums) (rows : List AccountRecord) (account : AccountRecord) → slice_get rows place ≡ Some account
-        → accounts.old.entries ≡ account_rows sums rows → accounts.new.entries ≡ account_rows (raised balance account.id amount sums) rows }
+        → accounts.old.entries ≡ account_rows sums rows → accounts.new.entries ≡ account_rows (with_more balance account.id amount sums) rows }
 {
     let (_, account) = accounts.pair_mut(place);
     raise_balance(account, balance, amount);
@@ -56,7 +56,7 @@ pub fn raise_at(accounts: &mut ById<Account>, place: usize, balance: Balance, am
 pub fn lower_at(accounts: &mut ById<Account>, place: usize, balance: Balance, amount: u128)
     requires { HasAmount accounts.old.entries place balance amount }
     ensures { (sums : Sums) (rows : List AccountRecord) (account : AccountRecord) → slice_get rows place ≡ Some account
-        → accounts.old.entries ≡ account_rows (raised balance account.id amount sums) rows → accounts.new.entries ≡ account_rows sums rows }
+        → accounts.old.entries ≡ account_rows (with_more balance account.id amount sums) rows → accounts.new.entries ≡ account_rows sums rows }
 {
     let (_, account) = accounts.pair_mut(place);
     lower_balance(account, balance, amount);

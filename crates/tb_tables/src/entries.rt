@@ -5,7 +5,7 @@ ghost use Rattle.std.specs.List.{list_any};
 ghost use Rattle.indexmap.specs.IndexMap.{get, keys, index_map_len, set_value_at, IsUnique};
 ghost use Rattle.tb_tables.specs.declared.row.Row.{Row as RowRecord};
 ghost use Rattle.tb_tables.specs.Changes.{without_last};
-ghost use Rattle.tb_tables.specs.Storing.{new_row, settled};
+ghost use Rattle.tb_tables.specs.Storing.{new_row, status_after};
 
 use crate::by_id::{ById, Ids};
 use crate::key::Key;
@@ -115,7 +115,7 @@ pub fn set_status(transfers: &mut ById<Row>, place: usize, status: Status)
 
 /// The status of what a post or a void names.
 pub fn settled_status(is_post: bool) -> Status
-    ensures { result ≡ settled is_post }
+    ensures { result ≡ status_after is_post }
 {
     if is_post {
         Status::Posted

@@ -1,7 +1,7 @@
 //! The hasher of maps whose keys have their hashes.
 
 ghost use Rattle.std.specs.Prelude.{◌≡◌};
-ghost use Rattle.tb_tables.specs.Handed.{handed};
+ghost use Rattle.tb_tables.specs.Handed.{number_after};
 
 use std::hash::Hasher;
 
@@ -20,7 +20,7 @@ impl Default for Handed {
 }
 
 impl Hasher for Handed {
-    ghost write = { handed };
+    ghost write = { number_after };
 
     ghost finish = { λ hasher. hasher.hash };
 

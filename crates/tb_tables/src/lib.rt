@@ -15,7 +15,7 @@ mod entries;
 mod expiries;
 mod handed;
 mod key;
-mod lapse;
+mod timeouts;
 mod mark;
 mod note;
 mod places;

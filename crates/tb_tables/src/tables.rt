@@ -9,7 +9,7 @@ use crate::entries::{
     place_of, place_under, pop_account, pop_failed, push_account, push_failed, push_transfer,
 };
 use crate::key::Key;
-use crate::lapse::expire_all;
+use crate::timeouts::expire_all;
 use crate::mark::Mark;
 use crate::note::note;
 use crate::places::Places;
@@ -51,7 +51,7 @@ impl Tables {
     ghost use Rattle.tb_tables.specs.Status.{status_with, expire_due as with_due_expired};
     ghost use Rattle.tb_tables.specs.Balances.{with_balances as balanced, balanced_account};
     ghost use Rattle.tb_tables.specs.Conditions.{HasNoBalances, MayAdd, MayResolve};
-    ghost use Rattle.tb_tables.specs.History.{changed, mark_of, undone, kept};
+    ghost use Rattle.tb_tables.specs.History.{with_change, mark_of, back_to, without_past};
     ghost use Rattle.tb_tables.specs.Kept.{MayStore, HavePlaces};
 
     /// Tables without facts. Takes no memory.
@@ -71,7 +71,7 @@ impl Tables {
     pub fn add_account(&mut self, account: Account) -> Result<(), NoMemory>
         requires new { account_with self.old.now account.id ≡ None }
         requires no_balances { HasNoBalances account }
-        ensures ok { OnOk result (self.new ≡ changed self.old (with_account self.old.now account)) }
+        ensures ok { OnOk result (self.new ≡ with_change self.old (with_account self.old.now account)) }
         ensures err { OnErr result (self.new ≡ self.old) }
     {
         self.changes.reserve(1)?;
@@ -83,7 +83,7 @@ impl Tables {
     /// Adds an id to those that failed.
     pub fn add_failed(&mut self, id: u128) -> Result<(), NoMemory>
         requires { is_failed self.old.now id ≡ false }
-        ensures ok { OnOk result (self.new ≡ changed self.old (with_failed self.old.now id)) }
+        ensures ok { OnOk result (self.new ≡ with_change self.old (with_failed self.old.now id)) }
         ensures err { OnErr result (self.new ≡ self.old) }
     {
         self.add_failed_under(Key::of(id))
@@ -92,7 +92,7 @@ impl Tables {
     /// Adds an id, here its key, to those that failed. No id is hashed.
     pub fn add_failed_under(&mut self, key: Key) -> Result<(), NoMemory>
         requires { is_failed self.old.now key ≡ false }
-        ensures ok { OnOk result (self.new ≡ changed self.old (with_failed self.old.now key)) }
+        ensures ok { OnOk result (self.new ≡ with_change self.old (with_failed self.old.now key)) }
         ensures err { OnErr result (self.new ≡ self.old) }
     {
         self.changes.reserve(1)?;
@@ -106,7 +106,7 @@ impl Tables {
         requires key { key ≡ transfer.id }
         requires at { HavePlaces self.old.now transfer places }
         requires may { MayStore self.old.now transfer places.pending }
-        ensures ok { OnOk result (self.new ≡ changed self.old (with_transfer self.old.now transfer)) }
+        ensures ok { OnOk result (self.new ≡ with_change self.old (with_transfer self.old.now transfer)) }
         ensures err { OnErr result (self.new ≡ self.old) }
     {
         let place = self.transfers.len();
@@ -124,7 +124,7 @@ impl Tables {
     /// Adds a plain or pending transfer after those that are there.
     pub fn add_transfer(&mut self, transfer: Transfer) -> Result<(), NoMemory>
         requires { MayAdd self.old.now transfer }
-        ensures ok { OnOk result (self.new ≡ changed self.old (with_transfer self.old.now transfer)) }
+        ensures ok { OnOk result (self.new ≡ with_change self.old (with_transfer self.old.now transfer)) }
         ensures err { OnErr result (self.new ≡ self.old) }
     {
         let places = Places {
@@ -148,7 +148,7 @@ impl Tables {
         requires may { MayAdd self.old.now transfer }
         requires debit { IsPlaceOf self.old.now transfer.debit_account_id (Some debit) }
         requires credit { IsPlaceOf self.old.now transfer.credit_account_id (Some credit) }
-        ensures ok { OnOk result (self.new ≡ changed self.old (with_transfer self.old.now transfer)) }
+        ensures ok { OnOk result (self.new ≡ with_change self.old (with_transfer self.old.now transfer)) }
         ensures err { OnErr result (self.new ≡ self.old) }
     {
         self.store(
@@ -165,7 +165,7 @@ impl Tables {
     /// Adds a post or a void, with its resolved fields. The transfer that it names is pending no more.
     pub fn resolve(&mut self, transfer: Transfer) -> Result<(), NoMemory>
         requires { MayResolve self.old.now transfer }
-        ensures ok { OnOk result (self.new ≡ changed self.old (with_transfer self.old.now transfer)) }
+        ensures ok { OnOk result (self.new ≡ with_change self.old (with_transfer self.old.now transfer)) }
         ensures err { OnErr result (self.new ≡ self.old) }
     {
         self.resolve_under(Key::of(transfer.id), Key::of(transfer.pending_id), transfer)
@@ -182,7 +182,7 @@ impl Tables {
         requires key { key ≡ transfer.id }
         requires pending { pending ≡ transfer.pending_id }
         requires may { MayResolve self.old.now transfer }
-        ensures ok { OnOk result (self.new ≡ changed self.old (with_transfer self.old.now transfer)) }
+        ensures ok { OnOk result (self.new ≡ with_change self.old (with_transfer self.old.now transfer)) }
         ensures err { OnErr result (self.new ≡ self.old) }
     {
         let places = Places {
@@ -275,7 +275,7 @@ impl Tables {
     /// Takes the last change back.
     fn undo_last(&mut self)
         requires { 0 < length self.old.past }
-        ensures { changed self.new self.old.now ≡ self.old }
+        ensures { with_change self.new self.old.now ≡ self.old }
     {
         match self.changes.pop() {
             None => {}
@@ -295,7 +295,7 @@ impl Tables {
     /// Goes back to a mark. Costs as much as the changes since then, and takes no memory.
     pub fn undo_to(&mut self, mark: Mark)
         requires { mark ≤ mark_of self.old }
-        ensures { self.new ≡ undone mark self.old }
+        ensures { self.new ≡ back_to mark self.old }
     {
         while self.mark().changes() > mark.changes() {
             self.undo_last();
@@ -304,7 +304,7 @@ impl Tables {
 
     /// Lets the changes stand: they can't be taken back any more. Costs as much as the changes.
     pub fn keep(&mut self)
-        ensures { self.new ≡ kept self.old }
+        ensures { self.new ≡ without_past self.old }
     {
         forget_resolved(&mut self.expiries, &self.transfers, self.changes.as_slice());
         self.changes.clear();

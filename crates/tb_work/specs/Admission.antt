@@ -9,16 +9,16 @@ use Rattle.tb_work.specs.declared.refusal.Refusal.TheVariants.{InvalidOperation,
 abbrev pub event_size : ℕ → Option ℕ
 event_size operation = if operation == create_accounts then Some 128 else if operation == create_transfers then Some 128 else if operation == lookup_accounts then Some 16 else None
 
-abbrev pub admitted_of_size : ℕ → List ℕ → Option ℕ → Result ℕ Refusal
-admitted_of_size limit bytes None = Err InvalidOperation
-admitted_of_size limit bytes (Some size) =
+abbrev pub admission_of_size : ℕ → List ℕ → Option ℕ → Result ℕ Refusal
+admission_of_size limit bytes None = Err InvalidOperation
+admission_of_size limit bytes (Some size) =
     if not (length bytes % size == 0) then Err InvalidDataSize
     else if nat_lt limit (length bytes / size) then Err TooMuchData
     else Ok (length bytes / size)
 
 -- the number of its events, or why a packet is not admitted
-abbrev pub admitted : ℕ → Packet → Result ℕ Refusal
-admitted limit packet = admitted_of_size limit packet.bytes (event_size packet.operation)
+abbrev pub admission_of : ℕ → Packet → Result ℕ Refusal
+admission_of limit packet = admission_of_size limit packet.bytes (event_size packet.operation)
 
 -- how many events a packet has
 abbrev pub count_of_size : List ℕ → Option ℕ → ℕ

@@ -9,7 +9,7 @@ use Rattle.tb_layout.specs.Account.{account_of, is_linked as is_linked_account}
 use Rattle.tb_layout.specs.Transfer.{transfer_of, is_linked as is_linked_transfer}
 use Rattle.tb_work.specs.declared.packet.Packet.{Packet}
 use Rattle.tb_work.specs.declared.stub.Stub.{Stub}
-use Rattle.tb_work.specs.Admission.{admitted, count_of}
+use Rattle.tb_work.specs.Admission.{admission_of, count_of}
 
 -- a packet with its submitter, and its number among that submitter's queued packets
 pub record Numbered : Type 0 where
@@ -35,8 +35,8 @@ is_open packet = is_open_events (events_in packet)
 abbrev pub is_lookup : Packet → Bool
 is_lookup packet = packet.operation == lookup_accounts
 
-abbrev pub numbered : ℕ → ℕ → Packet → Numbered
-numbered submitter number packet = record { submitter = submitter; number = number; packet = packet }
+abbrev pub numbered_packet : ℕ → ℕ → Packet → Numbered
+numbered_packet submitter number packet = record { submitter = submitter; number = number; packet = packet }
 
 -- whether a row of a packet's data is a linked event
 abbrev pub is_row_linked : ℕ → List ℕ → Bool
@@ -45,6 +45,6 @@ is_row_linked operation row =
 
 -- it is admitted, and so many failures have room
 pub record IsJob (packet : Packet) (count : ℕ) (room : Vec Failure Global) : Type 0 where
-  pub admitted : admitted batch_max packet ≡ Ok count
+  pub admitted : admission_of batch_max packet ≡ Ok count
   pub empty : room.items ≡ []
   pub fits : is_lookup packet ≡ false → count ≤ vec_capacity room

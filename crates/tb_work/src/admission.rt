@@ -29,7 +29,7 @@ fn event_size(operation: u8) -> Option<usize>
 /// whole events, more events than the limit. A packet without events is admitted. Costs the same
 /// for any packet (checks of tb_client before a packet is queued).
 pub fn admit(limit: u32, packet: &Packet) -> Result<u32, Refusal>
-    ensures { result ≡ spec.admitted limit packet.now }
+    ensures { result ≡ spec.admission_of limit packet.now }
 {
     let Some(size) = event_size(packet.operation) else {
         return Err(Refusal::InvalidOperation);

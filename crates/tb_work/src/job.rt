@@ -3,7 +3,7 @@
 ghost use Rattle.std.specs.Prelude.{◌≡◌, ◌≤◌, ◌==◌, ◌⊎◌, false, [], IfOk, OnOk, IfErr, IsOk, Err, vec_capacity};
 ghost use Rattle.tb_layout.specs.Limits.{batch_max};
 ghost use Rattle.tb_layout.specs.Operation.{lookup_accounts};
-ghost use Rattle.tb_work.specs.Admission.{admitted};
+ghost use Rattle.tb_work.specs.Admission.{admission_of};
 ghost use Rattle.tb_work.specs.declared.refusal.Refusal.TheVariants.{NoMemory};
 ghost use Rattle.tb_work.specs.Job.{is_row_linked};
 
@@ -55,7 +55,7 @@ fn is_last_linked(operation: u8, row: &[u8; 128]) -> bool
 }
 
 impl Job {
-    ghost use Rattle.tb_work.specs.Job.{stub_of, is_open, numbered};
+    ghost use Rattle.tb_work.specs.Job.{stub_of, is_open, numbered_packet};
 
     /// The packet as this submitter's packet of this number, with room for as many failures as it has
     /// events. Where it is not admitted or memory is refused, it comes back as it was. All memory that
@@ -68,10 +68,10 @@ impl Job {
         packet: Packet,
     ) -> Result<Job, (Packet, Refusal)>
         requires { limit ≤ batch_max }
-        ensures job { IfOk result (λ job. job ≡ numbered submitter number packet) }
-        ensures admitted { OnOk result (IsOk (admitted limit packet)) }
+        ensures job { IfOk result (λ job. job ≡ numbered_packet submitter number packet) }
+        ensures admitted { OnOk result (IsOk (admission_of limit packet)) }
         ensures back { IfErr result (λ refused. refused.0 ≡ packet) }
-        ensures refusal { IfErr result (λ refused. (admitted limit packet ≡ Err refused.1) ⊎ ((refused.1 ≡ NoMemory) × IsOk (admitted limit packet))) }
+        ensures refusal { IfErr result (λ refused. (admission_of limit packet ≡ Err refused.1) ⊎ ((refused.1 ≡ NoMemory) × IsOk (admission_of limit packet))) }
     {
         let count = match admit(limit, &packet) {
             Ok(count) => count,
@@ -104,7 +104,7 @@ impl Job {
     /// The packet as it was handed in.
     pub fn packet(&self) -> &Packet
         ensures packet { result.now ≡ self.now.packet }
-        ensures admitted { IsOk (admitted batch_max self.now.packet) }
+        ensures admitted { IsOk (admission_of batch_max self.now.packet) }
     {
         &self.packet
     }

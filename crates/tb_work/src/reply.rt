@@ -1,7 +1,7 @@
 //! Replies.
 
 ghost use Rattle.std.specs.Prelude.{◌≡◌, ◌+◌, ◌<◌, ◌≤◌, ◌++◌, ◌^◌, [], false, map, length, vec_capacity};
-ghost use Rattle.tb_layout.specs.Failures.{RiseWithin, rebased};
+ghost use Rattle.tb_layout.specs.Failures.{RiseWithin, from_offset};
 ghost use Rattle.tb_work.specs.Admission.{count_of};
 ghost use Rattle.tb_work.specs.Answer.{IsOutcomeOf};
 ghost use Rattle.tb_work.specs.Job.{is_lookup};
@@ -39,7 +39,7 @@ fn rebase_into(room: &mut Vec<Failure>, failures: &[Failure], offset: u32, count
     requires empty { room.old.items ≡ [] }
     requires rise { RiseWithin offset (offset + count) failures.now }
     requires fits { count ≤ vec_capacity room.old }
-    ensures { room.new.items ≡ map (rebased offset) failures.now }
+    ensures { room.new.items ≡ map (from_offset offset) failures.now }
 {
     for failure in failures {
         let Failure { index, code } = *failure;
@@ -72,7 +72,7 @@ impl Reply {
     pub fn committed(job: Job, place: u64, failures: &[Failure], offset: u32) -> Reply
         requires no_lookup { is_lookup job.packet ≡ false }
         requires rise { RiseWithin offset (offset + count_of job.packet) failures.now }
-        ensures { result ≡ reply_with (CommittedAt place (FailuresOf (map (rebased offset) failures.now))) job }
+        ensures { result ≡ reply_with (CommittedAt place (FailuresOf (map (from_offset offset) failures.now))) job }
     {
         let count = job.stub().count;
         let Job {

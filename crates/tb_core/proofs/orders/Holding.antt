@@ -15,13 +15,13 @@ use Rattle.tb_core.specs.declared.outcomes.Outcomes.TheVariants as outcomes
 use Rattle.tb_core.specs.declared.parcel.Parcel.{Parcel}
 use Rattle.tb_core.specs.declared.parcel.Parcel.TheVariants as parcel
 use Rattle.tb_core.specs.Passage.{Passage, Admitted, Passes}
-use Rattle.tb_core.specs.Front.{FrontState, took, holding, all_ended, spelled, spelled_one, held_by}
-use Rattle.tb_core.specs.Ledger.{LedgerState, applied}
+use Rattle.tb_core.specs.Front.{FrontState, take_step, with_group, all_ended, all_passages_in, passages_in, held_by}
+use Rattle.tb_core.specs.Ledger.{LedgerState, apply_step}
 use Rattle.tb_core.specs.Due.{replies_to}
 use Rattle.tb_core.specs.Run.{Commits, replies_in}
-use Rattle.tb_core.specs.world.Shelf.{Shelf, empty_shelf, shelf_at, given_to, given, taken_from}
+use Rattle.tb_core.specs.world.Shelf.{Shelf, empty_shelf, shelf_at, with_reply, shelves_with, after_pop_of}
 use Rattle.tb_core.specs.world.Pushing.{may_push}
-use Rattle.tb_core.specs.world.World.{WorldState, sender_at, is_lawful, pop, batch_push, left_by, batch_pop, outcome_push, outcome_pop, reply_push, reply_pop, counting}
+use Rattle.tb_core.specs.world.World.{WorldState, sender_at, is_lawful, pop, batch_push, left_by, batch_pop, outcome_push, outcome_pop, reply_push, reply_pop, senders_after}
 use Rattle.tb_core.proofs.Accounting.{IsClear}
 use Rattle.tb_core.proofs.orders.Below.{HasJobs, passes_more, goes_further, commits_more}
 use Rattle.tb_core.proofs.orders.Fronts.{AllHaveJobs, is_taken_by}
@@ -29,7 +29,7 @@ use Rattle.tb_core.proofs.orders.Pushed.{HavePushed, push_counted}
 
 -- what the front made of a queue and no ledger took yet, from the batch ring back to the group held
 abbrev pub on_the_way : FrontState → List Parcel → List Parcel → List Passage
-on_the_way front parcels batches = spelled batches ++ (spelled parcels ++ held_by front)
+on_the_way front parcels batches = all_passages_in batches ++ (all_passages_in parcels ++ held_by front)
 
 abbrev pub of_all : List Outcomes → List Replied
 of_all outcomes = flat_map replies_in outcomes
@@ -43,8 +43,8 @@ abbrev pub unrouted : List Replied → List Outcomes → Option Outcomes → Lis
 unrouted replies outcomes outcome = replies ++ (of_all outcomes ++ of_one outcome)
 
 -- what of the queue a front took went to a ledger, or is on the way
-pub record AreSent (queue : List Ticket) (applied : List Passage) (front : FrontState) (parcels batches : List Parcel) : Type 0 where
-  pub passes : Passes (items_in queue) front.closed front.stopped (applied ++ on_the_way front parcels batches)
+pub record AreSent (queue : List Ticket) (apply_step : List Passage) (front : FrontState) (parcels batches : List Parcel) : Type 0 where
+  pub passes : Passes (items_in queue) front.closed front.stopped (apply_step ++ on_the_way front parcels batches)
   pub clear : IsClear front
   pub parcel_jobs : AllHaveJobs parcels
   pub batch_jobs : AllHaveJobs batches
@@ -71,8 +71,8 @@ pub record Holds (Unrefused : Type 0) (clock submitters : ℕ) (pushed : List Ti
   pub split : pushed ≡ taken ++ world.queue
   pub counted : world.submitters ≡ submitters
   pub senders : HavePushed submitters pushed world.senders
-  pub sent : AreSent taken applied world.front world.parcels world.batches
-  pub commits : Commits clock applied world.ledger answers
+  pub sent : AreSent taken apply_step world.front world.parcels world.batches
+  pub commits : Commits clock apply_step world.ledger answers
   pub routed : AreRouted submitters answers world.shelves (unrouted world.replies world.outcomes world.outcome)
   pub goes : Unrefused → Goes world.front world.ledger
 
@@ -81,16 +81,16 @@ pub record Holds (Unrefused : Type 0) (clock submitters : ℕ) (pushed : List Ti
 items_push : (queue : List Ticket) (ticket : Ticket) → items_in (queue ++ ticket ∷ []) ≡ items_in queue ++ ticket.item ∷ []
 items_push queue ticket = map-append (λ (ticket : Ticket). ticket.item) queue (ticket ∷ [])
 
-sent_ticket : (refused : Bool) (queue : List Ticket) (applied : List Passage) (front : FrontState) (batches : List Parcel) (ticket : Ticket) → AreSent queue applied front [] batches →
-    (let next = took refused front ticket.sender ticket.item in AreSent (queue ++ ticket ∷ []) applied next.front next.parcels batches)
-sent_ticket refused queue applied front batches ticket sent =
-    let next = took refused front ticket.sender ticket.item in
+sent_ticket : (refused : Bool) (queue : List Ticket) (apply_step : List Passage) (front : FrontState) (batches : List Parcel) (ticket : Ticket) → AreSent queue apply_step front [] batches →
+    (let next = take_step refused front ticket.sender ticket.item in AreSent (queue ++ ticket ∷ []) apply_step next.front next.parcels batches)
+sent_ticket refused queue apply_step front batches ticket sent =
+    let next = take_step refused front ticket.sender ticket.item in
     let is = is_taken_by refused front ticket.sender ticket.item sent.clear in
-    let before : applied ++ (spelled batches ++ held_by front) ≡ (applied ++ spelled batches) ++ held_by front = sym (append_assoc applied (spelled batches) (held_by front)) in
-    let more = passes_more refused front ticket.sender ticket.item (items_in queue) (applied ++ spelled batches) sent.clear (subst (Passes (items_in queue) front.closed front.stopped) before sent.passes) in
-    let after : ((applied ++ spelled batches) ++ spelled next.parcels) ++ held_by next.front ≡ applied ++ (spelled batches ++ (spelled next.parcels ++ held_by next.front)) = simp append_assoc in
+    let before : apply_step ++ (all_passages_in batches ++ held_by front) ≡ (apply_step ++ all_passages_in batches) ++ held_by front = sym (append_assoc apply_step (all_passages_in batches) (held_by front)) in
+    let more = passes_more refused front ticket.sender ticket.item (items_in queue) (apply_step ++ all_passages_in batches) sent.clear (subst (Passes (items_in queue) front.closed front.stopped) before sent.passes) in
+    let after : ((apply_step ++ all_passages_in batches) ++ all_passages_in next.parcels) ++ held_by next.front ≡ apply_step ++ (all_passages_in batches ++ (all_passages_in next.parcels ++ held_by next.front)) = simp append_assoc in
     record {
-      passes = subst (λ items. Passes items next.front.closed next.front.stopped (applied ++ on_the_way next.front next.parcels batches)) (sym (items_push queue ticket))
+      passes = subst (λ items. Passes items next.front.closed next.front.stopped (apply_step ++ on_the_way next.front next.parcels batches)) (sym (items_push queue ticket))
           (subst (Passes (items_in queue ++ ticket.item ∷ []) next.front.closed next.front.stopped) after more);
       clear = is.clear;
       parcel_jobs = is.jobs;
@@ -120,17 +120,17 @@ jobs_push [] p all has = (has, tt)
 jobs_push (first ∷ parcels) p all has = (all.0, jobs_push parcels p all.1 has)
 
 -- a parcel goes to the batch ring, from those to push or as the group held
-sent_parcel : (queue : List Ticket) (applied : List Passage) (front next : FrontState) (parcels others batches : List Parcel) (p : Parcel) → HasJobs p → AllHaveJobs others → IsClear next →
-    next.closed ≡ front.closed → next.stopped ≡ front.stopped → spelled parcels ++ held_by front ≡ spelled_one p ++ (spelled others ++ held_by next) → AreSent queue applied front parcels batches → AreSent queue applied next others (batches ++ p ∷ [])
-sent_parcel queue applied front next parcels others batches p has all clear closed stopped list sent =
-    let rest = spelled others ++ held_by next in
-    let spelt : spelled (batches ++ p ∷ []) ≡ spelled batches ++ spelled_one p = flat_map-append spelled_one batches (p ∷ []) ∙ ap (λ l. spelled batches ++ l) (append-nil (spelled_one p)) in
+sent_parcel : (queue : List Ticket) (apply_step : List Passage) (front next : FrontState) (parcels others batches : List Parcel) (p : Parcel) → HasJobs p → AllHaveJobs others → IsClear next →
+    next.closed ≡ front.closed → next.stopped ≡ front.stopped → all_passages_in parcels ++ held_by front ≡ passages_in p ++ (all_passages_in others ++ held_by next) → AreSent queue apply_step front parcels batches → AreSent queue apply_step next others (batches ++ p ∷ [])
+sent_parcel queue apply_step front next parcels others batches p has all clear closed stopped list sent =
+    let rest = all_passages_in others ++ held_by next in
+    let spelt : all_passages_in (batches ++ p ∷ []) ≡ all_passages_in batches ++ passages_in p = flat_map-append passages_in batches (p ∷ []) ∙ ap (λ l. all_passages_in batches ++ l) (append-nil (passages_in p)) in
     let way : on_the_way front parcels batches ≡ on_the_way next others (batches ++ p ∷ []) =
-    ap (λ l. spelled batches ++ l) list ∙ sym (append_assoc (spelled batches) (spelled_one p) rest) ∙ ap (λ l. l ++ rest) (sym spelt) in
+    ap (λ l. all_passages_in batches ++ l) list ∙ sym (append_assoc (all_passages_in batches) (passages_in p) rest) ∙ ap (λ l. l ++ rest) (sym spelt) in
     record {
-      passes = subst (Passes (items_in queue) next.closed next.stopped) (ap (λ l. applied ++ l) way)
-          (subst (λ b. Passes (items_in queue) b next.stopped (applied ++ on_the_way front parcels batches)) (sym closed)
-          (subst (λ b. Passes (items_in queue) front.closed b (applied ++ on_the_way front parcels batches)) (sym stopped) sent.passes));
+      passes = subst (Passes (items_in queue) next.closed next.stopped) (ap (λ l. apply_step ++ l) way)
+          (subst (λ b. Passes (items_in queue) b next.stopped (apply_step ++ on_the_way front parcels batches)) (sym closed)
+          (subst (λ b. Passes (items_in queue) front.closed b (apply_step ++ on_the_way front parcels batches)) (sym stopped) sent.passes));
       clear = clear;
       parcel_jobs = all;
       batch_jobs = jobs_push batches p sent.batch_jobs has;
@@ -157,13 +157,13 @@ pub batch_push_holds : (Unrefused : Type 0) (clock n : ℕ) (pushed : List Ticke
 batch_push_holds Unrefused clock n pushed w (p ∷ parcels) held e g h =
     let sent = subst (λ ps. AreSent h.taken h.applied w.front ps w.batches) e h.sent in
     pushed_on Unrefused clock n pushed w w.front parcels w.last_sent p refl h
-    (sent_parcel h.taken h.applied w.front w.front (p ∷ parcels) parcels w.batches p sent.parcel_jobs.0 sent.parcel_jobs.1 sent.clear refl refl (append_assoc (spelled_one p) (spelled parcels) (held_by w.front)) sent)
+    (sent_parcel h.taken h.applied w.front w.front (p ∷ parcels) parcels w.batches p sent.parcel_jobs.0 sent.parcel_jobs.1 sent.clear refl refl (append_assoc (passages_in p) (all_passages_in parcels) (held_by w.front)) sent)
 batch_push_holds Unrefused clock n pushed w [] (job ∷ jobs) e g h =
     let group = parcel.Batch (job ∷ jobs) in
-    let list : spelled w.parcels ++ held_by w.front ≡ spelled_one group ++ (spelled w.parcels ++ []) =
-    ap (λ (ps : List Parcel). spelled ps ++ held_by w.front) e ∙ ap (map Admitted) g ∙ sym (append-nil (spelled_one group)) ∙ ap (λ (ps : List Parcel). spelled_one group ++ (spelled ps ++ [])) (sym e) in
-    pushed_on Unrefused clock n pushed w (holding w.front []) w.parcels w.last_sent group refl h
-    (sent_parcel h.taken h.applied w.front (holding w.front []) w.parcels w.parcels w.batches group (omega arith) h.sent.parcel_jobs (λ any. refl) refl refl list h.sent)
+    let list : all_passages_in w.parcels ++ held_by w.front ≡ passages_in group ++ (all_passages_in w.parcels ++ []) =
+    ap (λ (ps : List Parcel). all_passages_in ps ++ held_by w.front) e ∙ ap (map Admitted) g ∙ sym (append-nil (passages_in group)) ∙ ap (λ (ps : List Parcel). passages_in group ++ (all_passages_in ps ++ [])) (sym e) in
+    pushed_on Unrefused clock n pushed w (with_group w.front []) w.parcels w.last_sent group refl h
+    (sent_parcel h.taken h.applied w.front (with_group w.front []) w.parcels w.parcels w.batches group (omega arith) h.sent.parcel_jobs (λ any. refl) refl refl list h.sent)
 batch_push_holds Unrefused clock n pushed w [] [] e g h = by (all_ended w.front && not w.last_sent)
   where
     by : (b : Bool) → Holds Unrefused clock n pushed (unwrap_or (if b then Some (record w { last_sent = true; batches = w.batches ++ parcel.Last ∷ [] }) else None) w)
@@ -194,22 +194,22 @@ left_replies (outcomes.One reply) = refl
 left_replies outcomes.Nothing = refl
 left_replies outcomes.Last = refl
 
-sent_applied : (queue : List Ticket) (applied : List Passage) (front : FrontState) (parcels batches : List Parcel) (p : Parcel) → AreSent queue applied front parcels (p ∷ batches) → AreSent queue (applied ++ spelled_one p) front parcels batches
-sent_applied queue applied front parcels batches p sent =
-    let rest = spelled parcels ++ held_by front in
-    let list : applied ++ ((spelled_one p ++ spelled batches) ++ rest) ≡ (applied ++ spelled_one p) ++ (spelled batches ++ rest) = simp append_assoc in
+sent_applied : (queue : List Ticket) (apply_step : List Passage) (front : FrontState) (parcels batches : List Parcel) (p : Parcel) → AreSent queue apply_step front parcels (p ∷ batches) → AreSent queue (apply_step ++ passages_in p) front parcels batches
+sent_applied queue apply_step front parcels batches p sent =
+    let rest = all_passages_in parcels ++ held_by front in
+    let list : apply_step ++ ((passages_in p ++ all_passages_in batches) ++ rest) ≡ (apply_step ++ passages_in p) ++ (all_passages_in batches ++ rest) = simp append_assoc in
     record { passes = subst (Passes (items_in queue) front.closed front.stopped) list sent.passes; clear = sent.clear; parcel_jobs = sent.parcel_jobs; batch_jobs = sent.batch_jobs.1 }
 
 -- the next parcel is applied without a stop where nothing was refused
 abbrev pub GoesOn : Type 0 → Bool → WorldState → Type 0
-GoesOn Unrefused refused w = Unrefused → (p : Parcel) (batches : List Parcel) → w.batches ≡ p ∷ batches → (applied refused w.ledger p).ledger.stopped ≡ false
+GoesOn Unrefused refused w = Unrefused → (p : Parcel) (batches : List Parcel) → w.batches ≡ p ∷ batches → (apply_step refused w.ledger p).ledger.stopped ≡ false
 
 pub batch_pop_holds : (Unrefused : Type 0) (refused : Bool) (clock n : ℕ) (pushed : List Ticket) (w : WorldState) (outcome : Option Outcomes) (batches : List Parcel) → w.outcome ≡ outcome → w.batches ≡ batches → GoesOn Unrefused refused w →
     Holds Unrefused clock n pushed w → Holds Unrefused clock n pushed (unwrap_or (batch_pop refused w outcome batches) w)
 batch_pop_holds Unrefused refused clock n pushed w (Some outcome) batches o e goes h = h
 batch_pop_holds Unrefused refused clock n pushed w None [] o e goes h = h
 batch_pop_holds Unrefused refused clock n pushed w None (p ∷ batches) o e goes h =
-    let next = applied refused w.ledger p in
+    let next = apply_step refused w.ledger p in
     let sent = subst (λ ps. AreSent h.taken h.applied w.front w.parcels ps) e h.sent in
     let more = replies_in next.outcomes in
     let routed = routed_more n h.answers w.shelves (unrouted w.replies w.outcomes None) more (subst (λ o. AreRouted n h.answers w.shelves (unrouted w.replies w.outcomes o)) o h.routed) in
@@ -217,7 +217,7 @@ batch_pop_holds Unrefused refused clock n pushed w None (p ∷ batches) o e goes
     append_assoc w.replies (of_all w.outcomes ++ []) more ∙ ap (λ rs. w.replies ++ (rs ++ more)) (append-nil (of_all w.outcomes)) ∙ ap (λ rs. w.replies ++ (of_all w.outcomes ++ rs)) (sym (left_replies next.outcomes)) in
     record {
       taken = h.taken;
-      applied = h.applied ++ spelled_one p;
+      applied = h.applied ++ passages_in p;
       answers = h.answers ++ more;
       split = h.split;
       counted = h.counted;
@@ -261,16 +261,16 @@ differ : (a b : ℕ) → a ≢ b → (a == b) ≡ false
 differ a b h = grind (arith, nat_tests)
 
 -- a reply goes from the way to its submitter's ring
-given_keeps : (n submitter : ℕ) (shelves : List Shelf) (reply : Replied) (way : List Replied) → length shelves ≡ n → submitter < n → shelved submitter shelves (reply ∷ way) ≡ shelved submitter (given shelves reply) way
+given_keeps : (n submitter : ℕ) (shelves : List Shelf) (reply : Replied) (way : List Replied) → length shelves ≡ n → submitter < n → shelved submitter shelves (reply ∷ way) ≡ shelved submitter (shelves_with shelves reply) way
 given_keeps n submitter shelves reply way long among =
     let own = reply.submitter in
-    let new = given_to (shelf_at shelves own) reply in
+    let new = with_reply (shelf_at shelves own) reply in
     let others = replies_to way submitter in
     ⊎_elim
     (λ (same : own ≡ submitter).
     let shelf = shelf_at shelves submitter in
-    let there : given_to shelf reply ≡ shelf_at (given shelves reply) submitter =
-    ap (λ k. given_to (shelf_at shelves k) reply) (sym same) ∙ sym (get_or-set_same shelves own new empty_shelf (omega (arith, long, same, among))) ∙ ap (λ k. get_or (set shelves own new) k empty_shelf) same in
+    let there : with_reply shelf reply ≡ shelf_at (shelves_with shelves reply) submitter =
+    ap (λ k. with_reply (shelf_at shelves k) reply) (sym same) ∙ sym (get_or-set_same shelves own new empty_shelf (omega (arith, long, same, among))) ∙ ap (λ k. get_or (set shelves own new) k empty_shelf) same in
     ap (λ b. shelf.received ++ (shelf.ring ++ (if b then reply ∷ others else others))) (ap (λ k. k == submitter) same ∙ same_number submitter)
     ∙ ap (λ rs. shelf.received ++ rs) (sym (append_assoc shelf.ring (reply ∷ []) others)) ∙ ap (λ (s : Shelf). s.received ++ (s.ring ++ others)) there)
     (λ (other : own ≢ submitter).
@@ -282,9 +282,9 @@ pub reply_push_holds : (Unrefused : Type 0) (clock n : ℕ) (pushed : List Ticke
     Holds Unrefused clock n pushed w → Holds Unrefused clock n pushed (unwrap_or (reply_push w replies) w)
 reply_push_holds Unrefused clock n pushed w [] r h = h
 reply_push_holds Unrefused clock n pushed w (reply ∷ replies) r h =
-    rerouted Unrefused clock n pushed w replies w.outcomes w.outcome (given w.shelves reply) h
+    rerouted Unrefused clock n pushed w replies w.outcomes w.outcome (shelves_with w.shelves reply) h
     (record {
-      long = length-set w.shelves reply.submitter (given_to (shelf_at w.shelves reply.submitter) reply) ∙ h.routed.long;
+      long = length-set w.shelves reply.submitter (with_reply (shelf_at w.shelves reply.submitter) reply) ∙ h.routed.long;
       each = λ submitter among. h.routed.each submitter among ∙ ap (λ (rs : List Replied). shelved submitter w.shelves (unrouted rs w.outcomes w.outcome)) r
           ∙ given_keeps n submitter w.shelves reply (unrouted replies w.outcomes w.outcome) h.routed.long among;
     })
@@ -305,7 +305,7 @@ taken_keeps n submitter own shelves reply ring way long among e =
     (cases_eq own submitter)
 
 pub reply_pop_holds : (Unrefused : Type 0) (clock n : ℕ) (pushed : List Ticket) (w : WorldState) (own : ℕ) (ring : List Replied) → (shelf_at w.shelves own).ring ≡ ring →
-    Holds Unrefused clock n pushed w → Holds Unrefused clock n pushed (unwrap_or (reply_pop w own (taken_from (shelf_at w.shelves own) ring)) w)
+    Holds Unrefused clock n pushed w → Holds Unrefused clock n pushed (unwrap_or (reply_pop w own (after_pop_of (shelf_at w.shelves own) ring)) w)
 reply_pop_holds Unrefused clock n pushed w own [] e h = h
 reply_pop_holds Unrefused clock n pushed w own (reply ∷ ring) e h =
     rerouted Unrefused clock n pushed w w.replies w.outcomes w.outcome _ h
@@ -317,7 +317,7 @@ reply_pop_holds Unrefused clock n pushed w own (reply ∷ ring) e h =
 -- ---- a push
 
 pub push_holds : (Unrefused : Type 0) (clock n : ℕ) (pushed : List Ticket) (w : WorldState) (ticket : Ticket) (b : Bool) → is_lawful w ticket ≡ b → Holds Unrefused clock n pushed w →
-    Holds Unrefused clock n (pushed ++ (if b then ticket ∷ [] else [])) (unwrap_or (if b then Some (record w { senders = counting w.senders ticket; queue = w.queue ++ ticket ∷ [] }) else None) w)
+    Holds Unrefused clock n (pushed ++ (if b then ticket ∷ [] else [])) (unwrap_or (if b then Some (record w { senders = senders_after w.senders ticket; queue = w.queue ++ ticket ∷ [] }) else None) w)
 push_holds Unrefused clock n pushed w ticket false is h = subst (λ l. Holds Unrefused clock n l w) (sym (append-nil pushed)) h
 push_holds Unrefused clock n pushed w ticket true is h =
     record {

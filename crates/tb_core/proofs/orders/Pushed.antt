@@ -12,8 +12,8 @@ use Rattle.tb_work.specs.declared.item.Item.{Item}
 use Rattle.tb_work.specs.declared.item.Item.TheVariants as item
 use Rattle.tb_work.specs.declared.item.Ticket.{Ticket}
 use Rattle.tb_core.specs.declared.world.sender.Sender.{Sender}
-use Rattle.tb_core.specs.world.Pushing.{may_push_item, may_push, newcomer, pushed_by}
-use Rattle.tb_core.specs.world.World.{sender_at, counting}
+use Rattle.tb_core.specs.world.Pushing.{may_push_item, may_push, newcomer, sender_after}
+use Rattle.tb_core.specs.world.World.{sender_at, senders_after}
 use Rattle.tb_core.specs.Front.{HaveAllEnded}
 
 -- ---- what may be pushed
@@ -107,13 +107,13 @@ unended_push items x all goes = list_all-append (λ x. not (is_end x)) items (x 
 ended_by : (items : List Item) (x : Item) → IsUnended items → is_end x ≡ true → IsEnded (items ++ x ∷ [])
 ended_by items x all ends = record { body = items; last = x; parts = refl; unended = all; ends = ends }
 
-pushed_more : (number : ℕ) (sender : Sender) (items : List Item) (x : Item) → sender.ended ≡ false → IsNext number sender.pushed x → HasPushed number sender items → HasPushed number (pushed_by sender x) (items ++ x ∷ [])
+pushed_more : (number : ℕ) (sender : Sender) (items : List Item) (x : Item) → sender.ended ≡ false → IsNext number sender.pushed x → HasPushed number sender items → HasPushed number (sender_after sender x) (items ++ x ∷ [])
 pushed_more number sender items x goes next has = by x (numbered_push number 0 items x has.numbered (subst (λ n. IsNext number n x) (has.counted ∙ omega arith) next)) (packets_in-append items (x ∷ []))
   where
     unended : IsUnended items
     unended = has.goes_on goes
 
-    by : (x : Item) → AreNumbered number 0 (items ++ x ∷ []) → packets_in (items ++ x ∷ []) ≡ packets_in items + packets_in (x ∷ []) → HasPushed number (pushed_by sender x) (items ++ x ∷ [])
+    by : (x : Item) → AreNumbered number 0 (items ++ x ∷ []) → packets_in (items ++ x ∷ []) ≡ packets_in items + packets_in (x ∷ []) → HasPushed number (sender_after sender x) (items ++ x ∷ [])
     by (item.Packet job) all count =
         record { numbered = all; counted = omega (arith, has.counted, count); goes_on = λ on. unended_push items (item.Packet job) unended refl; ended = λ over. (let e = sym goes ∙ over in cc) }
     by (item.Pulse moment) all count =
@@ -160,13 +160,13 @@ submitted_push submitters [] ticket all is = (is, tt)
 submitted_push submitters (first ∷ queue) ticket all is = (all.0, submitted_push submitters queue ticket all.1 is)
 
 pub push_counted : (limit submitters : ℕ) (pushed : List Ticket) (senders : List Sender) (ticket : Ticket) → may_push limit submitters ticket.sender (sender_at senders ticket.sender) ticket.item ≡ true → HavePushed submitters pushed senders →
-    HavePushed submitters (pushed ++ ticket ∷ []) (counting senders ticket)
+    HavePushed submitters (pushed ++ ticket ∷ []) (senders_after senders ticket)
 push_counted limit submitters pushed senders ticket lawful have =
     let old = sender_at senders ticket.sender in
-    let new = pushed_by old ticket.item in
+    let new = sender_after old ticket.item in
     let both = and_parts (not old.ended) (may_push_item limit submitters ticket.sender old ticket.item) lawful in
     let is = may limit submitters ticket.sender old ticket.item both.1 in
-    let Each : ℕ → Type 0 = λ sender. HasPushed sender (sender_at (counting senders ticket) sender) (part sender (pushed ++ ticket ∷ [])) in
+    let Each : ℕ → Type 0 = λ sender. HasPushed sender (sender_at (senders_after senders ticket) sender) (part sender (pushed ++ ticket ∷ [])) in
     let its : Each ticket.sender =
     subst (λ s. HasPushed ticket.sender s (part ticket.sender (pushed ++ ticket ∷ []))) (sym (get_or-set_same senders ticket.sender new newcomer (omega (arith, have.long, is.among))))
     (subst (HasPushed ticket.sender new) (sym (part_push ticket.sender pushed ticket true (same_number ticket.sender)))

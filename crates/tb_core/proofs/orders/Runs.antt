@@ -14,11 +14,11 @@ use Rattle.tb_core.specs.declared.parcel.Parcel.TheVariants as parcel
 use Rattle.tb_core.specs.declared.world.event.Event.{Event}
 use Rattle.tb_core.specs.declared.world.event.Event.TheVariants.{Push, Pop, BatchPush, BatchPop, OutcomePush, OutcomePop, ReplyPush, ReplyPop}
 use Rattle.tb_core.specs.Due.{works_in}
-use Rattle.tb_core.specs.Front.{spelled, spelled_one, held_by}
-use Rattle.tb_core.specs.Ledger.{LedgerState, Applied, works, halts, applied}
+use Rattle.tb_core.specs.Front.{all_passages_in, passages_in, held_by}
+use Rattle.tb_core.specs.Ledger.{LedgerState, Applied, works, must_stop, apply_step}
 use Rattle.tb_core.specs.world.Pushing.{newcomer}
 use Rattle.tb_core.specs.world.Shelf.{Shelf, empty_shelf, shelf_at}
-use Rattle.tb_core.specs.world.World.{WorldState, is_lawful, stepped, run, opened}
+use Rattle.tb_core.specs.world.World.{WorldState, is_lawful, after_event, run, new_world}
 use Rattle.tb_core.specs.world.EveryOrder.{pushed_at, history, is_refused}
 use Rattle.tb_core.proofs.Committed.{works_in-append, works_in-admitted}
 use Rattle.tb_core.proofs.orders.Below.{so_far}
@@ -41,32 +41,32 @@ either : (b : Bool) (x y : Applied) → b ≡ false → y.ledger.stopped ≡ fal
 either true x y e h = cc
 either false x y e h = h
 
-goes_on : (ledger : LedgerState) (p : Parcel) → ledger.stopped ≡ false → length (works ledger) + length (works_in (spelled_one p)) ≤ 2 ^ 63 → (applied false ledger p).ledger.stopped ≡ false
+goes_on : (ledger : LedgerState) (p : Parcel) → ledger.stopped ≡ false → length (works ledger) + length (works_in (passages_in p)) ≤ 2 ^ 63 → (apply_step false ledger p).ledger.stopped ≡ false
 goes_on ledger p goes room = by p room
   where
-    none : (count : ℕ) → length (works ledger) + count ≤ 2 ^ 63 → halts false ledger count ≡ false
+    none : (count : ℕ) → length (works ledger) + count ≤ 2 ^ 63 → must_stop false ledger count ≡ false
     none count room = ap (λ b. b || (false || nat_lt (2 ^ 63) (length (works ledger) + count))) goes ∙ few (length (works ledger) + count) (2 ^ 63) room
 
-    by : (p : Parcel) → length (works ledger) + length (works_in (spelled_one p)) ≤ 2 ^ 63 → (applied false ledger p).ledger.stopped ≡ false
-    by (parcel.Batch jobs) room = either (halts false ledger (length jobs)) _ _ (none (length jobs) (omega (arith, room, ap length (works_in-admitted jobs), length-map jobs work_of))) goes
-    by (parcel.Pulse moment) room = either (halts false ledger 1) _ _ (none 1 room) goes
+    by : (p : Parcel) → length (works ledger) + length (works_in (passages_in p)) ≤ 2 ^ 63 → (apply_step false ledger p).ledger.stopped ≡ false
+    by (parcel.Batch jobs) room = either (must_stop false ledger (length jobs)) _ _ (none (length jobs) (omega (arith, room, ap length (works_in-admitted jobs), length-map jobs work_of))) goes
+    by (parcel.Pulse moment) room = either (must_stop false ledger 1) _ _ (none 1 room) goes
     by (parcel.Return job cause) room = goes
     by parcel.Last room = goes
 
 pub parcel_goes : (Unrefused : Type 0) (refused : Bool) (clock n : ℕ) (pushed : List Ticket) (w : WorldState) → (Unrefused → refused ≡ false) → length pushed ≤ 2 ^ 63 → Holds Unrefused clock n pushed w → GoesOn Unrefused refused w
 parcel_goes Unrefused refused clock n pushed w u short h = λ is p batches e.
-    let rest = spelled batches ++ (spelled w.parcels ++ held_by w.front) in
-    let way : works_in (on_the_way w.front w.parcels w.batches) ≡ works_in (spelled_one p) ++ works_in rest =
-    ap (λ (ps : List Parcel). works_in (spelled ps ++ (spelled w.parcels ++ held_by w.front))) e
-    ∙ ap works_in (append_assoc (spelled_one p) (spelled batches) (spelled w.parcels ++ held_by w.front)) ∙ works_in-append (spelled_one p) rest in
+    let rest = all_passages_in batches ++ (all_passages_in w.parcels ++ held_by w.front) in
+    let way : works_in (on_the_way w.front w.parcels w.batches) ≡ works_in (passages_in p) ++ works_in rest =
+    ap (λ (ps : List Parcel). works_in (all_passages_in ps ++ (all_passages_in w.parcels ++ held_by w.front))) e
+    ∙ ap works_in (append_assoc (passages_in p) (all_passages_in batches) (all_passages_in w.parcels ++ held_by w.front)) ∙ works_in-append (passages_in p) rest in
     let far = so_far clock (items_in h.taken) w.front.closed w.front.stopped h.applied (on_the_way w.front w.parcels w.batches) w.ledger h.answers h.sent.passes h.commits in
     let all = far.whole (h.goes is).front (h.goes is).ledger in
-    let room : length (works w.ledger) + length (works_in (spelled_one p)) ≤ 2 ^ 63 =
+    let room : length (works w.ledger) + length (works_in (passages_in p)) ≤ 2 ^ 63 =
     omega (
       arith,
       short,
       ap length way,
-      length-append (works_in (spelled_one p)) (works_in rest),
+      length-append (works_in (passages_in p)) (works_in rest),
       ap length all,
       length-append (works w.ledger) (works_in (on_the_way w.front w.parcels w.batches)),
       length-ahead (items_in h.taken),
@@ -74,7 +74,7 @@ parcel_goes Unrefused refused clock n pushed w u short h = λ is p batches e.
       ap length h.split,
       length-append h.taken w.queue,
     ) in
-    subst (λ b. (applied b w.ledger p).ledger.stopped ≡ false) (sym (u is)) (goes_on w.ledger p (h.goes is).ledger room)
+    subst (λ b. (apply_step b w.ledger p).ledger.stopped ≡ false) (sym (u is)) (goes_on w.ledger p (h.goes is).ledger room)
 
 -- ---- one event
 
@@ -82,7 +82,7 @@ none_more : (Unrefused : Type 0) (clock n : ℕ) (pushed : List Ticket) (w : Wor
 none_more Unrefused clock n pushed w h = subst (λ l. Holds Unrefused clock n l w) (sym (append-nil pushed)) h
 
 event_holds : (Unrefused : Type 0) (clock n : ℕ) (pushed : List Ticket) (w : WorldState) (e : Event) → (Unrefused → is_refused e ≡ false) → length pushed ≤ 2 ^ 63 → Holds Unrefused clock n pushed w →
-    Holds Unrefused clock n (pushed ++ pushed_at w e) (stepped w e)
+    Holds Unrefused clock n (pushed ++ pushed_at w e) (after_event w e)
 event_holds U clock n pushed w (Push ticket) u short h = push_holds U clock n pushed w ticket (is_lawful w ticket) refl h
 event_holds U clock n pushed w (Pop refused) u short h = none_more U clock n pushed _ (pop_holds U refused clock n pushed w w.parcels w.queue refl refl u h)
 event_holds U clock n pushed w BatchPush u short h = none_more U clock n pushed _ (batch_push_holds U clock n pushed w w.parcels w.front.held refl refl h)
@@ -103,16 +103,16 @@ run_holds : (U : Type 0) (clock n : ℕ) (pushed : List Ticket) (w : WorldState)
     Holds U clock n (pushed ++ history w es) (run w es)
 run_holds U clock n pushed w [] u short h = none_more U clock n pushed w h
 run_holds U clock n pushed w (e ∷ es) u short h =
-    let others = history (stepped w e) es in
+    let others = history (after_event w e) es in
     let list : (pushed ++ pushed_at w e) ++ others ≡ pushed ++ (pushed_at w e ++ others) = append_assoc pushed (pushed_at w e) others in
-    subst (λ l. Holds U clock n l (run (stepped w e) es)) list
-    (run_holds U clock n (pushed ++ pushed_at w e) (stepped w e) es (λ is. (or_parts (is_refused e) (list_any is_refused es) (u is)).1) (subst (λ l. length l ≤ 2 ^ 63) (sym list) short)
+    subst (λ l. Holds U clock n l (run (after_event w e) es)) list
+    (run_holds U clock n (pushed ++ pushed_at w e) (after_event w e) es (λ is. (or_parts (is_refused e) (list_any is_refused es) (u is)).1) (subst (λ l. length l ≤ 2 ^ 63) (sym list) short)
     (event_holds U clock n pushed w e (λ is. (or_parts (is_refused e) (list_any is_refused es) (u is)).0) (omega (arith, short, length-append pushed (pushed_at w e ++ others))) h))
 
 -- at most one ticket an event
 length-history : (w : WorldState) (es : List Event) → length (history w es) ≤ length es
 length-history w [] = omega arith
-length-history w (e ∷ es) = omega (arith, length-append (pushed_at w e) (history (stepped w e) es), length-history (stepped w e) es, one e)
+length-history w (e ∷ es) = omega (arith, length-append (pushed_at w e) (history (after_event w e) es), length-history (after_event w e) es, one e)
   where
     by : (b : Bool) (ticket : Ticket) → length (if b then ticket ∷ [] else []) ≤ 1
     by true ticket = omega arith
@@ -128,7 +128,7 @@ length-history w (e ∷ es) = omega (arith, length-append (pushed_at w e) (histo
     one ReplyPush = omega arith
     one (ReplyPop own) = omega arith
 
-opened_holds : (U : Type 0) (clock limit n : ℕ) → Holds U clock n [] (opened clock limit n)
+opened_holds : (U : Type 0) (clock limit n : ℕ) → Holds U clock n [] (new_world clock limit n)
 opened_holds U clock limit n =
     record {
       taken = [];
@@ -151,6 +151,6 @@ opened_holds U clock limit n =
       goes = λ is. record { front = refl; ledger = refl };
     }
 
-pub all_holds : (clock limit n : ℕ) (es : List Event) → length es ≤ 2 ^ 63 → Holds (list_any is_refused es ≡ false) clock n (history (opened clock limit n) es) (run (opened clock limit n) es)
+pub all_holds : (clock limit n : ℕ) (es : List Event) → length es ≤ 2 ^ 63 → Holds (list_any is_refused es ≡ false) clock n (history (new_world clock limit n) es) (run (new_world clock limit n) es)
 all_holds clock limit n es short =
-    run_holds (list_any is_refused es ≡ false) clock n [] (opened clock limit n) es (λ is. is) (omega (arith, short, length-history (opened clock limit n) es)) (opened_holds (list_any is_refused es ≡ false) clock limit n)
+    run_holds (list_any is_refused es ≡ false) clock n [] (new_world clock limit n) es (λ is. is) (omega (arith, short, length-history (new_world clock limit n) es)) (opened_holds (list_any is_refused es ≡ false) clock limit n)

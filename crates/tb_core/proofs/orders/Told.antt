@@ -18,13 +18,13 @@ use Rattle.tb_core.specs.declared.parcel.Parcel.{Parcel}
 use Rattle.tb_core.specs.declared.world.event.Event.{Event}
 use Rattle.tb_core.specs.declared.world.event.Event.TheVariants.{Pop, BatchPush, BatchPop, OutcomePush, OutcomePop, ReplyPush, ReplyPop}
 use Rattle.tb_core.specs.Due.{outcome_at, reply_due, all_due_from, all_due, replies_to, works_in}
-use Rattle.tb_core.specs.Front.{spelled, held_by}
+use Rattle.tb_core.specs.Front.{all_passages_in, held_by}
 use Rattle.tb_core.specs.Ledger.{works}
 use Rattle.tb_core.specs.Passage.{Passage, Admitted, Place, Ahead, next_place, Passes}
 use Rattle.tb_core.specs.Report.{is_stopped, tell_a_stop}
 use Rattle.tb_core.specs.Run.{Ran}
-use Rattle.tb_core.specs.world.Shelf.{Shelf, shelf_at, taken_from}
-use Rattle.tb_core.specs.world.World.{WorldState, pop, batch_push, batch_pop, outcome_push, outcome_pop, reply_push, reply_pop, received_of, run, opened}
+use Rattle.tb_core.specs.world.Shelf.{Shelf, shelf_at, after_pop_of}
+use Rattle.tb_core.specs.world.World.{WorldState, pop, batch_push, batch_pop, outcome_push, outcome_pop, reply_push, reply_pop, received_of, run, new_world}
 use Rattle.tb_core.specs.world.EveryOrder.{history, is_refused, IsAtRest, IsPrefix, IsLawfulSoFar, NoneStopped, Rests, HasRun}
 use Rattle.tb_core.proofs.Committed.{or_parts}
 use Rattle.tb_core.proofs.Runs.{none_among, run_is_lawful}
@@ -127,7 +127,7 @@ no_outcomes w (reply ∷ replies) outcomes e h = cc
 no_outcomes w [] [] e h = refl
 no_outcomes w [] (outcome ∷ outcomes) e h = absurd (some_none _ h)
 
-no_ring : (w : WorldState) (own : ℕ) (shelf : Shelf) (ring : List Replied) → reply_pop w own (taken_from shelf ring) ≡ None → ring ≡ []
+no_ring : (w : WorldState) (own : ℕ) (shelf : Shelf) (ring : List Replied) → reply_pop w own (after_pop_of shelf ring) ≡ None → ring ≡ []
 no_ring w own shelf [] h = refl
 no_ring w own shelf (reply ∷ ring) h = absurd (some_none _ h)
 
@@ -147,7 +147,7 @@ empty_at_rest w rest =
     let outcomes = no_outcomes w w.replies w.outcomes replies (rest OutcomePop refl) in
     record {
       queue = no_queue w w.parcels w.queue batcher.0 (rest (Pop false) refl);
-      way = ap (λ (l : List Parcel). spelled l ++ (spelled w.parcels ++ held_by w.front)) batches ∙ ap (λ (l : List Parcel). spelled l ++ held_by w.front) batcher.0 ∙ ap (λ (l : List Numbered). map Admitted l) batcher.1;
+      way = ap (λ (l : List Parcel). all_passages_in l ++ (all_passages_in w.parcels ++ held_by w.front)) batches ∙ ap (λ (l : List Parcel). all_passages_in l ++ held_by w.front) batcher.0 ∙ ap (λ (l : List Numbered). map Admitted l) batcher.1;
       unrouted = ap (λ (l : List Replied). l ++ (of_all w.outcomes ++ of_one w.outcome)) replies ∙ ap (λ (l : List Outcomes). of_all l ++ of_one w.outcome) outcomes ∙ ap of_one outcome;
       rings = λ own. no_ring w own (shelf_at w.shelves own) (shelf_at w.shelves own).ring (rest (ReplyPop own) refl);
     }
@@ -189,17 +189,17 @@ module _ (U : Type 0) (clock n : ℕ) (pushed : List Ticket) (w : WorldState) (h
 
 -- ---- a list of events
 
-pub has_run : (clock limit n : ℕ) (events : List Event) (world : WorldState) → length events ≤ 2 ^ 63 → world ≡ run (opened clock limit n) events → HasRun clock limit n events world
+pub has_run : (clock limit n : ℕ) (events : List Event) (world : WorldState) → length events ≤ 2 ^ 63 → world ≡ run (new_world clock limit n) events → HasRun clock limit n events world
 has_run clock limit n events world short is = subst (HasRun clock limit n events) (sym is) there
   where
     U : Type 0
     U = list_any is_refused events ≡ false
 
     pushed : List Ticket
-    pushed = history (opened clock limit n) events
+    pushed = history (new_world clock limit n) events
 
     end : WorldState
-    end = run (opened clock limit n) events
+    end = run (new_world clock limit n) events
 
     holds : Holds U clock n pushed end
     holds = all_holds clock limit n events short

@@ -10,7 +10,7 @@ use Rattle.tb_core.specs.Due.{due}
 use Rattle.tb_core.specs.Front.{HaveAllEnded}
 use Rattle.tb_core.specs.Ledger.{works}
 use Rattle.tb_core.specs.Report.{LawfulReport, tell_a_stop}
-use Rattle.tb_core.specs.world.World.{WorldState, is_lawful, received_of, moved, stepped, run, opened}
+use Rattle.tb_core.specs.world.World.{WorldState, is_lawful, received_of, moved, after_event, run, new_world}
 
 -- the ticket that an event pushes
 abbrev pub pushed_at : WorldState → Event → List Ticket
@@ -26,7 +26,7 @@ pushed_at world (ReplyPop submitter) = []
 -- all tickets that events push, in order
 abbrev pub history : WorldState → List Event → List Ticket
 history world [] = []
-history world (event ∷ events) = pushed_at world event ++ history (stepped world event) events
+history world (event ∷ events) = pushed_at world event ++ history (after_event world event) events
 
 abbrev pub is_push : Event → Bool
 is_push (Push ticket) = true
@@ -78,8 +78,8 @@ pub record Rests (clock submitters : ℕ) (queue : List Ticket) (world : WorldSt
 
 -- A World after these events, whatever they are; and what is true besides where no growth was refused, and at rest.
 pub record HasRun (clock limit submitters : ℕ) (events : List Event) (world : WorldState) : Type 0 where
-  pub is : world ≡ run (opened clock limit submitters) events
-  pub so_far : IsLawfulSoFar clock submitters (history (opened clock limit submitters) events) world
+  pub is : world ≡ run (new_world clock limit submitters) events
+  pub so_far : IsLawfulSoFar clock submitters (history (new_world clock limit submitters) events) world
   pub untold : list_any is_refused events ≡ false → NoneStopped submitters world
-  pub at_rest : IsAtRest world → Rests clock submitters (history (opened clock limit submitters) events) world
-  pub whole : list_any is_refused events ≡ false → IsAtRest world → works world.ledger ≡ ahead (items_in (history (opened clock limit submitters) events))
+  pub at_rest : IsAtRest world → Rests clock submitters (history (new_world clock limit submitters) events) world
+  pub whole : list_any is_refused events ≡ false → IsAtRest world → works world.ledger ≡ ahead (items_in (history (new_world clock limit submitters) events))

@@ -1,7 +1,7 @@
 -- What the demultiplexer has left to push.
 use Rattle.std.specs.Prelude.{◌≡◌, Bool, true, false, List, [], ◌∷◌, Option, Some, None}
 use Rattle.tb_work.specs.Reply.{Replied}
-use Rattle.tb_core.specs.world.Shelf.{Shelf, given}
+use Rattle.tb_core.specs.world.Shelf.{Shelf, shelves_with}
 
 abbrev pub replies_of : Option (List Replied) → List Replied
 replies_of None = []
@@ -13,5 +13,5 @@ is_none (reply ∷ replies) = false
 
 -- the first reply was given to its submitter, or there was none
 abbrev pub IsGiven : Bool → List Replied → List Replied → List Shelf → List Shelf → Type 0
-IsGiven true old new shelves next = (reply : Replied) × (old ≡ reply ∷ new) × (next ≡ given shelves reply)
+IsGiven true old new shelves next = (reply : Replied) × (old ≡ reply ∷ new) × (next ≡ shelves_with shelves reply)
 IsGiven false old new shelves next = (old ≡ []) × (new ≡ []) × (next ≡ shelves)

@@ -21,8 +21,8 @@ may_push limit submitters number sender item = not sender.ended && may_push_item
 abbrev pub newcomer : Sender
 newcomer = record { pushed = 0; ended = false }
 
-abbrev pub pushed_by : Sender → Item → Sender
-pushed_by sender (Packet job) = record { pushed = sender.pushed + 1; ended = sender.ended }
-pushed_by sender (Pulse moment) = sender
-pushed_by sender End = record { pushed = sender.pushed; ended = true }
-pushed_by sender Close = record { pushed = sender.pushed; ended = true }
+abbrev pub sender_after : Sender → Item → Sender
+sender_after sender (Packet job) = record { pushed = sender.pushed + 1; ended = sender.ended }
+sender_after sender (Pulse moment) = sender
+sender_after sender End = record { pushed = sender.pushed; ended = true }
+sender_after sender Close = record { pushed = sender.pushed; ended = true }

@@ -10,20 +10,20 @@ pub record Shelf : Type 0 where
 abbrev pub empty_shelf : Shelf
 empty_shelf = record { ring = []; received = [] }
 
-abbrev pub given_to : Shelf → Replied → Shelf
-given_to shelf reply = record { ring = shelf.ring ++ reply ∷ []; received = shelf.received }
+abbrev pub with_reply : Shelf → Replied → Shelf
+with_reply shelf reply = record { ring = shelf.ring ++ reply ∷ []; received = shelf.received }
 
-abbrev pub taken_from : Shelf → List Replied → Option Shelf
-taken_from shelf [] = None
-taken_from shelf (reply ∷ ring) = Some (record { ring = ring; received = shelf.received ++ reply ∷ [] })
+abbrev pub after_pop_of : Shelf → List Replied → Option Shelf
+after_pop_of shelf [] = None
+after_pop_of shelf (reply ∷ ring) = Some (record { ring = ring; received = shelf.received ++ reply ∷ [] })
 
 -- the shelf after the first reply of its ring was received, if there is one
-abbrev pub taken : Shelf → Option Shelf
-taken shelf = taken_from shelf shelf.ring
+abbrev pub after_pop : Shelf → Option Shelf
+after_pop shelf = after_pop_of shelf shelf.ring
 
 abbrev pub shelf_at : List Shelf → ℕ → Shelf
 shelf_at shelves submitter = slice_index_or shelves submitter empty_shelf
 
 -- a reply goes to its submitter's ring
-abbrev pub given : List Shelf → Replied → List Shelf
-given shelves reply = slice_set shelves reply.submitter (given_to (shelf_at shelves reply.submitter) reply)
+abbrev pub shelves_with : List Shelf → Replied → List Shelf
+shelves_with shelves reply = slice_set shelves reply.submitter (with_reply (shelf_at shelves reply.submitter) reply)

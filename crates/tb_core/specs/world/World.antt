@@ -10,11 +10,11 @@ use Rattle.tb_core.specs.declared.parcel.Parcel.TheVariants.{Batch, Last}
 use Rattle.tb_core.specs.declared.world.event.Event.{Event}
 use Rattle.tb_core.specs.declared.world.event.Event.TheVariants.{Push, Pop, BatchPush, BatchPop, OutcomePush, OutcomePop, ReplyPush, ReplyPop}
 use Rattle.tb_core.specs.declared.world.sender.Sender.{Sender}
-use Rattle.tb_core.specs.Front.{FrontState, took, holding, all_ended}
-use Rattle.tb_core.specs.Ledger.{LedgerState, applied}
+use Rattle.tb_core.specs.Front.{FrontState, take_step, with_group, all_ended}
+use Rattle.tb_core.specs.Ledger.{LedgerState, apply_step}
 use Rattle.tb_core.specs.Run.{replies_in}
-use Rattle.tb_core.specs.world.Pushing.{newcomer, may_push, pushed_by}
-use Rattle.tb_core.specs.world.Shelf.{Shelf, empty_shelf, shelf_at, given, taken}
+use Rattle.tb_core.specs.world.Pushing.{newcomer, may_push, sender_after}
+use Rattle.tb_core.specs.world.Shelf.{Shelf, empty_shelf, shelf_at, shelves_with, after_pop}
 
 -- each list has its oldest first
 pub record WorldState : Type 0 where
@@ -41,19 +41,19 @@ abbrev pub is_lawful : WorldState → Ticket → Bool
 is_lawful world ticket = may_push world.limit world.submitters ticket.sender (sender_at world.senders ticket.sender) ticket.item
 
 -- the senders after a ticket
-abbrev pub counting : List Sender → Ticket → List Sender
-counting senders ticket = slice_set senders ticket.sender (pushed_by (sender_at senders ticket.sender) ticket.item)
+abbrev pub senders_after : List Sender → Ticket → List Sender
+senders_after senders ticket = slice_set senders ticket.sender (sender_after (sender_at senders ticket.sender) ticket.item)
 
 abbrev pub push : WorldState → Ticket → Option WorldState
 push world ticket =
-    if is_lawful world ticket then Some (record world { senders = counting world.senders ticket; queue = world.queue ++ ticket ∷ [] }) else None
+    if is_lawful world ticket then Some (record world { senders = senders_after world.senders ticket; queue = world.queue ++ ticket ∷ [] }) else None
 
 -- ---- the batcher
 
 -- it takes a ticket where it has no parcel to push
 abbrev pub pop : Bool → WorldState → List Parcel → List Ticket → Option WorldState
 pop refused world [] (ticket ∷ queue) =
-    let next = took refused world.front ticket.sender ticket.item in
+    let next = take_step refused world.front ticket.sender ticket.item in
     Some (record world { queue = queue; front = next.front; parcels = next.parcels })
 pop refused world [] [] = None
 pop refused world (parcel ∷ parcels) queue = None
@@ -61,7 +61,7 @@ pop refused world (parcel ∷ parcels) queue = None
 -- it pushes its first parcel, else the group held, else Last once all have ended
 abbrev pub batch_push : WorldState → List Parcel → List Numbered → Option WorldState
 batch_push world (parcel ∷ parcels) held = Some (record world { parcels = parcels; batches = world.batches ++ parcel ∷ [] })
-batch_push world [] (job ∷ jobs) = Some (record world { front = holding world.front []; batches = world.batches ++ Batch (job ∷ jobs) ∷ [] })
+batch_push world [] (job ∷ jobs) = Some (record world { front = with_group world.front []; batches = world.batches ++ Batch (job ∷ jobs) ∷ [] })
 batch_push world [] [] = if all_ended world.front && not world.last_sent then Some (record world { last_sent = true; batches = world.batches ++ Last ∷ [] }) else None
 
 -- ---- the committer
@@ -76,7 +76,7 @@ left_by outcomes.Last = Some outcomes.Last
 -- it applies a parcel where it has no outcome to push
 abbrev pub batch_pop : Bool → WorldState → Option Outcomes → List Parcel → Option WorldState
 batch_pop refused world None (parcel ∷ batches) =
-    let next = applied refused world.ledger parcel in
+    let next = apply_step refused world.ledger parcel in
     Some (record world { batches = batches; ledger = next.ledger; outcome = left_by next.outcomes })
 batch_pop refused world None [] = None
 batch_pop refused world (Some outcome) batches = None
@@ -95,7 +95,7 @@ outcome_pop world (reply ∷ replies) outcomes = None
 
 abbrev pub reply_push : WorldState → List Replied → Option WorldState
 reply_push world [] = None
-reply_push world (reply ∷ replies) = Some (record world { replies = replies; shelves = given world.shelves reply })
+reply_push world (reply ∷ replies) = Some (record world { replies = replies; shelves = shelves_with world.shelves reply })
 
 -- ---- the submitters
 
@@ -117,24 +117,24 @@ moved world (BatchPop refused) = batch_pop refused world world.outcome world.bat
 moved world OutcomePush = outcome_push world world.outcome
 moved world OutcomePop = outcome_pop world world.replies world.outcomes
 moved world ReplyPush = reply_push world world.replies
-moved world (ReplyPop submitter) = reply_pop world submitter (taken (shelf_at world.shelves submitter))
+moved world (ReplyPop submitter) = reply_pop world submitter (after_pop (shelf_at world.shelves submitter))
 
 -- false changes nothing
-abbrev pub stepped : WorldState → Event → WorldState
-stepped world event = unwrap_or (moved world event) world
+abbrev pub after_event : WorldState → Event → WorldState
+after_event world event = unwrap_or (moved world event) world
 
 -- an event answers this and leads to this World
 pub record IsMove (world : WorldState) (event : Event) (moves : Bool) (next : WorldState) : Type 0 where
   pub answer : moves ≡ is_some (moved world event)
-  pub leads : next ≡ stepped world event
+  pub leads : next ≡ after_event world event
 
 abbrev pub run : WorldState → List Event → WorldState
 run world [] = world
-run world (event ∷ events) = run (stepped world event) events
+run world (event ∷ events) = run (after_event world event) events
 
 -- a new World
-abbrev pub opened : ℕ → ℕ → ℕ → WorldState
-opened clock limit submitters =
+abbrev pub new_world : ℕ → ℕ → ℕ → WorldState
+new_world clock limit submitters =
     record {
       limit = limit;
       submitters = submitters;

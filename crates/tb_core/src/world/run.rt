@@ -3,7 +3,7 @@
 ghost use Rattle.std.specs.Prelude.{◌≡◌, ◌≤◌, IfOk, OnOk};
 ghost use Rattle.tb_layout.specs.Limits.{batch_max, clock_max, submitters_max};
 ghost use Rattle.tb_core.specs.world.EveryOrder.{HasRun};
-ghost use Rattle.tb_core.specs.world.World.{stepped};
+ghost use Rattle.tb_core.specs.world.World.{after_event};
 
 use crate::world::World;
 use crate::world::event::Event;
@@ -12,7 +12,7 @@ use tb_layout::NoMemory;
 
 /// One event more.
 fn go_on(world: &mut World, event: Event) -> Result<(), NoMemory>
-    ensures { OnOk result (world.new ≡ stepped world.old event) }
+    ensures { OnOk result (world.new ≡ after_event world.old event) }
 {
     match world.step(event) {
         Ok(_) => Ok(()),

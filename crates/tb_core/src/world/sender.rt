@@ -1,7 +1,7 @@
 //! What a World knows of a sender.
 
 ghost use Rattle.std.specs.Prelude.{◌≡◌, ℕ, true};
-ghost use Rattle.tb_core.specs.world.Pushing.{may_push, pushed_by};
+ghost use Rattle.tb_core.specs.world.Pushing.{may_push, sender_after};
 
 use tb_work::Item;
 
@@ -37,7 +37,7 @@ impl Sender {
     /// The sender after an item that it may push.
     pub(crate) fn after(self, item: &Item) -> Sender
         requires { (limit : ℕ) × (submitters : ℕ) × (number : ℕ) × (may_push limit submitters number self item.now ≡ true) }
-        ensures { result ≡ pushed_by self item.now }
+        ensures { result ≡ sender_after self item.now }
     {
         match item {
             Item::Packet(job) => Sender {

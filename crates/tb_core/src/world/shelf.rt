@@ -1,7 +1,7 @@
 //! The submitters' reply rings, and what was taken from them.
 
 ghost use Rattle.std.specs.Prelude.{◌≡◌, replicate, slice_set, is_some, true, unwrap_or, IfOk, OnOk, IfErr, OnErr};
-ghost use Rattle.tb_core.specs.world.Shelf.{shelf_at, given, given_to, empty_shelf, taken};
+ghost use Rattle.tb_core.specs.world.Shelf.{shelf_at, shelves_with, with_reply, empty_shelf, after_pop};
 
 use std::alloc::{AllocError, Global};
 use std::collections::VecDeque;
@@ -36,7 +36,7 @@ impl Shelf {
 
     /// Puts a reply into the ring. Where memory is refused it comes back, and nothing has changed.
     fn give(&mut self, reply: Reply) -> Result<(), Reply>
-        ensures ok { OnOk result (self.new ≡ given_to self.old reply) }
+        ensures ok { OnOk result (self.new ≡ with_reply self.old reply) }
         ensures err { IfErr result (λ back. (back ≡ reply) × (self.new ≡ self.old)) }
     {
         match self.ring.push_back(reply) {
@@ -47,9 +47,9 @@ impl Shelf {
 
     /// Takes the first reply of the ring, where there is one.
     fn take(&mut self) -> Result<bool, NoMemory>
-        ensures moves { IfOk result (λ moves. moves ≡ is_some (taken self.old)) }
-        ensures shelf { OnOk result (self.new ≡ unwrap_or (taken self.old) self.old) }
-        ensures err { OnErr result ((is_some (taken self.old) ≡ true) × (self.new ≡ self.old)) }
+        ensures moves { IfOk result (λ moves. moves ≡ is_some (after_pop self.old)) }
+        ensures shelf { OnOk result (self.new ≡ unwrap_or (after_pop self.old) self.old) }
+        ensures err { OnErr result ((is_some (after_pop self.old) ≡ true) × (self.new ≡ self.old)) }
     {
         if self.ring.is_empty() {
             return Ok(false);
@@ -92,7 +92,7 @@ impl Shelves {
     /// Puts a reply into its submitter's ring; it is dropped where there is no such submitter. Where memory is
     /// refused it comes back, and nothing has changed.
     pub(crate) fn give(&mut self, reply: Reply) -> Result<(), Reply>
-        ensures ok { OnOk result (self.new ≡ given self.old reply) }
+        ensures ok { OnOk result (self.new ≡ shelves_with self.old reply) }
         ensures err { IfErr result (λ back. (back ≡ reply) × (self.new ≡ self.old)) }
     {
         let submitter = reply.submitter as usize;
@@ -105,9 +105,9 @@ impl Shelves {
 
     /// Takes the first reply of a submitter's ring, where there is one.
     pub(crate) fn take(&mut self, submitter: u32) -> Result<bool, NoMemory>
-        ensures moves { IfOk result (λ moves. moves ≡ is_some (taken (shelf_at self.old submitter))) }
-        ensures shelves { OnOk result (self.new ≡ slice_set self.old submitter (unwrap_or (taken (shelf_at self.old submitter)) (shelf_at self.old submitter))) }
-        ensures err { OnErr result ((is_some (taken (shelf_at self.old submitter)) ≡ true) × (self.new ≡ self.old)) }
+        ensures moves { IfOk result (λ moves. moves ≡ is_some (after_pop (shelf_at self.old submitter))) }
+        ensures shelves { OnOk result (self.new ≡ slice_set self.old submitter (unwrap_or (after_pop (shelf_at self.old submitter)) (shelf_at self.old submitter))) }
+        ensures err { OnErr result ((is_some (after_pop (shelf_at self.old submitter)) ≡ true) × (self.new ≡ self.old)) }
     {
         let submitter = submitter as usize;
         if submitter >= self.shelves.len() {

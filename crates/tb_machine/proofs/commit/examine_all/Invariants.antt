@@ -1,7 +1,7 @@
 use Rattle.std.proofs.Common.{◌≡◌, ◌≤◌, drop, map}
 use Rattle.tb_tables.specs.History.{Extends}
 use Rattle.tb_layout.specs.Limits.{clock_max}
-use Rattle.tb_machine.specs.Chain.{first_fault, stored_all}
+use Rattle.tb_machine.specs.Chain.{first_fault, facts_with_all}
 use Rattle.tb_machine.proofs.commit.examine_all.Given as goal
 
 abbrev pub invariant-loop-index : goal.invariant-loop-index
@@ -10,6 +10,6 @@ invariant-loop-index g l = record {
   extends : Extends l.fn.tables l.tables;
   fault : first_fault g.E.Event.operation 0 l.fn.clock l.fn.tables.now (map g.E.Event.event_of l.rows)
       ≡ first_fault g.E.Event.operation l.index l.clock l.tables.now (map g.E.Event.event_of (drop l.index l.rows));
-  stored : stored_all g.E.Event.operation l.fn.clock l.fn.tables.now (map g.E.Event.event_of l.rows)
-      ≡ stored_all g.E.Event.operation l.clock l.tables.now (map g.E.Event.event_of (drop l.index l.rows));
+  stored : facts_with_all g.E.Event.operation l.fn.clock l.fn.tables.now (map g.E.Event.event_of l.rows)
+      ≡ facts_with_all g.E.Event.operation l.clock l.tables.now (map g.E.Event.event_of (drop l.index l.rows));
 }

@@ -1,5 +1,5 @@
 use Rattle.std.proofs.Common.{sym, subst, ◌+◌, ◌<◌, ◌^◌}
-use Rattle.tb_tables.specs.Sums.{raised, debits_in}
+use Rattle.tb_tables.specs.Sums.{with_more, debits_in}
 use Rattle.tb_tables.proofs.Raising.{has_room, credits-kept}
 use Rattle.tb_tables.proofs.amounts.add_amount.Goals as goal
 
@@ -13,7 +13,7 @@ raise_at-requires-2 c =
     let r = c.requires in
     let raised_once = rw c.debits_in.ensures at (c.raise_at.ensures r.sums r.accounts r.are_at.debit_account r.are_at.debit_at r.are) in
     let fits = subst (λ n. n + c.args.amount < 2 ^ 128) (sym (credits-kept c.args.pending r.are_at.debit_account.id c.args.amount r.sums r.are_at.credit_account)) r.credit_fits in
-    rw c.credits_in.ensures (has_room (raised (debits_in c.args.pending) r.are_at.debit_account.id c.args.amount r.sums) r.accounts c.args.places.credit r.are_at.credit_account _ c.args.amount c.raise_at.new.accounts.entries r.are_at.credit_at raised_once fits)
+    rw c.credits_in.ensures (has_room (with_more (debits_in c.args.pending) r.are_at.debit_account.id c.args.amount r.sums) r.accounts c.args.places.credit r.are_at.credit_account _ c.args.amount c.raise_at.new.accounts.entries r.are_at.credit_at raised_once fits)
 
 pub returns : goal.returns
 returns c = λ sums rows debit credit are is.

@@ -6,7 +6,7 @@ ghost use Rattle.tb_layout.specs.declared.transfer.Transfer.{Transfer as Transfe
 ghost use Rattle.tb_layout.specs.Transfer.{is_pending, is_post, is_void, is_resolving};
 ghost use Rattle.tb_tables.specs.Changes.{transfers_in, expired_in, facts_in};
 ghost use Rattle.tb_tables.specs.Status.{status_of, is_due as is_due_at};
-ghost use Rattle.tb_tables.specs.Expiring.{lapses as lapses_at, with_lapses};
+ghost use Rattle.tb_tables.specs.Expiring.{expires_among, with_expiries};
 
 use crate::status::Status;
 use tb_layout::{NANOSECONDS_PER_SECOND, Transfer};
@@ -81,20 +81,20 @@ fn is_due(clock: u64, transfer: &Transfer) -> bool
 }
 
 /// Whether a transfer is a pending one that nothing resolved and that is due at a clock.
-fn lapses(rows: &[(Transfer, bool)], clock: u64, transfer: &Transfer) -> bool
-    ensures { result ≡ lapses_at clock (transfers_in rows.now) transfer.now }
+fn expires(rows: &[(Transfer, bool)], clock: u64, transfer: &Transfer) -> bool
+    ensures { result ≡ expires_among clock (transfers_in rows.now) transfer.now }
 {
     transfer.is_pending() && !is_resolved(rows, transfer.id) && is_due(clock, transfer)
 }
 
-/// Marks each transfer that lapses at a clock.
+/// Marks each transfer that expires at a clock.
 pub fn expire_due(rows: &mut [(Transfer, bool)], clock: u64)
-    ensures rows { rows.new ≡ with_lapses clock (transfers_in rows.old) rows.old }
+    ensures rows { rows.new ≡ with_expiries clock (transfers_in rows.old) rows.old }
     ensures len { length rows.new ≡ length rows.old }
 {
     for place in 0..rows.len() {
         let transfer = rows[place].0;
-        if lapses(rows, clock, &transfer) {
+        if expires(rows, clock, &transfer) {
             rows[place].1 = true;
         }
     }

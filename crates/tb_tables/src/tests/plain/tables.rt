@@ -39,7 +39,7 @@ impl PlainTables {
     ghost use Rattle.tb_tables.specs.Status.{status_with, expire_due as with_due_expired};
     ghost use Rattle.tb_tables.specs.Balances.{with_balances as balanced, balanced_account};
     ghost use Rattle.tb_tables.specs.Conditions.{HasNoBalances, MayAdd, MayResolve};
-    ghost use Rattle.tb_tables.specs.History.{changed, mark_of, undone, kept};
+    ghost use Rattle.tb_tables.specs.History.{with_change, mark_of, back_to, without_past};
     ghost use Rattle.tb_tables.specs.Lawful.{IsLawful};
 
     /// Tables without facts. Takes no memory.
@@ -58,7 +58,7 @@ impl PlainTables {
     pub fn add_account(&mut self, account: Account) -> Result<(), NoMemory>
         requires new { account_with self.old.now account.id ≡ None }
         requires no_balances { HasNoBalances account }
-        ensures ok { OnOk result (self.new ≡ changed self.old (with_account self.old.now account)) }
+        ensures ok { OnOk result (self.new ≡ with_change self.old (with_account self.old.now account)) }
         ensures err { OnErr result (self.new ≡ self.old) }
     {
         self.changes.reserve(1)?;
@@ -70,7 +70,7 @@ impl PlainTables {
     /// Adds a transfer with which lawful facts stay so.
     fn add_row(&mut self, transfer: Transfer) -> Result<(), NoMemory>
         requires { IsLawful self.old.now → IsLawful (with_transfer self.old.now transfer) }
-        ensures ok { OnOk result (self.new ≡ changed self.old (with_transfer self.old.now transfer)) }
+        ensures ok { OnOk result (self.new ≡ with_change self.old (with_transfer self.old.now transfer)) }
         ensures err { OnErr result (self.new ≡ self.old) }
     {
         self.changes.reserve(1)?;
@@ -82,7 +82,7 @@ impl PlainTables {
     /// Adds a plain or pending transfer after those that are there.
     pub fn add_transfer(&mut self, transfer: Transfer) -> Result<(), NoMemory>
         requires { MayAdd self.old.now transfer }
-        ensures ok { OnOk result (self.new ≡ changed self.old (with_transfer self.old.now transfer)) }
+        ensures ok { OnOk result (self.new ≡ with_change self.old (with_transfer self.old.now transfer)) }
         ensures err { OnErr result (self.new ≡ self.old) }
     {
         self.add_row(transfer)
@@ -91,7 +91,7 @@ impl PlainTables {
     /// Adds a post or a void, with its resolved fields. The transfer that it names is pending no more.
     pub fn resolve(&mut self, transfer: Transfer) -> Result<(), NoMemory>
         requires { MayResolve self.old.now transfer }
-        ensures ok { OnOk result (self.new ≡ changed self.old (with_transfer self.old.now transfer)) }
+        ensures ok { OnOk result (self.new ≡ with_change self.old (with_transfer self.old.now transfer)) }
         ensures err { OnErr result (self.new ≡ self.old) }
     {
         self.add_row(transfer)
@@ -100,7 +100,7 @@ impl PlainTables {
     /// Adds an id to those that failed.
     pub fn add_failed(&mut self, id: u128) -> Result<(), NoMemory>
         requires { is_failed self.old.now id ≡ false }
-        ensures ok { OnOk result (self.new ≡ changed self.old (with_failed self.old.now id)) }
+        ensures ok { OnOk result (self.new ≡ with_change self.old (with_failed self.old.now id)) }
         ensures err { OnErr result (self.new ≡ self.old) }
     {
         self.changes.reserve(1)?;
@@ -168,7 +168,7 @@ impl PlainTables {
     /// Takes the last change back.
     fn undo_last(&mut self)
         requires { 0 < length self.old.past }
-        ensures { changed self.new self.old.now ≡ self.old }
+        ensures { with_change self.new self.old.now ≡ self.old }
     {
         match self.changes.pop() {
             None => {}
@@ -181,7 +181,7 @@ impl PlainTables {
     /// Goes back to a mark. Costs as much as the changes since then, and takes no memory.
     pub fn undo_to(&mut self, mark: Mark)
         requires { mark ≤ mark_of self.old }
-        ensures { self.new ≡ undone mark self.old }
+        ensures { self.new ≡ back_to mark self.old }
     {
         while self.mark().changes() > mark.changes() {
             self.undo_last();
@@ -190,7 +190,7 @@ impl PlainTables {
 
     /// Lets the changes stand: they can't be taken back any more.
     pub fn keep(&mut self)
-        ensures { self.new ≡ kept self.old }
+        ensures { self.new ≡ without_past self.old }
     {
         self.changes.clear();
     }

@@ -1,14 +1,14 @@
 use Rattle.std.proofs.Common.{◌≡◌, true, false, ap, ◌∙◌}
 use Rattle.tb_core.specs.declared.parcel.Parcel.{Parcel}
 use Rattle.tb_core.specs.declared.outcomes.Outcomes.{Outcomes}
-use Rattle.tb_core.specs.Ledger.{LedgerState, giving, applied}
+use Rattle.tb_core.specs.Ledger.{LedgerState, apply_result, apply_step}
 use Rattle.tb_core.proofs.Committed.{commits_more}
 use Rattle.tb_core.proofs.Grouped.{joined_more}
 use Rattle.tb_core.proofs.ledger.Ledger.apply.Goals as goal
 
 -- a parcel that came back, with the ledger as it was, is applied as one that was refused
-again : (ledger tried next : LedgerState) (handed back : Parcel) (outcomes : Outcomes) → (back ≡ handed) × (tried ≡ ledger) → giving next outcomes ≡ applied true tried back → giving next outcomes ≡ applied true ledger handed
-again ledger tried next handed back outcomes same is = is ∙ ap (applied true tried) same.0 ∙ ap (λ l. applied true l handed) same.1
+again : (ledger tried next : LedgerState) (handed back : Parcel) (outcomes : Outcomes) → (back ≡ handed) × (tried ≡ ledger) → apply_result next outcomes ≡ apply_step true tried back → apply_result next outcomes ≡ apply_step true ledger handed
+again ledger tried next handed back outcomes same is = is ∙ ap (apply_step true tried) same.0 ∙ ap (λ l. apply_step true l handed) same.1
 
 pub returns-in-Ok-clause-commits : goal.returns-in-Ok-clause-commits
 returns-in-Ok-clause-commits c = λ clock passages replies is. commits_more clock passages c.args.self.now c.try_apply.new.self replies c.in-Ok.outcomes is false c.args.parcel c.try_apply.ensures.some c.in-Ok.ensures.ok

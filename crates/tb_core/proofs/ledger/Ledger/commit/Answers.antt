@@ -1,7 +1,7 @@
 use Rattle.std.proofs.Common.{◌∙◌, ap, sym, false, map, length, ◌++◌, ◌∷◌, []}
 use Rattle.tb_work.specs.Work.{work_of}
 use Rattle.tb_core.specs.declared.parcel.Parcel.TheVariants as parcel
-use Rattle.tb_core.specs.Ledger.{LedgerState, group_of, halts, applied}
+use Rattle.tb_core.specs.Ledger.{LedgerState, group_of, must_stop, apply_step}
 use Rattle.tb_core.proofs.Batches.{JoinInvisibly}
 use Rattle.tb_core.proofs.Committed.{batch_applied}
 use Rattle.tb_core.proofs.Growing.{given, batch_entered}
@@ -17,7 +17,7 @@ invariant_of-self-2 c =
     let next = given c.take_batch.result _ ok c.take_batch.ensures.state in
     let groups = c.record-replies.ensures.entry ∙ ap (λ items. map group_of items ++ map work_of parts.jobs.items ∷ []) c.reserve.ensures.items in
     let count = ap length (c.jobs-count.ensures.jobs ∙ sym c.into_parts-parts.ensures.jobs ∙ sym c.take_batch.ensures.jobs) in
-    let goes = ap (λ (l : LedgerState). halts false l (length c.jobs-count.result.now)) c.self.view_is ∙ sym c.halts_at.ensures ∙ c.if-halts_at.false in
+    let goes = ap (λ (l : LedgerState). must_stop false l (length c.jobs-count.result.now)) c.self.view_is ∙ sym c.halts_at.ensures ∙ c.if-halts_at.false in
     let law : JoinInvisibly = record { accounts = c.joining_is_invisible.ensures.accounts; transfers = c.joining_is_invisible.ensures.transfers } in
     batch_entered law ledger inside.machine c.take_batch.new.machine inside.places (map group_of c.record-replies.new.entries.items) parts (length c.jobs-count.result.now) c.self.invariant answered next groups count goes
 
@@ -30,7 +30,7 @@ returns-clause-ok c =
     let answered = given c.take_batch.result _ ok c.take_batch.ensures.answered in
     let groups = c.record-replies.ensures.entry ∙ ap (λ items. map group_of items ++ map work_of parts.jobs.items ∷ []) c.reserve.ensures.items in
     let same = c.take_batch.ensures.jobs ∙ c.into_parts-parts.ensures.jobs in
-    let goes = ap (λ (l : LedgerState). halts false l (length c.args.batch)) c.self.view_is ∙ ap (λ jobs. halts false c.args.self.now (length jobs)) (sym c.jobs-count.ensures.jobs) ∙ sym c.halts_at.ensures ∙ c.if-halts_at.false in
+    let goes = ap (λ (l : LedgerState). must_stop false l (length c.args.batch)) c.self.view_is ∙ ap (λ jobs. must_stop false c.args.self.now (length jobs)) (sym c.jobs-count.ensures.jobs) ∙ sym c.halts_at.ensures ∙ c.if-halts_at.false in
     batch_applied ledger inside.machine inside.places (map group_of c.record-replies.new.entries.items) parts.jobs.items c.args.batch c.record-replies.result c.self.invariant groups same
     (c.record-replies.ensures.replies inside.machine answered) goes
-    ∙ ap (λ (l : LedgerState). applied false l (parcel.Batch c.args.batch)) c.self.view_is
+    ∙ ap (λ (l : LedgerState). apply_step false l (parcel.Batch c.args.batch)) c.self.view_is

@@ -1,11 +1,11 @@
 use Rattle.std.proofs.Common.{◌≡◌, ◌≤◌}
-use Rattle.tb_tables.specs.History.{mark_of, undone}
+use Rattle.tb_tables.specs.History.{mark_of, back_to}
 use Rattle.tb_tables.proofs.tests.plain.tables.PlainTables.undo_to.Given as goal
 
 abbrev pub invariant-loop-mark : goal.invariant-loop-mark
 invariant-loop-mark l = record {
   within : l.mark ≤ mark_of l.self;
-  same : undone l.mark l.self ≡ undone l.mark l.fn.self;
+  same : back_to l.mark l.self ≡ back_to l.mark l.fn.self;
 }
 
 abbrev pub decreases-loop-mark : goal.decreases-loop-mark

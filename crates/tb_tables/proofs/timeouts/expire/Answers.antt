@@ -4,8 +4,8 @@ use Rattle.tb_tables.specs.Sums.{sums_of}
 use Rattle.tb_tables.specs.Kept.{lists_of}
 use Rattle.tb_tables.specs.Storing.{stored_for_good}
 use Rattle.tb_tables.proofs.Locating.{has-account, are-at}
-use Rattle.tb_tables.proofs.Due.{ground, row-at, released, can-take, lapsed, after}
-use Rattle.tb_tables.proofs.lapse.expire.Goals as goal
+use Rattle.tb_tables.proofs.Due.{ground, row-at, released, can-take, after-expiry, after}
+use Rattle.tb_tables.proofs.timeouts.expire.Goals as goal
 
 pub transfer_at-transfer-requires : goal.transfer_at-transfer-requires
 transfer_at-transfer-requires c =
@@ -48,5 +48,5 @@ returns c = λ failed indexed next can indexed_then.
     let are = rw same at (are-at old can.kept c.transfer_at-transfer.result (record { debit = c.place_of.result; credit = c.place_of-2.result; pending = None }) c.place_of.ensures c.place_of-2.ensures) in
     let taken = rw (ap (λ (t : Transfer). t.amount) same) at c.take_amount.ensures in
     let accounts = taken (sums_of (after old c.args.place can)) (lists_of old).accounts can.transfer.debit_account_id can.transfer.credit_account_id are (can.kept.accounts ∙ released old c.args.place can) in
-    lapsed old c.args.place can (stored_for_good c.take_amount.new.accounts.entries c.set_status.new.transfers.entries failed next) refl refl accounts
+    after-expiry old c.args.place can (stored_for_good c.take_amount.new.accounts.entries c.set_status.new.transfers.entries failed next) refl refl accounts
     (c.set_status.ensures.entries _ _ (row-at old c.args.place can)) c.set_status.ensures.unique indexed_then

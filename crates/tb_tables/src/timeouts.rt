@@ -2,11 +2,11 @@
 
 ghost use Rattle.std.specs.Prelude.{◌≡◌, ℕ, List, [], map, Bool, not, ◌&&◌};
 ghost use Rattle.tb_tables.specs.Changes.{transfers_in};
-ghost use Rattle.tb_tables.specs.Expiring.{with_lapses};
+ghost use Rattle.tb_tables.specs.Expiring.{with_expiries};
 ghost use Rattle.tb_tables.specs.Expiries.{is_indexed, same_pair};
 ghost use Rattle.tb_tables.specs.Kept.{row_of, lists_in, IsKept};
 ghost use Rattle.tb_tables.specs.Status.{expires_at};
-ghost use Rattle.tb_tables.specs.Storing.{stored_for_good, CanLapse, HasLapsed};
+ghost use Rattle.tb_tables.specs.Storing.{stored_for_good, CanExpire, HasExpired};
 
 use crate::amounts::take_amount;
 use crate::by_id::ById;
@@ -21,11 +21,11 @@ use tb_layout::Account;
 /// Lets the transfer at a place expire: its amount is reserved no more.
 fn expire(accounts: &mut ById<Account>, transfers: &mut ById<Row>, place: usize)
     requires { (failed : List ℕ) × (indexed : ℕ → ℕ → Bool)
-        × CanLapse (stored_for_good accounts.old.entries transfers.old.entries failed indexed) place }
+        × CanExpire (stored_for_good accounts.old.entries transfers.old.entries failed indexed) place }
     ensures { (failed : List ℕ) (indexed next : ℕ → ℕ → Bool)
-        (can : CanLapse (stored_for_good accounts.old.entries transfers.old.entries failed indexed) place)
+        (can : CanExpire (stored_for_good accounts.old.entries transfers.old.entries failed indexed) place)
         → ((m p : ℕ) → next m p ≡ (not (same_pair (expires_at can.transfer) place m p) && indexed m p))
-        → HasLapsed (stored_for_good accounts.old.entries transfers.old.entries failed indexed)
+        → HasExpired (stored_for_good accounts.old.entries transfers.old.entries failed indexed)
         (stored_for_good accounts.new.entries transfers.new.entries failed next) place can.transfer }
 {
     let transfer = transfer_at(transfers, place);
@@ -50,7 +50,7 @@ pub fn expire_all(
         → IsKept (stored_for_good accounts.new.entries transfers.new.entries failed (is_indexed expiries.new)) }
     ensures lists { (failed : List ℕ) → IsKept (stored_for_good accounts.old.entries transfers.old.entries failed (is_indexed expiries.old))
         → lists_in accounts.new.entries transfers.new.entries failed
-        ≡ record (lists_in accounts.old.entries transfers.old.entries failed) { rows = with_lapses clock (transfers_in (map row_of transfers.old.entries)) (map row_of transfers.old.entries) } }
+        ≡ record (lists_in accounts.old.entries transfers.old.entries failed) { rows = with_expiries clock (transfers_in (map row_of transfers.old.entries)) (map row_of transfers.old.entries) } }
 {
     while let Some(place) = take_due(expiries, clock) {
         expire(accounts, transfers, place);

@@ -3,7 +3,7 @@ use Rattle.tb_tables.specs.Expiries.{is_indexed}
 use Rattle.tb_tables.specs.Kept.{IsKept}
 use Rattle.tb_tables.specs.Storing.{stored_for_good}
 use Rattle.tb_tables.proofs.Due.{StillDue}
-use Rattle.tb_tables.proofs.lapse.expire_all.Given as goal
+use Rattle.tb_tables.proofs.timeouts.expire_all.Given as goal
 
 abbrev pub invariant-loop-place : goal.invariant-loop-place
 invariant-loop-place l =

@@ -138,8 +138,8 @@ module _ (facts : Facts) (x : Transfer) (place : ℕ) (at : slice_get facts.tran
   open-one true true e h = cc
   open-one false r e h = cc
 
-  row-lapsed : record (row_in facts x) { status = Some Expired } ≡ row_in after x
-  row-lapsed =
+  row-expired : record (row_in facts x) { status = Some Expired } ≡ row_in after x
+  row-expired =
       let o = open-one (is_pending x) (is_resolved facts x.id) (is_expired facts x.id) reserving in
       let both : (is_posted facts x.id || is_voided facts x.id) ≡ false = sym (resolved_either x.id facts.transfers) ∙ o.1 in
       let status : status_of after x.id ≡ Expired = cc (or-left (is_posted facts x.id) (is_voided facts x.id) both, or-right (is_posted facts x.id) (is_voided facts x.id) both, more x.id, eq-eqb x.id x.id refl, or_true (is_expired facts x.id)) in
@@ -151,7 +151,7 @@ module _ (facts : Facts) (x : Transfer) (place : ℕ) (at : slice_get facts.tran
 
   pub rows-after : (entries : List (ℕ × Row)) → entries ≡ transfer_rows facts facts.transfers → IsDistinct nat_eq (keys_of entries) → set_value_at entries place (record (row_in facts x) { status = Some Expired }) ≡ transfer_rows after facts.transfers
   rows-after entries is apart =
-      ap (λ es. set_value_at es place (record (row_in facts x) { status = Some Expired })) is ∙ ap (set_value_at (transfer_rows facts facts.transfers) place) row-lapsed
+      ap (λ es. set_value_at es place (record (row_in facts x) { status = Some Expired })) is ∙ ap (set_value_at (transfer_rows facts facts.transfers) place) row-expired
       ∙ rows-set (λ (t : Transfer). t.id) (row_in facts) (row_in after) facts.transfers place x at (rw is at apart) row-other
 
   pub expects-after : (m p : ℕ) → (not (same_pair (expires_at x) place m p) && expects facts [] m p) ≡ expects after [] m p

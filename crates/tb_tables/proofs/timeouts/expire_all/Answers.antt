@@ -3,7 +3,7 @@ use Rattle.tb_tables.specs.Expiries.{is_indexed}
 use Rattle.tb_tables.specs.Storing.{stored_for_good}
 use Rattle.tb_tables.proofs.Indexing.{same-keys}
 use Rattle.tb_tables.proofs.Due.{due-one, still-due, none-due}
-use Rattle.tb_tables.proofs.lapse.expire_all.Goals as goal
+use Rattle.tb_tables.proofs.timeouts.expire_all.Goals as goal
 
 pub expire-requires : goal.expire-requires
 expire-requires c =
@@ -21,8 +21,8 @@ loop-place-preserved c = λ failed kept.
     let due = c.loop-place.invariant failed kept in
     let d = c.in-Some.ensures.due in
     let one = due-one now due.kept refl d.0 c.in-Some.place d.2 in
-    let lapsed = c.expire.ensures failed (is_indexed c.loop-place.expiries) (is_indexed c.take_due.new.expiries) one.0 (rw one.1 d.3) in
-    still-due c.args.clock old now new c.in-Some.place one.0 one.2 (rw one.1 d.1) refl lapsed due
+    let after-expiry = c.expire.ensures failed (is_indexed c.loop-place.expiries) (is_indexed c.take_due.new.expiries) one.0 (rw one.1 d.3) in
+    still-due c.args.clock old now new c.in-Some.place one.0 one.2 (rw one.1 d.1) refl after-expiry due
 
 pub returns-clause-kept : goal.returns-clause-kept
 returns-clause-kept c = λ failed kept.
