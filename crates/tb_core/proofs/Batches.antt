@@ -20,7 +20,7 @@ use Rattle.tb_work.specs.Reply.{reply_with}
 use Rattle.tb_work.specs.Work.{work_of}
 use Rattle.tb_batch.specs.Grouping.{can_share, are_of}
 use Rattle.tb_batch.specs.Batch.{body_of, IsLawful, AreAdmitted}
-use Rattle.tb_core.specs.Answered.{committed_from}
+use Rattle.tb_core.specs.BatchAnswer.{committed_from}
 use Rattle.tb_core.specs.Ledger.{packets_of}
 use Rattle.tb_core.proofs.Bodies.{first_is, whole_events, packets_of-jobs}
 use Rattle.tb_core.proofs.Committing.{length-chunks, GivesEach, gives}

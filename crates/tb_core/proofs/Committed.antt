@@ -14,7 +14,7 @@ use Rattle.tb_core.specs.declared.parcel.Parcel.{Parcel}
 use Rattle.tb_core.specs.declared.parcel.Parcel.TheVariants as parcel
 use Rattle.tb_core.specs.declared.outcomes.Outcomes.{Outcomes}
 use Rattle.tb_core.specs.declared.outcomes.Outcomes.TheVariants.{Cut, Nothing}
-use Rattle.tb_core.specs.Answered.{committed_from}
+use Rattle.tb_core.specs.BatchAnswer.{committed_from}
 use Rattle.tb_core.specs.Due.{outcome_with, outcome_at, outcome_of, works_in, replies_from}
 use Rattle.tb_core.specs.Front.{passages_in}
 use Rattle.tb_core.specs.Ledger.{LedgerState, IsLedger, Applied, apply_result, works, must_stop, with_stop, with_entry, step_of_batch, apply_step}

@@ -19,7 +19,7 @@ use Rattle.tb_work.specs.Reply.{Replied, reply_with}
 use Rattle.tb_batch.specs.Grouping.{can_share, are_of}
 use Rattle.tb_batch.specs.Batch.{body_of, AreAdmitted}
 use Rattle.tb_demux.specs.Cutting.{replies_from}
-use Rattle.tb_core.specs.Answered.{committed_from}
+use Rattle.tb_core.specs.BatchAnswer.{committed_from}
 use Rattle.tb_core.proofs.Bodies.{first_is, laid-rows}
 
 -- what a batch of accounts or transfers gives: the replies, the state and the failures' range

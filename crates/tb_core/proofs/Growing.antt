@@ -13,7 +13,7 @@ use Rattle.tb_layout.specs.Work.{Work}
 use Rattle.tb_work.specs.Work.{work_of}
 use Rattle.tb_batch.specs.Batch.{body_of}
 use Rattle.tb_batch.specs.declared.parts.Parts.{Parts}
-use Rattle.tb_core.specs.Answered.{AreAnswered}
+use Rattle.tb_core.specs.BatchAnswer.{AreAnswered}
 use Rattle.tb_core.specs.Ledger.{LedgerState, IsLedger, works, must_stop}
 use Rattle.tb_core.proofs.Batches.{JoinInvisibly, gives_each, gives_one}
 

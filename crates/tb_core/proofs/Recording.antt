@@ -14,7 +14,7 @@ use Rattle.tb_work.specs.Reply.{reply_with}
 use Rattle.tb_batch.specs.Grouping.{are_of}
 use Rattle.tb_batch.specs.declared.parts.Parts.{Parts}
 use Rattle.tb_demux.specs.Cutting.{replies_to, replies_from, replies_with_answer, IsOutcomeOfAll, IsAnswerToAll}
-use Rattle.tb_core.specs.Answered.{AreAnswered, answer_in, committed_from}
+use Rattle.tb_core.specs.BatchAnswer.{AreAnswered, answer_in, committed_from}
 use Rattle.tb_core.proofs.Bodies.{first_is}
 use Rattle.tb_core.proofs.Batches.{JoinInvisibly, gives_each, gives_one}
 

@@ -3,7 +3,7 @@ pub mod Due
 pub mod Front
 pub mod Grouping
 pub mod Ledger
-pub mod Answered
+pub mod BatchAnswer
 pub mod Report
 pub mod Run
 pub mod world

@@ -7,7 +7,7 @@ ghost use Rattle.tb_machine.specs.Replay.{State, after_packet};
 ghost use Rattle.tb_batch.specs.Batch.{AreAdmitted, AreParts};
 ghost use Rattle.tb_work.specs.Reply.{reply_with};
 ghost use Rattle.tb_work.specs.Work.{work_of};
-ghost use Rattle.tb_core.specs.Answered.{AreAnswered, answer_in, committed_from};
+ghost use Rattle.tb_core.specs.BatchAnswer.{AreAnswered, answer_in, committed_from};
 ghost use Rattle.tb_work.specs.declared.outcome.Outcome.TheVariants.{Stopped as StoppedOutcome};
 ghost use Rattle.tb_core.specs.Due.{outcome_of};
 ghost use Rattle.tb_core.specs.Ledger.{group_of};

@@ -5,6 +5,10 @@ use Rattle.std.specs.Prelude.{ℕ, ◌^◌, ◌-◌}
 abbrev pub batch_max : ℕ
 batch_max = 8190
 
+-- the most places of a submission queue, and the greatest credit of a submitter
+abbrev pub capacity_max : ℕ
+capacity_max = 65536
+
 -- the greatest moment of a pulse, in nanoseconds
 abbrev pub moment_max : ℕ
 moment_max = 2 ^ 62

@@ -23,7 +23,9 @@ pub use account_code::AccountCode;
 pub use answer::{Accounts, Answer, Failures};
 pub use failure::{Failure, read_failure, write_failure};
 pub use id::read_id;
-pub use limits::{BATCH_MAX, CLOCK_MAX, MOMENT_MAX, NANOSECONDS_PER_SECOND, SUBMITTERS_MAX};
+pub use limits::{
+    BATCH_MAX, CAPACITY_MAX, CLOCK_MAX, MOMENT_MAX, NANOSECONDS_PER_SECOND, SUBMITTERS_MAX,
+};
 pub use no_memory::NoMemory;
 pub use operation::{CREATE_ACCOUNTS, CREATE_TRANSFERS, LOOKUP_ACCOUNTS};
 pub use row::is_row_linked;

@@ -4,6 +4,10 @@
 /// its header, at 128 bytes an event.
 pub const BATCH_MAX: u32 = 8190;
 
+/// The most places of a submission queue, and the greatest credit of a submitter: the packets that it may have
+/// queued with their replies unread.
+pub const CAPACITY_MAX: u32 = 65_536;
+
 /// The greatest moment of a pulse, in nanoseconds: some 146 years. Half of what a clock can tell, so
 /// that events still get timestamps after it.
 pub const MOMENT_MAX: u64 = 1 << 62;

@@ -2,6 +2,7 @@
 use Rattle.std.specs.Prelude.{◌≡◌, ℕ, ◌-◌, ◌<◌, ◌≤◌, min, length, List, [], ◌∷◌, Option, Some, None, ⊤}
 use Rattle.atomic_table.specs.Seated.{TableId}
 use Rattle.crossbeam_queue.specs.Passes.{Pass, view}
+use Rattle.tb_layout.specs.Limits.{batch_max, capacity_max}
 use Rattle.tb_work.specs.Reply.{Replied}
 use Rattle.tb_work.specs.declared.item.Item.{Item}
 use Rattle.tb_work.specs.declared.item.Ticket.{Ticket}
@@ -55,11 +56,11 @@ IsLeft (Some pass) submitters limit number =
 -- a submitter's counts: of what it queued, and of the replies read, as far as 64 bits go
 pub record IsSubmitter (seat : Seat) (queued : List Item) (count credit seen : ℕ) (first : Option Refusal) (read : List Replied) : Type 0 where
   pub among : seat.number < seat.submitters
-  pub limited : seat.limit ≤ 8190
+  pub limited : seat.limit ≤ batch_max
   pub packets : ArePackets seat.limit seat.number 0 queued
   pub counted : count ≡ length queued
   pub credited : length queued - length read ≤ credit
-  pub few : credit ≤ 65536
+  pub few : credit ≤ capacity_max
   pub counted_read : seen ≡ min (length read) 18446744073709551615
   pub told : first ≡ told_in read
 

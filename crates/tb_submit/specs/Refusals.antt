@@ -1,6 +1,7 @@
 -- Why a call is refused.
 use Rattle.std.specs.Prelude.{◌≡◌, ℕ, ◌-◌, ◌==◌, ◌||◌, if◌then◌else◌, nat_lt, List, [], ◌∷◌, length, Option, Some, None, Result, Ok, Err}
 use Rattle.tb_core.specs.Front.{opening_refusal}
+use Rattle.tb_layout.specs.Limits.{batch_max, capacity_max}
 use Rattle.tb_work.specs.Admission.{admission_of}
 use Rattle.tb_work.specs.Reply.{Replied}
 use Rattle.tb_work.specs.declared.outcome.Outcome.{Outcome}
@@ -21,11 +22,12 @@ or_else (Some refusal) other = Some refusal
 
 -- ---- opening
 
--- a limit of 1 to 8190 events, capacity and credit of 1 to 65,536, 1 to 16 submitters, in this order
+-- why a queue can't be opened, if it can't, but for want of memory: the limit, the capacity or the credit, the number
+-- of submitters, in this order
 abbrev pub queue_refusal : ℕ → ℕ → ℕ → ℕ → Option Refusal
 queue_refusal limit capacity credit submitters =
-    if nat_lt limit 1 || nat_lt 8190 limit then Some BadLimit
-    else if nat_lt capacity 1 || nat_lt 65536 capacity || nat_lt credit 1 || nat_lt 65536 credit then Some BadCapacity
+    if nat_lt limit 1 || nat_lt batch_max limit then Some BadLimit
+    else if nat_lt capacity 1 || nat_lt capacity_max capacity || nat_lt credit 1 || nat_lt capacity_max credit then Some BadCapacity
     else opening_refusal limit submitters
 
 -- ---- submitting

@@ -8,9 +8,8 @@ ghost use Rattle.tb_work.specs.declared.refusal.Refusal.TheVariants as refusal;
 use crate::sender::{EndedSender, Sender};
 use std::marker::Model;
 use std::sync::Wait;
+use tb_layout::MOMENT_MAX;
 use tb_work::{Item, Moment, Refusal};
-
-const MOST_MOMENT: u64 = 1 << 62;
 
 /// Queues pulses, and closes the queue or leaves it open.
 #[derive(Drop)]
@@ -56,7 +55,7 @@ impl Control {
         ensures large { 2 ^ 62 < moment → result ≡ Err refusal.MomentTooLarge }
         ensures full { moment ≤ 2 ^ 62 → IfErr result (λ why. why ≡ refusal.Full) }
     {
-        if moment > MOST_MOMENT {
+        if moment > MOMENT_MAX {
             return Err(Refusal::MomentTooLarge);
         }
         match self.sender.push(rt, Item::Pulse(Moment::new(moment))) {

@@ -1,6 +1,7 @@
 //! Opening a queue.
 
 ghost use Rattle.std.specs.Prelude.{◌≡◌, ◌<◌, ◌≤◌, ◌+◌, [], map, length, None, All, OnOk, IfOk, IfErr};
+ghost use Rattle.tb_layout.specs.Limits.{batch_max, capacity_max, submitters_max};
 ghost use Rattle.tb_rings.specs.Ends.{given};
 ghost use Rattle.tb_submit.specs.Ends.{new_submitter, new_control, new_intake, origins, origin_of};
 ghost use Rattle.tb_submit.specs.Refusals.{IsRefusal, queue_refusal};
@@ -11,15 +12,9 @@ use crate::intake::Intake;
 use crate::reader::Reader;
 use crate::submitter::Submitter;
 use std::alloc::Global;
-use tb_layout::NoMemory;
+use tb_layout::{BATCH_MAX, CAPACITY_MAX, NoMemory, SUBMITTERS_MAX};
 use tb_rings::{Outlet, ring};
 use tb_work::{Refusal, Reply};
-
-const MOST_EVENTS: u32 = 8190;
-
-const MOST_PLACES: u32 = 65_536;
-
-const MOST_SUBMITTERS: u32 = 16;
 
 /// All ends of a queue. The submitter of number i is that at index i, and the outlet at index i gives it
 /// its replies.
@@ -39,7 +34,7 @@ fn open_submitters(
     credit: u32,
     submitters: u32,
 ) -> Result<(Vec<Submitter>, Vec<Outlet<Reply>>), NoMemory>
-    requires range { (limit ≤ 8190) × (credit ≤ 65536) }
+    requires range { (limit ≤ batch_max) × (credit ≤ capacity_max) }
     requires fresh { (reader.old.entries ≡ []) × (reader.old.taken ≡ []) × (reader.old.count ≡ 0) }
     ensures reader { OnOk result (reader.new ≡ record reader.old { count = submitters }) }
     ensures submitters { IfOk result (λ ends. ends.0.items ≡ map (new_submitter credit) (origins (new_intake reader.old.queue submitters limit) ends.1.items)) }
@@ -63,7 +58,7 @@ fn open_ends(
     credit: u32,
     submitters: u32,
 ) -> Result<Ends, NoMemory>
-    requires range { (limit ≤ 8190) × (0 < capacity) × (credit ≤ 65536) × (submitters ≤ 16) }
+    requires range { (limit ≤ batch_max) × (0 < capacity) × (credit ≤ capacity_max) × (submitters ≤ submitters_max) }
     ensures submitters { IfOk result (λ ends. ends.submitters.items ≡ map (new_submitter credit) (origins ends.intake ends.outlets.items)) }
     ensures control { IfOk result (λ ends. ends.control ≡ new_control ends.intake) }
     ensures intake { IfOk result (λ ends. ends.intake ≡ new_intake ends.intake.queue submitters limit) }
@@ -99,13 +94,13 @@ pub fn open_queue(
     ensures opens { OnOk result (queue_refusal limit capacity credit submitters ≡ None) }
     ensures refusal { IfErr result (λ why. IsRefusal (queue_refusal limit capacity credit submitters) (λ other. other ≡ refusal.NoMemory) why) }
 {
-    if limit < 1 || limit > MOST_EVENTS {
+    if limit < 1 || limit > BATCH_MAX {
         return Err(Refusal::BadLimit);
     }
-    if capacity < 1 || capacity > MOST_PLACES || credit < 1 || credit > MOST_PLACES {
+    if capacity < 1 || capacity > CAPACITY_MAX || credit < 1 || credit > CAPACITY_MAX {
         return Err(Refusal::BadCapacity);
     }
-    if submitters < 1 || submitters > MOST_SUBMITTERS {
+    if submitters < 1 || submitters > SUBMITTERS_MAX {
         return Err(Refusal::BadSubmitters);
     }
     match open_ends(alloc, limit, capacity, credit, submitters) {

@@ -1,6 +1,7 @@
 //! Submitters.
 
 ghost use Rattle.std.specs.Prelude.{◌≡◌, ◌⊎◌, ◌<◌, ◌≤◌, ◌^◌, [], ◌∷◌, ◌++◌, length, None, OnOk, IfOk, IfErr, IfSome, IfNone, IsSomeAnd};
+ghost use Rattle.tb_layout.specs.Limits.{batch_max, capacity_max};
 ghost use Rattle.tb_rings.specs.Ends.{inlet_ring, taken, lies};
 ghost use Rattle.tb_submit.specs.Ends.{ended_with, with_item, new_submitter};
 ghost use Rattle.tb_submit.specs.Refusals as spec;
@@ -29,6 +30,7 @@ pub struct Submitter {
 }
 
 impl Model for Submitter {
+    ghost use Rattle.tb_layout.specs.Limits.{batch_max, capacity_max};
     ghost use Rattle.tb_rings.specs.Ends.{inlet_ring, taken, lies};
     ghost use Rattle.tb_submit.specs.Ends.{SubmitterState};
     ghost use Rattle.tb_submit.specs.Inside.{IsSubmitter};
@@ -61,8 +63,8 @@ impl Submitter {
     /// A submitter over its sender and its reply ring, with nothing queued and nothing in flight.
     pub(crate) fn new(sender: Sender, inlet: Inlet<Reply>, credit: u32) -> Submitter
         requires among { sender.seat.number < sender.seat.submitters }
-        requires limit { sender.seat.limit ≤ 8190 }
-        requires credit { credit ≤ 65536 }
+        requires limit { sender.seat.limit ≤ batch_max }
+        requires credit { credit ≤ capacity_max }
         requires none { (sender.queued ≡ []) × (taken inlet ≡ []) × (lies inlet ≡ []) }
         ensures { result ≡ new_submitter credit (record { seat = sender.seat; ring = inlet_ring inlet }) }
     {

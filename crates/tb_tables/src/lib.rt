@@ -15,7 +15,6 @@ mod entries;
 mod expiries;
 mod handed;
 mod key;
-mod timeouts;
 mod mark;
 mod note;
 mod places;
@@ -25,6 +24,7 @@ mod storing;
 mod tables;
 #[cfg(test)]
 mod tests;
+mod timeouts;
 
 pub use key::Key;
 pub use mark::Mark;

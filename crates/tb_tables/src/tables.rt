@@ -9,13 +9,13 @@ use crate::entries::{
     place_of, place_under, pop_account, pop_failed, push_account, push_failed, push_transfer,
 };
 use crate::key::Key;
-use crate::timeouts::expire_all;
 use crate::mark::Mark;
 use crate::note::note;
 use crate::places::Places;
 use crate::row::Row;
 use crate::status::Status;
 use crate::storing::{apply, expect, forget, forget_resolved, take_back};
+use crate::timeouts::expire_all;
 use std::alloc::Global;
 use std::collections::BTreeSet;
 use std::hash::BuildHasherDefault;

@@ -60,39 +60,39 @@ pub record SoFar (clock : ℕ) (items : List Item) (stopped : Bool) (ledger : Le
   pub whole : stopped ≡ false → ledger.stopped ≡ false → works ledger ++ works_in way ≡ ahead items
   pub untold : stopped ≡ false → ledger.stopped ≡ false → tell_a_stop answers ≡ false
 
-pub so_far : (clock : ℕ) (items : List Item) (closed stopped : Bool) (apply_step way : List Passage) (ledger : LedgerState) (answers : List Replied) → Passes items closed stopped (apply_step ++ way) → Commits clock apply_step ledger answers →
+pub so_far : (clock : ℕ) (items : List Item) (closed stopped : Bool) (applied way : List Passage) (ledger : LedgerState) (answers : List Replied) → Passes items closed stopped (applied ++ way) → Commits clock applied ledger answers →
     SoFar clock items stopped ledger answers way
-so_far clock items closed stopped apply_step way ledger answers passes commits =
+so_far clock items closed stopped applied way ledger answers passes commits =
     record {
       behind = (commits.behind ++ works_in way) ++ through.rest;
       committed = sym (append_assoc journal (commits.behind ++ works_in way) through.rest) ∙ ap (λ ws. ws ++ through.rest) longer ∙ through.parts;
-      later = replies_from clock journal (0 + length (works_in apply_step)) way;
-      due = ap (λ rs. rs ++ replies_from clock journal (0 + length (works_in apply_step)) way) commits.replied ∙ sym (replies_from-append clock journal 0 apply_step way) ∙ through.due journal (omega (arith, short));
-      none_later = λ none. ap (replies_from clock journal (0 + length (works_in apply_step))) none;
+      later = replies_from clock journal (0 + length (works_in applied)) way;
+      due = ap (λ rs. rs ++ replies_from clock journal (0 + length (works_in applied)) way) commits.replied ∙ sym (replies_from-append clock journal 0 applied way) ∙ through.due journal (omega (arith, short));
+      none_later = λ none. ap (replies_from clock journal (0 + length (works_in applied))) none;
       whole = λ on goes. all on goes;
       untold = λ on goes.
           let none = none_told clock 0 (journal ++ works_in way) [] items (all on goes) refl in
-          let same : all_due clock items (journal ++ works_in way) ≡ answers ++ replies_from clock (journal ++ works_in way) (0 + length (works_in apply_step)) way =
-          sym (through.due (journal ++ works_in way) (omega (arith, ap length (journal_is goes), ap length (works_in-append apply_step way), length-append journal (works_in way), length-append (works_in apply_step) (works_in way), through.few)))
-          ∙ replies_from-append clock (journal ++ works_in way) 0 apply_step way
-          ∙ ap (λ rs. rs ++ replies_from clock (journal ++ works_in way) (0 + length (works_in apply_step)) way)
-          (replies_from-longer clock journal (works_in way) 0 apply_step (omega (arith, ap length (journal_is goes))) ∙ sym commits.replied) in
+          let same : all_due clock items (journal ++ works_in way) ≡ answers ++ replies_from clock (journal ++ works_in way) (0 + length (works_in applied)) way =
+          sym (through.due (journal ++ works_in way) (omega (arith, ap length (journal_is goes), ap length (works_in-append applied way), length-append journal (works_in way), length-append (works_in applied) (works_in way), through.few)))
+          ∙ replies_from-append clock (journal ++ works_in way) 0 applied way
+          ∙ ap (λ rs. rs ++ replies_from clock (journal ++ works_in way) (0 + length (works_in applied)) way)
+          (replies_from-longer clock journal (works_in way) 0 applied (omega (arith, ap length (journal_is goes))) ∙ sym commits.replied) in
           (or_parts (tell_a_stop answers) _ (sym (list_any-append (λ (reply : Replied). is_stopped reply.outcome) answers _) ∙ ap tell_a_stop (sym same) ∙ none)).0;
     }
   where
     journal : List Work
     journal = works ledger
 
-    through : LetsThrough clock 0 (most_of passes.stop items) items (apply_step ++ way)
+    through : LetsThrough clock 0 (most_of passes.stop items) items (applied ++ way)
     through = subst (LetsThrough clock 0 (most_of passes.stop items) items) (sym passes.all) (passed_through clock passes.stop items)
 
-    longer : journal ++ (commits.behind ++ works_in way) ≡ works_in (apply_step ++ way)
-    longer = sym (append_assoc journal commits.behind (works_in way)) ∙ ap (λ ws. ws ++ works_in way) commits.committed ∙ sym (works_in-append apply_step way)
+    longer : journal ++ (commits.behind ++ works_in way) ≡ works_in (applied ++ way)
+    longer = sym (append_assoc journal commits.behind (works_in way)) ∙ ap (λ ws. ws ++ works_in way) commits.committed ∙ sym (works_in-append applied way)
 
     short : length journal ≤ most_of passes.stop items
     short = omega (arith, through.few, ap length longer, length-append journal (commits.behind ++ works_in way))
 
-    journal_is : ledger.stopped ≡ false → journal ≡ works_in apply_step
+    journal_is : ledger.stopped ≡ false → journal ≡ works_in applied
     journal_is goes = sym (append-nil journal) ∙ ap (λ ws. journal ++ ws) (sym (commits.whole goes)) ∙ commits.committed
 
     rest_is : (stop : Option ℕ) → passes.stop ≡ stop → stopped ≡ false → through.rest ≡ []
@@ -101,5 +101,5 @@ so_far clock items closed stopped apply_step way ledger answers passes commits =
 
     all : stopped ≡ false → ledger.stopped ≡ false → journal ++ works_in way ≡ ahead items
     all on goes =
-        ap (λ ws. ws ++ works_in way) (journal_is goes) ∙ sym (works_in-append apply_step way) ∙ sym (append-nil (works_in (apply_step ++ way)))
-        ∙ ap (λ ws. works_in (apply_step ++ way) ++ ws) (sym (rest_is passes.stop refl on)) ∙ through.parts
+        ap (λ ws. ws ++ works_in way) (journal_is goes) ∙ sym (works_in-append applied way) ∙ sym (append-nil (works_in (applied ++ way)))
+        ∙ ap (λ ws. works_in (applied ++ way) ++ ws) (sym (rest_is passes.stop refl on)) ∙ through.parts

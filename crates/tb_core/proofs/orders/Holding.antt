@@ -43,8 +43,8 @@ abbrev pub unrouted : List Replied → List Outcomes → Option Outcomes → Lis
 unrouted replies outcomes outcome = replies ++ (of_all outcomes ++ of_one outcome)
 
 -- what of the queue a front took went to a ledger, or is on the way
-pub record AreSent (queue : List Ticket) (apply_step : List Passage) (front : FrontState) (parcels batches : List Parcel) : Type 0 where
-  pub passes : Passes (items_in queue) front.closed front.stopped (apply_step ++ on_the_way front parcels batches)
+pub record AreSent (queue : List Ticket) (applied : List Passage) (front : FrontState) (parcels batches : List Parcel) : Type 0 where
+  pub passes : Passes (items_in queue) front.closed front.stopped (applied ++ on_the_way front parcels batches)
   pub clear : IsClear front
   pub parcel_jobs : AllHaveJobs parcels
   pub batch_jobs : AllHaveJobs batches
@@ -71,8 +71,8 @@ pub record Holds (Unrefused : Type 0) (clock submitters : ℕ) (pushed : List Ti
   pub split : pushed ≡ taken ++ world.queue
   pub counted : world.submitters ≡ submitters
   pub senders : HavePushed submitters pushed world.senders
-  pub sent : AreSent taken apply_step world.front world.parcels world.batches
-  pub commits : Commits clock apply_step world.ledger answers
+  pub sent : AreSent taken applied world.front world.parcels world.batches
+  pub commits : Commits clock applied world.ledger answers
   pub routed : AreRouted submitters answers world.shelves (unrouted world.replies world.outcomes world.outcome)
   pub goes : Unrefused → Goes world.front world.ledger
 
@@ -81,16 +81,16 @@ pub record Holds (Unrefused : Type 0) (clock submitters : ℕ) (pushed : List Ti
 items_push : (queue : List Ticket) (ticket : Ticket) → items_in (queue ++ ticket ∷ []) ≡ items_in queue ++ ticket.item ∷ []
 items_push queue ticket = map-append (λ (ticket : Ticket). ticket.item) queue (ticket ∷ [])
 
-sent_ticket : (refused : Bool) (queue : List Ticket) (apply_step : List Passage) (front : FrontState) (batches : List Parcel) (ticket : Ticket) → AreSent queue apply_step front [] batches →
-    (let next = take_step refused front ticket.sender ticket.item in AreSent (queue ++ ticket ∷ []) apply_step next.front next.parcels batches)
-sent_ticket refused queue apply_step front batches ticket sent =
+sent_ticket : (refused : Bool) (queue : List Ticket) (applied : List Passage) (front : FrontState) (batches : List Parcel) (ticket : Ticket) → AreSent queue applied front [] batches →
+    (let next = take_step refused front ticket.sender ticket.item in AreSent (queue ++ ticket ∷ []) applied next.front next.parcels batches)
+sent_ticket refused queue applied front batches ticket sent =
     let next = take_step refused front ticket.sender ticket.item in
     let is = is_taken_by refused front ticket.sender ticket.item sent.clear in
-    let before : apply_step ++ (all_passages_in batches ++ held_by front) ≡ (apply_step ++ all_passages_in batches) ++ held_by front = sym (append_assoc apply_step (all_passages_in batches) (held_by front)) in
-    let more = passes_more refused front ticket.sender ticket.item (items_in queue) (apply_step ++ all_passages_in batches) sent.clear (subst (Passes (items_in queue) front.closed front.stopped) before sent.passes) in
-    let after : ((apply_step ++ all_passages_in batches) ++ all_passages_in next.parcels) ++ held_by next.front ≡ apply_step ++ (all_passages_in batches ++ (all_passages_in next.parcels ++ held_by next.front)) = simp append_assoc in
+    let before : applied ++ (all_passages_in batches ++ held_by front) ≡ (applied ++ all_passages_in batches) ++ held_by front = sym (append_assoc applied (all_passages_in batches) (held_by front)) in
+    let more = passes_more refused front ticket.sender ticket.item (items_in queue) (applied ++ all_passages_in batches) sent.clear (subst (Passes (items_in queue) front.closed front.stopped) before sent.passes) in
+    let after : ((applied ++ all_passages_in batches) ++ all_passages_in next.parcels) ++ held_by next.front ≡ applied ++ (all_passages_in batches ++ (all_passages_in next.parcels ++ held_by next.front)) = simp append_assoc in
     record {
-      passes = subst (λ items. Passes items next.front.closed next.front.stopped (apply_step ++ on_the_way next.front next.parcels batches)) (sym (items_push queue ticket))
+      passes = subst (λ items. Passes items next.front.closed next.front.stopped (applied ++ on_the_way next.front next.parcels batches)) (sym (items_push queue ticket))
           (subst (Passes (items_in queue ++ ticket.item ∷ []) next.front.closed next.front.stopped) after more);
       clear = is.clear;
       parcel_jobs = is.jobs;
@@ -120,17 +120,17 @@ jobs_push [] p all has = (has, tt)
 jobs_push (first ∷ parcels) p all has = (all.0, jobs_push parcels p all.1 has)
 
 -- a parcel goes to the batch ring, from those to push or as the group held
-sent_parcel : (queue : List Ticket) (apply_step : List Passage) (front next : FrontState) (parcels others batches : List Parcel) (p : Parcel) → HasJobs p → AllHaveJobs others → IsClear next →
-    next.closed ≡ front.closed → next.stopped ≡ front.stopped → all_passages_in parcels ++ held_by front ≡ passages_in p ++ (all_passages_in others ++ held_by next) → AreSent queue apply_step front parcels batches → AreSent queue apply_step next others (batches ++ p ∷ [])
-sent_parcel queue apply_step front next parcels others batches p has all clear closed stopped list sent =
+sent_parcel : (queue : List Ticket) (applied : List Passage) (front next : FrontState) (parcels others batches : List Parcel) (p : Parcel) → HasJobs p → AllHaveJobs others → IsClear next →
+    next.closed ≡ front.closed → next.stopped ≡ front.stopped → all_passages_in parcels ++ held_by front ≡ passages_in p ++ (all_passages_in others ++ held_by next) → AreSent queue applied front parcels batches → AreSent queue applied next others (batches ++ p ∷ [])
+sent_parcel queue applied front next parcels others batches p has all clear closed stopped list sent =
     let rest = all_passages_in others ++ held_by next in
     let spelt : all_passages_in (batches ++ p ∷ []) ≡ all_passages_in batches ++ passages_in p = flat_map-append passages_in batches (p ∷ []) ∙ ap (λ l. all_passages_in batches ++ l) (append-nil (passages_in p)) in
     let way : on_the_way front parcels batches ≡ on_the_way next others (batches ++ p ∷ []) =
     ap (λ l. all_passages_in batches ++ l) list ∙ sym (append_assoc (all_passages_in batches) (passages_in p) rest) ∙ ap (λ l. l ++ rest) (sym spelt) in
     record {
-      passes = subst (Passes (items_in queue) next.closed next.stopped) (ap (λ l. apply_step ++ l) way)
-          (subst (λ b. Passes (items_in queue) b next.stopped (apply_step ++ on_the_way front parcels batches)) (sym closed)
-          (subst (λ b. Passes (items_in queue) front.closed b (apply_step ++ on_the_way front parcels batches)) (sym stopped) sent.passes));
+      passes = subst (Passes (items_in queue) next.closed next.stopped) (ap (λ l. applied ++ l) way)
+          (subst (λ b. Passes (items_in queue) b next.stopped (applied ++ on_the_way front parcels batches)) (sym closed)
+          (subst (λ b. Passes (items_in queue) front.closed b (applied ++ on_the_way front parcels batches)) (sym stopped) sent.passes));
       clear = clear;
       parcel_jobs = all;
       batch_jobs = jobs_push batches p sent.batch_jobs has;
@@ -194,10 +194,10 @@ left_replies (outcomes.One reply) = refl
 left_replies outcomes.Nothing = refl
 left_replies outcomes.Last = refl
 
-sent_applied : (queue : List Ticket) (apply_step : List Passage) (front : FrontState) (parcels batches : List Parcel) (p : Parcel) → AreSent queue apply_step front parcels (p ∷ batches) → AreSent queue (apply_step ++ passages_in p) front parcels batches
-sent_applied queue apply_step front parcels batches p sent =
+sent_applied : (queue : List Ticket) (applied : List Passage) (front : FrontState) (parcels batches : List Parcel) (p : Parcel) → AreSent queue applied front parcels (p ∷ batches) → AreSent queue (applied ++ passages_in p) front parcels batches
+sent_applied queue applied front parcels batches p sent =
     let rest = all_passages_in parcels ++ held_by front in
-    let list : apply_step ++ ((passages_in p ++ all_passages_in batches) ++ rest) ≡ (apply_step ++ passages_in p) ++ (all_passages_in batches ++ rest) = simp append_assoc in
+    let list : applied ++ ((passages_in p ++ all_passages_in batches) ++ rest) ≡ (applied ++ passages_in p) ++ (all_passages_in batches ++ rest) = simp append_assoc in
     record { passes = subst (Passes (items_in queue) front.closed front.stopped) list sent.passes; clear = sent.clear; parcel_jobs = sent.parcel_jobs; batch_jobs = sent.batch_jobs.1 }
 
 -- the next parcel is applied without a stop where nothing was refused
