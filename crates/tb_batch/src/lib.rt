@@ -10,8 +10,6 @@ mod batcher;
 mod group;
 mod offered;
 mod parts;
-#[cfg(test)]
-mod tests;
 
 pub use batch::Batch;
 pub use batcher::Batcher;

@@ -7,8 +7,6 @@
 
 mod cutter;
 mod source;
-#[cfg(test)]
-mod tests;
 mod uncut;
 
 pub use cutter::Cutter;

@@ -19,8 +19,6 @@ mod prefetch;
 mod report;
 mod resolved;
 mod resolving_verdict;
-#[cfg(test)]
-mod tests;
 mod transfer_verdict;
 
 pub use joining::joining_is_invisible;

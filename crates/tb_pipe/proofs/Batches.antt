@@ -100,7 +100,7 @@ all_batched limit submitters queue front given all none ended parts is = record 
 
 pub intake_more : (first now next : IntakeState) (ticket : Ticket) → now ≡ record first { taken = now.taken } → next ≡ with_taken now ticket → next ≡ record first { taken = next.taken }
 intake_more first now next ticket same took =
-    take_step ∙ ap (λ (i : IntakeState). record i { taken = now.taken ++ ticket ∷ [] }) same ∙ ap (λ (i : IntakeState). record first { taken = i.taken }) (sym take_step)
+    took ∙ ap (λ (i : IntakeState). record i { taken = now.taken ++ ticket ∷ [] }) same ∙ ap (λ (i : IntakeState). record first { taken = i.taken }) (sym took)
 
 pub intake_same : (first now next : IntakeState) → now ≡ record first { taken = now.taken } → next ≡ now → next ≡ record first { taken = next.taken }
 intake_same first now next same none = none ∙ same ∙ ap (λ (i : IntakeState). record first { taken = i.taken }) (sym none)

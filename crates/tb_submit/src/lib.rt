@@ -10,8 +10,6 @@ mod rule;
 mod sender;
 mod settling;
 mod submitter;
-#[cfg(test)]
-mod tests;
 
 pub use control::{Control, ControlEnd};
 pub use ended::Ended;

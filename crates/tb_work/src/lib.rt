@@ -16,8 +16,6 @@ mod packet;
 mod refusal;
 mod reply;
 mod stub;
-#[cfg(test)]
-mod tests;
 
 pub use admission::admit;
 pub use bytes::Bytes;

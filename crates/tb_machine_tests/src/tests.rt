@@ -1,0 +1,105 @@
+//! What no clause says: each call once with ample memory, and commits with each growth refused.
+
+ghost use Rattle.std.specs.Prelude.{◌≡◌, ◌==◌, ◌||◌, ◌/◌, ◌%◌, ◌≤◌, true, length};
+ghost use Rattle.tb_layout.specs.Limits.{batch_max};
+ghost use Rattle.tb_layout.specs.Operation.{create_accounts, create_transfers};
+
+use std::alloc::AllocError;
+use tb_layout::{
+    Account, BATCH_MAX, CREATE_ACCOUNTS, CREATE_TRANSFERS, Transfer, write_account, write_transfer,
+};
+use tb_machine::Machine;
+
+mod calls;
+mod full;
+mod memory;
+mod running;
+
+const MOST: u128 = u128::MAX;
+
+/// An account's event with this id and these flags, in ledger 1 with code 1.
+fn account(id: u128, flags: u16) -> Account {
+    Account {
+        id,
+        debits_pending: 0,
+        debits_posted: 0,
+        credits_pending: 0,
+        credits_posted: 0,
+        user_data_128: 0,
+        user_data_64: 0,
+        user_data_32: 0,
+        reserved: 0,
+        ledger: 1,
+        code: 1,
+        flags,
+        timestamp: 0,
+    }
+}
+
+/// A transfer's event in ledger 1 with code 1.
+fn transfer(id: u128, debit: u128, credit: u128, amount: u128, flags: u16) -> Transfer {
+    Transfer {
+        id,
+        debit_account_id: debit,
+        credit_account_id: credit,
+        amount,
+        pending_id: 0,
+        user_data_128: 0,
+        user_data_64: 0,
+        user_data_32: 0,
+        timeout: 0,
+        ledger: 1,
+        code: 1,
+        flags,
+        timestamp: 0,
+    }
+}
+
+/// A post's or void's event, which leaves all else to the transfer that it names.
+fn resolving(id: u128, pending_id: u128, amount: u128, flags: u16) -> Transfer {
+    Transfer {
+        pending_id,
+        ledger: 0,
+        code: 0,
+        ..transfer(id, 0, 0, amount, flags)
+    }
+}
+
+fn accounts_body(rt: &HostRuntime, events: &[Account]) -> Result<Vec<u8>, AllocError> {
+    let mut body = Vec::new(rt.alloc());
+    for event in events {
+        body.extend_from_slice(&write_account(event))?;
+    }
+    Ok(body)
+}
+
+fn transfers_body(rt: &HostRuntime, events: &[Transfer]) -> Result<Vec<u8>, AllocError> {
+    let mut body = Vec::new(rt.alloc());
+    for event in events {
+        body.extend_from_slice(&write_transfer(event))?;
+    }
+    Ok(body)
+}
+
+/// Whether an operation makes accounts or transfers, and a body has a whole number of events, no more than a
+/// batch may have.
+fn is_packet(operation: u8, body: &[u8]) -> bool
+    ensures operation { result ≡ true → operation == create_accounts || operation == create_transfers ≡ true }
+    ensures whole { result ≡ true → length body.now % 128 ≡ 0 }
+    ensures limit { result ≡ true → length body.now / 128 ≤ batch_max }
+{
+    (operation == CREATE_ACCOUNTS || operation == CREATE_TRANSFERS)
+        && body.len() % 128 == 0
+        && body.len() / 128 <= BATCH_MAX as usize
+}
+
+/// Whether a packet was committed and each of its events succeeded, as they do unless memory is wanting.
+fn commits(rt: &HostRuntime, machine: &mut Machine, operation: u8, body: &[u8]) -> bool {
+    if !is_packet(operation, body) {
+        return false;
+    }
+    let Ok(mut out) = Vec::with_capacity(rt.alloc(), body.len() / 128) else {
+        return false;
+    };
+    machine.commit(operation, body, &mut out).is_ok() && out.is_empty()
+}

@@ -1,0 +1,77 @@
+//! Bodies of as many events as a batch may have. Want of memory may be answered at any size, as far as clauses go;
+//! with ample memory it never is.
+
+use super::{account, commits, transfer};
+use std::alloc::AllocError;
+use std::test::Fail;
+use tb_layout::{
+    Account, BATCH_MAX, CREATE_ACCOUNTS, CREATE_TRANSFERS, write_account, write_transfer,
+};
+use tb_machine::Machine;
+
+/// As many accounts as a batch may have, by rising id.
+fn full_accounts(rt: &HostRuntime, first_id: u128) -> Result<Vec<u8>, AllocError> {
+    let mut body = Vec::new(rt.alloc());
+    for place in 0..BATCH_MAX {
+        let id = first_id.saturating_add(u128::from(place));
+        body.extend_from_slice(&write_account(&account(id, 0)))?;
+    }
+    Ok(body)
+}
+
+/// As many transfers of 1, by rising id: each account is debited by one and credited by another.
+fn full_transfers(rt: &HostRuntime) -> Result<Vec<u8>, AllocError> {
+    let mut body = Vec::new(rt.alloc());
+    for place in 0..BATCH_MAX {
+        let debit = u128::from(place + 1);
+        let credit = u128::from(BATCH_MAX - place);
+        body.extend_from_slice(&write_transfer(&transfer(debit, debit, credit, 1, 0)))?;
+    }
+    Ok(body)
+}
+
+/// Whether full accounts from an id on are made.
+fn makes_accounts(
+    rt: &HostRuntime,
+    machine: &mut Machine,
+    first_id: u128,
+) -> Result<bool, AllocError> {
+    let accounts = full_accounts(rt, first_id)?;
+    Ok(commits(rt, machine, CREATE_ACCOUNTS, &accounts))
+}
+
+/// Whether full transfers are made.
+fn makes_transfers(rt: &HostRuntime, machine: &mut Machine) -> Result<bool, AllocError> {
+    let transfers = full_transfers(rt)?;
+    Ok(commits(rt, machine, CREATE_TRANSFERS, &transfers))
+}
+
+/// Whether an account has this timestamp, and was debited and credited this much.
+fn is_made_at(made: Option<Account>, timestamp: u64, amount: u128) -> bool {
+    made.is_some_and(|account| {
+        account.timestamp == timestamp
+            && account.debits_posted == amount
+            && account.credits_posted == amount
+    })
+}
+
+/// Whether all are stored: each event has the timestamp after that of the one before it.
+fn has_all(machine: &Machine) -> bool {
+    let last_transfer = machine.transfer(8190).map(|made| made.timestamp);
+    machine.accounts() == 16_380
+        && machine.clock() == 24_570
+        && is_made_at(machine.account(8190), 8190, 1)
+        && is_made_at(machine.account_at(16_379), 24_570, 0)
+        && last_transfer == Some(16_380)
+}
+
+/// 8190 accounts, then 8190 transfers, then 8190 more accounts.
+#[test]
+fn full_bodies(rt: HostRuntime) -> Result<(), Fail> {
+    let mut machine = Machine::new(rt.alloc(), 0);
+    assert!(rt; makes_accounts(&rt, &mut machine, 1)?);
+    assert!(rt; makes_transfers(&rt, &mut machine)?);
+    assert!(rt; makes_accounts(&rt, &mut machine, 8191)?);
+    assert!(rt; has_all(&machine));
+    Ok(())
+}

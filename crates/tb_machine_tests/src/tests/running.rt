@@ -1,0 +1,289 @@
+//! 400 events, made by a rule from a counter, against plain lists: the transfers in order of making, beside
+//! each whether it expired, and balances as sums.
+
+use super::{account, accounts_body, commits, is_packet, transfer};
+use std::alloc::AllocError;
+use std::test::Fail;
+use tb_layout::{
+    Account, CREATE_ACCOUNTS, CREATE_TRANSFERS, NANOSECONDS_PER_SECOND, Transfer, write_transfer,
+};
+use tb_machine::Machine;
+use tb_tables::Status;
+
+/// One of `many` numbers, counted from 0, that a counter and a purpose lead to.
+fn pick(counter: u64, purpose: u64, many: u64) -> u64 {
+    let number = counter.wrapping_add(purpose.wrapping_mul(7));
+    (number.wrapping_mul(number) % 1009)
+        .checked_rem(many)
+        .unwrap_or(0)
+}
+
+/// Any flags in every second event; else those of one kind, linked now and then.
+fn flags(counter: u64) -> u16 {
+    let any = pick(counter, 1, 16);
+    let kind = match pick(counter, 2, 4) {
+        0 => 0,
+        1 => 2,
+        2 => 4,
+        _ => 8,
+    };
+    let linked = if pick(counter, 3, 4) == 0 { 1 } else { 0 };
+    let chosen = if pick(counter, 4, 2) == 0 {
+        any
+    } else {
+        kind + linked
+    };
+    u16::try_from(chosen).unwrap_or(0)
+}
+
+/// An id from 1 to `ids`.
+fn id_at(counter: u64, ids: u64) -> u128 {
+    u128::from(counter.checked_rem(ids).unwrap_or(0).saturating_add(1))
+}
+
+/// The event that a counter leads to; a post or a void names one of the last ids.
+fn event(counter: u64, ids: u64) -> Transfer {
+    let id = id_at(counter, ids);
+    let debit = u128::from(pick(counter, 6, 4).saturating_add(1));
+    let credit = u128::from(pick(counter, 7, 5).saturating_add(1));
+    let amount = u128::from(pick(counter, 8, 100).saturating_add(1));
+    let plain = transfer(id, debit, credit, amount, flags(counter));
+    if plain.is_post() || plain.is_void() {
+        return Transfer {
+            debit_account_id: 0,
+            credit_account_id: 0,
+            pending_id: id_at(counter.saturating_sub(pick(counter, 9, 16)), ids),
+            amount: if plain.is_void() { 0 } else { amount / 4 },
+            ledger: 0,
+            code: 0,
+            ..plain
+        };
+    }
+    let timeout = if plain.is_pending() {
+        u32::try_from(pick(counter, 10, 3)).unwrap_or(0)
+    } else {
+        0
+    };
+    Transfer { timeout, ..plain }
+}
+
+/// A transfer, and whether it expired.
+type Row = (Transfer, bool);
+
+/// The post or void that names the transfer with an id.
+fn resolution(rows: &[Row], id: u128) -> Option<Transfer> {
+    for row in rows {
+        if row.0.pending_id == id {
+            return Some(row.0);
+        }
+    }
+    None
+}
+
+fn plain_status(rows: &[Row], row: &Row) -> Option<Status> {
+    if !row.0.is_pending() {
+        return None;
+    }
+    match resolution(rows, row.0.id) {
+        Some(named_by) if named_by.is_post() => Some(Status::Posted),
+        Some(_) => Some(Status::Voided),
+        None if row.1 => Some(Status::Expired),
+        None => Some(Status::Pending),
+    }
+}
+
+fn raised(balance: u128, belongs: bool, amount: u128) -> u128 {
+    if belongs {
+        balance.saturating_add(amount)
+    } else {
+        balance
+    }
+}
+
+/// An account with the amount of a row in its balances, where it belongs there.
+fn with_row(account: Account, status: Option<Status>, made: &Transfer) -> Account {
+    let is_debit = made.debit_account_id == account.id;
+    let is_credit = made.credit_account_id == account.id;
+    let reserves = status == Some(Status::Pending);
+    let posts = !made.is_pending() && !made.is_void();
+    let amount_if = |belongs: bool| if belongs { made.amount } else { 0 };
+    Account {
+        debits_pending: account
+            .debits_pending
+            .saturating_add(amount_if(is_debit && reserves)),
+        debits_posted: account
+            .debits_posted
+            .saturating_add(amount_if(is_debit && posts)),
+        credits_pending: account
+            .credits_pending
+            .saturating_add(amount_if(is_credit && reserves)),
+        credits_posted: account
+            .credits_posted
+            .saturating_add(amount_if(is_credit && posts)),
+        ..account
+    }
+}
+
+/// An account, without balances at first, with those that the rows give.
+fn with_rows(account: Account, rows: &[Row]) -> Account {
+    let mut balanced = account;
+    for row in rows {
+        balanced = with_row(balanced, plain_status(rows, row), &row.0);
+    }
+    balanced
+}
+
+/// Notes what was made since, by rising id.
+fn note_new(rows: &mut Vec<Row>, machine: &Machine, ids: u32) -> Result<(), AllocError> {
+    for id in 1..=ids {
+        let id = u128::from(id);
+        let known = rows.iter().any(|row| row.0.id == id);
+        if let (false, Some(made)) = (known, machine.transfer(id)) {
+            rows.push((made, false))?;
+        }
+    }
+    Ok(())
+}
+
+/// Whether all balances and statuses are those of the rows.
+fn agrees(machine: &Machine, rows: &[Row]) -> bool {
+    for id in 1..=4_u32 {
+        let made = Account {
+            timestamp: u64::from(id),
+            ..account(u128::from(id), 0)
+        };
+        if machine.account(u128::from(id)) != Some(with_rows(made, rows)) {
+            return false;
+        }
+    }
+    for row in rows {
+        if machine.status(row.0.id) != plain_status(rows, row) {
+            return false;
+        }
+    }
+    true
+}
+
+/// Marks what expires at a clock.
+fn expire(rows: &mut Vec<Row>, clock: u64) {
+    for place in 0..rows.len() {
+        let (made, _) = rows[place];
+        let expires_at = made.timestamp.saturating_add(u64::from(made.timeout).saturating_mul(
+            NANOSECONDS_PER_SECOND,
+        ));
+        let is_open = plain_status(rows, &rows[place]) == Some(Status::Pending);
+        if is_open && made.timeout != 0 && expires_at <= clock {
+            rows[place] = (made, true);
+        }
+    }
+}
+
+/// Whether a packet was committed, as it is unless memory is wanting.
+fn commits_any(rt: &HostRuntime, machine: &mut Machine, body: &[u8]) -> bool {
+    if !is_packet(CREATE_TRANSFERS, body) {
+        return false;
+    }
+    let Ok(mut out) = Vec::with_capacity(rt.alloc(), body.len() / 128) else {
+        return false;
+    };
+    machine.commit(CREATE_TRANSFERS, body, &mut out).is_ok()
+}
+
+/// A packet of the events from a counter on.
+fn packet(rt: &HostRuntime, first: u64, events: u64, ids: u64) -> Result<Vec<u8>, AllocError> {
+    let mut body = Vec::new(rt.alloc());
+    for place in 0..events {
+        let event = event(first.saturating_add(place), ids);
+        body.extend_from_slice(&write_transfer(&event))?;
+    }
+    Ok(body)
+}
+
+/// 115 packets of 1 to 6 events, 400 in all, with a pulse after each tenth packet.
+fn run(rt: &HostRuntime, machine: &mut Machine, rows: &mut Vec<Row>, ids: u32) -> Result<(), Fail> {
+    let events = [account(1, 0), account(2, 0), account(3, 0), account(4, 0)];
+    let accounts = accounts_body(rt, events.as_slice())?;
+    if !commits(rt, machine, CREATE_ACCOUNTS, &accounts) {
+        return Err("the accounts weren't made")?;
+    }
+    let mut first: u64 = 0;
+    for number in 0..115_u64 {
+        let events = number % 6 + 1;
+        let body = packet(rt, first, events, u64::from(ids))?;
+        first = first.saturating_add(events);
+        if !commits_any(rt, machine, &body) {
+            return Err("a packet wasn't committed")?;
+        }
+        note_new(rows, machine, ids)?;
+        if number % 10 == 9 {
+            machine.pulse((number / 10 + 1) * NANOSECONDS_PER_SECOND);
+            expire(rows, machine.clock());
+        }
+        if !agrees(machine, rows) {
+            return Err("the machine isn't as the lists say")?;
+        }
+    }
+    Ok(())
+}
+
+/// Whether some transfer has a status.
+fn some_has(rows: &[Row], status: Status) -> bool {
+    for row in rows {
+        if plain_status(rows, row) == Some(status) {
+            return true;
+        }
+    }
+    false
+}
+
+#[test]
+fn four_hundred_events(rt: HostRuntime) -> Result<(), Fail> {
+    let mut machine = Machine::new(rt.alloc(), 0);
+    let mut rows = Vec::new(rt.alloc());
+    run(&rt, &mut machine, &mut rows, 8)
+}
+
+#[test]
+fn four_hundred_events_of_as_many_ids(rt: HostRuntime) -> Result<(), Fail> {
+    let mut machine = Machine::new(rt.alloc(), 0);
+    let mut rows = Vec::new(rt.alloc());
+    let result = run(&rt, &mut machine, &mut rows, 400);
+    assert!(rt; some_has(&rows, Status::Pending) && some_has(&rows, Status::Posted));
+    assert!(rt; some_has(&rows, Status::Voided) && some_has(&rows, Status::Expired));
+    result
+}
+
+/// Packets in order, as far as memory lasts; one that is refused leaves what the lists say.
+fn run_refused(
+    rt: &HostRuntime,
+    machine: &mut Machine,
+    rows: &mut Vec<Row>,
+) -> Result<(), AllocError> {
+    let mut first: u64 = 0;
+    for number in 0..6_u64 {
+        let body = packet(rt, first, number + 1, 400)?;
+        first = first.saturating_add(number + 1);
+        if !commits_any(rt, machine, &body) {
+            return Ok(());
+        }
+        note_new(rows, machine, 400)?;
+    }
+    Ok(())
+}
+
+/// What is tried with each allocation refused in turn.
+#[test]
+fn plain_lists_refused_memory(rt: HostRuntime) -> Result<(), Fail> {
+    let events = [account(1, 0), account(2, 0), account(3, 0), account(4, 0)];
+    let Ok(accounts) = accounts_body(&rt, events.as_slice()) else {
+        return Ok(());
+    };
+    let mut machine = Machine::new(rt.alloc(), 0);
+    let mut rows = Vec::new(rt.alloc());
+    if commits(&rt, &mut machine, CREATE_ACCOUNTS, &accounts)
+        && run_refused(&rt, &mut machine, &mut rows).is_ok()
+    {
+        assert!(rt; agrees(&machine, &rows));
+    }
+    Ok(())
+}

@@ -1,0 +1,43 @@
+//! What no clause says: the worked example, and each call once with ample memory.
+
+use std::test::Fail;
+use tb_rings::ring;
+
+/// What both ends answer in one thread.
+#[test]
+fn ring_of_two(rt: HostRuntime) -> Result<(), Fail> {
+    let (mut outlet, mut inlet) = ring::<u32>(rt.alloc(), 2)?;
+    assert_eq!(rt; outlet.give(1), Ok(()));
+    assert_eq!(rt; outlet.give(2), Ok(()));
+    assert_eq!(rt; outlet.give(3), Err(3));
+    assert_eq!(rt; inlet.lying(&mut outlet), 2);
+    assert_eq!(rt; inlet.take(), Some(1));
+    assert_eq!(rt; inlet.take(), Some(2));
+    assert_eq!(rt; inlet.take(), None);
+    assert_eq!(rt; inlet.lying(&mut outlet), 0);
+    Ok(())
+}
+
+/// A slot that was taken from is free again.
+#[test]
+fn ring_goes_round(rt: HostRuntime) -> Result<(), Fail> {
+    let (mut outlet, mut inlet) = ring::<u32>(rt.alloc(), 1)?;
+    for value in 0..5u32 {
+        assert_eq!(rt; outlet.give(value), Ok(()));
+        assert_eq!(rt; outlet.give(99), Err(99));
+        assert_eq!(rt; inlet.take(), Some(value));
+    }
+    Ok(())
+}
+
+/// Tried with each allocation refused in turn, by `tools/refuse-each-growth`: there are both ends, or
+/// none.
+#[test]
+fn ring_refused_memory(rt: HostRuntime) -> Result<(), Fail> {
+    let Ok((mut outlet, mut inlet)) = ring::<u32>(rt.alloc(), 4) else {
+        return Ok(());
+    };
+    assert_eq!(rt; outlet.give(7), Ok(()));
+    assert_eq!(rt; inlet.take(), Some(7));
+    Ok(())
+}

@@ -1,0 +1,42 @@
+use tb_submit::open_queue;
+use std::test::Fail;
+use tb_work::Refusal;
+
+/// Limit, capacity, credit and submitters, and why such a queue is refused.
+const OPENINGS: [((u32, u32, u32, u32), Option<Refusal>); 18] = [
+    ((0, 0, 4, 3), Some(Refusal::BadLimit)),
+    ((8191, 4, 4, 3), Some(Refusal::BadLimit)),
+    ((4, 0, 4, 3), Some(Refusal::BadCapacity)),
+    ((4, 4, 4, 0), Some(Refusal::BadSubmitters)),
+    ((4, 4, 4, 17), Some(Refusal::BadSubmitters)),
+    ((4, 4, 4, 3), None),
+    ((4, 65_537, 4, 3), Some(Refusal::BadCapacity)),
+    ((4, 4, 0, 3), Some(Refusal::BadCapacity)),
+    ((4, 4, 65_537, 3), Some(Refusal::BadCapacity)),
+    ((1, 1, 1, 1), None),
+    ((8190, 65_536, 1, 16), None),
+    ((1, 1, 65_536, 1), None),
+    ((0, 4, 4, 17), Some(Refusal::BadLimit)),
+    ((8191, 4, 0, 3), Some(Refusal::BadLimit)),
+    ((0, 0, 0, 0), Some(Refusal::BadLimit)),
+    ((4, 0, 4, 17), Some(Refusal::BadCapacity)),
+    ((4, 4, 0, 0), Some(Refusal::BadCapacity)),
+    ((4, 65_537, 65_537, 17), Some(Refusal::BadCapacity)),
+];
+
+#[test]
+fn bad_openings(rt: HostRuntime) -> Result<(), Fail> {
+    for ((limit, capacity, credit, submitters), wanted) in OPENINGS.iter() {
+        let refusal = open_queue(rt.alloc(), *limit, *capacity, *credit, *submitters).err();
+        assert_eq!(rt; refusal, *wanted);
+    }
+    Ok(())
+}
+
+#[test]
+fn as_many_ends_as_submitters(rt: HostRuntime) -> Result<(), Fail> {
+    let ends = open_queue(rt.alloc(), 4, 4, 4, 16).ok().ok_or("refused")?;
+    assert_eq!(rt; ends.submitters.len(), 16);
+    assert_eq!(rt; ends.outlets.len(), 16);
+    Ok(())
+}

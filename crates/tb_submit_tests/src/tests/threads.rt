@@ -1,0 +1,162 @@
+use tb_submit::{Control, Ends, Intake, Submitter, open_queue};
+use std::alloc::Global;
+use std::sync::Wait;
+use std::test::Fail;
+use std::thread;
+use std::thread::Threads;
+use tb_work::{Bytes, Item, Packet, Stub, Ticket};
+
+/// How often in all a thread gives way before it gives up.
+const MOST_TURNS: u64 = 100_000_000;
+
+fn empty_packet(alloc: Global, user: u64) -> Packet {
+    Packet {
+        operation: 129,
+        bytes: Bytes::from_vec(Vec::new(alloc)),
+        user,
+    }
+}
+
+/// Submits a packet without events, again and again while the queue is full; the turns that are left.
+fn submit_one<R: Wait>(
+    rt: &R,
+    alloc: Global,
+    submitter: &mut Submitter,
+    user: u64,
+    turns: u64,
+) -> u64 {
+    let mut packet = empty_packet(alloc, user);
+    for left in 0..turns {
+        if submitter.queued() >= 1 << 56 {
+            return 0;
+        }
+        match submitter.submit(rt, alloc, packet) {
+            Ok(_) => return turns - left,
+            Err((back, _)) => packet = back,
+        }
+        thread::yield_now();
+    }
+    0
+}
+
+/// Submits so many packets and ends; whether all were queued.
+fn submit_all<R: Wait>(rt: &R, alloc: Global, submitter: Submitter, count: u64) -> bool {
+    let mut submitter = submitter;
+    let mut turns = MOST_TURNS;
+    for user in 0..count {
+        turns = submit_one(rt, alloc, &mut submitter, user, turns);
+    }
+    end_all(rt, submitter, turns)
+}
+
+fn end_all<R: Wait>(rt: &R, submitter: Submitter, turns: u64) -> bool {
+    let mut submitter = submitter;
+    for _ in 0..turns {
+        match submitter.end(rt) {
+            Ok(_) => return true,
+            Err((back, _)) => submitter = back,
+        }
+        thread::yield_now();
+    }
+    false
+}
+
+/// What was taken so far: how many packets of each sender in a row, how many ends, and whether a
+/// packet came out of turn.
+#[derive(Drop)]
+struct Counts {
+    next: [u64; 17],
+    ended: u32,
+    torn: bool,
+}
+
+impl Counts {
+    fn note_packet(&mut self, sender: u32, stub: Stub) {
+        let place = sender as usize;
+        if place >= 17 || stub.submitter != sender || stub.number != self.next[place] {
+            self.torn = true;
+        } else {
+            self.next[place] = stub.number.wrapping_add(1);
+        }
+    }
+
+    fn note(&mut self, ticket: Ticket) {
+        let Ticket { sender, item } = ticket;
+        match item {
+            Item::Packet(job) => self.note_packet(sender, job.stub()),
+            Item::Pulse(_) => self.torn = true,
+            Item::End => self.ended = self.ended.wrapping_add(1),
+            Item::Close => self.ended = self.ended.wrapping_add(1),
+        }
+    }
+}
+
+/// Takes until so many senders have ended.
+fn take_all<R: Wait>(rt: &R, intake: &mut Intake, senders: u32) -> Counts {
+    let mut counts = Counts {
+        next: [0; 17],
+        ended: 0,
+        torn: false,
+    };
+    for _ in 0..MOST_TURNS {
+        if counts.ended == senders {
+            break;
+        }
+        match intake.take(rt) {
+            Some(ticket) => counts.note(ticket),
+            None => thread::yield_now(),
+        }
+    }
+    counts
+}
+
+/// So many submitters, each in a thread, and one taker; None where a thread can't be started.
+fn run<R: Threads + Wait + Sync>(
+    rt: &R,
+    alloc: Global,
+    submitters: u32,
+    count: u64,
+) -> Option<Counts> {
+    let Ok(
+        Ends {
+            submitters: senders,
+            control,
+            mut intake,
+            outlets: _,
+        },
+    ) = open_queue(alloc, 4, 64, 10_000, submitters)
+    else {
+        return None;
+    };
+    let _ = control.end(rt).ok()?;
+    thread::scope(thread::scope_env(), rt, |scope| -> Option<Counts> {
+        let mut drivers = Vec::new(alloc);
+        for submitter in senders {
+            let Ok(driver) = scope.spawn(move || submit_all(rt, alloc, submitter, count)) else {
+                return None;
+            };
+            if drivers.push(driver).is_err() {
+                return None;
+            }
+        }
+        let mut counts = take_all(rt, &mut intake, submitters.wrapping_add(1));
+        for driver in drivers {
+            if !driver.join(rt) {
+                counts.torn = true;
+            }
+        }
+        Some(counts)
+    })
+}
+
+#[test]
+fn sixteen_senders_and_one_taker(rt: HostRuntime) -> Result<(), Fail> {
+    let counts = run(&rt, rt.alloc(), 16, 10_000).ok_or("no thread or no memory")?;
+    assert!(rt; !counts.torn);
+    assert_eq!(rt; counts.ended, 17);
+    for sender in 0..16usize {
+        assert_eq!(rt; counts.next[sender], 10_000);
+    }
+    assert_eq!(rt; counts.next[16], 0);
+    Ok(())
+}

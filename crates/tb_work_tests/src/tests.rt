@@ -1,0 +1,52 @@
+//! What no clause says: worked examples by name, and each call once with ample memory.
+
+use std::test::Fail;
+use tb_layout::{Account, write_account};
+use tb_work::{Bytes, Packet};
+
+mod admission;
+mod calls;
+mod memory;
+
+/// An account's event with this id and these flags, and all else as in an account that is created.
+fn account(id: u128, flags: u16) -> Account {
+    Account {
+        id,
+        debits_pending: 0,
+        debits_posted: 0,
+        credits_pending: 0,
+        credits_posted: 0,
+        user_data_128: 0,
+        user_data_64: 0,
+        user_data_32: 0,
+        reserved: 0,
+        ledger: 1,
+        code: 1,
+        flags,
+        timestamp: 0,
+    }
+}
+
+/// A packet of so many zero bytes.
+fn packet_of(rt: &HostRuntime, operation: u8, length: usize) -> Result<Packet, Fail> {
+    let mut bytes = Vec::with_capacity(rt.alloc(), length)?;
+    bytes.resize(length, 0)?;
+    Ok(Packet {
+        operation,
+        bytes: Bytes::from_vec(bytes),
+        user: 7,
+    })
+}
+
+/// A packet that asks for accounts with these ids and flags.
+fn packet_of_accounts(rt: &HostRuntime, events: &[(u128, u16)]) -> Result<Packet, Fail> {
+    let mut bytes = Vec::new(rt.alloc());
+    for (id, flags) in events {
+        bytes.extend_from_slice(&write_account(&account(*id, *flags)))?;
+    }
+    Ok(Packet {
+        operation: 129,
+        bytes: Bytes::from_vec(bytes),
+        user: 7,
+    })
+}

@@ -1,0 +1,23 @@
+use std::test::Fail;
+use tb_work::{Bytes, Job, Packet, Refusal};
+
+/// What is tried with each allocation refused in turn, by `tools/refuse-each-growth`.
+#[test]
+fn job_refused_memory(rt: HostRuntime) -> Result<(), Fail> {
+    let mut bytes = Vec::new(rt.alloc());
+    let Ok(()) = bytes.resize(256, 0) else {
+        return Ok(());
+    };
+    let packet = Packet {
+        operation: 129,
+        bytes: Bytes::from_vec(bytes),
+        user: 7,
+    };
+    let Some((packet, refusal)) = Job::new(rt.alloc(), 0, 0, 4, packet).err() else {
+        return Ok(());
+    };
+    assert_eq!(rt; refusal, Refusal::NoMemory);
+    assert_eq!(rt; packet.user, 7);
+    assert_eq!(rt; packet.bytes.as_slice().len(), 256);
+    Ok(())
+}
