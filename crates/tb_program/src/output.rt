@@ -1,11 +1,15 @@
 //! The lines of the output.
 
-ghost use Rattle.std.specs.Prelude.{◌≡◌, ◌++◌, OnOk, codes, string_bytes};
+ghost use Rattle.std.specs.Io.KnownBytes.{Appends};
+ghost use Rattle.std.specs.Prelude.{◌≡◌, ◌++◌, OnOk, IfErr, codes, string_bytes};
+ghost use Rattle.tb_program.specs.declared.program_fault.ProgramFault.TheVariants.{Write as WriteFault};
 ghost use Rattle.std.specs.List.{flat_map};
 ghost use Rattle.tb_program.specs.Output.{fault_text, fault_line, refused_line, failure_text, found_debits, found_credits, found_text, answer_text, outcome_text, packet_front, reply_line, pulse_line, refused_pulse_line, clock_line, account_front, balances_text, account_line};
 
-use crate::fault::Fault;
+use crate::program_fault::ProgramFault;
+use crate::script::fault::Fault;
 use std::alloc::AllocError;
+use std::io::Write;
 use tb_layout::{Account, Failure};
 use tb_work::{Answer, Outcome, Refusal, Reply};
 
@@ -177,4 +181,18 @@ pub fn put_account(out: &mut String, account: &Account) -> Result<(), AllocError
 {
     put_account_front(out, account.id, account.timestamp)?;
     put_balances(out, account)
+}
+
+/// All of a text, once it is made.
+pub fn write_out<W: Write>(writer: &mut W, text: &str) -> Result<(), ProgramFault>
+    ensures written { OnOk result (Appends (W.contents writer.old) (W.contents writer.new) text.now) }
+    ensures refused { IfErr result (λ fault. fault ≡ WriteFault) }
+{
+    if writer.write_all(text.as_bytes()).is_err() {
+        return Err(ProgramFault::Write);
+    }
+    if writer.flush().is_err() {
+        return Err(ProgramFault::Write);
+    }
+    Ok(())
 }

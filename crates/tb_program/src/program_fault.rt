@@ -7,19 +7,18 @@ use std::alloc::AllocError;
 use tb_layout::NoMemory;
 use thiserror::Error;
 
-/// Why a script was not run to its end. What is shown is the line that the program prints; of a
-/// failed write it prints none.
+/// Why a script was not run to its end.
 #[derive(Debug, Drop, Error)]
 pub enum ProgramFault {
     /// The reader failed, or the script had not ended after 16,777,217 reads.
-    #[error("fault read failed")]
+    #[error("the reader failed")]
     Read,
     /// The writer failed; part of the output may be written.
-    #[error("fault write failed")]
+    #[error("the writer failed")]
     Write,
-    #[error("fault no memory")]
+    #[error("memory ran out")]
     NoMemory,
-    #[error("fault no thread")]
+    #[error("a thread could not be started")]
     NoThread,
 }
 
