@@ -10,4 +10,5 @@ pub mod Output
 pub mod Printing
 pub mod Source
 pub mod Spelling
+pub mod Run
 pub mod Laws

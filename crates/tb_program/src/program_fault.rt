@@ -3,7 +3,7 @@
 ghost use Rattle.std.specs.Prelude.{◌≡◌};
 ghost use Rattle.tb_program.specs.declared.program_fault.ProgramFault.TheVariants.{NoMemory as OutOfMemory};
 
-use std::alloc::AllocError;
+use std::alloc::{AllocError, AllocFailed};
 use tb_layout::NoMemory;
 use thiserror::Error;
 
@@ -34,6 +34,14 @@ impl From<AllocError> for ProgramFault {
     ghost from_gives = { λ _ fault. fault ≡ OutOfMemory };
 
     fn from(_refused: AllocError) -> ProgramFault {
+        ProgramFault::NoMemory
+    }
+}
+
+impl<T: Drop> From<AllocFailed<T>> for ProgramFault {
+    ghost from_gives = { λ _ fault. fault ≡ OutOfMemory };
+
+    fn from(_refused: AllocFailed<T>) -> ProgramFault {
         ProgramFault::NoMemory
     }
 }

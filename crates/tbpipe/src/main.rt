@@ -1,6 +1,6 @@
 //! `tbpipe`: runs a script of packets and prints what becomes of each.
 //!
-//! `list` takes the script through the stages in one thread. What the arguments ask for, the exit status of each
+//! `list` takes the script through the stages in one thread, `run` through the pipeline with a thread for each sender. What the arguments ask for, the exit status of each
 //! outcome and the lines that the program prints itself are functions with exact contracts; the rest is `tb_program`.
 #![tactic(auto)]
 
@@ -13,7 +13,7 @@ use std::alloc::Global;
 use std::process::ExitCode;
 use std::rt::Env;
 use std::{env, io};
-use tb_program::{ProgramFault, run_script};
+use tb_program::{ProgramFault, run_script, run_threads};
 
 /// What the arguments ask for. One that isn't text asks for nothing that there is.
 fn read_arguments(rt: &(impl Env + Alloc<A = Global>)) -> Result<Request, ProgramFault> {
@@ -24,21 +24,12 @@ fn read_arguments(rt: &(impl Env + Alloc<A = Global>)) -> Result<Request, Progra
     }
 }
 
-fn follow(rt: &HostRuntime, request: Request) -> Ending {
-    match request {
-        Request::List => ended(run_script(
-            rt.alloc(),
-            &mut rt.reader(),
-            &mut io::writer(rt),
-        )),
-        Request::Run => Ending::Usage,
-        Request::Usage => Ending::Usage,
-    }
-}
-
 fn main(rt: HostRuntime) -> ExitCode {
+    let alloc = rt.alloc();
     let ending = match read_arguments(&rt) {
-        Ok(request) => follow(&rt, request),
+        Ok(Request::List) => ended(run_script(alloc, &mut rt.reader(), &mut io::writer(&rt))),
+        Ok(Request::Run) => ended(run_threads(&rt, alloc, &mut rt.reader(), &mut io::writer(&rt))),
+        Ok(Request::Usage) => Ending::Usage,
         Err(fault) => Ending::Failed(fault),
     };
     let text = ending.text();

@@ -9,7 +9,7 @@ ghost use Rattle.tb_program.specs.Output.{account_line, reply_line, pulse_line, 
 ghost use Rattle.tb_program.specs.Printing.{one_further, first_text, behind_line, pending, printed_from};
 
 use crate::output::{
-    put_account, put_clock, put_close, put_pulse, put_refused, put_refused_pulse, put_reply,
+    put_close, put_pulse, put_refused, put_refused_pulse, put_reply, put_state,
 };
 use crate::list::plan::Line;
 use std::alloc::AllocError;
@@ -95,23 +95,11 @@ fn put_lines(out: &mut String, lines: &[Line], replies: &[Reply]) -> Result<(), 
     Ok(())
 }
 
-fn put_accounts(out: &mut String, machine: &Machine) -> Result<(), AllocError>
-    ensures { OnOk result (string_bytes out.new ≡ string_bytes out.old ++ flat_map account_line (balanced_accounts machine.now.facts)) }
-{
-    for place in 0..machine.accounts() {
-        let account = machine.account_at(place).unwrap();
-        put_account(out, &account)?;
-    }
-    Ok(())
-}
-
 /// All lines of a plan that was listed: those of its items, the clock after them and the accounts.
 pub fn put_listing(out: &mut String, lines: &[Line], listed: &Listed) -> Result<(), AllocError>
     ensures { (clock : ℕ) (plan : List Planned) → lines.now ≡ map line_of plan → IsListed clock (queue_of plan) listed.now.ledger listed.now.replies.items
         → OnOk result (string_bytes out.new ≡ string_bytes out.old ++ plan_text clock plan) }
 {
     put_lines(out, lines, &listed.replies)?;
-    let machine = listed.ledger.machine();
-    put_clock(out, machine.clock())?;
-    put_accounts(out, machine)
+    put_state(out, listed.ledger.machine())
 }

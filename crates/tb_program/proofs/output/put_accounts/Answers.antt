@@ -4,7 +4,7 @@ use Rattle.std.proofs.lemmas.List.{take_more, flat_map_more}
 use Rattle.std.proofs.lemmas.Option.{get_or_from_slice_get, slice_get_within}
 use Rattle.tb_machine.specs.Replay.{balanced_accounts}
 use Rattle.tb_program.specs.Output.{account_line}
-use Rattle.tb_program.proofs.list.listing.put_accounts.Goals as goal
+use Rattle.tb_program.proofs.output.put_accounts.Goals as goal
 
 pub loop-place-preserved : goal.loop-place-preserved
 loop-place-preserved c =
