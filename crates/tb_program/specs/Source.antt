@@ -1,5 +1,5 @@
 -- What a reader's bytes are: a script, or the fault that is printed of them.
-use Rattle.std.specs.Prelude.{◌≡◌, ℕ, ⊥, true, false, List, Result, string_bytes}
+use Rattle.std.specs.Prelude.{◌≡◌, ℕ, true, false, List, Result, string_bytes}
 use Rattle.tb_program.specs.declared.script.fault.Fault.{Fault}
 use Rattle.tb_program.specs.declared.source.Source.{Source}
 use Rattle.tb_program.specs.declared.source.Source.TheVariants.{Script, Faulty}

@@ -21,7 +21,7 @@ fn answered(
         write!(script, "packet 0 130\ntransfer {fields}\n")?;
         write!(answers, "packet 0 {number} committed {place} 0:{code}\n")?;
     }
-    Ok((listed(rt, script.as_str())?, answers))
+    Ok((listed(rt.alloc(), script.as_str())?, answers))
 }
 
 /// Accounts 1, 2, 6, 7, 8 and 9 of ledger 1; 3 of ledger 2; 4, whose debits must not exceed its

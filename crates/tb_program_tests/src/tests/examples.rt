@@ -1,15 +1,18 @@
-use super::{listed, shows};
+use super::{both_show, listed, shows};
 use std::test::Fail;
 
 #[test]
 fn empty_script(rt: HostRuntime) -> Result<(), Fail> {
-    shows(&rt, "", "clock 0\n")
+    both_show(
+        &rt,
+        rt.alloc(), "", "clock 0\n")
 }
 
 #[test]
 fn first_run(rt: HostRuntime) -> Result<(), Fail> {
-    shows(
+    both_show(
         &rt,
+        rt.alloc(),
         "packet 0 129\naccount id=1 ledger=1 code=1\naccount id=2 ledger=1 code=1\n",
         "packet 0 0 committed 0\nclock 2\naccount 1 1 0 0 0 0\naccount 2 2 0 0 0 0\n",
     )
@@ -18,7 +21,7 @@ fn first_run(rt: HostRuntime) -> Result<(), Fail> {
 #[test]
 fn two_submitters_joined(rt: HostRuntime) -> Result<(), Fail> {
     shows(
-        &rt,
+        rt.alloc(),
         "limit 4\npacket 0 129\naccount id=1 ledger=1 code=1\naccount id=2 ledger=1 code=1\npacket 1 129\naccount id=1 ledger=1 code=1\naccount id=3 code=1\n",
         "packet 0 0 committed 0\npacket 1 0 committed 1 0:21 1:13\nclock 4\naccount 1 1 0 0 0 0\naccount 2 2 0 0 0 0\n",
     )
@@ -26,8 +29,9 @@ fn two_submitters_joined(rt: HostRuntime) -> Result<(), Fail> {
 
 #[test]
 fn accounts_around_an_empty_packet(rt: HostRuntime) -> Result<(), Fail> {
-    shows(
+    both_show(
         &rt,
+        rt.alloc(),
         "limit 4\npacket 0 129\naccount id=1 ledger=1 code=1\npacket 0 129\npacket 0 129\naccount id=2 ledger=1 code=1\n",
         "packet 0 0 committed 0\npacket 0 1 committed 1\npacket 0 2 committed 2\nclock 2\naccount 1 1 0 0 0 0\naccount 2 2 0 0 0 0\n",
     )
@@ -52,8 +56,9 @@ packet 0 129
 
 #[test]
 fn full_batch_then_overflow(rt: HostRuntime) -> Result<(), Fail> {
-    shows(
+    both_show(
         &rt,
+        rt.alloc(),
         FULL_BATCH,
         "packet 0 0 committed 0\npacket 0 1 committed 1\npacket 0 refused 3 TooMuchData\npacket 0 2 committed 2\nclock 5\naccount 1 1 0 0 0 0\naccount 2 2 0 0 0 0\naccount 3 3 0 0 0 0\naccount 4 4 0 0 0 0\naccount 5 5 0 0 0 0\n",
     )
@@ -64,8 +69,9 @@ fn refused_sizes_and_operations(rt: HostRuntime) -> Result<(), Fail> {
     let data = "00".repeat(rt.alloc(), 127)?;
     let bytes = data.as_str();
     let script = format!(in rt.alloc(); "packet 0 129\nhex {bytes}\npacket 0 200\nhex {bytes}\n")?;
-    shows(
+    both_show(
         &rt,
+        rt.alloc(),
         script.as_str(),
         "packet 0 refused 2 InvalidDataSize\npacket 0 refused 1 InvalidOperation\nclock 0\n",
     )
@@ -73,8 +79,9 @@ fn refused_sizes_and_operations(rt: HostRuntime) -> Result<(), Fail> {
 
 #[test]
 fn open_packet_alone(rt: HostRuntime) -> Result<(), Fail> {
-    shows(
+    both_show(
         &rt,
+        rt.alloc(),
         "limit 4\npacket 0 129\naccount id=1 ledger=1 code=1\npacket 0 129\naccount id=2 ledger=1 code=1 flags=1\npacket 0 129\naccount id=3 ledger=1 code=1\n",
         "packet 0 0 committed 0\npacket 0 1 committed 1 0:2\npacket 0 2 committed 2\nclock 3\naccount 1 1 0 0 0 0\naccount 3 3 0 0 0 0\n",
     )
@@ -82,8 +89,9 @@ fn open_packet_alone(rt: HostRuntime) -> Result<(), Fail> {
 
 #[test]
 fn broken_chain(rt: HostRuntime) -> Result<(), Fail> {
-    shows(
+    both_show(
         &rt,
+        rt.alloc(),
         "limit 4\npacket 0 129\naccount id=1 ledger=1 code=1 flags=1\naccount ledger=1 code=1 flags=1\naccount id=2 ledger=1 code=1\naccount id=3 ledger=1 code=1\n",
         "packet 0 0 committed 0 0:1 1:6 2:1\nclock 4\naccount 3 4 0 0 0 0\n",
     )
@@ -91,8 +99,9 @@ fn broken_chain(rt: HostRuntime) -> Result<(), Fail> {
 
 #[test]
 fn broken_and_open_chain(rt: HostRuntime) -> Result<(), Fail> {
-    shows(
+    both_show(
         &rt,
+        rt.alloc(),
         "limit 4\npacket 0 129\naccount id=1 ledger=1 code=1 flags=1\naccount ledger=1 code=1 flags=1\naccount id=2 ledger=1 code=1 flags=1\n",
         "packet 0 0 committed 0 0:1 1:6 2:2\nclock 3\n",
     )
@@ -100,8 +109,9 @@ fn broken_and_open_chain(rt: HostRuntime) -> Result<(), Fail> {
 
 #[test]
 fn clock_exhausted(rt: HostRuntime) -> Result<(), Fail> {
-    shows(
+    both_show(
         &rt,
+        rt.alloc(),
         "clock 9223372036854775806\nlimit 4\npacket 0 129\naccount id=1 ledger=1 code=1\npacket 0 129\naccount id=2 ledger=1 code=1\n",
         "packet 0 0 committed 0\npacket 0 1 committed 1 0:201\nclock 9223372036854775807\naccount 1 9223372036854775807 0 0 0 0\n",
     )
@@ -109,8 +119,9 @@ fn clock_exhausted(rt: HostRuntime) -> Result<(), Fail> {
 
 #[test]
 fn bad_account_fields(rt: HostRuntime) -> Result<(), Fail> {
-    shows(
+    both_show(
         &rt,
+        rt.alloc(),
         "limit 4\npacket 0 129\naccount id=1 ledger=1 code=1 timestamp=5\naccount id=2 ledger=1 code=1 flags=6\naccount id=3 ledger=1 code=1 flags=16\n",
         "packet 0 0 committed 0 0:3 1:8 2:5\nclock 3\n",
     )
@@ -121,8 +132,9 @@ fn hostile_bytes(rt: HostRuntime) -> Result<(), Fail> {
     let data = "fF".repeat(rt.alloc(), 256)?;
     let bytes = data.as_str();
     let script = format!(in rt.alloc(); "limit 4\npacket 0 129\nhex {bytes}\n")?;
-    shows(
+    both_show(
         &rt,
+        rt.alloc(),
         script.as_str(),
         "packet 0 0 committed 0 0:3 1:2\nclock 2\n",
     )
@@ -168,7 +180,7 @@ fn account_codes(rt: HostRuntime) -> Result<(), Fail> {
             "packet 0 0 committed 0\npacket 0 1 committed 1 0:{code}\nclock 2\naccount 1 1 0 0 0 0\n"
         )?;
         assert_eq!(rt;
-            listed(&rt, script.as_str())?.as_str(),
+            listed(rt.alloc(), script.as_str())?.as_str(),
             wanted.as_str(),
             "at {event}"
         );

@@ -78,7 +78,7 @@ fn first_faults(rt: HostRuntime) -> Result<(), Fail> {
             "fault 2 bad number\n",
         ),
     ] {
-        assert_eq!(rt; listed(&rt, script)?.as_str(), line, "at {script:?}");
+        assert_eq!(rt; listed(rt.alloc(), script)?.as_str(), line, "at {script:?}");
     }
     Ok(())
 }
@@ -86,7 +86,7 @@ fn first_faults(rt: HostRuntime) -> Result<(), Fail> {
 #[test]
 fn submitter_out_of_bounds(rt: HostRuntime) -> Result<(), Fail> {
     assert_eq!(rt;
-        listed(&rt, "submitters 1\npacket 1 129\n")?.as_str(),
+        listed(rt.alloc(), "submitters 1\npacket 1 129\n")?.as_str(),
         "fault 2 bad number\n"
     );
     Ok(())
@@ -97,13 +97,13 @@ fn settings_once_and_first(rt: HostRuntime) -> Result<(), Fail> {
     for setting in ["clock", "limit", "capacity", "credit", "submitters"] {
         let twice = format!(in rt.alloc(); "{setting} 1\n{setting} 1\n")?;
         assert_eq!(rt;
-            listed(&rt, twice.as_str())?.as_str(),
+            listed(rt.alloc(), twice.as_str())?.as_str(),
             "fault 2 out of place\n",
             "at {setting}"
         );
         let late = format!(in rt.alloc(); "packet 0 129\n{setting} x y\n")?;
         assert_eq!(rt;
-            listed(&rt, late.as_str())?.as_str(),
+            listed(rt.alloc(), late.as_str())?.as_str(),
             "fault 2 out of place\n",
             "at {setting}"
         );
@@ -122,13 +122,13 @@ fn bounds(rt: HostRuntime) -> Result<(), Fail> {
     ] {
         let faulty = format!(in rt.alloc(); "{line} {over}\n")?;
         assert_eq!(rt;
-            listed(&rt, faulty.as_str())?.as_str(),
+            listed(rt.alloc(), faulty.as_str())?.as_str(),
             "fault 1 bad number\n",
             "at {line}"
         );
         let lawful = format!(in rt.alloc(); "{line} {most}\nfoo\n")?;
         assert_eq!(rt;
-            listed(&rt, lawful.as_str())?.as_str(),
+            listed(rt.alloc(), lawful.as_str())?.as_str(),
             "fault 2 unknown word\n",
             "at {line}"
         );
@@ -136,13 +136,13 @@ fn bounds(rt: HostRuntime) -> Result<(), Fail> {
     for line in ["limit", "capacity", "credit", "submitters"] {
         let faulty = format!(in rt.alloc(); "{line} 0\n")?;
         assert_eq!(rt;
-            listed(&rt, faulty.as_str())?.as_str(),
+            listed(rt.alloc(), faulty.as_str())?.as_str(),
             "fault 1 bad number\n",
             "at {line}"
         );
     }
     assert_eq!(rt;
-        listed(&rt, "clock 0\nsubmitters 16\npacket 15 255\n")?.as_str(),
+        listed(rt.alloc(), "clock 0\nsubmitters 16\npacket 15 255\n")?.as_str(),
         "packet 15 refused 1 InvalidOperation\nclock 0\n"
     );
     Ok(())
@@ -166,13 +166,13 @@ fn field_bounds(rt: HostRuntime) -> Result<(), Fail> {
     ] {
         let faulty = format!(in rt.alloc(); "packet 0 200\naccount {field}={over}\n")?;
         assert_eq!(rt;
-            listed(&rt, faulty.as_str())?.as_str(),
+            listed(rt.alloc(), faulty.as_str())?.as_str(),
             "fault 2 bad number\n",
             "at {field}"
         );
         let lawful = format!(in rt.alloc(); "packet 0 200\naccount {field}={most}\n")?;
         assert_eq!(rt;
-            listed(&rt, lawful.as_str())?.as_str(),
+            listed(rt.alloc(), lawful.as_str())?.as_str(),
             "packet 0 refused 1 InvalidOperation\nclock 0\n",
             "at {field}"
         );
@@ -183,11 +183,11 @@ fn field_bounds(rt: HostRuntime) -> Result<(), Fail> {
 #[test]
 fn digits(rt: HostRuntime) -> Result<(), Fail> {
     assert_eq!(rt;
-        listed(&rt, "clock 000000000000000000000000000000000000007")?.as_str(),
+        listed(rt.alloc(), "clock 000000000000000000000000000000000000007")?.as_str(),
         "clock 7\n"
     );
     assert_eq!(rt;
-        listed(&rt, "clock 0000000000000000000000000000000000000007")?.as_str(),
+        listed(rt.alloc(), "clock 0000000000000000000000000000000000000007")?.as_str(),
         "fault 1 bad number\n"
     );
     Ok(())
@@ -198,10 +198,10 @@ fn line_lengths(rt: HostRuntime) -> Result<(), Fail> {
     let longest = "#".repeat(rt.alloc(), 65536)?;
     let line = longest.as_str();
     let lawful = format!(in rt.alloc(); "{line}\nclock 3")?;
-    assert_eq!(rt; listed(&rt, lawful.as_str())?.as_str(), "clock 3\n");
+    assert_eq!(rt; listed(rt.alloc(), lawful.as_str())?.as_str(), "clock 3\n");
     let faulty = format!(in rt.alloc(); "clock 3\n#{line}\n")?;
     assert_eq!(rt;
-        listed(&rt, faulty.as_str())?.as_str(),
+        listed(rt.alloc(), faulty.as_str())?.as_str(),
         "fault 2 line too long\n"
     );
     Ok(())
@@ -211,7 +211,7 @@ fn line_lengths(rt: HostRuntime) -> Result<(), Fail> {
 fn spaces_and_cases(rt: HostRuntime) -> Result<(), Fail> {
     assert_eq!(rt;
         listed(
-            &rt,
+            rt.alloc(),
             "  clock   7  \n packet  1   200 \n account \n\n# between\nhex 0aFf"
         )?
         .as_str(),

@@ -1,12 +1,13 @@
 //! Lookups, and the Close.
 
-use super::shows;
+use super::{both_show, shows};
 use std::test::Fail;
 
 #[test]
 fn lookup_script(rt: HostRuntime) -> Result<(), Fail> {
-    shows(
+    both_show(
         &rt,
+        rt.alloc(),
         "packet 0 129
 account id=1 ledger=1 code=1
 account id=2 ledger=1 code=1
@@ -33,8 +34,9 @@ account 2 2 0 0 0 30
 
 #[test]
 fn lookups_alone(rt: HostRuntime) -> Result<(), Fail> {
-    shows(
+    both_show(
         &rt,
+        rt.alloc(),
         "limit 4
 packet 0 129
 account id=1 ledger=1 code=1
@@ -59,7 +61,7 @@ account 2 2 0 0 0 0
 #[test]
 fn shut_in_a_script(rt: HostRuntime) -> Result<(), Fail> {
     shows(
-        &rt,
+        rt.alloc(),
         "packet 0 129
 account id=1 ledger=1 code=1
 shut
@@ -79,7 +81,7 @@ account 1 1 0 0 0 0
 #[test]
 fn refused_behind_shut(rt: HostRuntime) -> Result<(), Fail> {
     shows(
-        &rt,
+        rt.alloc(),
         "limit 1\nshut\npacket 0 131\nid 1\nid 2\npacket 0 131\nid 1\npacket 0 200\n",
         "shut\npacket 0 refused 3 TooMuchData\npacket 0 0 shutdown\npacket 0 refused 1 InvalidOperation\nclock 0\n",
     )
@@ -89,8 +91,9 @@ fn refused_behind_shut(rt: HostRuntime) -> Result<(), Fail> {
 /// its balances, its user data and the rest. An account's line is eight ids.
 #[test]
 fn ids_are_bytes(rt: HostRuntime) -> Result<(), Fail> {
-    shows(
+    both_show(
         &rt,
+        rt.alloc(),
         "packet 0 129
 id 7
 id 0

@@ -1,20 +1,35 @@
-use super::shows;
+use super::{both_show, shows};
+use std::alloc::Global;
+use std::sync::Wait;
 use std::test::Fail;
+use std::thread::Threads;
 
 /// The packet of accounts 1 and 2, which have ledger and code 1.
 const TWO_ACCOUNTS: &str =
     "packet 0 129\naccount id=1 ledger=1 code=1\naccount id=2 ledger=1 code=1\n";
 
 /// As `shows`, for a script behind the packet of accounts 1 and 2.
-fn shows_behind(rt: &HostRuntime, script: &str, output: &str) -> Result<(), Fail> {
-    let text = format!(in rt.alloc(); "{TWO_ACCOUNTS}{script}")?;
-    shows(rt, text.as_str(), output)
+fn shows_behind(alloc: Global, script: &str, output: &str) -> Result<(), Fail> {
+    let text = format!(in alloc; "{TWO_ACCOUNTS}{script}")?;
+    shows(alloc, text.as_str(), output)
+}
+
+/// As `both_show`, for a script behind the packet of accounts 1 and 2.
+fn both_show_behind<R: Threads + Wait + Sync>(
+    rt: &R,
+    alloc: Global,
+    script: &str,
+    output: &str,
+) -> Result<(), Fail> {
+    let text = format!(in alloc; "{TWO_ACCOUNTS}{script}")?;
+    both_show(rt, alloc, text.as_str(), output)
 }
 
 #[test]
 fn chains_of_transfers_joined(rt: HostRuntime) -> Result<(), Fail> {
-    shows(
+    both_show(
         &rt,
+        rt.alloc(),
         "limit 4
 packet 0 129
 account id=1 ledger=1 code=1
@@ -40,8 +55,9 @@ account 3 3 0 0 0 0
 
 #[test]
 fn post_then_void(rt: HostRuntime) -> Result<(), Fail> {
-    shows_behind(
+    both_show_behind(
         &rt,
+        rt.alloc(),
         "packet 0 130
 transfer id=1 debit_account_id=1 credit_account_id=2 amount=100 ledger=1 code=1 flags=2
 packet 0 130
@@ -71,7 +87,7 @@ transfer id=2 amount=340282366920938463463374607431768211455 pending_id=1 flags=
 fn late_post_then_pulse(rt: HostRuntime) -> Result<(), Fail> {
     let script = format!(in rt.alloc(); "{LATE_POST}pulse 0\n")?;
     shows_behind(
-        &rt,
+        rt.alloc(),
         script.as_str(),
         "packet 0 0 committed 0
 packet 0 1 committed 1
@@ -88,7 +104,7 @@ account 2 2 0 0 0 0
 #[test]
 fn late_post_without_the_last_pulse(rt: HostRuntime) -> Result<(), Fail> {
     shows_behind(
-        &rt,
+        rt.alloc(),
         LATE_POST,
         "packet 0 0 committed 0
 packet 0 1 committed 1
@@ -103,8 +119,9 @@ account 2 2 0 0 100 0
 
 #[test]
 fn overflowing_pending_sums(rt: HostRuntime) -> Result<(), Fail> {
-    shows_behind(
+    both_show_behind(
         &rt,
+        rt.alloc(),
         "packet 0 130
 transfer id=1 debit_account_id=1 credit_account_id=2 amount=340282366920938463463374607431768211455 ledger=1 code=1 flags=2
 transfer id=2 debit_account_id=1 credit_account_id=2 amount=1 ledger=1 code=1 flags=2
@@ -121,8 +138,9 @@ account 2 2 0 0 340282366920938463463374607431768211455 0
 
 #[test]
 fn repeated_post(rt: HostRuntime) -> Result<(), Fail> {
-    shows_behind(
+    both_show_behind(
         &rt,
+        rt.alloc(),
         "packet 0 130
 transfer id=1 debit_account_id=1 credit_account_id=2 amount=100 ledger=1 code=1 flags=2
 transfer id=2 amount=40 pending_id=1 flags=4
@@ -146,8 +164,9 @@ fn timeout_overflows(rt: HostRuntime) -> Result<(), Fail> {
 transfer id=1 debit_account_id=1 credit_account_id=2 amount=1 timeout=1 ledger=1 code=1 flags=2
 "
     )?;
-    shows(
+    both_show(
         &rt,
+        rt.alloc(),
         script.as_str(),
         "packet 0 0 committed 0
 packet 0 1 committed 1 0:53
@@ -160,8 +179,9 @@ account 2 9223372036854775002 0 0 0 0
 
 #[test]
 fn transfer_refusals(rt: HostRuntime) -> Result<(), Fail> {
-    shows_behind(
+    both_show_behind(
         &rt,
+        rt.alloc(),
         "packet 0 130
 transfer id=1 debit_account_id=1 credit_account_id=2 amount=30 ledger=1 code=1
 transfer id=1 debit_account_id=1 credit_account_id=2 amount=30 ledger=1 code=1
@@ -181,7 +201,7 @@ account 2 2 0 0 0 30
 #[test]
 fn expiry_void_and_untimed(rt: HostRuntime) -> Result<(), Fail> {
     shows_behind(
-        &rt,
+        rt.alloc(),
         "packet 0 130
 transfer id=1 debit_account_id=1 credit_account_id=2 amount=100 timeout=1 ledger=1 code=1 flags=2
 transfer id=2 debit_account_id=1 credit_account_id=2 amount=50 timeout=1 ledger=1 code=1 flags=2
@@ -221,18 +241,19 @@ pulse 3
     let first = format!(in rt.alloc();
         "{committed}clock 1000000004\naccount 1 1 40 0 0 0\naccount 2 2 0 0 40 0\n"
     )?;
-    shows_behind(&rt, EXPIRY_ORDER, first.as_str())?;
+    shows_behind(rt.alloc(), EXPIRY_ORDER, first.as_str())?;
     let script = format!(in rt.alloc(); "{EXPIRY_ORDER}pulse 1000000005\n")?;
     let second = format!(in rt.alloc();
         "{committed}pulse 4\nclock 1000000005\naccount 1 1 10 0 0 0\naccount 2 2 0 0 10 0\n"
     )?;
-    shows_behind(&rt, script.as_str(), second.as_str())
+    shows_behind(rt.alloc(), script.as_str(), second.as_str())
 }
 
 #[test]
 fn id_already_failed(rt: HostRuntime) -> Result<(), Fail> {
-    shows_behind(
+    both_show_behind(
         &rt,
+        rt.alloc(),
         "packet 0 130
 transfer id=1 debit_account_id=1 credit_account_id=2 amount=5 ledger=1 code=1 flags=1
 transfer id=2 debit_account_id=1 credit_account_id=9 amount=5 ledger=1 code=1
@@ -259,8 +280,9 @@ account 2 2 0 0 0 5
 
 #[test]
 fn moment_too_large(rt: HostRuntime) -> Result<(), Fail> {
-    shows(
+    both_show(
         &rt,
+        rt.alloc(),
         "pulse 4611686018427387904\npulse 4611686018427387905\n",
         "pulse 0\npulse refused 12 MomentTooLarge\nclock 4611686018427387904\n",
     )
@@ -271,8 +293,9 @@ fn hostile_bytes_of_transfers(rt: HostRuntime) -> Result<(), Fail> {
     let bytes = "ff".repeat(rt.alloc(), 256)?;
     let digits = bytes.as_str();
     let script = format!(in rt.alloc(); "packet 0 130\nhex {digits}\n")?;
-    shows(
+    both_show(
         &rt,
+        rt.alloc(),
         script.as_str(),
         "packet 0 0 committed 0 0:3 1:2\nclock 2\n",
     )
