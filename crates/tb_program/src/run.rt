@@ -2,7 +2,7 @@
 
 ghost use Rattle.std.specs.Prelude.{◌≡◌, false, map, IfOk, IfSome, IsErrOf, string_bytes};
 ghost use Rattle.std.specs.Io.KnownBytes.{Appends, Keeps};
-ghost use Rattle.tb_submit.specs.Ends.{origin_of};
+ghost use Rattle.tb_submit.specs.Ends.{control_seat, origin_of};
 ghost use Rattle.tb_program.specs.Output.{out, is_faultless};
 ghost use Rattle.tb_program.specs.Run.{driver_origin};
 ghost use Rattle.tb_program.specs.Script.{InBounds};
@@ -43,6 +43,8 @@ const SUBMITTERS: u32 = 2;
 /// The pipeline that a script's settings open. They are all in range, so that only want of memory refuses it.
 fn opened(alloc: Global, settings: &Settings, submitters: u32) -> Result<Opened, NoMemory>
     requires { InBounds settings.now }
+    ensures own { IfOk result (λ opened. map origin_of opened.submitters.items ≡ opened.pipeline.submitters) }
+    ensures control { IfOk result (λ opened. opened.control.seat ≡ control_seat opened.pipeline.intake) }
 {
     let opened = open(
         alloc,
