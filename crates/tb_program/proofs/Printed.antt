@@ -1,7 +1,6 @@
 -- What is printed from the two halves of a plan is the text of the plan.
 use Rattle.std.proofs.Common.{◌≡◌, ℕ, ◌+◌, List, [], ◌∷◌, ◌++◌, map, refl, ap, ◌∙◌, Option, Some, None, append_assoc}
 use Rattle.std.specs.Prelude.{Result, Ok, Err, OnOk, IsOk, codes}
-use Rattle.std.specs.List.{flat_map}
 use Rattle.tb_machine.specs.Replay.{State, replay}
 use Rattle.tb_work.specs.Job.{numbered}
 use Rattle.tb_work.specs.Queue.{ahead}

@@ -1,5 +1,5 @@
 -- What the threads of a run bring back.
-use Rattle.std.specs.Prelude.{◌≡◌, Option, Some, None, IfSome}
+use Rattle.std.specs.Prelude.{◌≡◌, Option, IfSome}
 use Rattle.std.specs.declared.thread.PromisedHandle.{PromisedHandle}
 use Rattle.tb_submit.specs.Ends.{Origin, SubmitterState, SenderState, EndedState, end_origin, origin_of}
 use Rattle.tb_program.specs.declared.run.driver.Driver.{Driver}
