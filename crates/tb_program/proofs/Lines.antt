@@ -1,7 +1,7 @@
 -- Lines without fault, and the first faulty one.
 use Rattle.std.proofs.Common.{◌≡◌, ℕ, ◌+◌, List, [], ◌∷◌, ◌++◌, Result, Ok, Err, refl, sym, ap, ◌∙◌, arith}
 use Rattle.std.specs.Prelude.{IsOk}
-use Rattle.tb_program.specs.declared.fault.Fault.{Fault}
+use Rattle.tb_program.specs.declared.script.fault.Fault.{Fault}
 use Rattle.tb_program.specs.Script.{Said, after_line, after_lines, at_line}
 use Rattle.tb_program.specs.Steps.{◌>>=◌}
 use Rattle.tb_program.specs.Laws.{FirstFaultDecides, FaultlessLinesAreSaid}

@@ -1,8 +1,7 @@
 -- What is printed from the two halves of a plan is the text of the plan.
 use Rattle.std.proofs.Common.{◌≡◌, ℕ, ◌+◌, List, [], ◌∷◌, ◌++◌, map, refl, ap, ◌∙◌, Option, Some, None, append_assoc}
 use Rattle.std.specs.Prelude.{Result, Ok, Err, OnOk, IsOk, codes}
-use Rattle.std.specs.List.{flat_map}
-use Rattle.tb_machine.specs.Replay.{State, replay, balanced_accounts}
+use Rattle.tb_machine.specs.Replay.{State, replay}
 use Rattle.tb_work.specs.Job.{numbered_packet}
 use Rattle.tb_work.specs.Queue.{ahead}
 use Rattle.tb_work.specs.Reply.{Replied, reply_with}
@@ -13,10 +12,10 @@ use Rattle.tb_core.specs.Due.{all_due_from, outcome_at}
 use Rattle.tb_core.specs.Ledger.{LedgerState, works}
 use Rattle.tb_core.specs.Passage.{Ahead, Behind}
 use Rattle.tb_core.specs.Report.{IsListed}
-use Rattle.tb_program.specs.declared.item.Submission.{Submission}
-use Rattle.tb_program.specs.declared.plan.Line.{Line}
+use Rattle.tb_program.specs.declared.script.item.Submission.{Submission}
+use Rattle.tb_program.specs.declared.list.plan.Line.{Line}
 use Rattle.tb_program.specs.Plan.{Planned, Packet, Pulse, Close, RefusedPacket, RefusedPulse, queue_of, line_of, number_in, packet_of, packet_as}
-use Rattle.tb_program.specs.Output.{reply_line, pulse_line, refused_line, refused_pulse_line, clock_line, account_line, lines_from, plan_text}
+use Rattle.tb_program.specs.Output.{reply_line, pulse_line, refused_line, refused_pulse_line, state_text, lines_from, plan_text}
 use Rattle.tb_program.specs.Printing.{as_place, printed_from}
 
 pub admitted_is_queued : (items : List work.Item) (submission : Submission) (r : Result ℕ Refusal) → IsOk r →
@@ -41,19 +40,15 @@ pub on_ok : {A E : Type 0} {P Q : Type 0} (r : Result A E) → (P → Q) → OnO
 on_ok (Ok x) f holds = f holds
 on_ok (Err e) f holds = tt
 
--- the lines, the clock and the accounts
-pub whole : (clock time : ℕ) (plan : List Planned) (lines : List Line) (ledger : LedgerState) (replies : List Replied) (state : State) (out with_lines with_clock with_accounts : List ℕ) →
-    lines ≡ map line_of plan → IsListed clock (queue_of plan) ledger replies → state ≡ replay ledger.opening (works ledger) → time ≡ state.clock →
-    with_lines ≡ out ++ printed_from (Some 0) replies lines → with_clock ≡ with_lines ++ clock_line time →
-    with_accounts ≡ with_clock ++ flat_map account_line (balanced_accounts state.facts) → with_accounts ≡ out ++ plan_text clock plan
-whole clock time plan lines ledger replies state out with_lines with_clock with_accounts lines_are is state_is time_is first second third =
+-- the lines, and the clock and the accounts
+pub whole : (clock : ℕ) (plan : List Planned) (lines : List Line) (ledger : LedgerState) (replies : List Replied) (state : State) (out with_lines with_state : List ℕ) →
+    lines ≡ map line_of plan → IsListed clock (queue_of plan) ledger replies → state ≡ replay ledger.opening (works ledger) →
+    with_lines ≡ out ++ printed_from (Some 0) replies lines → with_state ≡ with_lines ++ state_text state → with_state ≡ out ++ plan_text clock plan
+whole clock plan lines ledger replies state out with_lines with_state lines_are is state_is first second =
     let committed = ahead (queue_of plan) in
     let after : state ≡ replay clock committed = state_is ∙ ap (λ start. replay start (works ledger)) is.from ∙ ap (replay clock) is.committed in
     let text : printed_from (Some 0) replies lines ≡ lines_from clock committed (Ahead 0) plan =
     ap (printed_from (Some 0) replies) lines_are ∙ ap (λ rs. printed_from (Some 0) rs (map line_of plan)) is.replied ∙ printed clock committed (Some 0) plan in
-    let begun : with_clock ≡ (out ++ lines_from clock committed (Ahead 0) plan) ++ clock_line (replay clock committed).clock =
-    second ∙ ap (λ t. t ++ clock_line time) (first ∙ ap (λ t. out ++ t) text) ∙ ap (λ n. (out ++ lines_from clock committed (Ahead 0) plan) ++ clock_line n) (time_is ∙ ap (λ (s : State). s.clock) after) in
-    third ∙ ap (λ t. t ++ flat_map account_line (balanced_accounts state.facts)) begun
-    ∙ ap (λ (s : State). ((out ++ lines_from clock committed (Ahead 0) plan) ++ clock_line (replay clock committed).clock) ++ flat_map account_line (balanced_accounts s.facts)) after
-    ∙ append_assoc (out ++ lines_from clock committed (Ahead 0) plan) (clock_line (replay clock committed).clock) (flat_map account_line (balanced_accounts (replay clock committed).facts))
-    ∙ append_assoc out (lines_from clock committed (Ahead 0) plan) (clock_line (replay clock committed).clock ++ flat_map account_line (balanced_accounts (replay clock committed).facts))
+    second ∙ ap (λ t. t ++ state_text state) (first ∙ ap (λ t. out ++ t) text)
+    ∙ ap (λ (s : State). (out ++ lines_from clock committed (Ahead 0) plan) ++ state_text s) after
+    ∙ append_assoc out (lines_from clock committed (Ahead 0) plan) (state_text (replay clock committed))

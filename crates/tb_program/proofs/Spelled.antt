@@ -12,13 +12,13 @@ use Rattle.std.proofs.lemmas.Bool.Decides.{nat_tests}
 use Rattle.std.proofs.lemmas.Fmt.{digits_decimal, digits_value-decimal, decimal_nonempty, length-decimal-le}
 use Rattle.hex.specs.Hex.{IsBytes, encode_lower, encode_with, lower_digits}
 use Rattle.hex.proofs.HexLemmas.{decode_of-encode_lower}
-use Rattle.tb_program.specs.declared.keyword.Keyword.{Keyword}
-use Rattle.tb_program.specs.declared.keyword.Keyword.TheVariants as word
-use Rattle.tb_program.specs.declared.item.Settings.{Settings}
-use Rattle.tb_program.specs.declared.item.Submission.{Submission}
-use Rattle.tb_program.specs.declared.item.Item.{Item}
-use Rattle.tb_program.specs.declared.item.Item.TheVariants.{Packet, Pulse, Shut}
-use Rattle.tb_program.specs.declared.fault.Fault.{Fault}
+use Rattle.tb_program.specs.declared.script.keyword.Keyword.{Keyword}
+use Rattle.tb_program.specs.declared.script.keyword.Keyword.TheVariants as word
+use Rattle.tb_program.specs.declared.script.item.Settings.{Settings}
+use Rattle.tb_program.specs.declared.script.item.Submission.{Submission}
+use Rattle.tb_program.specs.declared.script.item.Item.{Item}
+use Rattle.tb_program.specs.declared.script.item.Item.TheVariants.{Packet, Pulse, Shut}
+use Rattle.tb_program.specs.declared.script.fault.Fault.{Fault}
 use Rattle.tb_program.specs.Text.{lines_of, words_of}
 use Rattle.tb_program.specs.Number.{number_of, number_within}
 use Rattle.tb_program.specs.Steps.{◌>>=◌}

@@ -3,12 +3,12 @@ use Rattle.std.specs.Prelude.{◌≡◌, ◌<◌, ◌≤◌, ◌⊎◌, ℕ, ◌
 use Rattle.std.specs.List.{before_first, after_first, position_or_len}
 use Rattle.std.specs.Int.{w128, to_le_bytes}
 use Rattle.hex.specs.Hex.{decode_of}
-use Rattle.tb_program.specs.declared.fault.Fault.{Fault}
-use Rattle.tb_program.specs.declared.fault.Fault.TheVariants.{BadField, BadHex}
-use Rattle.tb_program.specs.declared.event.Field.{Field}
-use Rattle.tb_program.specs.declared.event.Draft.{Draft}
-use Rattle.tb_program.specs.declared.event.Layout.{Layout}
-use Rattle.tb_program.specs.declared.event.Layout.TheVariants.{Account, Transfer}
+use Rattle.tb_program.specs.declared.script.fault.Fault.{Fault}
+use Rattle.tb_program.specs.declared.script.fault.Fault.TheVariants.{BadField, BadHex}
+use Rattle.tb_program.specs.declared.script.event.Field.{Field}
+use Rattle.tb_program.specs.declared.script.event.Draft.{Draft}
+use Rattle.tb_program.specs.declared.script.event.Layout.{Layout}
+use Rattle.tb_program.specs.declared.script.event.Layout.TheVariants.{Account, Transfer}
 use Rattle.tb_program.specs.Number.{number_within}
 use Rattle.tb_program.specs.Steps.{◌>>=◌, look_up}
 

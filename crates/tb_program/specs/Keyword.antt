@@ -1,9 +1,9 @@
 -- The words that begin lines, and how many words may follow.
 use Rattle.std.specs.Prelude.{ℕ, List, [], ◌∷◌, Option, Result, Ok, Err, codes}
-use Rattle.tb_program.specs.declared.fault.Fault.{Fault}
-use Rattle.tb_program.specs.declared.fault.Fault.TheVariants.{WrongNumberOfWords}
-use Rattle.tb_program.specs.declared.keyword.Keyword.{Keyword}
-use Rattle.tb_program.specs.declared.keyword.Keyword.TheVariants.{Clock, Limit, Capacity, Credit, Submitters, Packet, Account, Transfer, Id, Hex, Pulse, Shut}
+use Rattle.tb_program.specs.declared.script.fault.Fault.{Fault}
+use Rattle.tb_program.specs.declared.script.fault.Fault.TheVariants.{WrongNumberOfWords}
+use Rattle.tb_program.specs.declared.script.keyword.Keyword.{Keyword}
+use Rattle.tb_program.specs.declared.script.keyword.Keyword.TheVariants.{Clock, Limit, Capacity, Credit, Submitters, Packet, Account, Transfer, Id, Hex, Pulse, Shut}
 use Rattle.tb_program.specs.Steps.{look_up}
 
 abbrev pub keywords : List (List ℕ × Keyword)

@@ -1,8 +1,8 @@
 -- What the definition of a script promises, in the words of its format.
 use Rattle.std.specs.Prelude.{◌≡◌, ℕ, ◌+◌, false, List, ◌∷◌, ◌++◌, length, Ok, Err, IsOk, unwrap_or}
-use Rattle.tb_program.specs.declared.fault.Fault.{Fault}
-use Rattle.tb_program.specs.declared.item.Settings.{Settings}
-use Rattle.tb_program.specs.declared.item.Item.{Item}
+use Rattle.tb_program.specs.declared.script.fault.Fault.{Fault}
+use Rattle.tb_program.specs.declared.script.item.Settings.{Settings}
+use Rattle.tb_program.specs.declared.script.item.Item.{Item}
 use Rattle.tb_program.specs.Script.{Said, after_line, after_lines, items_of, script_of}
 use Rattle.tb_program.specs.Spelling.{spelled, CanBeSet, CanAllBeSaid}
 

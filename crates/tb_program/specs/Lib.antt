@@ -8,5 +8,7 @@ pub mod Parsing
 pub mod Plan
 pub mod Output
 pub mod Printing
+pub mod Source
 pub mod Spelling
+pub mod Run
 pub mod Laws

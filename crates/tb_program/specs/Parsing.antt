@@ -1,8 +1,8 @@
 -- What reading a script answers.
 use Rattle.std.specs.Prelude.{◌≡◌, ℕ, Result, Ok, Err}
-use Rattle.tb_program.specs.declared.fault.Fault.{Fault}
-use Rattle.tb_program.specs.declared.parse.ScriptError.{ScriptError}
-use Rattle.tb_program.specs.declared.parse.ScriptError.TheVariants.{NoMemory, Faulty}
+use Rattle.tb_program.specs.declared.script.fault.Fault.{Fault}
+use Rattle.tb_program.specs.declared.script.parse.ScriptError.{ScriptError}
+use Rattle.tb_program.specs.declared.script.parse.ScriptError.TheVariants.{NoMemory, Faulty}
 use Rattle.tb_program.specs.Script.{Said}
 
 abbrev pub FailsAt : ScriptError → Result Said (ℕ × Fault) → Type 0

@@ -2,8 +2,8 @@
 use Rattle.std.specs.Prelude.{ℕ, ◌+◌, List, [], ◌∷◌, ◌++◌, Option, Some, None, codes}
 use Rattle.tb_work.specs.Reply.{Replied}
 use Rattle.tb_core.specs.Passage.{Place, Ahead, Behind}
-use Rattle.tb_program.specs.declared.plan.Line.{Line}
-use Rattle.tb_program.specs.declared.plan.Line.TheVariants.{Packet, Pulse, Shut, RefusedPacket, RefusedPulse}
+use Rattle.tb_program.specs.declared.list.plan.Line.{Line}
+use Rattle.tb_program.specs.declared.list.plan.Line.TheVariants.{Packet, Pulse, Shut, RefusedPacket, RefusedPulse}
 use Rattle.tb_program.specs.Output.{reply_line, pulse_line, refused_line, refused_pulse_line}
 
 -- the place of the next packet or pulse; behind the Close there is none

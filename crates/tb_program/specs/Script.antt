@@ -3,15 +3,15 @@ use Rattle.std.specs.Prelude.{◌<◌, ◌≤◌, ℕ, ◌+◌, ◌-◌, ◌^◌
 use Rattle.std.specs.List.{list_all}
 use Rattle.std.specs.Int.{w128, to_le_bytes}
 use Rattle.tb_layout.specs.Limits.{batch_max}
-use Rattle.tb_program.specs.declared.fault.Fault.{Fault}
-use Rattle.tb_program.specs.declared.fault.Fault.TheVariants.{LineTooLong, BadByte, UnknownWord, OutOfPlace}
-use Rattle.tb_program.specs.declared.keyword.Keyword.{Keyword}
-use Rattle.tb_program.specs.declared.keyword.Keyword.TheVariants as word
-use Rattle.tb_program.specs.declared.event.Layout.TheVariants.{Account, Transfer}
-use Rattle.tb_program.specs.declared.item.Settings.{Settings}
-use Rattle.tb_program.specs.declared.item.Submission.{Submission}
-use Rattle.tb_program.specs.declared.item.Item.{Item}
-use Rattle.tb_program.specs.declared.item.Item.TheVariants.{Packet, Pulse, Shut}
+use Rattle.tb_program.specs.declared.script.fault.Fault.{Fault}
+use Rattle.tb_program.specs.declared.script.fault.Fault.TheVariants.{LineTooLong, BadByte, UnknownWord, OutOfPlace}
+use Rattle.tb_program.specs.declared.script.keyword.Keyword.{Keyword}
+use Rattle.tb_program.specs.declared.script.keyword.Keyword.TheVariants as word
+use Rattle.tb_program.specs.declared.script.event.Layout.TheVariants.{Account, Transfer}
+use Rattle.tb_program.specs.declared.script.item.Settings.{Settings}
+use Rattle.tb_program.specs.declared.script.item.Submission.{Submission}
+use Rattle.tb_program.specs.declared.script.item.Item.{Item}
+use Rattle.tb_program.specs.declared.script.item.Item.TheVariants.{Packet, Pulse, Shut}
 use Rattle.tb_program.specs.Text.{lines_of, words_of}
 use Rattle.tb_program.specs.Number.{number_within}
 use Rattle.tb_program.specs.Steps.{◌>>=◌}

@@ -3,10 +3,10 @@ use Rattle.std.specs.Prelude.{◌≡◌, ℕ, ◌<◌, ◌≤◌, ◌^◌, Bool,
 use Rattle.std.specs.List.{flat_map}
 use Rattle.hex.specs.Hex.{encode_lower}
 use Rattle.tb_layout.specs.Limits.{batch_max}
-use Rattle.tb_program.specs.declared.item.Settings.{Settings}
-use Rattle.tb_program.specs.declared.item.Submission.{Submission}
-use Rattle.tb_program.specs.declared.item.Item.{Item}
-use Rattle.tb_program.specs.declared.item.Item.TheVariants.{Packet, Pulse, Shut}
+use Rattle.tb_program.specs.declared.script.item.Settings.{Settings}
+use Rattle.tb_program.specs.declared.script.item.Submission.{Submission}
+use Rattle.tb_program.specs.declared.script.item.Item.{Item}
+use Rattle.tb_program.specs.declared.script.item.Item.TheVariants.{Packet, Pulse, Shut}
 
 -- words with a space between them
 abbrev pub spaced : List (List ℕ) → List ℕ

@@ -1,8 +1,8 @@
 -- Steps that may find a fault, and what code answers of them.
 use Rattle.std.specs.Prelude.{◌≡◌, ℕ, List, [], ◌∷◌, Option, Some, None, Result, Ok, Err, bytes_eq, if◌then◌else◌}
-use Rattle.tb_program.specs.declared.fault.Fault.{Fault}
-use Rattle.tb_program.specs.declared.fault.LineError.{LineError}
-use Rattle.tb_program.specs.declared.fault.LineError.TheVariants as errors
+use Rattle.tb_program.specs.declared.script.fault.Fault.{Fault}
+use Rattle.tb_program.specs.declared.script.fault.LineError.{LineError}
+use Rattle.tb_program.specs.declared.script.fault.LineError.TheVariants as errors
 
 -- one step after another, up to the first fault
 infixl 10 ◌>>=◌

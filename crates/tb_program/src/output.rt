@@ -1,12 +1,18 @@
 //! The lines of the output.
 
-ghost use Rattle.std.specs.Prelude.{◌≡◌, ◌++◌, OnOk, codes, string_bytes};
+ghost use Rattle.std.specs.Io.KnownBytes.{Appends};
+ghost use Rattle.std.specs.Prelude.{◌≡◌, ◌++◌, OnOk, IfErr, codes, string_bytes};
+ghost use Rattle.tb_program.specs.declared.program_fault.ProgramFault.TheVariants.{Write as WriteFault};
 ghost use Rattle.std.specs.List.{flat_map};
-ghost use Rattle.tb_program.specs.Output.{fault_text, fault_line, refused_line, failure_text, found_debits, found_credits, found_text, answer_text, outcome_text, packet_front, reply_line, pulse_line, refused_pulse_line, clock_line, account_front, balances_text, account_line};
+ghost use Rattle.tb_program.specs.Output.{fault_text, fault_line, refused_line, failure_text, found_debits, found_credits, found_text, answer_text, outcome_text, packet_front, reply_line, pulse_line, refused_pulse_line, clock_line, account_front, balances_text, account_line, state_text};
+ghost use Rattle.tb_machine.specs.Replay.{balanced_accounts};
 
-use crate::fault::Fault;
+use crate::program_fault::ProgramFault;
+use crate::script::fault::Fault;
 use std::alloc::AllocError;
+use std::io::Write;
 use tb_layout::{Account, Failure};
+use tb_machine::Machine;
 use tb_work::{Answer, Outcome, Refusal, Reply};
 
 impl Fault {
@@ -144,7 +150,7 @@ pub fn put_close(out: &mut String) -> Result<(), AllocError>
 }
 
 /// The line of the clock.
-pub fn put_clock(out: &mut String, clock: u64) -> Result<(), AllocError>
+fn put_clock(out: &mut String, clock: u64) -> Result<(), AllocError>
     ensures { OnOk result (string_bytes out.new ≡ string_bytes out.old ++ clock_line clock) }
 {
     write!(out, "clock {clock}\n")
@@ -172,9 +178,41 @@ fn put_balances(out: &mut String, account: &Account) -> Result<(), AllocError>
 }
 
 /// The line of an account, with its balances.
-pub fn put_account(out: &mut String, account: &Account) -> Result<(), AllocError>
+fn put_account(out: &mut String, account: &Account) -> Result<(), AllocError>
     ensures { OnOk result (string_bytes out.new ≡ string_bytes out.old ++ account_line account.now) }
 {
     put_account_front(out, account.id, account.timestamp)?;
     put_balances(out, account)
+}
+
+fn put_accounts(out: &mut String, machine: &Machine) -> Result<(), AllocError>
+    ensures { OnOk result (string_bytes out.new ≡ string_bytes out.old ++ flat_map account_line (balanced_accounts machine.now.facts)) }
+{
+    for place in 0..machine.accounts() {
+        let account = machine.account_at(place).unwrap();
+        put_account(out, &account)?;
+    }
+    Ok(())
+}
+
+/// The lines of the clock and of the accounts, in the order of their making.
+pub fn put_state(out: &mut String, machine: &Machine) -> Result<(), AllocError>
+    ensures { OnOk result (string_bytes out.new ≡ string_bytes out.old ++ state_text machine.now) }
+{
+    put_clock(out, machine.clock())?;
+    put_accounts(out, machine)
+}
+
+/// All of a text, once it is made.
+pub fn write_out<W: Write>(writer: &mut W, text: &str) -> Result<(), ProgramFault>
+    ensures written { OnOk result (Appends (W.contents writer.old) (W.contents writer.new) text.now) }
+    ensures refused { IfErr result (λ fault. fault ≡ WriteFault) }
+{
+    if writer.write_all(text.as_bytes()).is_err() {
+        return Err(ProgramFault::Write);
+    }
+    if writer.flush().is_err() {
+        return Err(ProgramFault::Write);
+    }
+    Ok(())
 }

@@ -3,23 +3,22 @@
 ghost use Rattle.std.specs.Prelude.{◌≡◌};
 ghost use Rattle.tb_program.specs.declared.program_fault.ProgramFault.TheVariants.{NoMemory as OutOfMemory};
 
-use std::alloc::AllocError;
+use std::alloc::{AllocError, AllocFailed};
 use tb_layout::NoMemory;
 use thiserror::Error;
 
-/// Why a script was not run to its end. What is shown is the line that the program prints; of a
-/// failed write it prints none.
+/// Why a script was not run to its end.
 #[derive(Debug, Drop, Error)]
 pub enum ProgramFault {
     /// The reader failed, or the script had not ended after 16,777,217 reads.
-    #[error("fault read failed")]
+    #[error("the reader failed")]
     Read,
     /// The writer failed; part of the output may be written.
-    #[error("fault write failed")]
+    #[error("the writer failed")]
     Write,
-    #[error("fault no memory")]
+    #[error("memory ran out")]
     NoMemory,
-    #[error("fault no thread")]
+    #[error("a thread could not be started")]
     NoThread,
 }
 
@@ -35,6 +34,14 @@ impl From<AllocError> for ProgramFault {
     ghost from_gives = { λ _ fault. fault ≡ OutOfMemory };
 
     fn from(_refused: AllocError) -> ProgramFault {
+        ProgramFault::NoMemory
+    }
+}
+
+impl<T: Drop> From<AllocFailed<T>> for ProgramFault {
+    ghost from_gives = { λ _ fault. fault ≡ OutOfMemory };
+
+    fn from(_refused: AllocFailed<T>) -> ProgramFault {
         ProgramFault::NoMemory
     }
 }

@@ -1,0 +1,141 @@
+//! A script through the pipeline, with a thread for each sender.
+
+ghost use Rattle.std.specs.Prelude.{◌≡◌, false, map, IfOk, IfSome, IsErrOf, string_bytes};
+ghost use Rattle.std.specs.Io.KnownBytes.{Appends, Keeps};
+ghost use Rattle.tb_submit.specs.Ends.{control_seat, origin_of};
+ghost use Rattle.tb_program.specs.Output.{out, is_faultless};
+ghost use Rattle.tb_program.specs.Run.{driver_origin};
+ghost use Rattle.tb_program.specs.Script.{InBounds};
+
+mod control;
+mod driver;
+mod notes;
+mod report;
+mod share;
+mod threads;
+
+use crate::output::write_out;
+use crate::program_fault::ProgramFault;
+use crate::run::control::Conductor;
+use crate::run::driver::Driver;
+use crate::run::report::text_of;
+use crate::run::share::share_out;
+use crate::run::threads::run_pipeline;
+use crate::script::Script;
+use crate::script::item::Settings;
+use crate::source::{Source, read_source};
+use std::alloc::Global;
+use std::io::{Read, Write};
+use std::sync::Wait;
+use std::thread::Threads;
+use tb_layout::{BATCH_MAX, NoMemory};
+use tb_pipe::{Opened, open};
+use tb_submit::Submitter;
+use tb_work::Packet;
+
+/// The places of the queue, and the credit of a submitter, where a script doesn't say.
+const CAPACITY: u32 = 64;
+const CREDIT: u32 = 16;
+
+/// How many submitters there are where a script doesn't say.
+const SUBMITTERS: u32 = 2;
+
+/// The pipeline that a script's settings open. They are all in range, so that only want of memory refuses it.
+fn opened(alloc: Global, settings: &Settings, submitters: u32) -> Result<Opened, NoMemory>
+    requires { InBounds settings.now }
+    ensures own { IfOk result (λ opened. map origin_of opened.submitters.items ≡ opened.pipeline.submitters) }
+    ensures control { IfOk result (λ opened. opened.control.seat ≡ control_seat opened.pipeline.intake) }
+{
+    let opened = open(
+        alloc,
+        settings.clock.unwrap_or(0),
+        settings.limit.unwrap_or(BATCH_MAX),
+        settings.capacity.unwrap_or(CAPACITY),
+        settings.credit.unwrap_or(CREDIT),
+        submitters,
+    );
+    match opened {
+        Ok(opened) => Ok(opened),
+        Err(_) => Err(NoMemory),
+    }
+}
+
+/// A driver for each submitter, by rising number.
+fn drivers(
+    alloc: Global,
+    submitters: Vec<Submitter>,
+    packets: Vec<Vec<Packet>>,
+) -> Result<Vec<Driver>, NoMemory>
+    ensures { IfOk result (λ drivers. map driver_origin drivers.items ≡ map origin_of submitters.items) }
+{
+    let mut shares = packets.into_iter();
+    let mut drivers = Vec::new(alloc);
+    for submitter in submitters {
+        let packets = shares.next().unwrap_or(Vec::new(alloc));
+        drivers.push(Driver::new(alloc, submitter, packets)?)?;
+    }
+    Ok(drivers)
+}
+
+/// The output for a script that has no fault.
+fn output_for<T: Threads + Wait + Sync>(
+    rt: &T,
+    alloc: Global,
+    script: Script,
+) -> Result<String, ProgramFault> {
+    let (settings, items) = script.finish()?;
+    let number = settings.submitters.unwrap_or(SUBMITTERS);
+    let shares = share_out(alloc, number, items)?;
+    let Opened {
+        pipeline,
+        submitters,
+        control,
+    } = opened(alloc, &settings, number)?;
+    let drivers = drivers(alloc, submitters, shares.packets)?;
+    let conductor = Conductor {
+        control,
+        orders: shares.orders,
+    };
+    let finished = run_pipeline(rt, alloc, pipeline, drivers, conductor)?;
+    Ok(text_of(alloc, finished)?)
+}
+
+/// The output for all that a reader has, and whether its script has no fault.
+fn output_of<T: Threads + Wait + Sync, R: Read>(
+    rt: &T,
+    alloc: Global,
+    reader: &mut R,
+) -> Result<(String, bool), ProgramFault>
+    ensures faultless { IfOk result (λ both. IfSome (R.remaining reader.old) (λ bytes. both.1 ≡ is_faultless bytes)) }
+    ensures faulty { IfOk result (λ both. IfSome (R.remaining reader.old) (λ bytes. is_faultless bytes ≡ false → string_bytes both.0 ≡ out bytes)) }
+{
+    match read_source(alloc, reader)? {
+        Source::Script(script) => Ok((output_for(rt, alloc, script)?, true)),
+        Source::Faulty(line) => Ok((line, false)),
+    }
+}
+
+/// Reads a script to its end and runs it through the pipeline: each submitter's packets are queued by a thread of its
+/// own, in the order of the script, the control's lines by one more, and the calling thread serves. It prints what
+/// became of each packet, the packets of submitter 0 first, then the pulses, the clock and the accounts. Answers whether
+/// the script has no fault; a fault is printed alone, and no thread is started for it. All output is made before its
+/// first byte is written.
+pub fn run_threads<T: Threads + Wait + Sync, R: Read, W: Write>(
+    rt: &T,
+    alloc: Global,
+    reader: &mut R,
+    writer: &mut W,
+) -> Result<bool, ProgramFault>
+    ensures faultless { IfOk result (λ faultless. IfSome (R.remaining reader.old) (λ bytes. faultless ≡ is_faultless bytes)) }
+    // Of a faulty script the line is written that `run_script` writes, and nothing else.
+    ensures faulty { IfOk result (λ faultless. IfSome (R.remaining reader.old) (λ bytes. is_faultless bytes ≡ false
+        → Appends (W.contents writer.old) (W.contents writer.new) (out bytes))) }
+    // Nothing is written where the reader failed, memory ran out or a thread couldn't be started.
+    ensures read { IsErrOf result ProgramFault.Read → Keeps (W.contents writer.old) (W.contents writer.new) }
+    ensures memory { IsErrOf result ProgramFault.NoMemory → Keeps (W.contents writer.old) (W.contents writer.new) }
+    ensures thread { IsErrOf result ProgramFault.NoThread → Keeps (W.contents writer.old) (W.contents writer.new) }
+{
+    let (text, faultless) = output_of(rt, alloc, reader)?;
+    write_out(writer, &text)?;
+    Ok(faultless)
+}

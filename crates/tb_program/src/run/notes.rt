@@ -1,0 +1,47 @@
+//! What a driver notes.
+
+use std::alloc::Global;
+use tb_layout::NoMemory;
+use tb_work::{Refusal, Reply};
+
+/// What a driver is told of a packet as it hands it in.
+#[derive(Clone, Copy)]
+pub enum Told {
+    Queued,
+    Refused(Refusal),
+}
+
+/// What a driver was told of its packets so far, in their order, and the replies that it read. Room for both is made
+/// before any thread is started.
+#[derive(Drop)]
+pub struct Notes {
+    pub told: Vec<Told>,
+    pub replies: Vec<Reply>,
+    /// Whether all of it found room.
+    pub complete: bool,
+}
+
+impl Notes {
+    /// No notes, with room for so many packets and their replies.
+    pub fn new(alloc: Global, packets: usize) -> Result<Notes, NoMemory> {
+        Ok(Notes {
+            told: Vec::with_capacity(alloc, packets)?,
+            replies: Vec::with_capacity(alloc, packets)?,
+            complete: true,
+        })
+    }
+
+    /// Notes what was told of the next packet.
+    pub fn tell(&mut self, told: Told) {
+        if self.told.push(told).is_err() {
+            self.complete = false;
+        }
+    }
+
+    /// Keeps the next reply.
+    pub fn keep(&mut self, reply: Reply) {
+        if self.replies.push(reply).is_err() {
+            self.complete = false;
+        }
+    }
+}

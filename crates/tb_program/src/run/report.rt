@@ -1,0 +1,123 @@
+//! What is printed of a run.
+
+use crate::output::{put_pulse, put_refused, put_refused_pulse, put_reply, put_state};
+use crate::run::notes::{Notes, Told};
+use crate::run::threads::Finished;
+use std::alloc::{AllocError, Global};
+use std::vec::IntoIter;
+use tb_core::Entry;
+use tb_layout::NoMemory;
+use tb_pipe::Report;
+use tb_submit::Ended;
+use tb_work::Reply;
+
+/// A submitter's replies in their order: those that its driver read, and then those that its end still has.
+#[derive(Drop)]
+struct Replies {
+    read: IntoIter<Reply>,
+    ended: Ended,
+}
+
+impl Replies {
+    fn next(&mut self) -> Option<Reply> {
+        match self.read.next() {
+            Some(reply) => Some(reply),
+            None => self.ended.reply(),
+        }
+    }
+
+    /// The line of a packet: its reply, or why it was refused.
+    fn put_packet(
+        &mut self,
+        out: &mut String,
+        submitter: u32,
+        told: Told,
+    ) -> Result<(), AllocError> {
+        match told {
+            Told::Queued => match self.next() {
+                Some(reply) => put_reply(out, &reply),
+                None => Ok(()),
+            },
+            Told::Refused(refusal) => put_refused(out, submitter, refusal),
+        }
+    }
+}
+
+/// The lines of a submitter's packets.
+fn put_packets(
+    out: &mut String,
+    submitter: u32,
+    notes: Notes,
+    ended: Ended,
+) -> Result<(), NoMemory> {
+    let Notes {
+        told,
+        replies,
+        complete,
+    } = notes;
+    if !complete {
+        return Err(NoMemory);
+    }
+    let mut replies = Replies {
+        read: replies.into_iter(),
+        ended,
+    };
+    for told in told {
+        replies.put_packet(out, submitter, told)?;
+    }
+    Ok(())
+}
+
+/// The lines of all packets, by rising number of their submitters.
+fn put_all_packets(
+    out: &mut String,
+    notes: Vec<Notes>,
+    ends: Vec<Ended>,
+) -> Result<(), NoMemory> {
+    let mut submitter = 0u32;
+    for (notes, ended) in notes.into_iter().zip(ends) {
+        put_packets(out, submitter, notes, ended)?;
+        submitter = submitter.saturating_add(1);
+    }
+    Ok(())
+}
+
+/// The lines of the committed pulses. A pulse has its place among all that was committed, of which there is less than
+/// 2^63.
+fn put_pulses(out: &mut String, journal: &[Entry]) -> Result<(), AllocError> {
+    let mut place = 0u64;
+    for entry in journal {
+        let places = match entry {
+            Entry::Batch { stubs, .. } => stubs.len() as u64,
+            Entry::Pulse { .. } => {
+                put_pulse(out, place)?;
+                1
+            }
+        };
+        place = place.saturating_add(places);
+    }
+    Ok(())
+}
+
+fn put_refused_pulses(out: &mut String, count: u64) -> Result<(), AllocError> {
+    for _ in 0..count {
+        put_refused_pulse(out)?;
+    }
+    Ok(())
+}
+
+/// The text of a run: its packets, its pulses, the pulses that were refused, the clock and the accounts.
+pub fn text_of(alloc: Global, finished: Finished) -> Result<String, NoMemory> {
+    let Finished {
+        report,
+        notes,
+        refused_pulses,
+    } = finished;
+    let Report { ledger, ends } = report;
+    let mut out = String::new(alloc);
+    put_all_packets(&mut out, notes, ends)?;
+    put_pulses(&mut out, ledger.journal())?;
+    put_refused_pulses(&mut out, refused_pulses)?;
+    put_state(&mut out, ledger.machine())?;
+    Ok(out)
+}

@@ -1,0 +1,73 @@
+//! What each thread is to queue.
+
+use crate::script::item::{Item, Submission};
+use std::alloc::Global;
+use tb_layout::NoMemory;
+use tb_work::{Bytes, Packet};
+
+/// The control's lines.
+#[derive(Drop)]
+pub struct Orders {
+    /// The moments of its pulses, in the order of the script.
+    pub moments: Vec<u64>,
+    /// Whether it ends by the Close, which stands behind all pulses.
+    pub shuts: bool,
+}
+
+/// The items of a script by the threads that queue them: the packets of each submitter, and the control's lines.
+#[derive(Drop)]
+pub struct Shares {
+    pub packets: Vec<Vec<Packet>>,
+    pub orders: Orders,
+}
+
+fn packet_of(submission: Submission) -> Packet {
+    Packet {
+        operation: submission.operation,
+        bytes: Bytes::from_vec(submission.bytes.into_vec()),
+        user: 0,
+    }
+}
+
+impl Shares {
+    fn new(alloc: Global, submitters: u32) -> Result<Shares, NoMemory> {
+        let mut packets = Vec::new(alloc);
+        for _ in 0..submitters {
+            packets.push(Vec::new(alloc))?;
+        }
+        Ok(Shares {
+            packets,
+            orders: Orders {
+                moments: Vec::new(alloc),
+                shuts: false,
+            },
+        })
+    }
+
+    /// The script's line was faulty had its submitter not been there.
+    fn add_packet(&mut self, submission: Submission) -> Result<(), NoMemory> {
+        let submitter = submission.submitter.get() as usize;
+        if let Some(packets) = self.packets.get_mut(submitter) {
+            packets.push(packet_of(submission))?;
+        }
+        Ok(())
+    }
+
+    fn add(&mut self, item: Item) -> Result<(), NoMemory> {
+        match item {
+            Item::Packet(submission) => self.add_packet(submission)?,
+            Item::Pulse(moment) => self.orders.moments.push(moment)?,
+            Item::Shut => self.orders.shuts = true,
+        }
+        Ok(())
+    }
+}
+
+/// Deals the items of a script out. No byte of a packet is copied.
+pub fn share_out(alloc: Global, submitters: u32, items: Vec<Item>) -> Result<Shares, NoMemory> {
+    let mut shares = Shares::new(alloc, submitters)?;
+    for item in items {
+        shares.add(item)?;
+    }
+    Ok(shares)
+}

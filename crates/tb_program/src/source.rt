@@ -1,0 +1,50 @@
+//! The script that a reader has.
+
+ghost use Rattle.std.specs.Prelude.{◌≡◌, IfOk, IfSome};
+ghost use Rattle.tb_program.specs.Script.{script_of};
+ghost use Rattle.tb_program.specs.Source.{IsSource, IsTold, IsFaultAt};
+
+use crate::output::put_fault;
+use crate::program_fault::ProgramFault;
+use crate::read::read_script;
+use crate::script::Script;
+use crate::script::parse::{ScriptError, parse};
+use std::alloc::Global;
+use std::io::Read;
+use tb_layout::NoMemory;
+
+/// What a reader has: a script, or the one line that is printed of a faulty one.
+#[derive(Drop)]
+pub enum Source {
+    Script(Script),
+    Faulty(String),
+}
+
+fn faulty(alloc: Global, line: usize, text: &str) -> Result<Source, NoMemory>
+    ensures { IfOk result (λ source. IsFaultAt line text.now source) }
+{
+    let mut out = String::new(alloc);
+    put_fault(&mut out, line, text)?;
+    Ok(Source::Faulty(out))
+}
+
+/// What the text of a script says.
+fn told(alloc: Global, text: &[u8]) -> Result<Source, NoMemory>
+    ensures { IfOk result (λ source. IsTold source (script_of text.now)) }
+{
+    match parse(alloc, text) {
+        Ok(script) => Ok(Source::Script(script)),
+        Err(ScriptError::NoMemory) => Err(NoMemory),
+        Err(ScriptError::Faulty(line, fault)) => faulty(alloc, line, fault.text()),
+    }
+}
+
+/// Reads to the end, or as far as a script may be long, and parses what was read.
+pub fn read_source<R: Read>(alloc: Global, reader: &mut R) -> Result<Source, ProgramFault>
+    ensures { IfOk result (λ source. IfSome (R.remaining reader.old) (λ bytes. IsSource source bytes)) }
+{
+    match read_script(alloc, reader)? {
+        Some(text) => Ok(told(alloc, &text)?),
+        None => Ok(faulty(alloc, 0, "script too long")?),
+    }
+}

@@ -1,0 +1,5 @@
+//! The tests of `tb_program`.
+#![tactic(auto)]
+
+#[cfg(test)]
+mod tests;

@@ -1,0 +1,189 @@
+use super::{both_show, listed, shows};
+use std::test::Fail;
+
+#[test]
+fn empty_script(rt: HostRuntime) -> Result<(), Fail> {
+    both_show(
+        &rt,
+        rt.alloc(), "", "clock 0\n")
+}
+
+#[test]
+fn first_run(rt: HostRuntime) -> Result<(), Fail> {
+    both_show(
+        &rt,
+        rt.alloc(),
+        "packet 0 129\naccount id=1 ledger=1 code=1\naccount id=2 ledger=1 code=1\n",
+        "packet 0 0 committed 0\nclock 2\naccount 1 1 0 0 0 0\naccount 2 2 0 0 0 0\n",
+    )
+}
+
+#[test]
+fn two_submitters_joined(rt: HostRuntime) -> Result<(), Fail> {
+    shows(
+        rt.alloc(),
+        "limit 4\npacket 0 129\naccount id=1 ledger=1 code=1\naccount id=2 ledger=1 code=1\npacket 1 129\naccount id=1 ledger=1 code=1\naccount id=3 code=1\n",
+        "packet 0 0 committed 0\npacket 1 0 committed 1 0:21 1:13\nclock 4\naccount 1 1 0 0 0 0\naccount 2 2 0 0 0 0\n",
+    )
+}
+
+#[test]
+fn accounts_around_an_empty_packet(rt: HostRuntime) -> Result<(), Fail> {
+    both_show(
+        &rt,
+        rt.alloc(),
+        "limit 4\npacket 0 129\naccount id=1 ledger=1 code=1\npacket 0 129\npacket 0 129\naccount id=2 ledger=1 code=1\n",
+        "packet 0 0 committed 0\npacket 0 1 committed 1\npacket 0 2 committed 2\nclock 2\naccount 1 1 0 0 0 0\naccount 2 2 0 0 0 0\n",
+    )
+}
+
+const FULL_BATCH: &str = "limit 4
+packet 0 129
+account id=1 ledger=1 code=1
+account id=2 ledger=1 code=1
+account id=3 ledger=1 code=1
+account id=4 ledger=1 code=1
+packet 0 129
+account id=5 ledger=1 code=1
+packet 0 129
+account
+account
+account
+account
+account
+packet 0 129
+";
+
+#[test]
+fn full_batch_then_overflow(rt: HostRuntime) -> Result<(), Fail> {
+    both_show(
+        &rt,
+        rt.alloc(),
+        FULL_BATCH,
+        "packet 0 0 committed 0\npacket 0 1 committed 1\npacket 0 refused 3 TooMuchData\npacket 0 2 committed 2\nclock 5\naccount 1 1 0 0 0 0\naccount 2 2 0 0 0 0\naccount 3 3 0 0 0 0\naccount 4 4 0 0 0 0\naccount 5 5 0 0 0 0\n",
+    )
+}
+
+#[test]
+fn refused_sizes_and_operations(rt: HostRuntime) -> Result<(), Fail> {
+    let data = "00".repeat(rt.alloc(), 127)?;
+    let bytes = data.as_str();
+    let script = format!(in rt.alloc(); "packet 0 129\nhex {bytes}\npacket 0 200\nhex {bytes}\n")?;
+    both_show(
+        &rt,
+        rt.alloc(),
+        script.as_str(),
+        "packet 0 refused 2 InvalidDataSize\npacket 0 refused 1 InvalidOperation\nclock 0\n",
+    )
+}
+
+#[test]
+fn open_packet_alone(rt: HostRuntime) -> Result<(), Fail> {
+    both_show(
+        &rt,
+        rt.alloc(),
+        "limit 4\npacket 0 129\naccount id=1 ledger=1 code=1\npacket 0 129\naccount id=2 ledger=1 code=1 flags=1\npacket 0 129\naccount id=3 ledger=1 code=1\n",
+        "packet 0 0 committed 0\npacket 0 1 committed 1 0:2\npacket 0 2 committed 2\nclock 3\naccount 1 1 0 0 0 0\naccount 3 3 0 0 0 0\n",
+    )
+}
+
+#[test]
+fn broken_chain(rt: HostRuntime) -> Result<(), Fail> {
+    both_show(
+        &rt,
+        rt.alloc(),
+        "limit 4\npacket 0 129\naccount id=1 ledger=1 code=1 flags=1\naccount ledger=1 code=1 flags=1\naccount id=2 ledger=1 code=1\naccount id=3 ledger=1 code=1\n",
+        "packet 0 0 committed 0 0:1 1:6 2:1\nclock 4\naccount 3 4 0 0 0 0\n",
+    )
+}
+
+#[test]
+fn broken_and_open_chain(rt: HostRuntime) -> Result<(), Fail> {
+    both_show(
+        &rt,
+        rt.alloc(),
+        "limit 4\npacket 0 129\naccount id=1 ledger=1 code=1 flags=1\naccount ledger=1 code=1 flags=1\naccount id=2 ledger=1 code=1 flags=1\n",
+        "packet 0 0 committed 0 0:1 1:6 2:2\nclock 3\n",
+    )
+}
+
+#[test]
+fn clock_exhausted(rt: HostRuntime) -> Result<(), Fail> {
+    both_show(
+        &rt,
+        rt.alloc(),
+        "clock 9223372036854775806\nlimit 4\npacket 0 129\naccount id=1 ledger=1 code=1\npacket 0 129\naccount id=2 ledger=1 code=1\n",
+        "packet 0 0 committed 0\npacket 0 1 committed 1 0:201\nclock 9223372036854775807\naccount 1 9223372036854775807 0 0 0 0\n",
+    )
+}
+
+#[test]
+fn bad_account_fields(rt: HostRuntime) -> Result<(), Fail> {
+    both_show(
+        &rt,
+        rt.alloc(),
+        "limit 4\npacket 0 129\naccount id=1 ledger=1 code=1 timestamp=5\naccount id=2 ledger=1 code=1 flags=6\naccount id=3 ledger=1 code=1 flags=16\n",
+        "packet 0 0 committed 0 0:3 1:8 2:5\nclock 3\n",
+    )
+}
+
+#[test]
+fn hostile_bytes(rt: HostRuntime) -> Result<(), Fail> {
+    let data = "fF".repeat(rt.alloc(), 256)?;
+    let bytes = data.as_str();
+    let script = format!(in rt.alloc(); "limit 4\npacket 0 129\nhex {bytes}\n")?;
+    both_show(
+        &rt,
+        rt.alloc(),
+        script.as_str(),
+        "packet 0 0 committed 0 0:3 1:2\nclock 2\n",
+    )
+}
+
+/// Each field of an account, with the code that tells that it stood in its place.
+#[test]
+fn account_codes(rt: HostRuntime) -> Result<(), Fail> {
+    let first =
+        "packet 0 129\naccount id=1 ledger=1 code=1 flags=2 user_data_128=3 user_data_64=4 user_data_32=5\npacket 0 129\n";
+    for (event, code) in [
+        ("timestamp=1 reserved=1", "3"),
+        ("reserved=1 flags=16", "4"),
+        ("flags=16", "5"),
+        ("ledger=1", "6"),
+        ("id=340282366920938463463374607431768211455", "7"),
+        ("id=1 flags=4 user_data_128=4", "15"),
+        ("id=1 flags=2 user_data_128=4", "16"),
+        ("id=1 flags=2 user_data_128=3", "17"),
+        ("id=1 flags=2 user_data_128=3 user_data_64=4", "18"),
+        (
+            "id=1 flags=2 user_data_128=3 user_data_64=4 user_data_32=5",
+            "19",
+        ),
+        (
+            "id=1 flags=2 user_data_128=3 user_data_64=4 user_data_32=5 ledger=1",
+            "20",
+        ),
+        (
+            "id=1 flags=2 user_data_128=3 user_data_64=4 user_data_32=5 ledger=1 code=1 debits_posted=9",
+            "21",
+        ),
+        ("id=2 flags=6 debits_pending=1", "8"),
+        ("id=2 debits_pending=1 debits_posted=1", "9"),
+        ("id=2 debits_posted=1 credits_pending=1", "10"),
+        ("id=2 credits_pending=1 credits_posted=1", "11"),
+        ("id=2 credits_posted=1", "12"),
+        ("id=2", "13"),
+        ("id=2 ledger=1", "14"),
+    ] {
+        let script = format!(in rt.alloc(); "{first}account {event}\n")?;
+        let wanted = format!(in rt.alloc();
+            "packet 0 0 committed 0\npacket 0 1 committed 1 0:{code}\nclock 2\naccount 1 1 0 0 0 0\n"
+        )?;
+        assert_eq!(rt;
+            listed(rt.alloc(), script.as_str())?.as_str(),
+            wanted.as_str(),
+            "at {event}"
+        );
+    }
+    Ok(())
+}

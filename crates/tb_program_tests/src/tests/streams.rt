@@ -1,0 +1,87 @@
+use std::io;
+use std::io::{Read, Write};
+use std::test::Fail;
+use tb_program::{ProgramFault, run_script};
+
+/// Gives a line with each read, and fails at the second.
+#[derive(Drop)]
+struct FailsAtSecond {
+    reads: u32,
+}
+
+impl Read for FailsAtSecond {
+    fn read(&mut self, buffer: &mut [u8]) -> io::Result<usize> {
+        if self.reads > 0 {
+            return Err(io::Error::other("no more"));
+        }
+        self.reads = 1;
+        if buffer.len() == 0 {
+            return Ok(0);
+        }
+        buffer[0] = 10;
+        Ok(1)
+    }
+}
+
+/// Gives the same byte again and again, so many in all.
+#[derive(Drop)]
+struct Repeated {
+    byte: u8,
+    left: usize,
+}
+
+impl Read for Repeated {
+    fn read(&mut self, buffer: &mut [u8]) -> io::Result<usize> {
+        let count = buffer.len().min(self.left);
+        for place in 0..count {
+            buffer[place] = self.byte;
+        }
+        self.left -= count;
+        Ok(count)
+    }
+}
+
+/// Takes nothing.
+#[derive(Drop)]
+struct TakesNothing;
+
+impl Write for TakesNothing {
+    fn write(&mut self, _bytes: &[u8]) -> io::Result<usize> {
+        Err(io::Error::other("full"))
+    }
+
+    fn flush(&mut self) -> io::Result<()> {
+        Ok(())
+    }
+}
+
+#[test]
+fn read_fails_in_mid_stream(rt: HostRuntime) -> Result<(), Fail> {
+    let mut out = Vec::new(rt.alloc());
+    let answer = run_script(rt.alloc(), &mut FailsAtSecond { reads: 0 }, &mut out);
+    assert!(rt; matches!(&answer, Err(ProgramFault::Read)));
+    assert_eq!(rt; out.len(), 0);
+    Ok(())
+}
+
+#[test]
+fn write_fails(rt: HostRuntime) -> Result<(), Fail> {
+    let answer = run_script(rt.alloc(), &mut "clock 1\n".as_bytes(), &mut TakesNothing);
+    assert!(rt; matches!(&answer, Err(ProgramFault::Write)));
+    Ok(())
+}
+
+#[test]
+fn script_lengths(rt: HostRuntime) -> Result<(), Fail> {
+    for (byte, left, wanted) in [
+        (10, 16_777_216, "clock 0\n"),
+        (10, 16_777_217, "fault 0 script too long\n"),
+        (32, 16_777_216, "fault 1 line too long\n"),
+    ] {
+        let mut out = Vec::new(rt.alloc());
+        let faultless = run_script(rt.alloc(), &mut Repeated { byte, left }, &mut out)?;
+        assert_eq!(rt; out.as_slice(), wanted.as_bytes());
+        assert_eq!(rt; faultless, wanted == "clock 0\n");
+    }
+    Ok(())
+}

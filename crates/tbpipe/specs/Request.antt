@@ -1,0 +1,15 @@
+-- What the arguments ask for.
+use Rattle.std.specs.Prelude.{ℕ, List, [], ◌∷◌, bytes_eq, codes, if◌then◌else◌}
+use Rattle.tbpipe.specs.declared.request.Request.{Request}
+use Rattle.tbpipe.specs.declared.request.Request.TheVariants.{List as ListAsked, Run, Usage}
+
+abbrev pub asked_by : List ℕ → Request
+asked_by word =
+    if bytes_eq word (codes "list") then ListAsked
+    else if bytes_eq word (codes "run") then Run
+    else Usage
+
+-- the first word is the program's name
+abbrev pub requested : List (List ℕ) → Request
+requested (program ∷ word ∷ []) = asked_by word
+requested words = Usage

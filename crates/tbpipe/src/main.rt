@@ -1,0 +1,38 @@
+//! `tbpipe`: runs a script of packets and prints what becomes of each.
+//!
+//! `list` takes the script through the stages in one thread, `run` through the pipeline with a thread for each sender. What the arguments ask for, the exit status of each
+//! outcome and the lines that the program prints itself are functions with exact contracts; the rest is `tb_program`.
+#![tactic(auto)]
+
+mod ending;
+mod request;
+
+use crate::ending::{Ending, ended};
+use crate::request::{Request, requested};
+use std::alloc::Global;
+use std::process::ExitCode;
+use std::rt::Env;
+use std::{env, io};
+use tb_program::{ProgramFault, run_script, run_threads};
+
+/// What the arguments ask for. One that isn't text asks for nothing that there is.
+fn read_arguments(rt: &(impl Env + Alloc<A = Global>)) -> Result<Request, ProgramFault> {
+    match env::args(rt) {
+        Ok(words) => Ok(requested(words)),
+        Err(error) if error.kind() == io::ErrorKind::InvalidData => Ok(Request::Usage),
+        Err(_) => Err(ProgramFault::NoMemory),
+    }
+}
+
+fn main(rt: HostRuntime) -> ExitCode {
+    let alloc = rt.alloc();
+    let ending = match read_arguments(&rt) {
+        Ok(Request::List) => ended(run_script(alloc, &mut rt.reader(), &mut io::writer(&rt))),
+        Ok(Request::Run) => ended(run_threads(&rt, alloc, &mut rt.reader(), &mut io::writer(&rt))),
+        Ok(Request::Usage) => Ending::Usage,
+        Err(fault) => Ending::Failed(fault),
+    };
+    let text = ending.text();
+    let _ = print!(rt; "{text}");
+    ExitCode::from(ending.status())
+}
