@@ -68,7 +68,10 @@ fn one_place_one_credit(rt: HostRuntime) -> Result<(), Fail> {
     let mut output = String::new(alloc);
     script.push_str("capacity 1\ncredit 1\nsubmitters 1\n")?;
     for number in 0..50u32 {
-        write!(script, "packet 0 129\naccount id={number} ledger=1 code=1\n")?;
+        write!(
+            script,
+            "packet 0 129\naccount id={number} ledger=1 code=1\n"
+        )?;
         let code = if number == 0 { " 0:6" } else { "" };
         write!(output, "packet 0 {number} committed {number}{code}\n")?;
     }
@@ -88,7 +91,10 @@ fn sixteen_drivers(rt: HostRuntime) -> Result<(), Fail> {
     script.push_str("submitters 16\ncapacity 4\ncredit 1\n")?;
     for number in 0..48u32 {
         let submitter = number / 3;
-        write!(script, "packet {submitter} 129\naccount id={number} ledger=1 code=1\n")?;
+        write!(
+            script,
+            "packet {submitter} 129\naccount id={number} ledger=1 code=1\n"
+        )?;
     }
     let output = ran(&rt, alloc, script.as_str())?;
     let mut lines = output.as_str().lines();
