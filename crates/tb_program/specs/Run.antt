@@ -4,20 +4,20 @@ use Rattle.std.specs.declared.thread.PromisedHandle.{PromisedHandle}
 use Rattle.tb_submit.specs.Ends.{Origin, SubmitterState, SenderState, EndedState, end_origin, origin_of}
 use Rattle.tb_program.specs.declared.run.driver.Driver.{Driver}
 use Rattle.tb_program.specs.declared.run.driver.Driven.{Driven}
-use Rattle.tb_program.specs.declared.run.driver.OwnEnd.{OwnEnd}
+use Rattle.tb_program.specs.declared.run.driver.EndOfSubmitter.{EndOfSubmitter}
 
 -- a submitter's end, if there is one, has its origin
-abbrev pub EndsAs : SubmitterState → Option EndedState → Type 0
-EndsAs submitter ended = IfSome ended (λ end. end_origin end ≡ origin_of submitter)
+abbrev pub IsEnd : SubmitterState → Option EndedState → Type 0
+IsEnd submitter ended = IfSome ended (λ end. end_origin end ≡ origin_of submitter)
 
 -- the control's end, if there is one, has its seat
-abbrev pub LeavesAs : SenderState → Option SenderState → Type 0
-LeavesAs control end = IfSome end (λ left. left.seat ≡ control.seat)
+abbrev pub IsControlEnd : SenderState → Option SenderState → Type 0
+IsControlEnd control end = IfSome end (λ left. left.seat ≡ control.seat)
 
 -- where a driver's submitter comes from
 abbrev pub driver_origin : Driver → Origin
 driver_origin driver = origin_of driver.submitter
 
 -- and that of the driver which a thread runs
-abbrev pub started_origin : PromisedHandle Driven OwnEnd → Origin
+abbrev pub started_origin : PromisedHandle Driven EndOfSubmitter → Origin
 started_origin handle = origin_of handle.promise.submitter.value

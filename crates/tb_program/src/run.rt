@@ -16,7 +16,7 @@ mod threads;
 
 use crate::output::write_out;
 use crate::program_fault::ProgramFault;
-use crate::run::control::Conductor;
+use crate::run::control::ControlDriver;
 use crate::run::driver::Driver;
 use crate::run::report::text_of;
 use crate::run::share::share_out;
@@ -35,6 +35,7 @@ use tb_work::Packet;
 
 /// The places of the queue, and the credit of a submitter, where a script doesn't say.
 const CAPACITY: u32 = 64;
+
 const CREDIT: u32 = 16;
 
 /// How many submitters there are where a script doesn't say.
@@ -92,11 +93,11 @@ fn output_for<T: Threads + Wait + Sync>(
         control,
     } = opened(alloc, &settings, number)?;
     let drivers = drivers(alloc, submitters, shares.packets)?;
-    let conductor = Conductor {
+    let control_driver = ControlDriver {
         control,
-        orders: shares.orders,
+        lines: shares.lines,
     };
-    let finished = run_pipeline(rt, alloc, pipeline, drivers, conductor)?;
+    let finished = run_pipeline(rt, alloc, pipeline, drivers, control_driver)?;
     Ok(text_of(alloc, finished)?)
 }
 

@@ -8,10 +8,8 @@ ghost use Rattle.tb_program.specs.Plan.{Planned, queue_of, line_of};
 ghost use Rattle.tb_program.specs.Output.{account_line, reply_line, pulse_line, plan_text};
 ghost use Rattle.tb_program.specs.Printing.{one_further, first_text, behind_line, pending, printed_from};
 
-use crate::output::{
-    put_close, put_pulse, put_refused, put_refused_pulse, put_reply, put_state,
-};
 use crate::list::plan::Line;
+use crate::output::{put_close, put_pulse, put_refused, put_refused_pulse, put_reply, put_state};
 use std::alloc::AllocError;
 use tb_core::Listed;
 use tb_machine::Machine;

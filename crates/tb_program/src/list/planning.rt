@@ -5,8 +5,8 @@ ghost use Rattle.tb_layout.specs.Limits.{batch_max};
 ghost use Rattle.tb_program.specs.Plan.{Packet as PacketPlanned, Pulse as PulsePlanned, Close as ClosePlanned, RefusedPacket as RefusedPacketPlanned, RefusedPulse as RefusedPulsePlanned, number_in, pulse_as, planned_as, plan_behind, with_planned, halves_of};
 ghost use Rattle.tb_program.specs.declared.script.item.Item.TheVariants.{Packet as PacketItem};
 
-use crate::script::item::{Item, Submission};
 use crate::list::plan::Line;
+use crate::script::item::{Item, Submission};
 use crate::script::submitter_number::SubmitterNumber;
 use std::alloc::Global;
 use std::marker::Model;

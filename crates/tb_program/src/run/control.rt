@@ -1,9 +1,9 @@
 //! The control's thread.
 
 ghost use Rattle.std.specs.Prelude.{◌≡◌};
-ghost use Rattle.tb_program.specs.Run.{LeavesAs};
+ghost use Rattle.tb_program.specs.Run.{IsControlEnd};
 
-use crate::run::share::Orders;
+use crate::run::share::ControlLines;
 use crossbeam_utils::Backoff;
 use std::snapshot::Snapshot;
 use std::sync::Wait;
@@ -17,29 +17,29 @@ const MOST_QUEUED: u64 = 1 << 56;
 
 /// The control with the lines that it is to queue.
 #[derive(Drop)]
-pub struct Conductor {
+pub struct ControlDriver {
     pub control: Control,
-    pub orders: Orders,
+    pub lines: ControlLines,
 }
 
 /// What the control's thread leaves: the control's end, unless it was told to stop first, and how many pulses were
 /// refused.
 #[derive(Drop)]
-pub struct Conducted {
+pub struct ControlDriven {
     pub end: Option<ControlEnd>,
     pub refused: u64,
 }
 
 /// The end that comes back is that of the control that was handed over.
 #[derive(Drop)]
-pub struct OwnControl {
+pub struct EndOfControl {
     pub control: Snapshot<Control>,
 }
 
-impl Promise<Conducted> for OwnControl {
-    ghost use Rattle.tb_program.specs.Run.{LeavesAs};
+impl Promise<ControlDriven> for EndOfControl {
+    ghost use Rattle.tb_program.specs.Run.{IsControlEnd};
 
-    ghost kept_by = { λ p r. LeavesAs p.control.value r.end };
+    ghost kept_by = { λ p r. IsControlEnd p.control.value r.end };
 }
 
 /// Queues a pulse once.
@@ -72,12 +72,7 @@ fn pulse<R: Wait>(rt: &R, control: &mut Control, moment: u64, stop: &AtomicBool)
 }
 
 /// Queues pulses in their order; how many were refused.
-fn pulse_all<R: Wait>(
-    rt: &R,
-    control: &mut Control,
-    moments: Vec<u64>,
-    stop: &AtomicBool,
-) -> u64
+fn pulse_all<R: Wait>(rt: &R, control: &mut Control, moments: Vec<u64>, stop: &AtomicBool) -> u64
     ensures { control.new.seat ≡ control.old.seat }
 {
     let mut refused = 0u64;
@@ -91,7 +86,7 @@ fn pulse_all<R: Wait>(
 
 /// Queues the Close or the control's end, and while the queue is full tries again. None where it is told to stop.
 fn end<R: Wait>(rt: &R, control: Control, shuts: bool, stop: &AtomicBool) -> Option<ControlEnd>
-    ensures { LeavesAs control result }
+    ensures { IsControlEnd control result }
 {
     let mut control = control;
     let backoff = Backoff::new();
@@ -113,17 +108,14 @@ fn end<R: Wait>(rt: &R, control: Control, shuts: bool, stop: &AtomicBool) -> Opt
     unreachable!()
 }
 
-impl Conductor {
+impl ControlDriver {
     /// Queues the control's lines and its end, unless it is told to stop.
-    pub fn conduct<R: Wait>(self, rt: &R, stop: &AtomicBool) -> Conducted
-        ensures { LeavesAs self.control result.end }
+    pub fn drive<R: Wait>(self, rt: &R, stop: &AtomicBool) -> ControlDriven
+        ensures { IsControlEnd self.control result.end }
     {
-        let Conductor {
-            mut control,
-            orders,
-        } = self;
-        let refused = pulse_all(rt, &mut control, orders.moments, stop);
-        let end = end(rt, control, orders.shuts, stop);
-        Conducted { end, refused }
+        let ControlDriver { mut control, lines } = self;
+        let refused = pulse_all(rt, &mut control, lines.moments, stop);
+        let end = end(rt, control, lines.shuts, stop);
+        ControlDriven { end, refused }
     }
 }

@@ -2,7 +2,7 @@
 
 ghost use Rattle.std.specs.Prelude.{◌≡◌, IfOk, IfSome};
 ghost use Rattle.tb_submit.specs.Ends.{origin_of, end_origin};
-ghost use Rattle.tb_program.specs.Run.{EndsAs};
+ghost use Rattle.tb_program.specs.Run.{IsEnd};
 
 use crate::run::notes::{Notes, Told};
 use crossbeam_utils::Backoff;
@@ -35,14 +35,14 @@ pub struct Driven {
 
 /// The end that comes back is that of the submitter that was handed over.
 #[derive(Drop)]
-pub struct OwnEnd {
+pub struct EndOfSubmitter {
     pub submitter: Snapshot<Submitter>,
 }
 
-impl Promise<Driven> for OwnEnd {
-    ghost use Rattle.tb_program.specs.Run.{EndsAs};
+impl Promise<Driven> for EndOfSubmitter {
+    ghost use Rattle.tb_program.specs.Run.{IsEnd};
 
-    ghost kept_by = { λ p r. EndsAs p.submitter.value r.ended };
+    ghost kept_by = { λ p r. IsEnd p.submitter.value r.ended };
 }
 
 /// Submits a packet once; where it is refused it comes back.
@@ -121,13 +121,8 @@ fn submit_all<R: Wait>(
 }
 
 /// Ends the submitter, and while the queue is full reads replies and tries again. None where it is told to stop.
-fn end<R: Wait>(
-    rt: &R,
-    submitter: Submitter,
-    notes: &mut Notes,
-    stop: &AtomicBool,
-) -> Option<Ended>
-    ensures { EndsAs submitter result }
+fn end<R: Wait>(rt: &R, submitter: Submitter, notes: &mut Notes, stop: &AtomicBool) -> Option<Ended>
+    ensures { IsEnd submitter result }
 {
     let mut submitter = submitter;
     let backoff = Backoff::new();
@@ -164,7 +159,7 @@ impl Driver {
 
     /// Queues the packets and then the submitter's end, whatever becomes of the packets, unless it is told to stop.
     pub fn drive<R: Wait>(self, rt: &R, alloc: Global, stop: &AtomicBool) -> Driven
-        ensures { EndsAs self.submitter result.ended }
+        ensures { IsEnd self.submitter result.ended }
     {
         let Driver {
             mut submitter,

@@ -69,11 +69,7 @@ fn put_packets(
 }
 
 /// The lines of all packets, by rising number of their submitters.
-fn put_all_packets(
-    out: &mut String,
-    notes: Vec<Notes>,
-    ends: Vec<Ended>,
-) -> Result<(), NoMemory> {
+fn put_all_packets(out: &mut String, notes: Vec<Notes>, ends: Vec<Ended>) -> Result<(), NoMemory> {
     let mut submitter = 0u32;
     for (notes, ended) in notes.into_iter().zip(ends) {
         put_packets(out, submitter, notes, ended)?;

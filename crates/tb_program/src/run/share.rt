@@ -7,7 +7,7 @@ use tb_work::{Bytes, Packet};
 
 /// The control's lines.
 #[derive(Drop)]
-pub struct Orders {
+pub struct ControlLines {
     /// The moments of its pulses, in the order of the script.
     pub moments: Vec<u64>,
     /// Whether it ends by the Close, which stands behind all pulses.
@@ -18,7 +18,7 @@ pub struct Orders {
 #[derive(Drop)]
 pub struct Shares {
     pub packets: Vec<Vec<Packet>>,
-    pub orders: Orders,
+    pub lines: ControlLines,
 }
 
 fn packet_of(submission: Submission) -> Packet {
@@ -37,7 +37,7 @@ impl Shares {
         }
         Ok(Shares {
             packets,
-            orders: Orders {
+            lines: ControlLines {
                 moments: Vec::new(alloc),
                 shuts: false,
             },
@@ -56,8 +56,8 @@ impl Shares {
     fn add(&mut self, item: Item) -> Result<(), NoMemory> {
         match item {
             Item::Packet(submission) => self.add_packet(submission)?,
-            Item::Pulse(moment) => self.orders.moments.push(moment)?,
-            Item::Shut => self.orders.shuts = true,
+            Item::Pulse(moment) => self.lines.moments.push(moment)?,
+            Item::Shut => self.lines.shuts = true,
         }
         Ok(())
     }

@@ -2,11 +2,11 @@
 
 ghost use Rattle.std.specs.Prelude.{◌≡◌, ◌++◌, ◌∷◌, [], map, IfOk, IfSome, OnOk};
 ghost use Rattle.tb_submit.specs.Ends.{Origin, control_seat, end_origin};
-ghost use Rattle.tb_program.specs.Run.{driver_origin, started_origin, LeavesAs, EndsAs};
+ghost use Rattle.tb_program.specs.Run.{driver_origin, started_origin, IsControlEnd, IsEnd};
 
 use crate::program_fault::ProgramFault;
-use crate::run::control::{Conducted, Conductor, OwnControl};
-use crate::run::driver::{Driven, Driver, OwnEnd};
+use crate::run::control::{ControlDriven, ControlDriver, EndOfControl};
+use crate::run::driver::{Driven, Driver, EndOfSubmitter};
 use crate::run::notes::Notes;
 use std::alloc::Global;
 use std::snapshot::Snapshot;
@@ -66,16 +66,16 @@ fn start_driver<'s, E, R: Wait + Sync>(
     alloc: Global,
     stop: &'s AtomicBool,
     driver: Driver,
-) -> Result<PromisedHandle<Driven, OwnEnd>, ProgramFault>
+) -> Result<PromisedHandle<Driven, EndOfSubmitter>, ProgramFault>
     ensures { IfOk result (λ handle. started_origin handle ≡ driver_origin driver) }
 {
-    let promise = OwnEnd {
+    let promise = EndOfSubmitter {
         submitter: Snapshot::of(&driver.submitter),
     };
     let started = scope.spawn_with(
         promise,
         move || -> Driven
-            ensures { EndsAs driver.submitter result.ended }
+            ensures { IsEnd driver.submitter result.ended }
         { driver.drive(rt, alloc, stop) },
     );
     match started {
@@ -91,7 +91,7 @@ fn start_drivers<'s, E, R: Wait + Sync>(
     alloc: Global,
     stop: &'s AtomicBool,
     drivers: Vec<Driver>,
-) -> Result<Vec<PromisedHandle<Driven, OwnEnd>>, ProgramFault>
+) -> Result<Vec<PromisedHandle<Driven, EndOfSubmitter>>, ProgramFault>
     ensures { IfOk result (λ handles. map started_origin handles.items ≡ map driver_origin drivers.items) }
 {
     let mut handles = Vec::with_capacity(alloc, drivers.len())?;
@@ -106,18 +106,18 @@ fn start_control<'s, E, R: Wait + Sync>(
     scope: &Scope<'s, E>,
     rt: &'s R,
     stop: &'s AtomicBool,
-    conductor: Conductor,
-) -> Result<PromisedHandle<Conducted, OwnControl>, ProgramFault>
-    ensures { IfOk result (λ handle. handle.promise.control.value.seat ≡ conductor.control.seat) }
+    control_driver: ControlDriver,
+) -> Result<PromisedHandle<ControlDriven, EndOfControl>, ProgramFault>
+    ensures { IfOk result (λ handle. handle.promise.control.value.seat ≡ control_driver.control.seat) }
 {
-    let promise = OwnControl {
-        control: Snapshot::of(&conductor.control),
+    let promise = EndOfControl {
+        control: Snapshot::of(&control_driver.control),
     };
     let started = scope.spawn_with(
         promise,
-        move || -> Conducted
-            ensures { LeavesAs conductor.control result.end }
-        { conductor.conduct(rt, stop) },
+        move || -> ControlDriven
+            ensures { IsControlEnd control_driver.control result.end }
+        { control_driver.drive(rt, stop) },
     );
     match started {
         Ok(handle) => Ok(handle),
@@ -128,7 +128,7 @@ fn start_control<'s, E, R: Wait + Sync>(
 /// Joins the drivers, in their order.
 fn join_drivers<R: Threads>(
     rt: &R,
-    handles: Vec<PromisedHandle<Driven, OwnEnd>>,
+    handles: Vec<PromisedHandle<Driven, EndOfSubmitter>>,
     room: Left,
 ) -> Result<Left, ProgramFault>
     requires { room.ends.items ≡ [] }
@@ -149,19 +149,19 @@ fn run_all<'s, E, R: Threads + Wait + Sync>(
     stop: &'s AtomicBool,
     pipeline: Pipeline,
     drivers: Vec<Driver>,
-    conductor: Conductor,
+    control_driver: ControlDriver,
 ) -> Result<Finished, ProgramFault>
     requires own { map driver_origin drivers.items ≡ pipeline.submitters }
-    requires control { conductor.control.seat ≡ control_seat pipeline.intake }
+    requires control { control_driver.control.seat ≡ control_seat pipeline.intake }
 {
     let room = Left::new(alloc, drivers.len())?;
     let handles = start_drivers(scope, rt, alloc, stop, drivers)?;
-    let control = start_control(scope, rt, stop, conductor)?;
+    let control = start_control(scope, rt, stop, control_driver)?;
     let Ok(served) = pipeline.serve(rt, &Open) else {
         return Err(ProgramFault::NoThread);
     };
     let Left { ends, notes } = join_drivers(rt, handles, room)?;
-    let Conducted { end, refused } = control.join(rt);
+    let ControlDriven { end, refused } = control.join(rt);
     let Some(end) = end else {
         return Err(ProgramFault::NoThread);
     };
@@ -179,10 +179,10 @@ pub fn run_pipeline<R: Threads + Wait + Sync>(
     alloc: Global,
     pipeline: Pipeline,
     drivers: Vec<Driver>,
-    conductor: Conductor,
+    control_driver: ControlDriver,
 ) -> Result<Finished, ProgramFault>
     requires own { map driver_origin drivers.items ≡ pipeline.submitters }
-    requires control { conductor.control.seat ≡ control_seat pipeline.intake }
+    requires control { control_driver.control.seat ≡ control_seat pipeline.intake }
 {
     let flag = AtomicBool::new(false);
     let stop = &flag;
@@ -191,9 +191,9 @@ pub fn run_pipeline<R: Threads + Wait + Sync>(
         rt,
         |scope| -> Result<Finished, ProgramFault>
             requires own { map driver_origin drivers.items ≡ pipeline.submitters }
-            requires control { conductor.control.seat ≡ control_seat pipeline.intake }
+            requires control { control_driver.control.seat ≡ control_seat pipeline.intake }
         {
-            let finished = run_all(scope, rt, alloc, stop, pipeline, drivers, conductor);
+            let finished = run_all(scope, rt, alloc, stop, pipeline, drivers, control_driver);
             if finished.is_err() {
                 stop.store(true, Ordering::SeqCst);
             }

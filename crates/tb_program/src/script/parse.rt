@@ -4,8 +4,8 @@ ghost use Rattle.std.specs.Prelude.{◌≡◌};
 ghost use Rattle.tb_program.specs.Script.{script_of};
 ghost use Rattle.tb_program.specs.Parsing.{Parses};
 
-use crate::script::fault::{Fault, LineError};
 use crate::script::Script;
+use crate::script::fault::{Fault, LineError};
 use crate::script::text::split_line;
 use std::alloc::Global;
 

@@ -3,9 +3,7 @@ use std::test::Fail;
 
 #[test]
 fn empty_script(rt: HostRuntime) -> Result<(), Fail> {
-    both_show(
-        &rt,
-        rt.alloc(), "", "clock 0\n")
+    both_show(&rt, rt.alloc(), "", "clock 0\n")
 }
 
 #[test]

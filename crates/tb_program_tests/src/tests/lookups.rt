@@ -5,8 +5,7 @@ use std::test::Fail;
 
 #[test]
 fn lookup_script(rt: HostRuntime) -> Result<(), Fail> {
-    both_show(
-        &rt,
+    shows(
         rt.alloc(),
         "packet 0 129
 account id=1 ledger=1 code=1

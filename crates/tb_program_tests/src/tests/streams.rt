@@ -1,7 +1,7 @@
 use std::io;
 use std::io::{Read, Write};
 use std::test::Fail;
-use tb_program::{ProgramFault, run_script};
+use tb_program::{ProgramFault, run_script, run_threads};
 
 /// Gives a line with each read, and fails at the second.
 #[derive(Drop)]
@@ -67,6 +67,24 @@ fn read_fails_in_mid_stream(rt: HostRuntime) -> Result<(), Fail> {
 #[test]
 fn write_fails(rt: HostRuntime) -> Result<(), Fail> {
     let answer = run_script(rt.alloc(), &mut "clock 1\n".as_bytes(), &mut TakesNothing);
+    assert!(rt; matches!(&answer, Err(ProgramFault::Write)));
+    Ok(())
+}
+
+#[test]
+fn read_of_a_run_fails(rt: HostRuntime) -> Result<(), Fail> {
+    let mut out = Vec::new(rt.alloc());
+    let mut reader = FailsAtSecond { reads: 0 };
+    let answer = run_threads(&rt, rt.alloc(), &mut reader, &mut out);
+    assert!(rt; matches!(&answer, Err(ProgramFault::Read)));
+    assert_eq!(rt; out.len(), 0);
+    Ok(())
+}
+
+#[test]
+fn write_of_a_run_fails(rt: HostRuntime) -> Result<(), Fail> {
+    let mut reader = "packet 0 129\nshut\n".as_bytes();
+    let answer = run_threads(&rt, rt.alloc(), &mut reader, &mut TakesNothing);
     assert!(rt; matches!(&answer, Err(ProgramFault::Write)));
     Ok(())
 }
