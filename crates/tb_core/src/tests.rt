@@ -8,6 +8,7 @@ use tb_work::{Bytes, Item, Job, Outcome, Packet, Refusal, Reply, Ticket};
 
 mod ledger;
 mod list;
+mod world;
 
 /// A ticket of a submitter, with a packet of so many events of zeros.
 fn ticket_of(rt: &HostRuntime, sender: u32, operation: u8, events: usize) -> Result<Ticket, Fail>
