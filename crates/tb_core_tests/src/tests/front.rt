@@ -5,6 +5,7 @@ ghost use Rattle.std.specs.Prelude.{◌≡◌, ◌≤◌, IfOk};
 use super::made::{Made, item};
 use super::told::{Told, assert_told};
 use std::alloc::Global;
+use std::process::Abort;
 use std::slice;
 use std::test::Fail;
 use tb_core::{Cause, Front, Ledger, Outcomes, Parcel};
@@ -29,7 +30,7 @@ fn handed_by(parcel: &Parcel) -> Handed {
     }
 }
 
-fn assert_handed(rt: &HostRuntime, parcels: &[Parcel], wanted: &[Handed]) {
+fn assert_handed(rt: &impl Abort, parcels: &[Parcel], wanted: &[Handed]) {
     assert_eq!(rt; parcels.len(), wanted.len(), "how many parcels there are");
     for (parcel, wanted) in parcels.iter().zip(wanted) {
         assert_eq!(rt; handed_by(parcel), *wanted, "a parcel");
@@ -44,15 +45,16 @@ pub(super) fn ticket(alloc: Global, sender: u32, made: Made) -> Result<Ticket, R
 }
 
 /// A front for one submitter, whose batches have at most 4 events.
-pub(super) fn small_front(rt: &HostRuntime) -> Result<Front, Refusal>
+pub(super) fn small_front(alloc: Global) -> Result<Front, Refusal>
     ensures { IfOk result (λ front. front.submitters ≡ 1) }
 {
-    Front::new(rt.alloc(), 4, 1)
+    Front::new(alloc, 4, 1)
 }
 
 /// Lets the front take a ticket of the submitter or the control, and asserts what it hands on.
 fn assert_taken(
-    rt: &HostRuntime,
+    rt: &impl Abort,
+    alloc: Global,
     front: &mut Front,
     sender: u32,
     made: Made,
@@ -61,7 +63,7 @@ fn assert_taken(
     requires { sender ≤ front.old.submitters }
     ensures { front.new.submitters ≡ front.old.submitters }
 {
-    let parcels = front.take(ticket(rt.alloc(), sender, made)?);
+    let parcels = front.take(ticket(alloc, sender, made)?);
     assert_handed(rt, parcels.as_slice(), wanted);
     Ok(())
 }
@@ -85,38 +87,55 @@ fn openings(rt: HostRuntime) {
 }
 
 const FIRST: Made = Made::Packet { number: 0, id: 1 };
+
 const SECOND: Made = Made::Packet { number: 1, id: 2 };
+
 const THIRD: Made = Made::Packet { number: 2, id: 3 };
 
 #[test]
 fn packet_behind_shut(rt: HostRuntime) -> Result<(), Fail> {
-    let mut front = small_front(&rt)?;
-    assert_taken(&rt, &mut front, 0, FIRST, &[])?;
-    assert_taken(&rt, &mut front, 1, Made::Close, &[Handed::Batch(1)])?;
+    let mut front = small_front(rt.alloc())?;
+    assert_taken(&rt, rt.alloc(), &mut front, 0, FIRST, &[])?;
     assert_taken(
         &rt,
+        rt.alloc(),
+        &mut front,
+        1,
+        Made::Close,
+        &[Handed::Batch(1)],
+    )?;
+    assert_taken(
+        &rt,
+        rt.alloc(),
         &mut front,
         0,
         SECOND,
         &[Handed::Return(Cause::Shutdown)],
     )?;
     assert!(rt; !front.finished(), "the submitter hasn't ended");
-    assert_taken(&rt, &mut front, 0, Made::End, &[])?;
+    assert_taken(&rt, rt.alloc(), &mut front, 0, Made::End, &[])?;
     assert!(rt; front.finished(), "both have ended");
     Ok(())
 }
 
 #[test]
 fn refused_growth(rt: HostRuntime) -> Result<(), Fail> {
-    let mut front = small_front(&rt)?;
-    assert_taken(&rt, &mut front, 0, FIRST, &[])?;
+    let mut front = small_front(rt.alloc())?;
+    assert_taken(&rt, rt.alloc(), &mut front, 0, FIRST, &[])?;
     let parcels = front.take_as_refused(ticket(rt.alloc(), 0, SECOND)?);
     assert_handed(
         &rt,
         parcels.as_slice(),
         &[Handed::Batch(1), Handed::Return(Cause::Stopped)],
     );
-    assert_taken(&rt, &mut front, 0, THIRD, &[Handed::Return(Cause::Stopped)])?;
+    assert_taken(
+        &rt,
+        rt.alloc(),
+        &mut front,
+        0,
+        THIRD,
+        &[Handed::Return(Cause::Stopped)],
+    )?;
     Ok(())
 }
 
@@ -136,7 +155,7 @@ fn way_of_a_packet(front: &mut Front, ledger: &mut Ledger, ticket: Ticket) -> Op
 
 #[test]
 fn packet_is_answered(rt: HostRuntime) -> Result<(), Fail> {
-    let mut front = small_front(&rt)?;
+    let mut front = small_front(rt.alloc())?;
     let mut ledger = Ledger::new(rt.alloc(), 0);
     let ticket = ticket(rt.alloc(), 0, FIRST)?;
     let reply = way_of_a_packet(&mut front, &mut ledger, ticket).ok_or("no reply")?;

@@ -6,6 +6,7 @@ use super::front::{small_front, ticket};
 use super::made::{Made, account, creating, looking_up};
 use super::told::{Noted, Told, assert_noted, told_by};
 use std::alloc::{AllocError, Global};
+use std::process::Abort;
 use std::test::Fail;
 use tb_batch::{Batch, Batcher, Offered};
 use tb_core::{Cause, Front, Ledger, Outcomes, Parcel};
@@ -66,30 +67,31 @@ fn feed_packets(
 
 #[test]
 fn pulse_between_batches(rt: HostRuntime) -> Result<(), Fail> {
-    let mut front = small_front(&rt)?;
+    let mut front = small_front(rt.alloc())?;
     let mut ledger = Ledger::new(rt.alloc(), 0);
     let mut told = Vec::new(rt.alloc());
-    pulse_between(&rt, &mut front, &mut ledger, &mut told)?;
+    pulse_between(&rt, rt.alloc(), &mut front, &mut ledger, &mut told)?;
     assert_pulse_between(&rt, &ledger);
     Ok(())
 }
 
 fn pulse_between(
-    rt: &HostRuntime,
+    rt: &impl Abort,
+    alloc: Global,
     front: &mut Front,
     ledger: &mut Ledger,
     told: &mut Vec<Told>,
 ) -> Result<(), Fail>
     requires { front.old.submitters ≡ 1 }
 {
-    feed_packets(rt.alloc(), front, ledger, &[1, 2], told)?;
+    feed_packets(alloc, front, ledger, &[1, 2], told)?;
     assert!(rt; told.is_empty(), "two packets are held");
-    feed(front, ledger, ticket(rt.alloc(), 1, Made::Pulse(5))?, told)?;
+    feed(front, ledger, ticket(alloc, 1, Made::Pulse(5))?, told)?;
     assert_eq!(rt;
         told.as_slice(),
         [Told::Committed(0), Told::Committed(1)].as_slice()
     );
-    feed_packets(rt.alloc(), front, ledger, &[3, 4, 5, 6], told)?;
+    feed_packets(alloc, front, ledger, &[3, 4, 5, 6], told)?;
     assert!(rt; !front.finished(), "nobody has ended");
     let batch = front.idle().ok_or("nothing is held")?;
     assert!(rt; front.idle().is_none(), "nothing more is held");
@@ -104,7 +106,7 @@ fn pulse_between(
     Ok(())
 }
 
-fn assert_pulse_between(rt: &HostRuntime, ledger: &Ledger) {
+fn assert_pulse_between(rt: &impl Abort, ledger: &Ledger) {
     assert_noted(
         rt,
         ledger.journal(),
@@ -159,12 +161,12 @@ fn first_reply(outcomes: Outcomes) -> Option<Reply> {
 fn found_by_a_lookup(rt: HostRuntime) -> Result<(), Fail> {
     let mut ledger = Ledger::new(rt.alloc(), 3);
     ledger.apply(batch_of(rt.alloc(), 1)?);
-    assert_found(&rt, &mut ledger)
+    assert_found(&rt, rt.alloc(), &mut ledger)
 }
 
 /// A lookup of accounts 1 and 2, of which the first is there.
-fn assert_found(rt: &HostRuntime, ledger: &mut Ledger) -> Result<(), Fail> {
-    let asked = alone(rt.alloc(), looking_up(rt.alloc(), 0, 1, &[1, 2])?)?;
+fn assert_found(rt: &impl Abort, alloc: Global, ledger: &mut Ledger) -> Result<(), Fail> {
+    let asked = alone(alloc, looking_up(alloc, 0, 1, &[1, 2])?)?;
     let reply = first_reply(ledger.apply(Parcel::Batch(asked))).ok_or("no reply")?;
     let made = Account {
         timestamp: 4,
@@ -180,7 +182,7 @@ fn assert_found(rt: &HostRuntime, ledger: &mut Ledger) -> Result<(), Fail> {
 fn refused_commit(rt: HostRuntime) -> Result<(), Fail> {
     let mut ledger = Ledger::new(rt.alloc(), 0);
     let mut told = Vec::new(rt.alloc());
-    refuse_commit(&rt, &mut ledger, &mut told)?;
+    refuse_commit(&rt, rt.alloc(), &mut ledger, &mut told)?;
     assert_eq!(rt;
         told.as_slice(),
         [Told::Stopped, Told::Stopped, Told::Shutdown].as_slice()
@@ -193,16 +195,20 @@ fn refused_commit(rt: HostRuntime) -> Result<(), Fail> {
 
 /// A batch whose growth is refused, and what comes behind it.
 fn refuse_commit(
-    rt: &HostRuntime,
+    rt: &impl Abort,
+    alloc: Global,
     ledger: &mut Ledger,
     told: &mut Vec<Told>,
 ) -> Result<(), Fail> {
-    tell(ledger.apply_as_refused(batch_of(rt.alloc(), 1)?), told)?;
+    tell(ledger.apply_as_refused(batch_of(alloc, 1)?), told)?;
     assert!(rt; ledger.stopped(), "a growth was refused");
-    tell(ledger.apply(batch_of(rt.alloc(), 2)?), told)?;
+    tell(ledger.apply(batch_of(alloc, 2)?), told)?;
     tell(ledger.apply(Parcel::Pulse(Moment::new(5))), told)?;
-    let behind = creating(rt.alloc(), 0, 1, &[account(3)])?;
+    let behind = creating(alloc, 0, 1, &[account(3)])?;
     tell(ledger.apply(Parcel::Return(behind, Cause::Shutdown)), told)?;
-    assert!(rt; matches!(ledger.apply(Parcel::Last), Outcomes::Last), "Last comes to Last");
+    assert!(rt;
+        matches!(ledger.apply(Parcel::Last), Outcomes::Last),
+        "Last comes to Last"
+    );
     Ok(())
 }

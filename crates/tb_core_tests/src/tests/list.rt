@@ -3,6 +3,7 @@
 use super::made::{Made, account, creating, item, transfer, transferring};
 use super::told::{Noted, Told, assert_failures, assert_noted, assert_told};
 use std::alloc::{AllocError, Global};
+use std::process::Abort;
 use std::test::Fail;
 use tb_core::{Listed, run_list};
 use tb_layout::{Account, BATCH_MAX, Transfer};
@@ -18,13 +19,7 @@ fn items_of(alloc: Global, list: &[Made]) -> Result<Vec<Item>, Fail> {
 }
 
 /// Asserts what a list came to: its replies, its journal and its clock.
-fn assert_listed(
-    rt: &HostRuntime,
-    listed: &Listed,
-    told: &[Told],
-    noted: &[Noted],
-    clock: u64,
-) {
+fn assert_listed(rt: &impl Abort, listed: &Listed, told: &[Told], noted: &[Noted], clock: u64) {
     assert_told(rt, &listed.replies, told);
     assert_noted(rt, listed.ledger.journal(), noted);
     assert_eq!(rt; listed.ledger.machine().clock(), clock);
@@ -124,11 +119,7 @@ fn overflowing(alloc: Global) -> Result<Vec<Item>, Fail> {
     Ok(items)
 }
 
-const FIRST_THREE: [Told; 3] = [
-    Told::Committed(0),
-    Told::Committed(1),
-    Told::Committed(2),
-];
+const FIRST_THREE: [Told; 3] = [Told::Committed(0), Told::Committed(1), Told::Committed(2)];
 
 #[test]
 fn full_batch_then_overflow(rt: HostRuntime) -> Result<(), Fail> {
@@ -149,7 +140,7 @@ fn full_packets(alloc: Global) -> Result<Vec<Item>, Fail> {
 }
 
 /// Asserts that all events succeeded, and that account 1 was debited by each transfer.
-fn assert_largest(rt: &HostRuntime, listed: &Listed) {
+fn assert_largest(rt: &impl Abort, listed: &Listed) {
     for reply in &listed.replies {
         assert_failures(rt, Some(reply), &[]);
     }

@@ -1,5 +1,6 @@
 //! What came of it: replies and entries of the journal, and whether they are those wanted.
 
+use std::process::Abort;
 use tb_core::Entry;
 use tb_layout::Failure;
 use tb_work::{Answer, Outcome, Reply};
@@ -54,7 +55,7 @@ fn noted_by(entry: &Entry) -> Noted {
 }
 
 /// Asserts what replies say, in order.
-pub(super) fn assert_told(rt: &HostRuntime, replies: &[Reply], wanted: &[Told]) {
+pub(super) fn assert_told(rt: &impl Abort, replies: &[Reply], wanted: &[Told]) {
     assert_eq!(rt; replies.len(), wanted.len(), "how many replies there are");
     for (reply, wanted) in replies.iter().zip(wanted) {
         assert_eq!(rt; told_by(reply), *wanted, "what reply {} says", reply.number);
@@ -62,7 +63,7 @@ pub(super) fn assert_told(rt: &HostRuntime, replies: &[Reply], wanted: &[Told]) 
 }
 
 /// Asserts the entries of a journal, in order.
-pub(super) fn assert_noted(rt: &HostRuntime, journal: &[Entry], wanted: &[Noted]) {
+pub(super) fn assert_noted(rt: &impl Abort, journal: &[Entry], wanted: &[Noted]) {
     assert_eq!(rt; journal.len(), wanted.len(), "how many entries there are");
     for (entry, wanted) in journal.iter().zip(wanted) {
         assert_eq!(rt; noted_by(entry), *wanted, "an entry of the journal");
@@ -70,6 +71,10 @@ pub(super) fn assert_noted(rt: &HostRuntime, journal: &[Entry], wanted: &[Noted]
 }
 
 /// Asserts the failures of a packet that was committed.
-pub(super) fn assert_failures(rt: &HostRuntime, reply: Option<&Reply>, wanted: &[Failure]) {
-    assert_eq!(rt; reply.and_then(failures), Some(wanted), "the failures of a packet");
+pub(super) fn assert_failures(rt: &impl Abort, reply: Option<&Reply>, wanted: &[Failure]) {
+    assert_eq!(rt;
+        reply.and_then(failures),
+        Some(wanted),
+        "the failures of a packet"
+    );
 }

@@ -2,6 +2,7 @@
 
 use super::made::{Made, item};
 use std::alloc::Global;
+use std::process::Abort;
 use std::test::Fail;
 use tb_core::{Event, World};
 use tb_work::{Refusal, Ticket};
@@ -54,24 +55,29 @@ fn answer(alloc: Global, world: &mut World, step: Step) -> Result<bool, Refusal>
 }
 
 /// Takes steps, and asserts what the World answers to each.
-fn play(rt: &HostRuntime, world: &mut World, steps: &[(Step, bool)]) -> Result<(), Fail> {
+fn play(
+    rt: &impl Abort,
+    alloc: Global,
+    world: &mut World,
+    steps: &[(Step, bool)],
+) -> Result<(), Fail> {
     for (step, wanted) in steps {
-        let moves = answer(rt.alloc(), world, *step)?;
+        let moves = answer(alloc, world, *step)?;
         assert_eq!(rt; moves, *wanted, "the answer to {step:?}");
     }
     Ok(())
 }
 
 /// Takes steps, each of which is answered true.
-fn play_all(rt: &HostRuntime, world: &mut World, steps: &[Step]) -> Result<(), Fail> {
+fn play_all(rt: &impl Abort, alloc: Global, world: &mut World, steps: &[Step]) -> Result<(), Fail> {
     for step in steps {
-        let moves = answer(rt.alloc(), world, *step)?;
+        let moves = answer(alloc, world, *step)?;
         assert!(rt; moves, "the answer to {step:?}");
     }
     Ok(())
 }
 
 /// A World of two submitters, 0 and 1, and the control, 2, whose batches have at most 4 events.
-fn small_world(rt: &HostRuntime) -> Result<World, Refusal> {
-    World::new(rt.alloc(), 0, 4, 2)
+fn small_world(alloc: Global) -> Result<World, Refusal> {
+    World::new(alloc, 0, 4, 2)
 }

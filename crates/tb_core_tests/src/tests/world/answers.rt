@@ -2,6 +2,7 @@
 
 use super::{Step, play, play_all, small_world};
 use crate::tests::made::{Made, account, creating};
+use std::process::Abort;
 use std::test::Fail;
 use tb_core::{Event, World};
 use tb_work::{Item, Job, Ticket};
@@ -32,13 +33,13 @@ const PUSHES: [(Step, bool); 15] = [
 
 #[test]
 fn pushes_that_answer_false(rt: HostRuntime) -> Result<(), Fail> {
-    let mut world = small_world(&rt)?;
-    play(&rt, &mut world, &PUSHES)
+    let mut world = small_world(rt.alloc())?;
+    play(&rt, rt.alloc(), &mut world, &PUSHES)
 }
 
 /// Asserts what the World answers to the push of a packet.
 fn push_packet(
-    rt: &HostRuntime,
+    rt: &impl Abort,
     world: &mut World,
     sender: u32,
     job: Job,
@@ -56,7 +57,7 @@ fn push_packet(
 
 #[test]
 fn jobs_of_others(rt: HostRuntime) -> Result<(), Fail> {
-    let mut world = small_world(&rt)?;
+    let mut world = small_world(rt.alloc())?;
     let job = creating(rt.alloc(), 0, 0, &[account(1)])?;
     push_packet(&rt, &mut world, 1, job, false)
 }
@@ -85,8 +86,8 @@ const STAGES_WITH_NOTHING: [(Step, bool); 10] = [
 
 #[test]
 fn stages_that_have_nothing(rt: HostRuntime) -> Result<(), Fail> {
-    let mut world = small_world(&rt)?;
-    play(&rt, &mut world, &STAGES_WITH_NOTHING)
+    let mut world = small_world(rt.alloc())?;
+    play(&rt, rt.alloc(), &mut world, &STAGES_WITH_NOTHING)
 }
 
 /// Two packets, a pulse, which seals them, and a packet.
@@ -129,7 +130,7 @@ const STAGES_WITH_SOMETHING: [(Step, bool); 21] = [
 
 #[test]
 fn stages_that_have_to_push_first(rt: HostRuntime) -> Result<(), Fail> {
-    let mut world = small_world(&rt)?;
-    play_all(&rt, &mut world, &UP_TO_A_PULSE)?;
-    play(&rt, &mut world, &STAGES_WITH_SOMETHING)
+    let mut world = small_world(rt.alloc())?;
+    play_all(&rt, rt.alloc(), &mut world, &UP_TO_A_PULSE)?;
+    play(&rt, rt.alloc(), &mut world, &STAGES_WITH_SOMETHING)
 }

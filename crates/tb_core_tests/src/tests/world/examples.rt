@@ -4,13 +4,17 @@ use super::{Step, event, play, play_all, small_world};
 use crate::tests::made::Made;
 use crate::tests::told::{Noted, Told, assert_noted, assert_told};
 use std::alloc::Global;
+use std::process::Abort;
 use std::test::Fail;
 use tb_core::{Event, World, run_world};
 use tb_work::Refusal;
 
 const FIRST: Step = Step::Push(0, Made::Packet { number: 0, id: 1 });
+
 const SECOND: Step = Step::Push(0, Made::Packet { number: 1, id: 2 });
+
 const THIRD: Step = Step::Push(0, Made::Packet { number: 2, id: 3 });
+
 const PULSE: Step = Step::Push(2, Made::Pulse(5));
 
 const TO_THE_COMMIT: [Step; 3] = [FIRST, Step::Pop, Step::BatchPush];
@@ -23,17 +27,17 @@ const TO_THE_REPLY: [Step; 4] = [
 ];
 
 /// A packet through all steps, behind which nothing is left to receive.
-fn one_packet(rt: &HostRuntime, world: &mut World, commit: Step) -> Result<(), Fail> {
-    play_all(rt, world, &TO_THE_COMMIT)?;
-    play_all(rt, world, &[commit])?;
-    play_all(rt, world, &TO_THE_REPLY)?;
-    play(rt, world, &[(Step::ReplyPop(0), false)])
+fn one_packet(rt: &impl Abort, alloc: Global, world: &mut World, commit: Step) -> Result<(), Fail> {
+    play_all(rt, alloc, world, &TO_THE_COMMIT)?;
+    play_all(rt, alloc, world, &[commit])?;
+    play_all(rt, alloc, world, &TO_THE_REPLY)?;
+    play(rt, alloc, world, &[(Step::ReplyPop(0), false)])
 }
 
 #[test]
 fn world_one_packet(rt: HostRuntime) -> Result<(), Fail> {
-    let mut world = small_world(&rt)?;
-    one_packet(&rt, &mut world, Step::BatchPop)?;
+    let mut world = small_world(rt.alloc())?;
+    one_packet(&rt, rt.alloc(), &mut world, Step::BatchPop)?;
     assert_told(&rt, world.received(0), &[Told::Committed(0)]);
     assert_eq!(rt; world.ledger().machine().clock(), 1);
     Ok(())
@@ -41,8 +45,8 @@ fn world_one_packet(rt: HostRuntime) -> Result<(), Fail> {
 
 #[test]
 fn world_refused_commit(rt: HostRuntime) -> Result<(), Fail> {
-    let mut world = small_world(&rt)?;
-    one_packet(&rt, &mut world, Step::BatchPopRefused)?;
+    let mut world = small_world(rt.alloc())?;
+    one_packet(&rt, rt.alloc(), &mut world, Step::BatchPopRefused)?;
     assert_told(&rt, world.received(0), &[Told::Stopped]);
     assert_noted(&rt, world.ledger().journal(), &[]);
     assert_eq!(rt; world.ledger().machine().clock(), 0);
@@ -74,13 +78,9 @@ const REFUSED_SECOND_COMMIT: [Step; 20] = [
 
 #[test]
 fn world_refused_second_commit(rt: HostRuntime) -> Result<(), Fail> {
-    let mut world = small_world(&rt)?;
-    play_all(&rt, &mut world, &REFUSED_SECOND_COMMIT)?;
-    assert_told(
-        &rt,
-        world.received(0),
-        &[Told::Committed(0), Told::Stopped],
-    );
+    let mut world = small_world(rt.alloc())?;
+    play_all(&rt, rt.alloc(), &mut world, &REFUSED_SECOND_COMMIT)?;
+    assert_told(&rt, world.received(0), &[Told::Committed(0), Told::Stopped]);
     assert_noted(&rt, world.ledger().journal(), &[Noted::Batch(1)]);
     assert_eq!(rt; world.ledger().machine().clock(), 1);
     Ok(())
@@ -100,11 +100,11 @@ const REFUSED_JOIN: [Step; 9] = [
 
 #[test]
 fn world_refused_join(rt: HostRuntime) -> Result<(), Fail> {
-    let mut world = small_world(&rt)?;
-    play_all(&rt, &mut world, &REFUSED_JOIN)?;
+    let mut world = small_world(rt.alloc())?;
+    play_all(&rt, rt.alloc(), &mut world, &REFUSED_JOIN)?;
     for _ in 0..3 {
-        play_all(&rt, &mut world, &[Step::BatchPop])?;
-        play_all(&rt, &mut world, &TO_THE_REPLY)?;
+        play_all(&rt, rt.alloc(), &mut world, &[Step::BatchPop])?;
+        play_all(&rt, rt.alloc(), &mut world, &TO_THE_REPLY)?;
     }
     assert_told(
         &rt,
@@ -151,12 +151,8 @@ const WITH_CLOSE: [(Step, bool); 31] = [
 ];
 
 /// Asserts what a World came to under these events.
-fn assert_with_close(rt: &HostRuntime, world: &World) {
-    assert_told(
-        rt,
-        world.received(0),
-        &[Told::Committed(0), Told::Shutdown],
-    );
+fn assert_with_close(rt: &impl Abort, world: &World) {
+    assert_told(rt, world.received(0), &[Told::Committed(0), Told::Shutdown]);
     assert_told(rt, world.received(1), &[]);
     assert_noted(rt, world.ledger().journal(), &[Noted::Batch(1)]);
     assert_eq!(rt; world.ledger().machine().clock(), 1);
@@ -164,8 +160,8 @@ fn assert_with_close(rt: &HostRuntime, world: &World) {
 
 #[test]
 fn world_with_close(rt: HostRuntime) -> Result<(), Fail> {
-    let mut world = small_world(&rt)?;
-    play(&rt, &mut world, &WITH_CLOSE)?;
+    let mut world = small_world(rt.alloc())?;
+    play(&rt, rt.alloc(), &mut world, &WITH_CLOSE)?;
     assert_with_close(&rt, &world);
     Ok(())
 }

@@ -4,6 +4,7 @@ use super::{Step, answer};
 use crate::tests::made::Made;
 use crate::tests::told::{Told, told_by};
 use std::alloc::Global;
+use std::process::Abort;
 use std::test::Fail;
 use tb_core::{Entry, World};
 use tb_work::{Reply, Stub};
@@ -105,15 +106,20 @@ fn next_stage(seed: &mut u64) -> Step {
 
 /// A push of the rule, which is answered true unless its sender has ended.
 fn push(
-    rt: &HostRuntime,
+    rt: &impl Abort,
+    alloc: Global,
     world: &mut World,
     known: &mut Known,
     seed: &mut u64,
 ) -> Result<(), Fail> {
     let (sender, pushed) = next_push(seed, &known.pushed);
-    let moves = answer(rt.alloc(), world, Step::Push(sender, made(pushed)))?;
+    let moves = answer(alloc, world, Step::Push(sender, made(pushed)))?;
     let wanted = !has_ended(&known.pushed, sender);
-    assert_eq!(rt; moves, wanted, "the answer to {pushed:?} of sender {sender}");
+    assert_eq!(rt;
+        moves,
+        wanted,
+        "the answer to {pushed:?} of sender {sender}"
+    );
     if moves {
         known.pushed.push(pushed)?;
     }
@@ -122,16 +128,17 @@ fn push(
 
 /// An event of the rule.
 fn step(
-    rt: &HostRuntime,
+    rt: &impl Abort,
+    alloc: Global,
     world: &mut World,
     known: &mut Known,
     seed: &mut u64,
 ) -> Result<(), Fail> {
     if next_number(seed, 26) < 6 {
-        return push(rt, world, known, seed);
+        return push(rt, alloc, world, known, seed);
     }
     let stage = next_stage(seed);
-    let moves = answer(rt.alloc(), world, stage)?;
+    let moves = answer(alloc, world, stage)?;
     known.refused |= moves && matches!(stage, Step::PopRefused | Step::BatchPopRefused);
     Ok(())
 }
@@ -186,28 +193,39 @@ fn due(ahead: &[Pushed], committed: usize, packet: Pushed) -> Told {
 }
 
 /// Asserts that each reply is the one due: the submitter's next packet's, and what that comes to.
-fn assert_due(
-    rt: &HostRuntime,
-    replies: &[Reply],
-    sender: u32,
-    ahead: &[Pushed],
-    committed: usize,
-) {
+fn assert_due(rt: &impl Abort, replies: &[Reply], sender: u32, ahead: &[Pushed], committed: usize) {
     for (place, reply) in replies.iter().enumerate() {
         let number = place as u64;
         let wanted = due(ahead, committed, Pushed::Packet { sender, number });
-        assert_eq!(rt; (reply.submitter, reply.number), (sender, number), "whose a reply is");
-        assert_eq!(rt; told_by(reply), wanted, "what reply {number} to {sender} says");
+        assert_eq!(rt;
+            (reply.submitter, reply.number),
+            (sender, number),
+            "whose a reply is"
+        );
+        assert_eq!(rt;
+            told_by(reply),
+            wanted,
+            "what reply {number} to {sender} says"
+        );
     }
 }
 
 /// Asserts that the journal is a prefix of what is ahead, and that each submitter received a prefix of what is
 /// due to it. Gives how many packets and pulses are ahead and aren't committed.
-fn assert_lawful(rt: &HostRuntime, world: &World, pushed: &[Pushed]) -> Result<usize, Fail> {
-    let ahead = ahead(rt.alloc(), pushed)?;
-    let committed = committed(rt.alloc(), world.ledger().journal())?;
+fn assert_lawful(
+    rt: &impl Abort,
+    alloc: Global,
+    world: &World,
+    pushed: &[Pushed],
+) -> Result<usize, Fail> {
+    let ahead = ahead(alloc, pushed)?;
+    let committed = committed(alloc, world.ledger().journal())?;
     let first = ahead.get(..committed.len());
-    assert_eq!(rt; first, Some(committed.as_slice()), "the journal, and the first of what is ahead");
+    assert_eq!(rt;
+        first,
+        Some(committed.as_slice()),
+        "the journal, and the first of what is ahead"
+    );
     assert_due(rt, world.received(0), 0, &ahead, committed.len());
     assert_due(rt, world.received(1), 1, &ahead, committed.len());
     Ok(ahead.len().saturating_sub(committed.len()))
@@ -245,8 +263,8 @@ fn settle(alloc: Global, world: &mut World) -> Result<(), Fail> {
 }
 
 /// Asserts that at rest each packet has its reply, and all that is ahead was committed where nothing was refused.
-fn assert_whole(rt: &HostRuntime, world: &World, known: &Known) -> Result<(), Fail> {
-    let left = assert_lawful(rt, world, &known.pushed)?;
+fn assert_whole(rt: &impl Abort, alloc: Global, world: &World, known: &Known) -> Result<(), Fail> {
+    let left = assert_lawful(rt, alloc, world, &known.pushed)?;
     if !known.refused {
         assert_eq!(rt; left, 0, "what is ahead and not committed");
     }
@@ -262,33 +280,34 @@ fn assert_whole(rt: &HostRuntime, world: &World, known: &Known) -> Result<(), Fa
 
 /// A list of the rule.
 fn play_list(
-    rt: &HostRuntime,
+    rt: &impl Abort,
+    alloc: Global,
     world: &mut World,
     known: &mut Known,
     seed: u64,
 ) -> Result<(), Fail> {
     let mut seed = seed;
     for _ in 0..200 {
-        step(rt, world, known, &mut seed)?;
+        step(rt, alloc, world, known, &mut seed)?;
     }
-    assert_lawful(rt, world, &known.pushed)?;
-    settle(rt.alloc(), world)?;
-    assert_whole(rt, world, known)
+    assert_lawful(rt, alloc, world, &known.pushed)?;
+    settle(alloc, world)?;
+    assert_whole(rt, alloc, world, known)
 }
 
-fn one_list(rt: &HostRuntime, seed: u64) -> Result<(), Fail> {
-    let mut world = World::new(rt.alloc(), 0, 3, 2)?;
+fn one_list(rt: &impl Abort, alloc: Global, seed: u64) -> Result<(), Fail> {
+    let mut world = World::new(alloc, 0, 3, 2)?;
     let mut known = Known {
-        pushed: Vec::new(rt.alloc()),
+        pushed: Vec::new(alloc),
         refused: false,
     };
-    play_list(rt, &mut world, &mut known, seed)
+    play_list(rt, alloc, &mut world, &mut known, seed)
 }
 
 #[test]
 fn a_thousand_lists(rt: HostRuntime) -> Result<(), Fail> {
     for seed in 0..1000 {
-        one_list(&rt, seed)?;
+        one_list(&rt, rt.alloc(), seed)?;
     }
     Ok(())
 }

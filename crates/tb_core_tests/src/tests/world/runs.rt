@@ -4,6 +4,7 @@ use super::{Step, event};
 use crate::tests::made::{Made, account, creating, transfer, transferring};
 use crate::tests::told::{Noted, Told, assert_failures, assert_noted, assert_told};
 use std::alloc::Global;
+use std::process::Abort;
 use std::test::Fail;
 use tb_core::{Event, World, run_world};
 use tb_layout::{Account, Failure, Transfer};
@@ -80,7 +81,7 @@ fn pulsed_events(alloc: Global) -> Result<Vec<Event>, Refusal> {
 }
 
 /// Asserts what the example says.
-fn assert_pulsed(rt: &HostRuntime, world: &World) {
+fn assert_pulsed(rt: &impl Abort, world: &World) {
     let told = [
         Told::Committed(0),
         Told::Committed(1),
@@ -180,13 +181,9 @@ const CHAIN_FAILURES: [Failure; 3] = [
 ];
 
 /// Asserts what the example says.
-fn assert_joined(rt: &HostRuntime, world: &World) {
+fn assert_joined(rt: &impl Abort, world: &World) {
     let replies = world.received(0);
-    let told = [
-        Told::Committed(0),
-        Told::Committed(1),
-        Told::Committed(2),
-    ];
+    let told = [Told::Committed(0), Told::Committed(1), Told::Committed(2)];
     assert_told(rt, replies, &told);
     assert_failures(rt, replies.first(), &[]);
     assert_failures(rt, replies.get(1), &CHAIN_FAILURES);
@@ -200,13 +197,16 @@ fn assert_joined(rt: &HostRuntime, world: &World) {
 }
 
 /// Asserts that no account was debited or credited.
-fn assert_untouched(rt: &HostRuntime, world: &World) {
+fn assert_untouched(rt: &impl Abort, world: &World) {
     let machine = world.ledger().machine();
     assert_eq!(rt; machine.clock(), 7);
     let mut timestamp = 0;
     for made in accounts() {
         timestamp += 1;
-        assert_eq!(rt; machine.account(made.id), Some(Account { timestamp, ..made }));
+        assert_eq!(rt;
+            machine.account(made.id),
+            Some(Account { timestamp, ..made })
+        );
     }
 }
 
