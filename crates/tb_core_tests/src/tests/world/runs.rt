@@ -200,13 +200,9 @@ fn assert_joined(rt: &impl Abort, world: &World) {
 fn assert_untouched(rt: &impl Abort, world: &World) {
     let machine = world.ledger().machine();
     assert_eq!(rt; machine.clock(), 7);
-    let mut timestamp = 0;
-    for made in accounts() {
-        timestamp += 1;
-        assert_eq!(rt;
-            machine.account(made.id),
-            Some(Account { timestamp, ..made })
-        );
+    for (made, timestamp) in accounts().iter().zip([1, 2, 3]) {
+        let untouched = Account { timestamp, ..*made };
+        assert_eq!(rt; machine.account(made.id), Some(untouched));
     }
 }
 
