@@ -1,6 +1,7 @@
 //! The World, by worked examples.
 
 use super::made::{Made, item};
+use super::told::{Noted, Told, assert_noted, assert_told};
 use std::alloc::Global;
 use std::process::Abort;
 use std::test::Fail;
@@ -68,16 +69,26 @@ fn play(
     Ok(())
 }
 
-/// Takes steps, each of which is answered true.
-fn play_all(rt: &impl Abort, alloc: Global, world: &mut World, steps: &[Step]) -> Result<(), Fail> {
-    for step in steps {
-        let moves = answer(alloc, world, *step)?;
-        assert!(rt; moves, "the answer to {step:?}");
-    }
-    Ok(())
+/// Asserts what submitter 0 received, the journal and the clock.
+fn assert_world(rt: &impl Abort, world: &World, told: &[Told], noted: &[Noted], clock: u64) {
+    assert_told(rt, world.received(0), told);
+    assert_told(rt, world.received(1), &[]);
+    assert_noted(rt, world.ledger().journal(), noted);
+    assert_eq!(rt; world.ledger().machine().clock(), clock);
 }
 
-/// A World of two submitters, 0 and 1, and the control, 2, whose batches have at most 4 events.
-fn small_world(alloc: Global) -> Result<World, Refusal> {
-    World::new(alloc, 0, 4, 2)
+/// Takes steps in a World of submitters 0 and 1 and the control, 2, whose batches have at most 4 events, and asserts
+/// what it answers to each and comes to.
+fn assert_steps(
+    rt: &impl Abort,
+    alloc: Global,
+    steps: &[(Step, bool)],
+    told: &[Told],
+    noted: &[Noted],
+    clock: u64,
+) -> Result<(), Fail> {
+    let mut world = World::new(alloc, 0, 4, 2)?;
+    play(rt, alloc, &mut world, steps)?;
+    assert_world(rt, &world, told, noted, clock);
+    Ok(())
 }

@@ -1,11 +1,12 @@
 //! Each event answered false, for each of its reasons.
 
-use super::{Step, play, play_all, small_world};
+use super::{Step, assert_steps};
 use crate::tests::made::{Made, account, creating};
-use std::process::Abort;
+use crate::tests::told::Noted;
+use std::alloc::Global;
 use std::test::Fail;
 use tb_core::{Event, World};
-use tb_work::{Item, Job, Ticket};
+use tb_work::{Item, Job, Refusal, Ticket};
 
 const PUSHES: [(Step, bool); 15] = [
     // A stranger.
@@ -33,42 +34,33 @@ const PUSHES: [(Step, bool); 15] = [
 
 #[test]
 fn pushes_that_answer_false(rt: HostRuntime) -> Result<(), Fail> {
-    let mut world = small_world(rt.alloc())?;
-    play(&rt, rt.alloc(), &mut world, &PUSHES)
+    assert_steps(&rt, rt.alloc(), &PUSHES, &[], &[], 0)
 }
 
-/// Asserts what the World answers to the push of a packet.
-fn push_packet(
-    rt: &impl Abort,
-    world: &mut World,
-    sender: u32,
-    job: Job,
-    wanted: bool,
-) -> Result<(), Fail> {
+/// What a new World of two submitters answers to the push of a packet.
+fn answer_to(alloc: Global, limit: u32, sender: u32, job: Job) -> Result<bool, Refusal> {
+    let mut world = World::new(alloc, 0, limit, 2)?;
     let item = Item::Packet(job);
     match world.step(Event::Push(Ticket { sender, item })) {
-        Ok(moves) => {
-            assert_eq!(rt; moves, wanted, "the answer to a packet of sender {sender}");
-            Ok(())
-        }
-        Err((_event, refused)) => Err(refused)?,
+        Ok(moves) => Ok(moves),
+        Err((_event, _refused)) => Err(Refusal::NoMemory),
     }
 }
 
 #[test]
 fn jobs_of_others(rt: HostRuntime) -> Result<(), Fail> {
-    let mut world = small_world(rt.alloc())?;
     let job = creating(rt.alloc(), 0, 0, &[account(1)])?;
-    push_packet(&rt, &mut world, 1, job, false)
+    assert_eq!(rt; answer_to(rt.alloc(), 4, 1, job), Ok(false));
+    Ok(())
 }
 
 #[test]
 fn jobs_over_the_limit(rt: HostRuntime) -> Result<(), Fail> {
-    let mut world = World::new(rt.alloc(), 0, 1, 1)?;
     let job = creating(rt.alloc(), 0, 0, &[account(1), account(2)])?;
-    push_packet(&rt, &mut world, 0, job, false)?;
+    assert_eq!(rt; answer_to(rt.alloc(), 1, 0, job), Ok(false));
     let job = creating(rt.alloc(), 0, 0, &[account(1)])?;
-    push_packet(&rt, &mut world, 0, job, true)
+    assert_eq!(rt; answer_to(rt.alloc(), 1, 0, job), Ok(true));
+    Ok(())
 }
 
 const STAGES_WITH_NOTHING: [(Step, bool); 10] = [
@@ -86,22 +78,18 @@ const STAGES_WITH_NOTHING: [(Step, bool); 10] = [
 
 #[test]
 fn stages_that_have_nothing(rt: HostRuntime) -> Result<(), Fail> {
-    let mut world = small_world(rt.alloc())?;
-    play(&rt, rt.alloc(), &mut world, &STAGES_WITH_NOTHING)
+    assert_steps(&rt, rt.alloc(), &STAGES_WITH_NOTHING, &[], &[], 0)
 }
 
-/// Two packets, a pulse, which seals them, and a packet.
-const UP_TO_A_PULSE: [Step; 7] = [
-    Step::Push(0, Made::Packet { number: 0, id: 1 }),
-    Step::Push(1, Made::Packet { number: 0, id: 2 }),
-    Step::Push(2, Made::Pulse(5)),
-    Step::Push(0, Made::Packet { number: 1, id: 3 }),
-    Step::Pop,
-    Step::Pop,
-    Step::Pop,
-];
-
-const STAGES_WITH_SOMETHING: [(Step, bool); 21] = [
+const STAGES_WITH_SOMETHING: [(Step, bool); 28] = [
+    // Two packets, a pulse, which seals them, and a packet.
+    (Step::Push(0, Made::Packet { number: 0, id: 1 }), true),
+    (Step::Push(1, Made::Packet { number: 0, id: 2 }), true),
+    (Step::Push(2, Made::Pulse(5)), true),
+    (Step::Push(0, Made::Packet { number: 1, id: 3 }), true),
+    (Step::Pop, true),
+    (Step::Pop, true),
+    (Step::Pop, true),
     // The batch and the pulse have to be pushed first.
     (Step::Pop, false),
     (Step::PopRefused, false),
@@ -130,7 +118,6 @@ const STAGES_WITH_SOMETHING: [(Step, bool); 21] = [
 
 #[test]
 fn stages_that_have_to_push_first(rt: HostRuntime) -> Result<(), Fail> {
-    let mut world = small_world(rt.alloc())?;
-    play_all(&rt, rt.alloc(), &mut world, &UP_TO_A_PULSE)?;
-    play(&rt, rt.alloc(), &mut world, &STAGES_WITH_SOMETHING)
+    let noted = [Noted::Batch(2), Noted::Pulse(5), Noted::Batch(1)];
+    assert_steps(&rt, rt.alloc(), &STAGES_WITH_SOMETHING, &[], &noted, 6)
 }

@@ -1,10 +1,9 @@
 //! Worked examples, step by step.
 
-use super::{Step, event, play, play_all, small_world};
+use super::{Step, assert_steps, assert_world, event};
 use crate::tests::made::Made;
-use crate::tests::told::{Noted, Told, assert_noted, assert_told};
+use crate::tests::told::{Noted, Told};
 use std::alloc::Global;
-use std::process::Abort;
 use std::test::Fail;
 use tb_core::{Event, World, run_world};
 use tb_work::Refusal;
@@ -17,102 +16,104 @@ const THIRD: Step = Step::Push(0, Made::Packet { number: 2, id: 3 });
 
 const PULSE: Step = Step::Push(2, Made::Pulse(5));
 
-const TO_THE_COMMIT: [Step; 3] = [FIRST, Step::Pop, Step::BatchPush];
-
-const TO_THE_REPLY: [Step; 4] = [
-    Step::OutcomePush,
-    Step::OutcomePop,
-    Step::ReplyPush,
-    Step::ReplyPop(0),
+const ONE_PACKET: [(Step, bool); 9] = [
+    (FIRST, true),
+    (Step::Pop, true),
+    (Step::BatchPush, true),
+    (Step::BatchPop, true),
+    (Step::OutcomePush, true),
+    (Step::OutcomePop, true),
+    (Step::ReplyPush, true),
+    (Step::ReplyPop(0), true),
+    (Step::ReplyPop(0), false),
 ];
-
-/// A packet through all steps, behind which nothing is left to receive.
-fn one_packet(rt: &impl Abort, alloc: Global, world: &mut World, commit: Step) -> Result<(), Fail> {
-    play_all(rt, alloc, world, &TO_THE_COMMIT)?;
-    play_all(rt, alloc, world, &[commit])?;
-    play_all(rt, alloc, world, &TO_THE_REPLY)?;
-    play(rt, alloc, world, &[(Step::ReplyPop(0), false)])
-}
 
 #[test]
 fn world_one_packet(rt: HostRuntime) -> Result<(), Fail> {
-    let mut world = small_world(rt.alloc())?;
-    one_packet(&rt, rt.alloc(), &mut world, Step::BatchPop)?;
-    assert_told(&rt, world.received(0), &[Told::Committed(0)]);
-    assert_eq!(rt; world.ledger().machine().clock(), 1);
-    Ok(())
+    let told = [Told::Committed(0)];
+    let noted = [Noted::Batch(1)];
+    assert_steps(&rt, rt.alloc(), &ONE_PACKET, &told, &noted, 1)
 }
+
+const REFUSED_COMMIT: [(Step, bool); 9] = [
+    (FIRST, true),
+    (Step::Pop, true),
+    (Step::BatchPush, true),
+    (Step::BatchPopRefused, true),
+    (Step::OutcomePush, true),
+    (Step::OutcomePop, true),
+    (Step::ReplyPush, true),
+    (Step::ReplyPop(0), true),
+    (Step::ReplyPop(0), false),
+];
 
 #[test]
 fn world_refused_commit(rt: HostRuntime) -> Result<(), Fail> {
-    let mut world = small_world(rt.alloc())?;
-    one_packet(&rt, rt.alloc(), &mut world, Step::BatchPopRefused)?;
-    assert_told(&rt, world.received(0), &[Told::Stopped]);
-    assert_noted(&rt, world.ledger().journal(), &[]);
-    assert_eq!(rt; world.ledger().machine().clock(), 0);
-    Ok(())
+    assert_steps(&rt, rt.alloc(), &REFUSED_COMMIT, &[Told::Stopped], &[], 0)
 }
 
-const REFUSED_SECOND_COMMIT: [Step; 20] = [
-    FIRST,
-    PULSE,
-    SECOND,
-    Step::Pop,
-    Step::Pop,
-    Step::BatchPush,
-    Step::BatchPush,
-    Step::Pop,
-    Step::BatchPush,
-    Step::BatchPop,
-    Step::OutcomePush,
-    Step::BatchPopRefused,
-    Step::BatchPop,
-    Step::OutcomePush,
-    Step::OutcomePop,
-    Step::ReplyPush,
-    Step::OutcomePop,
-    Step::ReplyPush,
-    Step::ReplyPop(0),
-    Step::ReplyPop(0),
+const REFUSED_SECOND_COMMIT: [(Step, bool); 20] = [
+    (FIRST, true),
+    (PULSE, true),
+    (SECOND, true),
+    (Step::Pop, true),
+    (Step::Pop, true),
+    (Step::BatchPush, true),
+    (Step::BatchPush, true),
+    (Step::Pop, true),
+    (Step::BatchPush, true),
+    (Step::BatchPop, true),
+    (Step::OutcomePush, true),
+    (Step::BatchPopRefused, true),
+    (Step::BatchPop, true),
+    (Step::OutcomePush, true),
+    (Step::OutcomePop, true),
+    (Step::ReplyPush, true),
+    (Step::OutcomePop, true),
+    (Step::ReplyPush, true),
+    (Step::ReplyPop(0), true),
+    (Step::ReplyPop(0), true),
 ];
 
 #[test]
 fn world_refused_second_commit(rt: HostRuntime) -> Result<(), Fail> {
-    let mut world = small_world(rt.alloc())?;
-    play_all(&rt, rt.alloc(), &mut world, &REFUSED_SECOND_COMMIT)?;
-    assert_told(&rt, world.received(0), &[Told::Committed(0), Told::Stopped]);
-    assert_noted(&rt, world.ledger().journal(), &[Noted::Batch(1)]);
-    assert_eq!(rt; world.ledger().machine().clock(), 1);
-    Ok(())
+    let told = [Told::Committed(0), Told::Stopped];
+    let noted = [Noted::Batch(1)];
+    assert_steps(&rt, rt.alloc(), &REFUSED_SECOND_COMMIT, &told, &noted, 1)
 }
 
-const REFUSED_JOIN: [Step; 9] = [
-    FIRST,
-    SECOND,
-    THIRD,
-    Step::Pop,
-    Step::PopRefused,
-    Step::BatchPush,
-    Step::BatchPush,
-    Step::Pop,
-    Step::BatchPush,
+const REFUSED_JOIN: [(Step, bool); 24] = [
+    (FIRST, true),
+    (SECOND, true),
+    (THIRD, true),
+    (Step::Pop, true),
+    (Step::PopRefused, true),
+    (Step::BatchPush, true),
+    (Step::BatchPush, true),
+    (Step::Pop, true),
+    (Step::BatchPush, true),
+    (Step::BatchPop, true),
+    (Step::OutcomePush, true),
+    (Step::OutcomePop, true),
+    (Step::ReplyPush, true),
+    (Step::ReplyPop(0), true),
+    (Step::BatchPop, true),
+    (Step::OutcomePush, true),
+    (Step::OutcomePop, true),
+    (Step::ReplyPush, true),
+    (Step::ReplyPop(0), true),
+    (Step::BatchPop, true),
+    (Step::OutcomePush, true),
+    (Step::OutcomePop, true),
+    (Step::ReplyPush, true),
+    (Step::ReplyPop(0), true),
 ];
 
 #[test]
 fn world_refused_join(rt: HostRuntime) -> Result<(), Fail> {
-    let mut world = small_world(rt.alloc())?;
-    play_all(&rt, rt.alloc(), &mut world, &REFUSED_JOIN)?;
-    for _ in 0..3 {
-        play_all(&rt, rt.alloc(), &mut world, &[Step::BatchPop])?;
-        play_all(&rt, rt.alloc(), &mut world, &TO_THE_REPLY)?;
-    }
-    assert_told(
-        &rt,
-        world.received(0),
-        &[Told::Committed(0), Told::Stopped, Told::Stopped],
-    );
-    assert_eq!(rt; world.ledger().machine().clock(), 1);
-    Ok(())
+    let told = [Told::Committed(0), Told::Stopped, Told::Stopped];
+    let noted = [Noted::Batch(1)];
+    assert_steps(&rt, rt.alloc(), &REFUSED_JOIN, &told, &noted, 1)
 }
 
 /// The events of the example, and what they answer.
@@ -150,20 +151,12 @@ const WITH_CLOSE: [(Step, bool); 31] = [
     (Step::ReplyPop(0), false),
 ];
 
-/// Asserts what a World came to under these events.
-fn assert_with_close(rt: &impl Abort, world: &World) {
-    assert_told(rt, world.received(0), &[Told::Committed(0), Told::Shutdown]);
-    assert_told(rt, world.received(1), &[]);
-    assert_noted(rt, world.ledger().journal(), &[Noted::Batch(1)]);
-    assert_eq!(rt; world.ledger().machine().clock(), 1);
-}
+const WITH_CLOSE_TOLD: [Told; 2] = [Told::Committed(0), Told::Shutdown];
 
 #[test]
 fn world_with_close(rt: HostRuntime) -> Result<(), Fail> {
-    let mut world = small_world(rt.alloc())?;
-    play(&rt, rt.alloc(), &mut world, &WITH_CLOSE)?;
-    assert_with_close(&rt, &world);
-    Ok(())
+    let noted = [Noted::Batch(1)];
+    assert_steps(&rt, rt.alloc(), &WITH_CLOSE, &WITH_CLOSE_TOLD, &noted, 1)
 }
 
 fn events_with_close(alloc: Global) -> Result<Vec<Event>, Fail> {
@@ -178,28 +171,20 @@ fn events_with_close(alloc: Global) -> Result<Vec<Event>, Fail> {
 fn world_with_close_by_a_list(rt: HostRuntime) -> Result<(), Fail> {
     let events = events_with_close(rt.alloc())?;
     let world = run_world(rt.alloc(), 0, 4, 2, events)?;
-    assert_with_close(&rt, &world);
-    assert_told(&rt, world.received(3), &[]);
+    assert_world(&rt, &world, &WITH_CLOSE_TOLD, &[Noted::Batch(1)], 1);
     Ok(())
+}
+
+/// Why a World isn't opened.
+fn refusal(alloc: Global, limit: u32, submitters: u32) -> Option<Refusal> {
+    World::new(alloc, 0, limit, submitters).err()
 }
 
 #[test]
 fn world_openings(rt: HostRuntime) {
-    assert_eq!(rt;
-        World::new(rt.alloc(), 0, 0, 0).err(),
-        Some(Refusal::BadLimit)
-    );
-    assert_eq!(rt;
-        World::new(rt.alloc(), 0, 8191, 2).err(),
-        Some(Refusal::BadLimit)
-    );
-    assert_eq!(rt;
-        World::new(rt.alloc(), 0, 4, 0).err(),
-        Some(Refusal::BadSubmitters)
-    );
-    assert_eq!(rt;
-        World::new(rt.alloc(), 0, 4, 17).err(),
-        Some(Refusal::BadSubmitters)
-    );
-    assert_eq!(rt; World::new(rt.alloc(), 0, 4, 16).err(), None);
+    assert_eq!(rt; refusal(rt.alloc(), 0, 0), Some(Refusal::BadLimit));
+    assert_eq!(rt; refusal(rt.alloc(), 8191, 2), Some(Refusal::BadLimit));
+    assert_eq!(rt; refusal(rt.alloc(), 4, 0), Some(Refusal::BadSubmitters));
+    assert_eq!(rt; refusal(rt.alloc(), 4, 17), Some(Refusal::BadSubmitters));
+    assert_eq!(rt; refusal(rt.alloc(), 4, 16), None);
 }

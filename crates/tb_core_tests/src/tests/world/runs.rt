@@ -80,6 +80,10 @@ fn pulsed_events(alloc: Global) -> Result<Vec<Event>, Refusal> {
     Ok(events)
 }
 
+fn pulsed_world(alloc: Global) -> Result<World, Refusal> {
+    run(alloc, pulsed_events(alloc)?)
+}
+
 /// Asserts what the example says.
 fn assert_pulsed(rt: &impl Abort, world: &World) {
     let told = [
@@ -98,14 +102,14 @@ fn assert_pulsed(rt: &impl Abort, world: &World) {
 
 #[test]
 fn pulse_between_batches(rt: HostRuntime) -> Result<(), Fail> {
-    let world = run(rt.alloc(), pulsed_events(rt.alloc())?)?;
+    let world = pulsed_world(rt.alloc())?;
     assert_pulsed(&rt, &world);
     Ok(())
 }
 
 #[test]
 fn pulse_between_batches_refused_memory(rt: HostRuntime) {
-    match pulsed_events(rt.alloc()).and_then(|events| run(rt.alloc(), events)) {
+    match pulsed_world(rt.alloc()) {
         Ok(world) => assert_pulsed(&rt, &world),
         Err(refusal) => assert_eq!(rt; refusal, Refusal::NoMemory),
     }
@@ -174,6 +178,10 @@ fn joined_events(alloc: Global) -> Result<Vec<Event>, Refusal> {
     Ok(events)
 }
 
+fn joined_world(alloc: Global) -> Result<World, Refusal> {
+    run(alloc, joined_events(alloc)?)
+}
+
 const CHAIN_FAILURES: [Failure; 3] = [
     Failure { index: 0, code: 1 },
     Failure { index: 1, code: 1 },
@@ -208,14 +216,14 @@ fn assert_untouched(rt: &impl Abort, world: &World) {
 
 #[test]
 fn chains_of_transfers_joined(rt: HostRuntime) -> Result<(), Fail> {
-    let world = run(rt.alloc(), joined_events(rt.alloc())?)?;
+    let world = joined_world(rt.alloc())?;
     assert_joined(&rt, &world);
     Ok(())
 }
 
 #[test]
 fn chains_of_transfers_joined_refused_memory(rt: HostRuntime) {
-    match joined_events(rt.alloc()).and_then(|events| run(rt.alloc(), events)) {
+    match joined_world(rt.alloc()) {
         Ok(world) => assert_joined(&rt, &world),
         Err(refusal) => assert_eq!(rt; refusal, Refusal::NoMemory),
     }
@@ -254,15 +262,20 @@ fn sixteen_events(alloc: Global) -> Result<Vec<Event>, Refusal> {
     Ok(events)
 }
 
+/// Asserts what the example says.
+fn assert_sixteen(rt: &impl Abort, world: &World) {
+    for sender in 0..16 {
+        let told = [Told::Committed(u64::from(sender))];
+        assert_told(rt, world.received(sender), &told);
+    }
+    assert_noted(rt, world.ledger().journal(), &[Noted::Batch(4); 4]);
+    assert_eq!(rt; world.ledger().machine().clock(), 16);
+}
+
 #[test]
 fn sixteen_submitters(rt: HostRuntime) -> Result<(), Fail> {
     let events = sixteen_events(rt.alloc())?;
     let world = run_world(rt.alloc(), 0, 4, 16, events)?;
-    for sender in 0..16 {
-        let told = [Told::Committed(u64::from(sender))];
-        assert_told(&rt, world.received(sender), &told);
-    }
-    assert_noted(&rt, world.ledger().journal(), &[Noted::Batch(4); 4]);
-    assert_eq!(rt; world.ledger().machine().clock(), 16);
+    assert_sixteen(&rt, &world);
     Ok(())
 }
