@@ -27,8 +27,6 @@ mod ledger;
 mod list;
 mod outcomes;
 mod parcel;
-#[cfg(test)]
-mod tests;
 mod world;
 
 pub use front::Front;

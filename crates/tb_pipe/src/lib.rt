@@ -9,6 +9,8 @@ mod routing;
 mod serving;
 mod settling;
 mod stages;
+#[cfg(test)]
+mod tests;
 mod waiting;
 
 pub use gate::{Gate, Open};

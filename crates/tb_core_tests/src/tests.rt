@@ -1,0 +1,8 @@
+//! What no clause of tb_core says: worked examples by name, and growths that are refused.
+
+mod front;
+mod ledger;
+mod list;
+mod made;
+mod told;
+mod world;

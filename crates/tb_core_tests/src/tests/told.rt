@@ -1,0 +1,80 @@
+//! What came of it: replies and entries of the journal, and whether they are those wanted.
+
+use std::process::Abort;
+use tb_core::Entry;
+use tb_layout::Failure;
+use tb_work::{Answer, Outcome, Reply};
+
+/// What a packet came to.
+#[derive(Clone, Copy, Debug, PartialEq, Eq)]
+pub(super) enum Told {
+    /// Committed at a place.
+    Committed(u64),
+    Shutdown,
+    Stopped,
+}
+
+/// An entry of the journal.
+#[derive(Clone, Copy, Debug, PartialEq, Eq)]
+pub(super) enum Noted {
+    /// A batch of so many packets.
+    Batch(usize),
+    /// A pulse with its moment.
+    Pulse(u64),
+}
+
+/// What a reply says.
+pub(super) fn told_by(reply: &Reply) -> Told {
+    match &reply.outcome {
+        Outcome::Committed { place, answer: _ } => Told::Committed(*place),
+        Outcome::Shutdown => Told::Shutdown,
+        Outcome::Stopped => Told::Stopped,
+    }
+}
+
+/// The failures of a packet that was committed; None where it wasn't, or was a lookup.
+pub(super) fn failures(reply: &Reply) -> Option<&[Failure]> {
+    match &reply.outcome {
+        Outcome::Committed {
+            place: _,
+            answer: Answer::Failures(failures),
+        } => Some(failures.as_slice()),
+        _ => None,
+    }
+}
+
+fn noted_by(entry: &Entry) -> Noted {
+    match entry {
+        Entry::Batch {
+            operation: _,
+            body: _,
+            stubs,
+        } => Noted::Batch(stubs.len()),
+        Entry::Pulse { moment } => Noted::Pulse(moment.get()),
+    }
+}
+
+/// Asserts what replies say, in order.
+pub(super) fn assert_told(rt: &impl Abort, replies: &[Reply], wanted: &[Told]) {
+    assert_eq!(rt; replies.len(), wanted.len(), "how many replies there are");
+    for (reply, wanted) in replies.iter().zip(wanted) {
+        assert_eq!(rt; told_by(reply), *wanted, "what reply {} says", reply.number);
+    }
+}
+
+/// Asserts the entries of a journal, in order.
+pub(super) fn assert_noted(rt: &impl Abort, journal: &[Entry], wanted: &[Noted]) {
+    assert_eq!(rt; journal.len(), wanted.len(), "how many entries there are");
+    for (entry, wanted) in journal.iter().zip(wanted) {
+        assert_eq!(rt; noted_by(entry), *wanted, "an entry of the journal");
+    }
+}
+
+/// Asserts the failures of a packet that was committed.
+pub(super) fn assert_failures(rt: &impl Abort, reply: Option<&Reply>, wanted: &[Failure]) {
+    assert_eq!(rt;
+        reply.and_then(failures),
+        Some(wanted),
+        "the failures of a packet"
+    );
+}

@@ -1,0 +1,94 @@
+//! The World, by worked examples.
+
+use super::made::{Made, item};
+use super::told::{Noted, Told, assert_noted, assert_told};
+use std::alloc::Global;
+use std::process::Abort;
+use std::test::Fail;
+use tb_core::{Event, World};
+use tb_work::{Refusal, Ticket};
+
+mod answers;
+mod examples;
+mod lists;
+mod runs;
+
+/// An event of the World; what a push pushes has yet to be made.
+#[derive(Clone, Copy, Debug)]
+enum Step {
+    Push(u32, Made),
+    Pop,
+    PopRefused,
+    BatchPush,
+    BatchPop,
+    BatchPopRefused,
+    OutcomePush,
+    OutcomePop,
+    ReplyPush,
+    ReplyPop(u32),
+}
+
+/// The event of a step.
+fn event(alloc: Global, step: Step) -> Result<Event, Refusal> {
+    Ok(match step {
+        Step::Push(sender, made) => Event::Push(Ticket {
+            sender,
+            item: item(alloc, sender, made)?,
+        }),
+        Step::Pop => Event::Pop { refused: false },
+        Step::PopRefused => Event::Pop { refused: true },
+        Step::BatchPush => Event::BatchPush,
+        Step::BatchPop => Event::BatchPop { refused: false },
+        Step::BatchPopRefused => Event::BatchPop { refused: true },
+        Step::OutcomePush => Event::OutcomePush,
+        Step::OutcomePop => Event::OutcomePop,
+        Step::ReplyPush => Event::ReplyPush,
+        Step::ReplyPop(sender) => Event::ReplyPop { sender },
+    })
+}
+
+/// What the World answers to a step.
+fn answer(alloc: Global, world: &mut World, step: Step) -> Result<bool, Refusal> {
+    match world.step(event(alloc, step)?) {
+        Ok(moves) => Ok(moves),
+        Err((_event, _refused)) => Err(Refusal::NoMemory),
+    }
+}
+
+/// Takes steps, and asserts what the World answers to each.
+fn play(
+    rt: &impl Abort,
+    alloc: Global,
+    world: &mut World,
+    steps: &[(Step, bool)],
+) -> Result<(), Fail> {
+    for (step, wanted) in steps {
+        let moves = answer(alloc, world, *step)?;
+        assert_eq!(rt; moves, *wanted, "the answer to {step:?}");
+    }
+    Ok(())
+}
+
+/// Asserts what submitter 0 received, the journal and the clock.
+fn assert_world(rt: &impl Abort, world: &World, told: &[Told], noted: &[Noted], clock: u64) {
+    assert_told(rt, world.received(0), told);
+    assert_told(rt, world.received(1), &[]);
+    assert_noted(rt, world.ledger().journal(), noted);
+    assert_eq!(rt; world.ledger().machine().clock(), clock);
+}
+
+/// Takes steps in a World of submitters 0 and 1 and the control, 2, whose batches have at most 4 events, and asserts
+/// what it answers to each and comes to.
+fn assert_steps(
+    rt: &impl Abort,
+    alloc: Global,
+    steps: &[(Step, bool)],
+    told: &[Told],
+    noted: &[Noted],
+    clock: u64,
+) -> Result<(), Fail> {
+    let mut world = World::new(alloc, 0, 4, 2)?;
+    play(rt, alloc, &mut world, steps)?;
+    assert_world(rt, &world, told, noted, clock);
+    Ok(())
+}

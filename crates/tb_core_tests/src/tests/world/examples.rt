@@ -1,0 +1,190 @@
+//! Worked examples, step by step.
+
+use super::{Step, assert_steps, assert_world, event};
+use crate::tests::made::Made;
+use crate::tests::told::{Noted, Told};
+use std::alloc::Global;
+use std::test::Fail;
+use tb_core::{Event, World, run_world};
+use tb_work::Refusal;
+
+const FIRST: Step = Step::Push(0, Made::Packet { number: 0, id: 1 });
+
+const SECOND: Step = Step::Push(0, Made::Packet { number: 1, id: 2 });
+
+const THIRD: Step = Step::Push(0, Made::Packet { number: 2, id: 3 });
+
+const PULSE: Step = Step::Push(2, Made::Pulse(5));
+
+const ONE_PACKET: [(Step, bool); 9] = [
+    (FIRST, true),
+    (Step::Pop, true),
+    (Step::BatchPush, true),
+    (Step::BatchPop, true),
+    (Step::OutcomePush, true),
+    (Step::OutcomePop, true),
+    (Step::ReplyPush, true),
+    (Step::ReplyPop(0), true),
+    (Step::ReplyPop(0), false),
+];
+
+#[test]
+fn world_one_packet(rt: HostRuntime) -> Result<(), Fail> {
+    let told = [Told::Committed(0)];
+    let noted = [Noted::Batch(1)];
+    assert_steps(&rt, rt.alloc(), &ONE_PACKET, &told, &noted, 1)
+}
+
+const REFUSED_COMMIT: [(Step, bool); 9] = [
+    (FIRST, true),
+    (Step::Pop, true),
+    (Step::BatchPush, true),
+    (Step::BatchPopRefused, true),
+    (Step::OutcomePush, true),
+    (Step::OutcomePop, true),
+    (Step::ReplyPush, true),
+    (Step::ReplyPop(0), true),
+    (Step::ReplyPop(0), false),
+];
+
+#[test]
+fn world_refused_commit(rt: HostRuntime) -> Result<(), Fail> {
+    assert_steps(&rt, rt.alloc(), &REFUSED_COMMIT, &[Told::Stopped], &[], 0)
+}
+
+const REFUSED_SECOND_COMMIT: [(Step, bool); 20] = [
+    (FIRST, true),
+    (PULSE, true),
+    (SECOND, true),
+    (Step::Pop, true),
+    (Step::Pop, true),
+    (Step::BatchPush, true),
+    (Step::BatchPush, true),
+    (Step::Pop, true),
+    (Step::BatchPush, true),
+    (Step::BatchPop, true),
+    (Step::OutcomePush, true),
+    (Step::BatchPopRefused, true),
+    (Step::BatchPop, true),
+    (Step::OutcomePush, true),
+    (Step::OutcomePop, true),
+    (Step::ReplyPush, true),
+    (Step::OutcomePop, true),
+    (Step::ReplyPush, true),
+    (Step::ReplyPop(0), true),
+    (Step::ReplyPop(0), true),
+];
+
+#[test]
+fn world_refused_second_commit(rt: HostRuntime) -> Result<(), Fail> {
+    let told = [Told::Committed(0), Told::Stopped];
+    let noted = [Noted::Batch(1)];
+    assert_steps(&rt, rt.alloc(), &REFUSED_SECOND_COMMIT, &told, &noted, 1)
+}
+
+const REFUSED_JOIN: [(Step, bool); 24] = [
+    (FIRST, true),
+    (SECOND, true),
+    (THIRD, true),
+    (Step::Pop, true),
+    (Step::PopRefused, true),
+    (Step::BatchPush, true),
+    (Step::BatchPush, true),
+    (Step::Pop, true),
+    (Step::BatchPush, true),
+    (Step::BatchPop, true),
+    (Step::OutcomePush, true),
+    (Step::OutcomePop, true),
+    (Step::ReplyPush, true),
+    (Step::ReplyPop(0), true),
+    (Step::BatchPop, true),
+    (Step::OutcomePush, true),
+    (Step::OutcomePop, true),
+    (Step::ReplyPush, true),
+    (Step::ReplyPop(0), true),
+    (Step::BatchPop, true),
+    (Step::OutcomePush, true),
+    (Step::OutcomePop, true),
+    (Step::ReplyPush, true),
+    (Step::ReplyPop(0), true),
+];
+
+#[test]
+fn world_refused_join(rt: HostRuntime) -> Result<(), Fail> {
+    let told = [Told::Committed(0), Told::Stopped, Told::Stopped];
+    let noted = [Noted::Batch(1)];
+    assert_steps(&rt, rt.alloc(), &REFUSED_JOIN, &told, &noted, 1)
+}
+
+/// The events of the example, and what they answer.
+const WITH_CLOSE: [(Step, bool); 31] = [
+    (FIRST, true),
+    (Step::Push(2, Made::Close), true),
+    (SECOND, true),
+    (Step::Push(0, Made::End), true),
+    (Step::Push(1, Made::End), true),
+    (PULSE, false),
+    (Step::Pop, true),
+    (Step::Pop, true),
+    (Step::Pop, false),
+    (Step::BatchPush, true),
+    (Step::Pop, true),
+    (Step::BatchPush, true),
+    (Step::Pop, true),
+    (Step::Pop, true),
+    (Step::BatchPush, true),
+    (Step::BatchPush, false),
+    (Step::BatchPop, true),
+    (Step::OutcomePush, true),
+    (Step::BatchPop, true),
+    (Step::OutcomePush, true),
+    (Step::BatchPop, true),
+    (Step::OutcomePush, true),
+    (Step::OutcomePop, true),
+    (Step::ReplyPush, true),
+    (Step::OutcomePop, true),
+    (Step::ReplyPush, true),
+    (Step::OutcomePop, true),
+    (Step::ReplyPush, false),
+    (Step::ReplyPop(0), true),
+    (Step::ReplyPop(0), true),
+    (Step::ReplyPop(0), false),
+];
+
+const WITH_CLOSE_TOLD: [Told; 2] = [Told::Committed(0), Told::Shutdown];
+
+#[test]
+fn world_with_close(rt: HostRuntime) -> Result<(), Fail> {
+    let noted = [Noted::Batch(1)];
+    assert_steps(&rt, rt.alloc(), &WITH_CLOSE, &WITH_CLOSE_TOLD, &noted, 1)
+}
+
+fn events_with_close(alloc: Global) -> Result<Vec<Event>, Fail> {
+    let mut events = Vec::new(alloc);
+    for (step, _) in &WITH_CLOSE {
+        events.push(event(alloc, *step)?)?;
+    }
+    Ok(events)
+}
+
+#[test]
+fn world_with_close_by_a_list(rt: HostRuntime) -> Result<(), Fail> {
+    let events = events_with_close(rt.alloc())?;
+    let world = run_world(rt.alloc(), 0, 4, 2, events)?;
+    assert_world(&rt, &world, &WITH_CLOSE_TOLD, &[Noted::Batch(1)], 1);
+    Ok(())
+}
+
+/// Why a World isn't opened.
+fn refusal(alloc: Global, limit: u32, submitters: u32) -> Option<Refusal> {
+    World::new(alloc, 0, limit, submitters).err()
+}
+
+#[test]
+fn world_openings(rt: HostRuntime) {
+    assert_eq!(rt; refusal(rt.alloc(), 0, 0), Some(Refusal::BadLimit));
+    assert_eq!(rt; refusal(rt.alloc(), 8191, 2), Some(Refusal::BadLimit));
+    assert_eq!(rt; refusal(rt.alloc(), 4, 0), Some(Refusal::BadSubmitters));
+    assert_eq!(rt; refusal(rt.alloc(), 4, 17), Some(Refusal::BadSubmitters));
+    assert_eq!(rt; refusal(rt.alloc(), 4, 16), None);
+}

@@ -1,0 +1,281 @@
+//! Lists of events whose whole answers are known; two of them also with each allocation refused in turn.
+
+use super::{Step, event};
+use crate::tests::made::{Made, account, creating, transfer, transferring};
+use crate::tests::told::{Noted, Told, assert_failures, assert_noted, assert_told};
+use std::alloc::Global;
+use std::process::Abort;
+use std::test::Fail;
+use tb_core::{Event, World, run_world};
+use tb_layout::{Account, Failure, Transfer};
+use tb_work::{Item, Job, Refusal, Ticket};
+
+/// Puts an event behind the others.
+fn add(events: &mut Vec<Event>, event: Event) -> Result<(), Refusal> {
+    match events.push(event) {
+        Ok(()) => Ok(()),
+        Err(_) => Err(Refusal::NoMemory),
+    }
+}
+
+/// Puts the events of steps behind the others.
+fn add_all(alloc: Global, events: &mut Vec<Event>, steps: &[Step]) -> Result<(), Refusal> {
+    for step in steps {
+        add(events, event(alloc, *step)?)?;
+    }
+    Ok(())
+}
+
+/// The World of one submitter that a list of events comes to; its batches have at most 4 events.
+fn run(alloc: Global, events: Vec<Event>) -> Result<World, Refusal> {
+    match run_world(alloc, 0, 4, 1, events) {
+        Ok(world) => Ok(world),
+        Err(_) => Err(Refusal::NoMemory),
+    }
+}
+
+const PULSE_BETWEEN_BATCHES: [Step; 18] = [
+    Step::Push(0, Made::Packet { number: 0, id: 1 }),
+    Step::Push(0, Made::Packet { number: 1, id: 2 }),
+    Step::Push(1, Made::Pulse(5)),
+    Step::Push(0, Made::Packet { number: 2, id: 3 }),
+    Step::Push(0, Made::Packet { number: 3, id: 4 }),
+    Step::Push(0, Made::Packet { number: 4, id: 5 }),
+    Step::Push(0, Made::Packet { number: 5, id: 6 }),
+    Step::Push(0, Made::End),
+    Step::Pop,
+    Step::Pop,
+    Step::Pop,
+    Step::BatchPush,
+    Step::BatchPush,
+    Step::Pop,
+    Step::Pop,
+    Step::Pop,
+    Step::Pop,
+    Step::BatchPush,
+];
+
+/// Commits a parcel and hands out up to four replies.
+const THROUGH: [Step; 11] = [
+    Step::BatchPop,
+    Step::OutcomePush,
+    Step::OutcomePop,
+    Step::ReplyPush,
+    Step::ReplyPush,
+    Step::ReplyPush,
+    Step::ReplyPush,
+    Step::ReplyPop(0),
+    Step::ReplyPop(0),
+    Step::ReplyPop(0),
+    Step::ReplyPop(0),
+];
+
+/// The events of the example.
+fn pulsed_events(alloc: Global) -> Result<Vec<Event>, Refusal> {
+    let mut events = Vec::new(alloc);
+    add_all(alloc, &mut events, &PULSE_BETWEEN_BATCHES)?;
+    for _ in 0..3 {
+        add_all(alloc, &mut events, &THROUGH)?;
+    }
+    Ok(events)
+}
+
+fn pulsed_world(alloc: Global) -> Result<World, Refusal> {
+    run(alloc, pulsed_events(alloc)?)
+}
+
+/// Asserts what the example says.
+fn assert_pulsed(rt: &impl Abort, world: &World) {
+    let told = [
+        Told::Committed(0),
+        Told::Committed(1),
+        Told::Committed(3),
+        Told::Committed(4),
+        Told::Committed(5),
+        Told::Committed(6),
+    ];
+    assert_told(rt, world.received(0), &told);
+    let noted = [Noted::Batch(2), Noted::Pulse(5), Noted::Batch(4)];
+    assert_noted(rt, world.ledger().journal(), &noted);
+    assert_eq!(rt; world.ledger().machine().clock(), 9);
+}
+
+#[test]
+fn pulse_between_batches(rt: HostRuntime) -> Result<(), Fail> {
+    let world = pulsed_world(rt.alloc())?;
+    assert_pulsed(&rt, &world);
+    Ok(())
+}
+
+#[test]
+fn pulse_between_batches_refused_memory(rt: HostRuntime) {
+    match pulsed_world(rt.alloc()) {
+        Ok(world) => assert_pulsed(&rt, &world),
+        Err(refusal) => assert_eq!(rt; refusal, Refusal::NoMemory),
+    }
+}
+
+/// Three accounts, of which the second may not owe more than it is owed.
+fn accounts() -> [Account; 3] {
+    [
+        account(1),
+        Account {
+            flags: 2,
+            ..account(2)
+        },
+        account(3),
+    ]
+}
+
+/// A chain of three transfers, the last of which is in ledger 0.
+fn chain() -> [Transfer; 3] {
+    [
+        Transfer {
+            flags: 1,
+            ..transfer(1, 1, 2, 10)
+        },
+        Transfer {
+            flags: 1,
+            ..transfer(2, 2, 3, 10)
+        },
+        Transfer {
+            ledger: 0,
+            ..transfer(3, 1, 3, 10)
+        },
+    ]
+}
+
+fn push(job: Job) -> Event {
+    Event::Push(Ticket {
+        sender: 0,
+        item: Item::Packet(job),
+    })
+}
+
+/// The packets of the example.
+fn add_packets(alloc: Global, events: &mut Vec<Event>) -> Result<(), Refusal> {
+    add(events, push(creating(alloc, 0, 0, &accounts())?))?;
+    add(events, push(transferring(alloc, 0, 1, &chain())?))?;
+    let last = transfer(2, 2, 3, 10);
+    add(events, push(transferring(alloc, 0, 2, &[last])?))
+}
+
+const JOINED: [Step; 5] = [
+    Step::Pop,
+    Step::Pop,
+    Step::BatchPush,
+    Step::Pop,
+    Step::BatchPush,
+];
+
+/// The events of the example.
+fn joined_events(alloc: Global) -> Result<Vec<Event>, Refusal> {
+    let mut events = Vec::new(alloc);
+    add_packets(alloc, &mut events)?;
+    add_all(alloc, &mut events, &JOINED)?;
+    add_all(alloc, &mut events, &THROUGH)?;
+    add_all(alloc, &mut events, &THROUGH)?;
+    Ok(events)
+}
+
+fn joined_world(alloc: Global) -> Result<World, Refusal> {
+    run(alloc, joined_events(alloc)?)
+}
+
+const CHAIN_FAILURES: [Failure; 3] = [
+    Failure { index: 0, code: 1 },
+    Failure { index: 1, code: 1 },
+    Failure { index: 2, code: 19 },
+];
+
+/// Asserts what the example says.
+fn assert_joined(rt: &impl Abort, world: &World) {
+    let replies = world.received(0);
+    let told = [Told::Committed(0), Told::Committed(1), Told::Committed(2)];
+    assert_told(rt, replies, &told);
+    assert_failures(rt, replies.first(), &[]);
+    assert_failures(rt, replies.get(1), &CHAIN_FAILURES);
+    assert_failures(rt, replies.get(2), &[Failure { index: 0, code: 54 }]);
+    assert_noted(
+        rt,
+        world.ledger().journal(),
+        &[Noted::Batch(1), Noted::Batch(2)],
+    );
+    assert_untouched(rt, world);
+}
+
+/// Asserts that no account was debited or credited.
+fn assert_untouched(rt: &impl Abort, world: &World) {
+    let machine = world.ledger().machine();
+    assert_eq!(rt; machine.clock(), 7);
+    for (made, timestamp) in accounts().iter().zip([1, 2, 3]) {
+        let untouched = Account { timestamp, ..*made };
+        assert_eq!(rt; machine.account(made.id), Some(untouched));
+    }
+}
+
+#[test]
+fn chains_of_transfers_joined(rt: HostRuntime) -> Result<(), Fail> {
+    let world = joined_world(rt.alloc())?;
+    assert_joined(&rt, &world);
+    Ok(())
+}
+
+#[test]
+fn chains_of_transfers_joined_refused_memory(rt: HostRuntime) {
+    match joined_world(rt.alloc()) {
+        Ok(world) => assert_joined(&rt, &world),
+        Err(refusal) => assert_eq!(rt; refusal, Refusal::NoMemory),
+    }
+}
+
+/// Joins four packets to a batch, commits it and hands out its replies.
+const FOUR: [Step; 12] = [
+    Step::Pop,
+    Step::Pop,
+    Step::Pop,
+    Step::Pop,
+    Step::BatchPush,
+    Step::BatchPop,
+    Step::OutcomePush,
+    Step::OutcomePop,
+    Step::ReplyPush,
+    Step::ReplyPush,
+    Step::ReplyPush,
+    Step::ReplyPush,
+];
+
+/// A packet of each of 16 submitters, and all that becomes of them.
+fn sixteen_events(alloc: Global) -> Result<Vec<Event>, Refusal> {
+    let mut events = Vec::new(alloc);
+    for sender in 0..16 {
+        let id = u128::from(sender) + 1;
+        let packet = Made::Packet { number: 0, id };
+        add(&mut events, event(alloc, Step::Push(sender, packet))?)?;
+    }
+    for _ in 0..4 {
+        add_all(alloc, &mut events, &FOUR)?;
+    }
+    for sender in 0..16 {
+        add(&mut events, event(alloc, Step::ReplyPop(sender))?)?;
+    }
+    Ok(events)
+}
+
+/// Asserts what the example says.
+fn assert_sixteen(rt: &impl Abort, world: &World) {
+    for sender in 0..16 {
+        let told = [Told::Committed(u64::from(sender))];
+        assert_told(rt, world.received(sender), &told);
+    }
+    assert_noted(rt, world.ledger().journal(), &[Noted::Batch(4); 4]);
+    assert_eq!(rt; world.ledger().machine().clock(), 16);
+}
+
+#[test]
+fn sixteen_submitters(rt: HostRuntime) -> Result<(), Fail> {
+    let events = sixteen_events(rt.alloc())?;
+    let world = run_world(rt.alloc(), 0, 4, 16, events)?;
+    assert_sixteen(&rt, &world);
+    Ok(())
+}
