@@ -4,14 +4,14 @@ ghost use Rattle.std.specs.Prelude.{◌≡◌, map};
 ghost use Rattle.tb_submit.specs.Ends.{origin_of};
 
 use super::{
-    CREATE_ACCOUNTS, Told, answers, clock, end_control, entries, finish, holds, opened, packet_of,
-    queue_accounts, queue_pulse, submit,
+    CREATE_ACCOUNTS, Told, clock, end_control, entries, finish, holds, opened, packet_of,
+    queue_accounts, queue_pulse, replies, submit,
 };
-use crate::{Open, Opened, Report};
 use std::alloc::Global;
 use std::sync::Wait;
 use std::test::Fail;
 use std::thread::Threads;
+use tb_pipe::{Open, Opened, Report};
 use tb_submit::Submitter;
 use tb_work::Refusal;
 
@@ -35,25 +35,20 @@ fn two_and_four<R: Threads + Wait + Sync>(
 
 #[test]
 fn pulse_between_batches(rt: HostRuntime) -> Result<(), Fail> {
+    let places = [
+        Told::Committed(0),
+        Told::Committed(1),
+        Told::Committed(3),
+        Told::Committed(4),
+        Told::Committed(5),
+        Told::Committed(6),
+    ];
     for shut in [false, true] {
         let mut report = two_and_four(&rt, rt.alloc(), shut)?;
-        assert_eq!(rt;
-            entries(rt.alloc(), &report)?.as_slice(),
-            [2, 0, 4].as_slice()
-        );
+        assert_eq!(rt; entries(rt.alloc(), &report)?.as_slice(), [2, 0, 4].as_slice());
         assert_eq!(rt; clock(&report), 9);
-        answers(
-            &mut report,
-            0,
-            &[
-                Told::Committed(0),
-                Told::Committed(1),
-                Told::Committed(3),
-                Told::Committed(4),
-                Told::Committed(5),
-                Told::Committed(6),
-            ],
-        )?;
+        let told = replies(rt.alloc(), &mut report, 0)?;
+        assert_eq!(rt; told.as_slice(), places.as_slice());
     }
     Ok(())
 }
@@ -81,52 +76,53 @@ fn packet_behind_shut(rt: HostRuntime) -> Result<(), Fail> {
     let mut report = close_between(&rt, rt.alloc(), &[1], &[2])?;
     assert_eq!(rt; clock(&report), 1);
     assert_eq!(rt; report.ledger.machine().accounts(), 1);
-    answers(&mut report, 0, &[Told::Committed(0), Told::Shutdown])
+    let told = replies(rt.alloc(), &mut report, 0)?;
+    assert_eq!(rt; told.as_slice(), [Told::Committed(0), Told::Shutdown].as_slice());
+    Ok(())
 }
 
-/// The first packets of six are ahead of the Close.
-fn closes_after<R: Threads + Wait + Sync>(rt: &R, alloc: Global, count: usize) -> Result<(), Fail> {
+/// So many of six packets are ahead of the Close.
+fn closes_after<R: Threads + Wait + Sync>(
+    rt: &R,
+    alloc: Global,
+    count: usize,
+) -> Result<Report, Fail> {
     let ids = [1, 2, 3, 4, 5, 6];
-    let places = [
-        Told::Committed(0),
-        Told::Committed(1),
-        Told::Committed(2),
-        Told::Committed(3),
-        Told::Committed(4),
-        Told::Committed(5),
-    ];
-    if count > 6 {
+    if count > ids.len() {
         return Err("more than six")?;
     }
-    let mut report = close_between(rt, alloc, &ids[..count], &ids[count..])?;
-    holds(clock(&report) == count as u64)?;
-    let mut wanted = [Told::Shutdown; 6];
-    for k in 0..count {
-        wanted[k] = places[k];
-    }
-    answers(&mut report, 0, &wanted)
+    close_between(rt, alloc, &ids[..count], &ids[count..])
 }
 
 #[test]
 fn close_anywhere(rt: HostRuntime) -> Result<(), Fail> {
+    let mut wanted = [Told::Shutdown; 6];
     for count in 0..7usize {
-        closes_after(&rt, rt.alloc(), count)?;
+        if 0 < count {
+            wanted[count - 1] = Told::Committed(count as u64 - 1);
+        }
+        let mut report = closes_after(&rt, rt.alloc(), count)?;
+        assert_eq!(rt; clock(&report), count as u64);
+        let told = replies(rt.alloc(), &mut report, 0)?;
+        assert_eq!(rt; told.as_slice(), wanted.as_slice());
     }
     Ok(())
 }
 
-/// Submits a packet, of which so many must be in flight before.
+/// Submits a packet, and gives how many were in flight before it beside its number, or why it was refused.
 fn submit_behind<R: Wait>(
     rt: &R,
     alloc: Global,
     submitters: &mut Vec<Submitter>,
-    in_flight: u32,
-) -> Result<Result<u64, Refusal>, Fail>
+) -> Result<(u32, Result<u64, Refusal>), Fail>
     ensures { map origin_of submitters.new.items ≡ map origin_of submitters.old.items }
 {
-    holds(submitters.len() > 0 && submitters[0].in_flight() == in_flight)?;
+    if submitters.len() == 0 {
+        return Err("no submitter")?;
+    }
+    let in_flight = submitters[0].in_flight();
     let packet = packet_of(alloc, CREATE_ACCOUNTS, 1)?;
-    submit(rt, alloc, submitters, 0, packet)
+    Ok((in_flight, submit(rt, alloc, submitters, 0, packet)?))
 }
 
 fn three_unread<R: Threads + Wait + Sync>(rt: &R, alloc: Global) -> Result<Report, Fail> {
@@ -135,13 +131,14 @@ fn three_unread<R: Threads + Wait + Sync>(rt: &R, alloc: Global) -> Result<Repor
         mut submitters,
         control,
     } = opened(alloc, 4, 8, 3, 1)?;
-    for (in_flight, wanted) in [
+    for wanted in [
         (0, Ok(0)),
         (1, Ok(1)),
         (2, Ok(2)),
         (3, Err(Refusal::InFlight)),
     ] {
-        holds(submit_behind(rt, alloc, &mut submitters, in_flight)? == wanted)?;
+        let is = submit_behind(rt, alloc, &mut submitters)?;
+        holds(is == wanted, "another count or number")?;
     }
     let control = end_control(rt, control, false)?;
     finish(rt, alloc, pipeline, submitters, control, &Open)
@@ -150,11 +147,9 @@ fn three_unread<R: Threads + Wait + Sync>(rt: &R, alloc: Global) -> Result<Repor
 #[test]
 fn replies_after_settle(rt: HostRuntime) -> Result<(), Fail> {
     let mut report = three_unread(&rt, rt.alloc())?;
-    answers(
-        &mut report,
-        0,
-        &[Told::Committed(0), Told::Committed(1), Told::Committed(2)],
-    )
+    let told = replies(rt.alloc(), &mut report, 0)?;
+    assert_eq!(rt; told.as_slice(), [Told::Committed(0), Told::Committed(1), Told::Committed(2)].as_slice());
+    Ok(())
 }
 
 fn one_of_each<R: Threads + Wait + Sync>(rt: &R, alloc: Global) -> Result<Report, Fail> {
@@ -165,7 +160,8 @@ fn one_of_each<R: Threads + Wait + Sync>(rt: &R, alloc: Global) -> Result<Report
     } = opened(alloc, 4, 64, 64, 16)?;
     for sender in 0..16u8 {
         let packet = packet_of(alloc, CREATE_ACCOUNTS, sender + 1)?;
-        holds(submit(rt, alloc, &mut submitters, usize::from(sender), packet)?.is_ok())?;
+        let queued = submit(rt, alloc, &mut submitters, usize::from(sender), packet)?.is_ok();
+        holds(queued, "the packet is refused")?;
     }
     let control = end_control(rt, control, false)?;
     finish(rt, alloc, pipeline, submitters, control, &Open)
@@ -174,17 +170,11 @@ fn one_of_each<R: Threads + Wait + Sync>(rt: &R, alloc: Global) -> Result<Report
 #[test]
 fn sixteen_submitters(rt: HostRuntime) -> Result<(), Fail> {
     let mut report = one_of_each(&rt, rt.alloc())?;
-    assert_eq!(rt;
-        entries(rt.alloc(), &report)?.as_slice(),
-        [4, 4, 4, 4].as_slice()
-    );
+    assert_eq!(rt; entries(rt.alloc(), &report)?.as_slice(), [4, 4, 4, 4].as_slice());
     assert_eq!(rt; clock(&report), 16);
     for sender in 0..16u8 {
-        answers(
-            &mut report,
-            usize::from(sender),
-            &[Told::Committed(u64::from(sender))],
-        )?;
+        let told = replies(rt.alloc(), &mut report, usize::from(sender))?;
+        assert_eq!(rt; told.as_slice(), [Told::Committed(u64::from(sender))].as_slice());
     }
     Ok(())
 }

@@ -2,27 +2,45 @@
 
 ghost use Rattle.std.specs.Prelude.{◌≡◌, ◌++◌, ◌∷◌, [], map, IfOk};
 ghost use Rattle.tb_submit.specs.Ends.{origin_of, end_origin, control_seat};
-ghost use Rattle.tb_pipe.specs.Together.{IsRun};
+ghost use Rattle.tb_pipe_tests.specs.Together.{AreTogether, IsRun};
 
-use super::{CREATE_ACCOUNTS, Told, clock, end_all, opened, packet_of, told_by};
-use crate::{Open, Opened, Report, settle};
+use super::{CREATE_ACCOUNTS, MOST_TURNS, Told, clock, end_all, opened, packet_of, put, told_by};
 use std::alloc::Global;
 use std::snapshot::Snapshot;
 use std::sync::Wait;
 use std::test::Fail;
 use std::thread;
 use std::thread::{Promise, Threads};
+use tb_pipe::{Open, Opened, Report, settle};
 use tb_submit::{Control, ControlEnd, Ended, Submitter};
 use tb_work::{Packet, Refusal};
 
-const MOST_TURNS: u32 = 1_000_000;
+/// What a driver does.
+#[derive(Clone, Copy)]
+pub(super) enum Course {
+    /// A packet and its reply, the Close, a packet and its reply, and a third packet.
+    RoundClose,
+    /// Two replies are read to what was queued before, and then a packet is submitted.
+    ReadTwo,
+    /// Fifty packets, each tried again where the queue is full or a reply is still unread.
+    Fifty,
+}
 
-/// The ends of one submitter and of the control, and whether their driver saw what it should.
+/// What a driver saw.
+#[derive(Clone, Copy, Debug, PartialEq, Eq)]
+pub(super) enum Saw {
+    /// Two replies, and why the packet after them was refused.
+    Replies(Option<Told>, Option<Told>, Option<Refusal>),
+    /// So many replies, the first committed at place 0 and each of the others at the next place.
+    Places(u64),
+}
+
+/// The ends of one submitter and of the control, and what their driver saw.
 #[derive(Drop)]
 struct Driven {
     ended: Ended,
     control: ControlEnd,
-    seen: bool,
+    saw: Saw,
 }
 
 /// The ends that come back are those of the senders that were handed over.
@@ -73,7 +91,7 @@ fn end_control<R: Wait>(rt: &R, control: Control, shut: bool) -> ControlEnd
     unreachable!()
 }
 
-/// The next reply, given way for; None where it doesn't come in time.
+/// The next reply; None where it doesn't come in time.
 fn wait_for_reply(submitter: &mut Submitter) -> Option<Told>
     ensures { origin_of submitter.new ≡ origin_of submitter.old }
 {
@@ -86,7 +104,7 @@ fn wait_for_reply(submitter: &mut Submitter) -> Option<Told>
     None
 }
 
-/// Submits a packet once: None where it was queued, or why it was refused.
+/// Submits a packet once; where it is refused it comes back.
 fn submit_once<R: Wait>(
     rt: &R,
     alloc: Global,
@@ -96,7 +114,7 @@ fn submit_once<R: Wait>(
     ensures { origin_of submitter.new ≡ origin_of submitter.old }
 {
     if submitter.queued() >= 1 << 56 {
-        return Err((packet, Refusal::InFlight));
+        return Err((packet, Refusal::TooMuchData));
     }
     match submitter.submit(rt, alloc, packet) {
         Ok(_) => Ok(()),
@@ -104,29 +122,26 @@ fn submit_once<R: Wait>(
     }
 }
 
-fn queue_account<R: Wait>(rt: &R, alloc: Global, submitter: &mut Submitter, id: u8) -> bool
+/// Queues a packet with this account and waits for its reply.
+fn round<R: Wait>(rt: &R, alloc: Global, submitter: &mut Submitter, id: u8) -> Option<Told>
     ensures { origin_of submitter.new ≡ origin_of submitter.old }
 {
-    match packet_of(alloc, CREATE_ACCOUNTS, id) {
-        Ok(packet) => submit_once(rt, alloc, submitter, packet).is_ok(),
-        Err(_) => false,
-    }
+    let packet = packet_of(alloc, CREATE_ACCOUNTS, id).ok()?;
+    submit_once(rt, alloc, submitter, packet).ok()?;
+    wait_for_reply(submitter)
 }
 
-/// A packet of an unknown operation, which is looked at only where no reply told of a shutdown.
-fn is_shut<R: Wait>(rt: &R, alloc: Global, submitter: &mut Submitter) -> bool
+/// Why a packet of an unknown operation, without events, is refused; it takes no memory.
+fn refusal<R: Wait>(rt: &R, alloc: Global, submitter: &mut Submitter) -> Option<Refusal>
     ensures { origin_of submitter.new ≡ origin_of submitter.old }
 {
-    let Ok(packet) = packet_of(alloc, 200, 1) else {
-        return false;
-    };
+    let packet = packet_of(alloc, 200, 0).ok()?;
     match submit_once(rt, alloc, submitter, packet) {
-        Ok(()) => false,
-        Err((_, refusal)) => refusal == Refusal::Shutdown,
+        Ok(()) => None,
+        Err((_, refusal)) => Some(refusal),
     }
 }
 
-/// A packet, its reply, the Close, a packet, its reply, and a third packet.
 fn drive_round_close<R: Wait>(
     rt: &R,
     alloc: Global,
@@ -136,39 +151,30 @@ fn drive_round_close<R: Wait>(
     ensures { (end_origin result.ended ≡ origin_of submitter) × (result.control.seat ≡ control.seat) }
 {
     let mut submitter = submitter;
-    let first = queue_account(rt, alloc, &mut submitter, 1)
-        && wait_for_reply(&mut submitter) == Some(Told::Committed(0));
+    let first = round(rt, alloc, &mut submitter, 1);
     let control = end_control(rt, control, true);
-    let second = queue_account(rt, alloc, &mut submitter, 2)
-        && wait_for_reply(&mut submitter) == Some(Told::Shutdown);
-    let third = is_shut(rt, alloc, &mut submitter);
+    let second = round(rt, alloc, &mut submitter, 2);
+    let third = refusal(rt, alloc, &mut submitter);
     Driven {
         ended: end(rt, submitter),
         control,
-        seen: first && second && third,
+        saw: Saw::Replies(first, second, third),
     }
 }
 
-/// Submits a packet until it is queued, reading replies, of which the next must be committed at the next place.
-fn submit_trying<R: Wait>(
-    rt: &R,
-    alloc: Global,
-    submitter: &mut Submitter,
-    packet: Packet,
-    next: &mut u64,
-) -> bool
-    ensures { origin_of submitter.new ≡ origin_of submitter.old }
+fn drive_read_two<R: Wait>(rt: &R, alloc: Global, submitter: Submitter, control: Control) -> Driven
+    ensures { (end_origin result.ended ≡ origin_of submitter) × (result.control.seat ≡ control.seat) }
 {
-    let mut packet = packet;
-    for _ in 0..MOST_TURNS {
-        match submit_once(rt, alloc, submitter, packet) {
-            Ok(()) => return true,
-            Err((back, _)) => packet = back,
-        }
-        read_one(submitter, next);
-        thread::yield_now();
+    let mut submitter = submitter;
+    let control = end_control(rt, control, false);
+    let first = wait_for_reply(&mut submitter);
+    let second = wait_for_reply(&mut submitter);
+    let third = refusal(rt, alloc, &mut submitter);
+    Driven {
+        ended: end(rt, submitter),
+        control,
+        saw: Saw::Replies(first, second, third),
     }
-    false
 }
 
 /// Reads a reply where there is one, and counts it where it is committed at the next place.
@@ -179,6 +185,29 @@ fn read_one(submitter: &mut Submitter, next: &mut u64)
         if told_by(&reply) == Told::Committed(*next) {
             *next = next.wrapping_add(1);
         }
+    }
+}
+
+/// Submits a packet until it is queued or refused for another reason than a full queue or the credit, and reads
+/// replies meanwhile.
+fn submit_trying<R: Wait>(
+    rt: &R,
+    alloc: Global,
+    submitter: &mut Submitter,
+    packet: Packet,
+    next: &mut u64,
+)
+    ensures { origin_of submitter.new ≡ origin_of submitter.old }
+{
+    let mut packet = packet;
+    for _ in 0..MOST_TURNS {
+        match submit_once(rt, alloc, submitter, packet) {
+            Err((back, Refusal::InFlight)) => packet = back,
+            Err((back, Refusal::Full)) => packet = back,
+            _ => return,
+        }
+        read_one(submitter, next);
+        thread::yield_now();
     }
 }
 
@@ -194,26 +223,20 @@ fn submit_fifty<R: Wait>(rt: &R, alloc: Global, submitter: &mut Submitter) -> u6
     next
 }
 
-/// Fifty packets, each tried again where the queue is full or a reply is still unread.
 fn drive_fifty<R: Wait>(rt: &R, alloc: Global, submitter: Submitter, control: Control) -> Driven
     ensures { (end_origin result.ended ≡ origin_of submitter) × (result.control.seat ≡ control.seat) }
 {
     let mut submitter = submitter;
-    let read = submit_fifty(rt, alloc, &mut submitter);
-    let last = wait_for_reply(&mut submitter);
+    let mut places = submit_fifty(rt, alloc, &mut submitter);
+    if wait_for_reply(&mut submitter) == Some(Told::Committed(places)) {
+        places = places.wrapping_add(1);
+    }
     let control = end_control(rt, control, false);
     Driven {
         ended: end(rt, submitter),
         control,
-        seen: read == 49 && last == Some(Told::Committed(49)),
+        saw: Saw::Places(places),
     }
-}
-
-/// What a driver does.
-#[derive(Clone, Copy)]
-enum Course {
-    RoundClose,
-    Fifty,
 }
 
 fn drive<R: Wait>(
@@ -227,37 +250,36 @@ fn drive<R: Wait>(
 {
     match course {
         Course::RoundClose => drive_round_close(rt, alloc, submitter, control),
+        Course::ReadTwo => drive_read_two(rt, alloc, submitter, control),
         Course::Fifty => drive_fifty(rt, alloc, submitter, control),
     }
 }
 
-/// The last submitter and the control are driven by a thread, the other submitters have ended; the report, and whether the driver saw what it
-/// should. From opening to the report it is proved lawful by the clauses of the calls alone.
-fn run<R: Threads + Wait + Sync>(
+/// A thread drives the last submitter and the control; the other submitters have ended. The report, and what the
+/// driver saw. From opening to the report it is proved lawful by the clauses of the calls alone.
+pub(super) fn run<R: Threads + Wait + Sync>(
     rt: &R,
     alloc: Global,
-    capacity: u32,
-    credit: u32,
-    number: u32,
+    opened: Opened,
     course: Course,
-) -> Result<(Report, bool), Fail>
-    ensures { IfOk result (λ run. IsRun 0 4 number run.0.ledger run.0.ends.items) }
+) -> Result<(Report, Saw), Refusal>
+    requires { AreTogether opened.pipeline opened.submitters.items opened.control }
+    ensures { IfOk result (λ run. IsRun opened.pipeline.clock opened.pipeline.intake.limit opened.pipeline.intake.submitters run.0.ledger run.0.ends.items) }
 {
     let Opened {
         pipeline,
         mut submitters,
         control,
-    } = opened(alloc, 4, capacity, credit, number)?;
-    let last = submitters.pop().ok_or("no submitter")?;
+    } = opened;
+    let last = submitters.pop().ok_or(Refusal::BadSubmitters)?;
     let ends = end_all(rt, alloc, submitters)?;
     thread::scope(
         thread::scope_env(),
         rt,
-        |scope| -> Result<(Report, bool), Fail>
+        |scope| -> Result<(Report, Saw), Refusal>
             requires own { map end_origin ends.items ++ origin_of last ∷ [] ≡ pipeline.submitters }
             requires control { control.seat ≡ control_seat pipeline.intake }
-            requires opened { (pipeline.clock ≡ 0) × (pipeline.intake.limit ≡ 4) × (pipeline.intake.submitters ≡ number) }
-            ensures { IfOk result (λ run. IsRun 0 4 number run.0.ledger run.0.ends.items) }
+            ensures { IfOk result (λ run. IsRun pipeline.clock pipeline.intake.limit pipeline.intake.submitters run.0.ledger run.0.ends.items) }
         {
             let mut ends = ends;
             let promise = ComesBack {
@@ -270,27 +292,33 @@ fn run<R: Threads + Wait + Sync>(
                     ensures { (end_origin result.ended ≡ origin_of last) × (result.control.seat ≡ control.seat) }
                 { drive(rt, alloc, last, control, course) },
             ) else {
-                return Err("no thread")?;
+                return Err(Refusal::NoThread);
             };
             let Ok(served) = pipeline.serve(rt, &Open) else {
-                return Err("no thread")?;
+                return Err(Refusal::NoThread);
             };
             let Driven {
                 ended,
                 control,
-                seen,
+                saw,
             } = driver.join(rt);
-            ends.push(ended)?;
-            Ok((settle(served, ends, control), seen))
+            put(&mut ends, ended)?;
+            Ok((settle(served, ends, control), saw))
         },
     )
 }
 
 #[test]
 fn close_between_two_packets(rt: HostRuntime) -> Result<(), Fail> {
+    let wanted = Saw::Replies(
+        Some(Told::Committed(0)),
+        Some(Told::Shutdown),
+        Some(Refusal::Shutdown),
+    );
     for number in [1, 2, 16] {
-        let (report, seen) = run(&rt, rt.alloc(), 64, 64, number, Course::RoundClose)?;
-        assert!(rt; seen);
+        let opened = opened(rt.alloc(), 4, 64, 64, number)?;
+        let (report, saw) = run(&rt, rt.alloc(), opened, Course::RoundClose)?;
+        assert_eq!(rt; saw, wanted);
         assert_eq!(rt; clock(&report), 1);
     }
     Ok(())
@@ -298,8 +326,9 @@ fn close_between_two_packets(rt: HostRuntime) -> Result<(), Fail> {
 
 #[test]
 fn one_place_one_credit(rt: HostRuntime) -> Result<(), Fail> {
-    let (report, seen) = run(&rt, rt.alloc(), 1, 1, 1, Course::Fifty)?;
-    assert!(rt; seen);
+    let opened = opened(rt.alloc(), 4, 1, 1, 1)?;
+    let (report, saw) = run(&rt, rt.alloc(), opened, Course::Fifty)?;
+    assert_eq!(rt; saw, Saw::Places(50));
     assert_eq!(rt; clock(&report), 50);
     Ok(())
 }

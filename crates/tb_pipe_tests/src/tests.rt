@@ -1,34 +1,34 @@
-//! What no clause told_by: worked examples by name, the gate's calls, threads, and memory that is refused.
+//! What no clause tells: worked examples by name, the gate's calls, threads, and memory that is refused.
 
-ghost use Rattle.std.specs.Prelude.{◌≡◌, IfOk, map};
+ghost use Rattle.std.specs.Prelude.{◌≡◌, ◌++◌, ◌∷◌, [], IfOk, OnOk, map};
 ghost use Rattle.tb_submit.specs.Ends.{origin_of, end_origin, control_seat};
-ghost use Rattle.tb_pipe.specs.Together.{AreTogether, IsRun};
+ghost use Rattle.tb_pipe_tests.specs.Together.{AreTogether, IsRun};
 
-use crate::{Gate, Opened, Pipeline, Report, open, settle};
 use std::alloc::{AllocError, Global};
 use std::sync::Wait;
 use std::test::Fail;
 use std::thread::Threads;
 use tb_core::Entry;
+use tb_pipe::{Gate, Opened, Pipeline, Report, open, settle};
 use tb_submit::{Control, ControlEnd, Ended, Submitter};
 use tb_work::{Bytes, Outcome, Packet, Refusal, Reply};
 
 mod driven;
 mod gates;
+mod memory;
 mod openings;
 mod queued;
 
 const CREATE_ACCOUNTS: u8 = 129;
 
-fn holds(fact: bool) -> Result<(), Fail> {
-    if fact {
-        Ok(())
-    } else {
-        Err("it doesn't hold")?
-    }
+/// How often a test gives way before it gives up.
+const MOST_TURNS: u32 = 1_000_000;
+
+fn holds(fact: bool, otherwise: &'static str) -> Result<(), Fail> {
+    if fact { Ok(()) } else { Err(otherwise)? }
 }
 
-/// A packet of accounts with this one account, or with none where the id is 0. The user word is the id.
+/// A packet of accounts with this one account, or without events where the id is 0. The user word is the id.
 fn packet_of(alloc: Global, operation: u8, id: u8) -> Result<Packet, AllocError> {
     let mut bytes = Vec::new(alloc);
     if id > 0 {
@@ -45,7 +45,7 @@ fn packet_of(alloc: Global, operation: u8, id: u8) -> Result<Packet, AllocError>
     })
 }
 
-/// What a reply tells.
+/// What a reply tells of its packet's place.
 #[derive(Clone, Copy, Debug, PartialEq, Eq)]
 enum Told {
     Committed(u64),
@@ -75,7 +75,7 @@ fn opened(
     Ok(
         open(alloc, 0, limit, capacity, credit, submitters)
             .ok()
-            .ok_or("refused")?,
+            .ok_or("the opening is refused")?,
     )
 }
 
@@ -109,7 +109,8 @@ fn queue_accounts<R: Wait>(
 {
     for id in ids {
         let packet = packet_of(alloc, CREATE_ACCOUNTS, *id)?;
-        holds(submit(rt, alloc, submitters, 0, packet)?.is_ok())?;
+        let queued = submit(rt, alloc, submitters, 0, packet)?.is_ok();
+        holds(queued, "the packet is refused")?;
     }
     Ok(())
 }
@@ -118,9 +119,12 @@ fn queue_pulse<R: Wait>(rt: &R, control: &mut Control, moment: u64) -> Result<()
     ensures { control.new.seat ≡ control.old.seat }
 {
     if control.queued() >= 1 << 56 {
-        return Err("too many are queued")?;
+        return Err("too many pulses are queued")?;
     }
-    holds(control.pulse(rt, moment).is_ok())
+    holds(
+        control.pulse(rt, moment).is_ok(),
+        "the pulse is refused",
+    )
 }
 
 fn end_control<R: Wait>(rt: &R, control: Control, shut: bool) -> Result<ControlEnd, Fail>
@@ -137,15 +141,47 @@ fn end_control<R: Wait>(rt: &R, control: Control, shut: bool) -> Result<ControlE
     }
 }
 
-fn end_all<R: Wait>(rt: &R, alloc: Global, submitters: Vec<Submitter>) -> Result<Vec<Ended>, Fail>
+/// Room for an end of each of up to 16 submitters, asked for once more where it is refused.
+fn room_for_ends(alloc: Global) -> Result<Vec<Ended>, AllocError>
+    ensures { IfOk result (λ ends. ends.items ≡ []) }
+{
+    match Vec::with_capacity(alloc, 16) {
+        Ok(ends) => Ok(ends),
+        Err(_) => Vec::with_capacity(alloc, 16),
+    }
+}
+
+/// Ends a submitter, and puts its end behind the others.
+fn end_one<R: Wait>(rt: &R, ends: &mut Vec<Ended>, submitter: Submitter) -> Result<(), Refusal>
+    ensures { OnOk result (map end_origin ends.new.items ≡ map end_origin ends.old.items ++ origin_of submitter ∷ []) }
+{
+    match submitter.end(rt) {
+        Ok(ended) => put(ends, ended),
+        Err((_, refusal)) => Err(refusal),
+    }
+}
+
+fn put(ends: &mut Vec<Ended>, ended: Ended) -> Result<(), Refusal>
+    ensures { OnOk result (ends.new.items ≡ ends.old.items ++ ended ∷ []) }
+{
+    match ends.push(ended) {
+        Ok(()) => Ok(()),
+        Err(_) => Err(Refusal::NoMemory),
+    }
+}
+
+fn end_all<R: Wait>(
+    rt: &R,
+    alloc: Global,
+    submitters: Vec<Submitter>,
+) -> Result<Vec<Ended>, Refusal>
     ensures { IfOk result (λ ends. map end_origin ends.items ≡ map origin_of submitters.items) }
 {
-    let mut ends = Vec::new(alloc);
+    let Ok(mut ends) = room_for_ends(alloc) else {
+        return Err(Refusal::NoMemory);
+    };
     for submitter in submitters {
-        match submitter.end(rt) {
-            Ok(ended) => ends.push(ended)?,
-            Err(_) => return Err("the queue is full")?,
-        }
+        end_one(rt, &mut ends, submitter)?;
     }
     Ok(ends)
 }
@@ -166,20 +202,21 @@ fn finish<R: Threads + Wait + Sync, G: Gate>(
     let ends = end_all(rt, alloc, submitters)?;
     match pipeline.serve(rt, gate) {
         Ok(served) => Ok(settle(served, ends, control)),
-        Err(_) => Err("no thread")?,
+        Err(_) => Err("a thread can't be started")?,
     }
 }
 
-/// The next replies of a submitter say this, and there are no more.
-fn answers(report: &mut Report, submitter: usize, wanted: &[Told]) -> Result<(), Fail> {
-    if submitter >= report.ends.len() {
-        return Err("no such submitter")?;
+/// What the replies tell that a submitter has not read, in order.
+fn replies(alloc: Global, report: &mut Report, submitter: usize) -> Result<Vec<Told>, Fail> {
+    let mut told = Vec::new(alloc);
+    let ended = report.ends.get_mut(submitter).ok_or("no such submitter")?;
+    for _ in 0..MOST_TURNS {
+        match ended.reply() {
+            Some(reply) => told.push(told_by(&reply))?,
+            None => return Ok(told),
+        }
     }
-    for expected in wanted {
-        let reply = report.ends[submitter].reply().ok_or("no reply")?;
-        holds(told_by(&reply) == *expected)?;
-    }
-    holds(report.ends[submitter].reply().is_none())
+    Err("replies without end")?
 }
 
 /// The number of packets of each entry of the journal, 0 for a pulse.

@@ -1,7 +1,8 @@
 //! What the gate sees: batches sealed ahead of their commits, and both stages at once.
 
-use super::{Told, answers, end_control, finish, holds, opened, packet_of, submit};
-use crate::{Gate, Opened, Report};
+use super::{
+    MOST_TURNS, Told, end_control, finish, holds, opened, packet_of, replies, submit,
+};
 use std::alloc::Global;
 use std::sync::Wait;
 use std::sync::atomic::Ordering::SeqCst;
@@ -9,8 +10,7 @@ use std::sync::atomic::{AtomicBool, AtomicU64};
 use std::test::Fail;
 use std::thread;
 use std::thread::Threads;
-
-const MOST_TURNS: u32 = 1_000_000;
+use tb_pipe::{Gate, Opened, Report};
 
 /// Gives way until a counter has reached a number; false where it doesn't in time.
 fn waits_for(counter: &AtomicU64, number: u64) -> bool {
@@ -78,7 +78,8 @@ fn in_turn<R: Threads + Wait + Sync>(
     } = opened(alloc, 4, 64, 64, 1)?;
     for k in 0..packets {
         let packet = packet_of(alloc, 129 + k % 2, 0)?;
-        holds(submit(rt, alloc, &mut submitters, 0, packet)?.is_ok())?;
+        let queued = submit(rt, alloc, &mut submitters, 0, packet)?.is_ok();
+        holds(queued, "the packet is refused")?;
     }
     let control = end_control(rt, control, false)?;
     finish(rt, alloc, pipeline, submitters, control, gate)
@@ -89,16 +90,8 @@ fn batcher_and_committer_overlap(rt: HostRuntime) -> Result<(), Fail> {
     let gate = Meeting::new(2, true);
     let mut report = in_turn(&rt, rt.alloc(), 2, &gate)?;
     assert!(rt; !gate.marked.load(SeqCst));
-    answers(&mut report, 0, &[Told::Committed(0), Told::Committed(1)])
-}
-
-/// The next replies of submitter 0 are committed at these many places, in order.
-fn at_all_places(report: &mut Report, places: u64) -> Result<(), Fail> {
-    for place in 0..places {
-        holds(report.ends.len() > 0)?;
-        let reply = report.ends[0].reply().ok_or("no reply")?;
-        holds(super::told_by(&reply) == Told::Committed(place))?;
-    }
+    let told = replies(rt.alloc(), &mut report, 0)?;
+    assert_eq!(rt; told.as_slice(), [Told::Committed(0), Told::Committed(1)].as_slice());
     Ok(())
 }
 
@@ -107,6 +100,11 @@ fn six_batches_sealed_ahead(rt: HostRuntime) -> Result<(), Fail> {
     let gate = Meeting::new(6, false);
     let mut report = in_turn(&rt, rt.alloc(), 20, &gate)?;
     assert!(rt; !gate.marked.load(SeqCst));
-    at_all_places(&mut report, 20)?;
-    answers(&mut report, 0, &[])
+    let mut wanted = [Told::Stopped; 20];
+    for place in 0..20usize {
+        wanted[place] = Told::Committed(place as u64);
+    }
+    let told = replies(rt.alloc(), &mut report, 0)?;
+    assert_eq!(rt; told.as_slice(), wanted.as_slice());
+    Ok(())
 }
