@@ -2,7 +2,7 @@
 
 ghost use Rattle.std.specs.Prelude.{◌≡◌, ◌++◌, ◌∷◌, [], IfOk, OnOk, map};
 ghost use Rattle.tb_submit.specs.Ends.{origin_of, end_origin, control_seat};
-ghost use Rattle.tb_pipe_tests.specs.Together.{AreTogether, IsRun};
+ghost use Rattle.tb_pipe_tests.specs.Together.{AreTogether, IsOpenedAs, IsRun};
 
 use std::alloc::{AllocError, Global};
 use std::sync::Wait;
@@ -18,8 +18,11 @@ mod gates;
 mod memory;
 mod openings;
 mod queued;
+mod reply;
 
 const CREATE_ACCOUNTS: u8 = 129;
+
+const CREATE_TRANSFERS: u8 = 130;
 
 /// How often a test gives way before it gives up.
 const MOST_TURNS: u32 = 1_000_000;
@@ -61,58 +64,67 @@ fn told_by(reply: &Reply) -> Told {
     }
 }
 
-/// A pipeline of this limit, capacity and credit whose clock starts at 0.
-fn opened(
-    alloc: Global,
-    limit: u32,
-    capacity: u32,
-    credit: u32,
-    submitters: u32,
-) -> Result<Opened, Fail>
+/// A pipeline whose clock starts at 0, opened under limit 4.
+fn opened(alloc: Global, capacity: u32, credit: u32, submitters: u32) -> Result<Opened, Refusal>
     ensures together { IfOk result (λ opened. AreTogether opened.pipeline opened.submitters.items opened.control) }
-    ensures as_asked { IfOk result (λ opened. (opened.pipeline.clock ≡ 0) × (opened.pipeline.intake.limit ≡ limit) × (opened.pipeline.intake.submitters ≡ submitters)) }
+    ensures as_asked { IfOk result (λ opened. IsOpenedAs 0 4 submitters opened.pipeline) }
 {
-    Ok(
-        open(alloc, 0, limit, capacity, credit, submitters)
-            .ok()
-            .ok_or("the opening is refused")?,
-    )
+    open(alloc, 0, 4, capacity, credit, submitters)
 }
 
-/// Submits a packet: its number, or why it was refused.
+/// A pipeline with its one submitter and its control.
+#[derive(Drop)]
+struct Lone {
+    pipeline: Pipeline,
+    submitter: Submitter,
+    control: Control,
+}
+
+fn opened_lone(alloc: Global, capacity: u32, credit: u32) -> Result<Lone, Refusal>
+    ensures together { IfOk result (λ lone. AreTogether lone.pipeline (lone.submitter ∷ []) lone.control) }
+    ensures as_asked { IfOk result (λ lone. IsOpenedAs 0 4 1 lone.pipeline) }
+{
+    let Opened {
+        pipeline,
+        mut submitters,
+        control,
+    } = opened(alloc, capacity, credit, 1)?;
+    let submitter = submitters.pop().ok_or(Refusal::BadSubmitters)?;
+    Ok(Lone {
+        pipeline,
+        submitter,
+        control,
+    })
+}
+
+/// Submits a packet: its number. Where it is refused it comes back.
 fn submit<R: Wait>(
     rt: &R,
     alloc: Global,
-    submitters: &mut Vec<Submitter>,
-    sender: usize,
+    submitter: &mut Submitter,
     packet: Packet,
-) -> Result<Result<u64, Refusal>, Fail>
-    ensures { map origin_of submitters.new.items ≡ map origin_of submitters.old.items }
+) -> Result<u64, (Packet, Refusal)>
+    ensures { origin_of submitter.new ≡ origin_of submitter.old }
 {
-    if sender >= submitters.len() || submitters[sender].queued() >= 1 << 56 {
-        return Err("no such submitter, or it has queued too many")?;
+    if submitter.queued() >= 1 << 56 {
+        return Err((packet, Refusal::TooMuchData));
     }
-    match submitters[sender].submit(rt, alloc, packet) {
-        Ok(number) => Ok(Ok(number)),
-        Err((_, refusal)) => Ok(Err(refusal)),
-    }
+    submitter.submit(rt, alloc, packet)
 }
 
-/// Queues an accounts packet of submitter 0 for each id.
-fn queue_accounts<R: Wait>(
+/// Queues a packet of an operation with one account, or without events where the id is 0.
+fn queue<R: Wait>(
     rt: &R,
     alloc: Global,
-    submitters: &mut Vec<Submitter>,
-    ids: &[u8],
+    submitter: &mut Submitter,
+    operation: u8,
+    id: u8,
 ) -> Result<(), Fail>
-    ensures { map origin_of submitters.new.items ≡ map origin_of submitters.old.items }
+    ensures { origin_of submitter.new ≡ origin_of submitter.old }
 {
-    for id in ids {
-        let packet = packet_of(alloc, CREATE_ACCOUNTS, *id)?;
-        let queued = submit(rt, alloc, submitters, 0, packet)?.is_ok();
-        holds(queued, "the packet is refused")?;
-    }
-    Ok(())
+    let packet = packet_of(alloc, operation, id)?;
+    let queued = submit(rt, alloc, submitter, packet).is_ok();
+    holds(queued, "the packet is refused")
 }
 
 fn queue_pulse<R: Wait>(rt: &R, control: &mut Control, moment: u64) -> Result<(), Fail>
@@ -121,10 +133,8 @@ fn queue_pulse<R: Wait>(rt: &R, control: &mut Control, moment: u64) -> Result<()
     if control.queued() >= 1 << 56 {
         return Err("too many pulses are queued")?;
     }
-    holds(
-        control.pulse(rt, moment).is_ok(),
-        "the pulse is refused",
-    )
+    let queued = control.pulse(rt, moment).is_ok();
+    holds(queued, "the pulse is refused")
 }
 
 fn end_control<R: Wait>(rt: &R, control: Control, shut: bool) -> Result<ControlEnd, Fail>
@@ -186,24 +196,42 @@ fn end_all<R: Wait>(
     Ok(ends)
 }
 
-/// Ends all submitters, serves what is queued, and settles.
+/// Serves what is queued, once all have ended, and settles.
 fn finish<R: Threads + Wait + Sync, G: Gate>(
     rt: &R,
-    alloc: Global,
     pipeline: Pipeline,
-    submitters: Vec<Submitter>,
+    ends: Vec<Ended>,
     control: ControlEnd,
     gate: &G,
-) -> Result<Report, Fail>
-    requires own { map origin_of submitters.items ≡ pipeline.submitters }
+) -> Result<Report, Refusal>
+    requires own { map end_origin ends.items ≡ pipeline.submitters }
     requires control { control.seat ≡ control_seat pipeline.intake }
     ensures { IfOk result (λ report. IsRun pipeline.clock pipeline.intake.limit pipeline.intake.submitters report.ledger report.ends.items) }
 {
-    let ends = end_all(rt, alloc, submitters)?;
     match pipeline.serve(rt, gate) {
         Ok(served) => Ok(settle(served, ends, control)),
-        Err(_) => Err("a thread can't be started")?,
+        Err((_, refusal)) => Err(refusal),
     }
+}
+
+/// Ends the one submitter, serves what is queued, and settles.
+fn finish_lone<R: Threads + Wait + Sync, G: Gate>(
+    rt: &R,
+    alloc: Global,
+    pipeline: Pipeline,
+    submitter: Submitter,
+    control: ControlEnd,
+    gate: &G,
+) -> Result<Report, Refusal>
+    requires own { origin_of submitter ∷ [] ≡ pipeline.submitters }
+    requires control { control.seat ≡ control_seat pipeline.intake }
+    ensures { IfOk result (λ report. IsRun pipeline.clock pipeline.intake.limit pipeline.intake.submitters report.ledger report.ends.items) }
+{
+    let Ok(mut ends) = room_for_ends(alloc) else {
+        return Err(Refusal::NoMemory);
+    };
+    end_one(rt, &mut ends, submitter)?;
+    finish(rt, pipeline, ends, control, gate)
 }
 
 /// What the replies tell that a submitter has not read, in order.

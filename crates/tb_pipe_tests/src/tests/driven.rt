@@ -2,16 +2,16 @@
 
 ghost use Rattle.std.specs.Prelude.{◌≡◌, ◌++◌, ◌∷◌, [], map, IfOk};
 ghost use Rattle.tb_submit.specs.Ends.{origin_of, end_origin, control_seat};
-ghost use Rattle.tb_pipe_tests.specs.Together.{AreTogether, IsRun};
+ghost use Rattle.tb_pipe_tests.specs.Together.{IsRun};
 
-use super::{CREATE_ACCOUNTS, MOST_TURNS, Told, clock, end_all, opened, packet_of, put, told_by};
+use super::{CREATE_ACCOUNTS, MOST_TURNS, Told, clock, end_all, opened, packet_of, put, submit, told_by};
 use std::alloc::Global;
 use std::snapshot::Snapshot;
 use std::sync::Wait;
 use std::test::Fail;
 use std::thread;
 use std::thread::{Promise, Threads};
-use tb_pipe::{Open, Opened, Report, settle};
+use tb_pipe::{Open, Opened, Pipeline, Report, settle};
 use tb_submit::{Control, ControlEnd, Ended, Submitter};
 use tb_work::{Packet, Refusal};
 
@@ -104,30 +104,12 @@ fn wait_for_reply(submitter: &mut Submitter) -> Option<Told>
     None
 }
 
-/// Submits a packet once; where it is refused it comes back.
-fn submit_once<R: Wait>(
-    rt: &R,
-    alloc: Global,
-    submitter: &mut Submitter,
-    packet: Packet,
-) -> Result<(), (Packet, Refusal)>
-    ensures { origin_of submitter.new ≡ origin_of submitter.old }
-{
-    if submitter.queued() >= 1 << 56 {
-        return Err((packet, Refusal::TooMuchData));
-    }
-    match submitter.submit(rt, alloc, packet) {
-        Ok(_) => Ok(()),
-        Err(refused) => Err(refused),
-    }
-}
-
 /// Queues a packet with this account and waits for its reply.
 fn round<R: Wait>(rt: &R, alloc: Global, submitter: &mut Submitter, id: u8) -> Option<Told>
     ensures { origin_of submitter.new ≡ origin_of submitter.old }
 {
     let packet = packet_of(alloc, CREATE_ACCOUNTS, id).ok()?;
-    submit_once(rt, alloc, submitter, packet).ok()?;
+    submit(rt, alloc, submitter, packet).ok()?;
     wait_for_reply(submitter)
 }
 
@@ -136,8 +118,8 @@ fn refusal<R: Wait>(rt: &R, alloc: Global, submitter: &mut Submitter) -> Option<
     ensures { origin_of submitter.new ≡ origin_of submitter.old }
 {
     let packet = packet_of(alloc, 200, 0).ok()?;
-    match submit_once(rt, alloc, submitter, packet) {
-        Ok(()) => None,
+    match submit(rt, alloc, submitter, packet) {
+        Ok(_) => None,
         Err((_, refusal)) => Some(refusal),
     }
 }
@@ -201,7 +183,7 @@ fn submit_trying<R: Wait>(
 {
     let mut packet = packet;
     for _ in 0..MOST_TURNS {
-        match submit_once(rt, alloc, submitter, packet) {
+        match submit(rt, alloc, submitter, packet) {
             Err((back, Refusal::InFlight)) => packet = back,
             Err((back, Refusal::Full)) => packet = back,
             _ => return,
@@ -255,24 +237,33 @@ fn drive<R: Wait>(
     }
 }
 
-/// A thread drives the last submitter and the control; the other submitters have ended. The report, and what the
-/// driver saw. From opening to the report it is proved lawful by the clauses of the calls alone.
+/// A pipeline, the ends of the submitters that have ended, the last submitter, and the control.
+#[derive(Drop)]
+pub(super) struct Driving {
+    pub(super) pipeline: Pipeline,
+    pub(super) ends: Vec<Ended>,
+    pub(super) last: Submitter,
+    pub(super) control: Control,
+}
+
+/// A thread drives the last submitter and the control. The report, and what the driver saw. From opening to the
+/// report it is proved lawful by the clauses of the calls alone.
 pub(super) fn run<R: Threads + Wait + Sync>(
     rt: &R,
     alloc: Global,
-    opened: Opened,
+    driving: Driving,
     course: Course,
 ) -> Result<(Report, Saw), Refusal>
-    requires { AreTogether opened.pipeline opened.submitters.items opened.control }
-    ensures { IfOk result (λ run. IsRun opened.pipeline.clock opened.pipeline.intake.limit opened.pipeline.intake.submitters run.0.ledger run.0.ends.items) }
+    requires own { map end_origin driving.ends.items ++ origin_of driving.last ∷ [] ≡ driving.pipeline.submitters }
+    requires control { driving.control.seat ≡ control_seat driving.pipeline.intake }
+    ensures { IfOk result (λ run. IsRun driving.pipeline.clock driving.pipeline.intake.limit driving.pipeline.intake.submitters run.0.ledger run.0.ends.items) }
 {
-    let Opened {
+    let Driving {
         pipeline,
-        mut submitters,
+        ends,
+        last,
         control,
-    } = opened;
-    let last = submitters.pop().ok_or(Refusal::BadSubmitters)?;
-    let ends = end_all(rt, alloc, submitters)?;
+    } = driving;
     thread::scope(
         thread::scope_env(),
         rt,
@@ -308,6 +299,32 @@ pub(super) fn run<R: Threads + Wait + Sync>(
     )
 }
 
+/// Opens for so many submitters, of which all but the last end at once.
+fn opened_driving<R: Wait>(
+    rt: &R,
+    alloc: Global,
+    capacity: u32,
+    credit: u32,
+    submitters: u32,
+) -> Result<Driving, Fail>
+    ensures own { IfOk result (λ driving. map end_origin driving.ends.items ++ origin_of driving.last ∷ [] ≡ driving.pipeline.submitters) }
+    ensures control { IfOk result (λ driving. driving.control.seat ≡ control_seat driving.pipeline.intake) }
+{
+    let Opened {
+        pipeline,
+        mut submitters,
+        control,
+    } = opened(alloc, capacity, credit, submitters)?;
+    let last = submitters.pop().ok_or("no submitter")?;
+    let ends = end_all(rt, alloc, submitters)?;
+    Ok(Driving {
+        pipeline,
+        ends,
+        last,
+        control,
+    })
+}
+
 #[test]
 fn close_between_two_packets(rt: HostRuntime) -> Result<(), Fail> {
     let wanted = Saw::Replies(
@@ -315,9 +332,9 @@ fn close_between_two_packets(rt: HostRuntime) -> Result<(), Fail> {
         Some(Told::Shutdown),
         Some(Refusal::Shutdown),
     );
-    for number in [1, 2, 16] {
-        let opened = opened(rt.alloc(), 4, 64, 64, number)?;
-        let (report, saw) = run(&rt, rt.alloc(), opened, Course::RoundClose)?;
+    for submitters in [1, 2, 16] {
+        let driving = opened_driving(&rt, rt.alloc(), 64, 64, submitters)?;
+        let (report, saw) = run(&rt, rt.alloc(), driving, Course::RoundClose)?;
         assert_eq!(rt; saw, wanted);
         assert_eq!(rt; clock(&report), 1);
     }
@@ -326,8 +343,8 @@ fn close_between_two_packets(rt: HostRuntime) -> Result<(), Fail> {
 
 #[test]
 fn one_place_one_credit(rt: HostRuntime) -> Result<(), Fail> {
-    let opened = opened(rt.alloc(), 4, 1, 1, 1)?;
-    let (report, saw) = run(&rt, rt.alloc(), opened, Course::Fifty)?;
+    let driving = opened_driving(&rt, rt.alloc(), 1, 1, 1)?;
+    let (report, saw) = run(&rt, rt.alloc(), driving, Course::Fifty)?;
     assert_eq!(rt; saw, Saw::Places(50));
     assert_eq!(rt; clock(&report), 50);
     Ok(())

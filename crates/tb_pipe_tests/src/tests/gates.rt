@@ -1,16 +1,12 @@
 //! What the gate sees: batches sealed ahead of their commits, and both stages at once.
 
-use super::{
-    MOST_TURNS, Told, end_control, finish, holds, opened, packet_of, replies, submit,
-};
-use std::alloc::Global;
-use std::sync::Wait;
+use super::queued::{Step, run_queued};
+use super::{CREATE_ACCOUNTS, CREATE_TRANSFERS, MOST_TURNS, Told, replies};
 use std::sync::atomic::Ordering::SeqCst;
 use std::sync::atomic::{AtomicBool, AtomicU64};
 use std::test::Fail;
 use std::thread;
-use std::thread::Threads;
-use tb_pipe::{Gate, Opened, Report};
+use tb_pipe::Gate;
 
 /// Gives way until a counter has reached a number; false where it doesn't in time.
 fn waits_for(counter: &AtomicU64, number: u64) -> bool {
@@ -64,47 +60,45 @@ impl Gate for Meeting {
     }
 }
 
-/// So many packets without events, of the operations 129 and 130 in turn, all queued before they are served.
-fn in_turn<R: Threads + Wait + Sync>(
-    rt: &R,
-    alloc: Global,
-    packets: u8,
-    gate: &Meeting,
-) -> Result<Report, Fail> {
-    let Opened {
-        pipeline,
-        mut submitters,
-        control,
-    } = opened(alloc, 4, 64, 64, 1)?;
-    for k in 0..packets {
-        let packet = packet_of(alloc, 129 + k % 2, 0)?;
-        let queued = submit(rt, alloc, &mut submitters, 0, packet)?.is_ok();
-        holds(queued, "the packet is refused")?;
-    }
-    let control = end_control(rt, control, false)?;
-    finish(rt, alloc, pipeline, submitters, control, gate)
-}
+/// A packet of accounts without events, and one of transfers.
+const EMPTY: [Step; 2] = [
+    Step::Packet(CREATE_ACCOUNTS, 0),
+    Step::Packet(CREATE_TRANSFERS, 0),
+];
 
 #[test]
 fn batcher_and_committer_overlap(rt: HostRuntime) -> Result<(), Fail> {
     let gate = Meeting::new(2, true);
-    let mut report = in_turn(&rt, rt.alloc(), 2, &gate)?;
+    let mut report = run_queued(&rt, rt.alloc(), &EMPTY, false, &[], &gate)?;
     assert!(rt; !gate.marked.load(SeqCst));
     let told = replies(rt.alloc(), &mut report, 0)?;
     assert_eq!(rt; told.as_slice(), [Told::Committed(0), Told::Committed(1)].as_slice());
     Ok(())
 }
 
+/// The same two in turn, twenty in all.
+fn twenty_in_turn() -> [Step; 20] {
+    let mut steps = [EMPTY[0]; 20];
+    for k in 0..20usize {
+        steps[k] = EMPTY[k % 2];
+    }
+    steps
+}
+
+fn twenty_places() -> [Told; 20] {
+    let mut told = [Told::Stopped; 20];
+    for place in 0..20usize {
+        told[place] = Told::Committed(place as u64);
+    }
+    told
+}
+
 #[test]
 fn six_batches_sealed_ahead(rt: HostRuntime) -> Result<(), Fail> {
     let gate = Meeting::new(6, false);
-    let mut report = in_turn(&rt, rt.alloc(), 20, &gate)?;
+    let mut report = run_queued(&rt, rt.alloc(), &twenty_in_turn(), false, &[], &gate)?;
     assert!(rt; !gate.marked.load(SeqCst));
-    let mut wanted = [Told::Stopped; 20];
-    for place in 0..20usize {
-        wanted[place] = Told::Committed(place as u64);
-    }
     let told = replies(rt.alloc(), &mut report, 0)?;
-    assert_eq!(rt; told.as_slice(), wanted.as_slice());
+    assert_eq!(rt; told.as_slice(), twenty_places().as_slice());
     Ok(())
 }

@@ -2,17 +2,19 @@
 //! is refused differs from run to run, since the stages and the test itself take memory at once: so the tests look at
 //! the answers alone, and ask once more for what they need themselves.
 
-ghost use Rattle.std.specs.Prelude.{◌≡◌, ◌∷◌, [], map, IfOk};
+ghost use Rattle.std.specs.Prelude.{◌≡◌, ◌++◌, ◌∷◌, [], map, IfOk};
 ghost use Rattle.tb_submit.specs.Ends.{origin_of, end_origin, control_seat};
-ghost use Rattle.tb_pipe_tests.specs.Together.{AreTogether, IsRun};
+ghost use Rattle.tb_pipe_tests.specs.Together.{AreTogether};
 
-use super::driven::{Course, Saw, run};
-use super::{CREATE_ACCOUNTS, Told, clock, end_all, end_control, holds, opened, packet_of, queue_pulse, told_by};
+use super::driven::{Course, Driving, Saw, run};
+use super::{
+    CREATE_ACCOUNTS, Lone, Told, clock, end_control, end_one, holds, opened_lone, packet_of,
+    queue_pulse, room_for_ends, submit, told_by,
+};
 use std::alloc::{AllocError, Global};
 use std::sync::Wait;
 use std::test::Fail;
-use std::thread::Threads;
-use tb_pipe::{Open, Opened, Pipeline, Report, open, settle};
+use tb_pipe::{Open, Pipeline, Report, settle};
 use tb_submit::{Control, ControlEnd, Ended, Intake, Submitter};
 use tb_work::{Item, Packet, Refusal, Ticket};
 
@@ -24,14 +26,14 @@ fn packet_again(alloc: Global, id: u8) -> Result<Packet, AllocError> {
 }
 
 /// A pipeline of one submitter, opened once more where that is refused for want of memory; whether it was.
-fn open_again(alloc: Global) -> Result<(Opened, bool), Fail>
-    ensures { IfOk result (λ made. AreTogether made.0.pipeline made.0.submitters.items made.0.control) }
+fn open_again(alloc: Global) -> Result<(Lone, bool), Fail>
+    ensures { IfOk result (λ made. AreTogether made.0.pipeline (made.0.submitter ∷ []) made.0.control) }
 {
-    match open(alloc, 0, 4, 64, 64, 1) {
-        Ok(opened) => Ok((opened, false)),
+    match opened_lone(alloc, 64, 64) {
+        Ok(lone) => Ok((lone, false)),
         Err(refusal) => {
             holds(refusal == Refusal::NoMemory, "not for want of memory")?;
-            Ok((opened(alloc, 4, 64, 64, 1)?, true))
+            Ok((opened_lone(alloc, 64, 64)?, true))
         }
     }
 }
@@ -46,14 +48,11 @@ fn submit_again<R: Wait>(
     ensures { origin_of submitter.new ≡ origin_of submitter.old }
 {
     let packet = packet_again(alloc, id)?;
-    if submitter.queued() >= 1 << 56 {
-        return Err("it has queued too many")?;
-    }
-    match submitter.submit(rt, alloc, packet) {
+    match submit(rt, alloc, submitter, packet) {
         Ok(_) => Ok(false),
         Err((back, refusal)) => {
             holds(refusal == Refusal::NoMemory, "not for want of memory")?;
-            let queued = submitter.submit(rt, alloc, back).is_ok();
+            let queued = submit(rt, alloc, submitter, back).is_ok();
             holds(queued, "it is refused once more")?;
             Ok(true)
         }
@@ -95,20 +94,16 @@ fn all_queued<R: Wait>(rt: &R, alloc: Global) -> Result<Queued, Fail>
     ensures ends { IfOk result (λ queued. map end_origin queued.ends.items ≡ queued.pipeline.submitters) }
     ensures control { IfOk result (λ queued. queued.control.seat ≡ control_seat queued.pipeline.intake) }
 {
-    let (
-        Opened {
-            pipeline,
-            mut submitters,
-            mut control,
-        },
-        opening,
-    ) = open_again(alloc)?;
-    if submitters.len() != 1 {
-        return Err("not one submitter")?;
-    }
-    let submitting = queue_seven(rt, alloc, &mut submitters[0], &mut control)?;
+    let mut ends = room_for_ends(alloc)?;
+    let (lone, opening) = open_again(alloc)?;
+    let Lone {
+        pipeline,
+        mut submitter,
+        mut control,
+    } = lone;
+    let submitting = queue_seven(rt, alloc, &mut submitter, &mut control)?;
     let control = end_control(rt, control, false)?;
-    let ends = end_all(rt, alloc, submitters)?;
+    end_one(rt, &mut ends, submitter)?;
     Ok(Queued {
         pipeline,
         ends,
@@ -212,26 +207,24 @@ const ALL_TICKETS: [Option<(u32, Said)>; 10] = [
 ];
 
 /// A pipeline for which two accounts, each in its packet, and a pulse are queued.
-fn three_queued<R: Wait>(rt: &R, alloc: Global) -> Result<Opened, Fail>
-    ensures { IfOk result (λ opened. AreTogether opened.pipeline opened.submitters.items opened.control) }
+fn three_queued<R: Wait>(rt: &R, alloc: Global) -> Result<Driving, Fail>
+    ensures own { IfOk result (λ driving. map end_origin driving.ends.items ++ origin_of driving.last ∷ [] ≡ driving.pipeline.submitters) }
+    ensures control { IfOk result (λ driving. driving.control.seat ≡ control_seat driving.pipeline.intake) }
 {
-    let (
-        Opened {
-            pipeline,
-            mut submitters,
-            mut control,
-        },
-        _,
-    ) = open_again(alloc)?;
-    if submitters.len() != 1 {
-        return Err("not one submitter")?;
-    }
-    submit_again(rt, alloc, &mut submitters[0], 1)?;
-    submit_again(rt, alloc, &mut submitters[0], 2)?;
-    queue_pulse(rt, &mut control, 5)?;
-    Ok(Opened {
+    let ends = room_for_ends(alloc)?;
+    let (lone, _) = open_again(alloc)?;
+    let Lone {
         pipeline,
-        submitters,
+        submitter: mut last,
+        mut control,
+    } = lone;
+    submit_again(rt, alloc, &mut last, 1)?;
+    submit_again(rt, alloc, &mut last, 2)?;
+    queue_pulse(rt, &mut control, 5)?;
+    Ok(Driving {
+        pipeline,
+        ends,
+        last,
         control,
     })
 }
@@ -239,20 +232,23 @@ fn three_queued<R: Wait>(rt: &R, alloc: Global) -> Result<Opened, Fail>
 /// Where the first commit is refused the journal stays empty, and the submitter is told twice, and then by a refusal.
 #[test]
 fn first_commit_refused_memory(rt: HostRuntime) -> Result<(), Fail> {
-    let opened = three_queued(&rt, rt.alloc())?;
-    match run(&rt, rt.alloc(), opened, Course::ReadTwo) {
-        Ok((report, Saw::Replies(first, second, third))) => {
-            if report.ledger.places() == 0 {
-                assert_eq!(rt; first, Some(Told::Stopped));
-                assert_eq!(rt; second, Some(Told::Stopped));
-                assert_eq!(rt; third, Some(Refusal::Stopped));
-                assert_eq!(rt; clock(&report), 0);
-            } else {
-                assert_eq!(rt; first, Some(Told::Committed(0)));
-            }
+    let driving = three_queued(&rt, rt.alloc())?;
+    let (report, saw) = match run(&rt, rt.alloc(), driving, Course::ReadTwo) {
+        Ok(ran) => ran,
+        Err(refusal) => {
+            assert_eq!(rt; refusal, Refusal::NoThread);
+            return Ok(());
         }
-        Ok((_, Saw::Places(_))) => return Err("another course")?,
-        Err(refusal) => assert_eq!(rt; refusal, Refusal::NoThread),
+    };
+    if report.ledger.places() == 0 {
+        assert_eq!(rt; saw, ALL_STOPPED);
+        assert_eq!(rt; clock(&report), 0);
     }
     Ok(())
 }
+
+const ALL_STOPPED: Saw = Saw::Replies(
+    Some(Told::Stopped),
+    Some(Told::Stopped),
+    Some(Refusal::Stopped),
+);

@@ -1,6 +1,6 @@
 //! Openings and submissions that are refused, before anything is served.
 
-use super::{CREATE_ACCOUNTS, opened, packet_of, submit};
+use super::{CREATE_ACCOUNTS, opened_lone, packet_of, submit};
 use std::alloc::Global;
 use std::sync::Wait;
 use std::test::Fail;
@@ -34,45 +34,43 @@ fn look_of(packet: &Packet) -> (u8, usize, u64) {
     )
 }
 
-/// Submits two packets where there is one place: the first one's number, why the second is refused, and the
-/// packet that comes back.
-fn two_submits<R: Wait>(rt: &R, alloc: Global) -> Result<(u64, Refusal, Packet), Fail> {
-    let mut submitter = opened(alloc, 4, 1, 4, 1)?.submitters.pop().ok_or("no submitter")?;
-    let (first, second) = (packet_of(alloc, CREATE_ACCOUNTS, 1)?, packet_of(alloc, CREATE_ACCOUNTS, 2)?);
-    if submitter.queued() > 0 {
-        return Err("a packet is queued")?;
-    }
-    let Ok(number) = submitter.submit(rt, alloc, first) else {
-        return Err("the first packet is refused")?;
-    };
-    match submitter.submit(rt, alloc, second) {
-        Ok(_) => Err("the second packet is queued")?,
-        Err((back, refusal)) => Ok((number, refusal, back)),
-    }
+/// Submits two packets where there is one place: the first one's number, and the answer to the second.
+fn two_submits<R: Wait>(
+    rt: &R,
+    alloc: Global,
+) -> Result<(u64, Result<u64, (Packet, Refusal)>), Fail> {
+    let mut submitter = opened_lone(alloc, 1, 4)?.submitter;
+    let first = packet_of(alloc, CREATE_ACCOUNTS, 1)?;
+    let number = submit(rt, alloc, &mut submitter, first).map_err(|refused| refused.1)?;
+    let second = packet_of(alloc, CREATE_ACCOUNTS, 2)?;
+    Ok((number, submit(rt, alloc, &mut submitter, second)))
 }
 
 #[test]
 fn full_queue_of_one(rt: HostRuntime) -> Result<(), Fail> {
-    let (number, refusal, back) = two_submits(&rt, rt.alloc())?;
+    let (number, second) = two_submits(&rt, rt.alloc())?;
     assert_eq!(rt; number, 0);
-    assert_eq!(rt; refusal, Refusal::Full);
-    assert_eq!(rt; look_of(&back), (CREATE_ACCOUNTS, 128, 2));
+    match second {
+        Ok(_) => return Err("the second packet is queued")?,
+        Err((back, refusal)) => {
+            assert_eq!(rt; refusal, Refusal::Full);
+            assert_eq!(rt; look_of(&back), (CREATE_ACCOUNTS, 128, 2));
+        }
+    }
     Ok(())
 }
 
 #[test]
 fn credit_used_up(rt: HostRuntime) -> Result<(), Fail> {
-    let mut submitters = opened(rt.alloc(), 4, 4, 1, 1)?.submitters;
+    let mut submitter = opened_lone(rt.alloc(), 4, 1)?.submitter;
     for (operation, id, wanted) in [
         (CREATE_ACCOUNTS, 1, Ok(0)),
         (CREATE_ACCOUNTS, 2, Err(Refusal::InFlight)),
         (200, 1, Err(Refusal::InvalidOperation)),
     ] {
         let packet = packet_of(rt.alloc(), operation, id)?;
-        assert_eq!(rt;
-            submit(&rt, rt.alloc(), &mut submitters, 0, packet)?,
-            wanted
-        );
+        let number = submit(&rt, rt.alloc(), &mut submitter, packet).map_err(|refused| refused.1);
+        assert_eq!(rt; number, wanted);
     }
     Ok(())
 }

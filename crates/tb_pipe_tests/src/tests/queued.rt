@@ -1,79 +1,120 @@
 //! Runs of which all is queued before they are served.
 
-ghost use Rattle.std.specs.Prelude.{◌≡◌, map};
+ghost use Rattle.std.specs.Prelude.{◌≡◌, ◌∷◌, [], IfOk, map};
 ghost use Rattle.tb_submit.specs.Ends.{origin_of};
+ghost use Rattle.tb_pipe_tests.specs.Together.{IsRun};
 
 use super::{
-    CREATE_ACCOUNTS, Told, clock, end_control, entries, finish, holds, opened, packet_of,
-    queue_accounts, queue_pulse, replies, submit,
+    CREATE_ACCOUNTS, Lone, Told, clock, end_all, end_control, entries, finish, finish_lone, holds,
+    opened, opened_lone, packet_of, queue, queue_pulse, replies, submit,
 };
 use std::alloc::Global;
 use std::sync::Wait;
 use std::test::Fail;
 use std::thread::Threads;
-use tb_pipe::{Open, Opened, Report};
-use tb_submit::Submitter;
+use tb_pipe::{Gate, Open, Opened, Report};
+use tb_submit::{Control, Submitter};
 use tb_work::Refusal;
 
-/// Two accounts, a pulse, and four accounts, each in its packet.
-fn two_and_four<R: Threads + Wait + Sync>(
-    rt: &R,
-    alloc: Global,
-    shut: bool,
-) -> Result<Report, Fail> {
-    let Opened {
-        pipeline,
-        mut submitters,
-        mut control,
-    } = opened(alloc, 4, 64, 64, 1)?;
-    queue_accounts(rt, alloc, &mut submitters, &[1, 2])?;
-    queue_pulse(rt, &mut control, 5)?;
-    queue_accounts(rt, alloc, &mut submitters, &[3, 4, 5, 6])?;
-    let control = end_control(rt, control, shut)?;
-    finish(rt, alloc, pipeline, submitters, control, &Open)
+/// What is queued ahead of the control's end.
+#[derive(Clone, Copy)]
+pub(super) enum Step {
+    /// A packet of an operation with one account, or without events where the id is 0.
+    Packet(u8, u8),
+    /// A pulse with its moment.
+    Pulse(u64),
 }
 
-#[test]
-fn pulse_between_batches(rt: HostRuntime) -> Result<(), Fail> {
-    let places = [
-        Told::Committed(0),
-        Told::Committed(1),
-        Told::Committed(3),
-        Told::Committed(4),
-        Told::Committed(5),
-        Told::Committed(6),
-    ];
-    for shut in [false, true] {
-        let mut report = two_and_four(&rt, rt.alloc(), shut)?;
-        assert_eq!(rt; entries(rt.alloc(), &report)?.as_slice(), [2, 0, 4].as_slice());
-        assert_eq!(rt; clock(&report), 9);
-        let told = replies(rt.alloc(), &mut report, 0)?;
-        assert_eq!(rt; told.as_slice(), places.as_slice());
+fn queue_steps<R: Wait>(
+    rt: &R,
+    alloc: Global,
+    submitter: &mut Submitter,
+    control: &mut Control,
+    steps: &[Step],
+) -> Result<(), Fail>
+    ensures submitter { origin_of submitter.new ≡ origin_of submitter.old }
+    ensures control { control.new.seat ≡ control.old.seat }
+{
+    for step in steps {
+        match *step {
+            Step::Packet(operation, id) => queue(rt, alloc, submitter, operation, id)?,
+            Step::Pulse(moment) => queue_pulse(rt, control, moment)?,
+        }
     }
     Ok(())
 }
 
-/// Some accounts, the Close, and some more, each in its packet.
-fn close_between<R: Threads + Wait + Sync>(
+fn queue_accounts<R: Wait>(
     rt: &R,
     alloc: Global,
-    ahead: &[u8],
+    submitter: &mut Submitter,
+    ids: &[u8],
+) -> Result<(), Fail>
+    ensures { origin_of submitter.new ≡ origin_of submitter.old }
+{
+    for id in ids {
+        queue(rt, alloc, submitter, CREATE_ACCOUNTS, *id)?;
+    }
+    Ok(())
+}
+
+/// Some steps, the control's end or its Close, and some accounts, each in its packet.
+pub(super) fn run_queued<R: Threads + Wait + Sync, G: Gate>(
+    rt: &R,
+    alloc: Global,
+    steps: &[Step],
+    shut: bool,
     behind: &[u8],
-) -> Result<Report, Fail> {
-    let Opened {
+    gate: &G,
+) -> Result<Report, Fail>
+    ensures { IfOk result (λ report. IsRun 0 4 1 report.ledger report.ends.items) }
+{
+    let Lone {
         pipeline,
-        mut submitters,
-        control,
-    } = opened(alloc, 4, 64, 64, 1)?;
-    queue_accounts(rt, alloc, &mut submitters, ahead)?;
-    let control = end_control(rt, control, true)?;
-    queue_accounts(rt, alloc, &mut submitters, behind)?;
-    finish(rt, alloc, pipeline, submitters, control, &Open)
+        mut submitter,
+        mut control,
+    } = opened_lone(alloc, 64, 64)?;
+    queue_steps(rt, alloc, &mut submitter, &mut control, steps)?;
+    let control = end_control(rt, control, shut)?;
+    queue_accounts(rt, alloc, &mut submitter, behind)?;
+    Ok(finish_lone(rt, alloc, pipeline, submitter, control, gate)?)
+}
+
+const TWO_AND_FOUR: [Step; 7] = [
+    Step::Packet(CREATE_ACCOUNTS, 1),
+    Step::Packet(CREATE_ACCOUNTS, 2),
+    Step::Pulse(5),
+    Step::Packet(CREATE_ACCOUNTS, 3),
+    Step::Packet(CREATE_ACCOUNTS, 4),
+    Step::Packet(CREATE_ACCOUNTS, 5),
+    Step::Packet(CREATE_ACCOUNTS, 6),
+];
+
+const SIX_PLACES: [Told; 6] = [
+    Told::Committed(0),
+    Told::Committed(1),
+    Told::Committed(3),
+    Told::Committed(4),
+    Told::Committed(5),
+    Told::Committed(6),
+];
+
+#[test]
+fn pulse_between_batches(rt: HostRuntime) -> Result<(), Fail> {
+    for shut in [false, true] {
+        let mut report = run_queued(&rt, rt.alloc(), &TWO_AND_FOUR, shut, &[], &Open)?;
+        assert_eq!(rt; entries(rt.alloc(), &report)?.as_slice(), [2, 0, 4].as_slice());
+        assert_eq!(rt; clock(&report), 9);
+        let told = replies(rt.alloc(), &mut report, 0)?;
+        assert_eq!(rt; told.as_slice(), SIX_PLACES.as_slice());
+    }
+    Ok(())
 }
 
 #[test]
 fn packet_behind_shut(rt: HostRuntime) -> Result<(), Fail> {
-    let mut report = close_between(&rt, rt.alloc(), &[1], &[2])?;
+    let ahead = [Step::Packet(CREATE_ACCOUNTS, 1)];
+    let mut report = run_queued(&rt, rt.alloc(), &ahead, true, &[2], &Open)?;
     assert_eq!(rt; clock(&report), 1);
     assert_eq!(rt; report.ledger.machine().accounts(), 1);
     let told = replies(rt.alloc(), &mut report, 0)?;
@@ -88,60 +129,67 @@ fn closes_after<R: Threads + Wait + Sync>(
     count: usize,
 ) -> Result<Report, Fail> {
     let ids = [1, 2, 3, 4, 5, 6];
-    if count > ids.len() {
+    let steps = ids.map(|id| Step::Packet(CREATE_ACCOUNTS, id));
+    if count > 6 {
         return Err("more than six")?;
     }
-    close_between(rt, alloc, &ids[..count], &ids[count..])
+    run_queued(rt, alloc, &steps[..count], true, &ids[count..], &Open)
+}
+
+/// The replies where so many of six packets are ahead of the Close.
+fn told_where(count: usize) -> [Told; 6] {
+    let mut told = [Told::Shutdown; 6];
+    for k in 0..6usize {
+        if k < count {
+            told[k] = Told::Committed(k as u64);
+        }
+    }
+    told
 }
 
 #[test]
 fn close_anywhere(rt: HostRuntime) -> Result<(), Fail> {
-    let mut wanted = [Told::Shutdown; 6];
     for count in 0..7usize {
-        if 0 < count {
-            wanted[count - 1] = Told::Committed(count as u64 - 1);
-        }
         let mut report = closes_after(&rt, rt.alloc(), count)?;
         assert_eq!(rt; clock(&report), count as u64);
         let told = replies(rt.alloc(), &mut report, 0)?;
-        assert_eq!(rt; told.as_slice(), wanted.as_slice());
+        assert_eq!(rt; told.as_slice(), told_where(count).as_slice());
     }
     Ok(())
 }
 
-/// Submits a packet, and gives how many were in flight before it beside its number, or why it was refused.
-fn submit_behind<R: Wait>(
-    rt: &R,
-    alloc: Global,
-    submitters: &mut Vec<Submitter>,
-) -> Result<(u32, Result<u64, Refusal>), Fail>
-    ensures { map origin_of submitters.new.items ≡ map origin_of submitters.old.items }
+/// Submits four packets, and sees before each how many are in flight.
+fn submit_four<R: Wait>(rt: &R, alloc: Global, submitter: &mut Submitter) -> Result<(), Fail>
+    ensures { origin_of submitter.new ≡ origin_of submitter.old }
 {
-    if submitters.len() == 0 {
-        return Err("no submitter")?;
-    }
-    let in_flight = submitters[0].in_flight();
-    let packet = packet_of(alloc, CREATE_ACCOUNTS, 1)?;
-    Ok((in_flight, submit(rt, alloc, submitters, 0, packet)?))
-}
-
-fn three_unread<R: Threads + Wait + Sync>(rt: &R, alloc: Global) -> Result<Report, Fail> {
-    let Opened {
-        pipeline,
-        mut submitters,
-        control,
-    } = opened(alloc, 4, 8, 3, 1)?;
-    for wanted in [
+    for (in_flight, wanted) in [
         (0, Ok(0)),
         (1, Ok(1)),
         (2, Ok(2)),
         (3, Err(Refusal::InFlight)),
     ] {
-        let is = submit_behind(rt, alloc, &mut submitters)?;
-        holds(is == wanted, "another count or number")?;
+        holds(
+            submitter.in_flight() == in_flight,
+            "another number in flight",
+        )?;
+        let packet = packet_of(alloc, CREATE_ACCOUNTS, 1)?;
+        let number = submit(rt, alloc, submitter, packet).map_err(|refused| refused.1);
+        holds(number == wanted, "another answer")?;
     }
+    Ok(())
+}
+
+fn three_unread<R: Threads + Wait + Sync>(rt: &R, alloc: Global) -> Result<Report, Fail>
+    ensures { IfOk result (λ report. IsRun 0 4 1 report.ledger report.ends.items) }
+{
+    let Lone {
+        pipeline,
+        mut submitter,
+        control,
+    } = opened_lone(alloc, 8, 3)?;
+    submit_four(rt, alloc, &mut submitter)?;
     let control = end_control(rt, control, false)?;
-    finish(rt, alloc, pipeline, submitters, control, &Open)
+    Ok(finish_lone(rt, alloc, pipeline, submitter, control, &Open)?)
 }
 
 #[test]
@@ -152,19 +200,36 @@ fn replies_after_settle(rt: HostRuntime) -> Result<(), Fail> {
     Ok(())
 }
 
-fn one_of_each<R: Threads + Wait + Sync>(rt: &R, alloc: Global) -> Result<Report, Fail> {
+/// Each submitter queues a packet with the account after its number.
+fn queue_each<R: Wait>(
+    rt: &R,
+    alloc: Global,
+    submitters: Vec<Submitter>,
+) -> Result<Vec<Submitter>, Fail>
+    ensures { IfOk result (λ after. map origin_of after.items ≡ map origin_of submitters.items) }
+{
+    let mut after = Vec::new(alloc);
+    let mut id = 1u8;
+    for mut submitter in submitters {
+        queue(rt, alloc, &mut submitter, CREATE_ACCOUNTS, id)?;
+        id = id.wrapping_add(1);
+        after.push(submitter)?;
+    }
+    Ok(after)
+}
+
+fn one_of_each<R: Threads + Wait + Sync>(rt: &R, alloc: Global) -> Result<Report, Fail>
+    ensures { IfOk result (λ report. IsRun 0 4 16 report.ledger report.ends.items) }
+{
     let Opened {
         pipeline,
-        mut submitters,
+        submitters,
         control,
-    } = opened(alloc, 4, 64, 64, 16)?;
-    for sender in 0..16u8 {
-        let packet = packet_of(alloc, CREATE_ACCOUNTS, sender + 1)?;
-        let queued = submit(rt, alloc, &mut submitters, usize::from(sender), packet)?.is_ok();
-        holds(queued, "the packet is refused")?;
-    }
+    } = opened(alloc, 64, 64, 16)?;
+    let submitters = queue_each(rt, alloc, submitters)?;
     let control = end_control(rt, control, false)?;
-    finish(rt, alloc, pipeline, submitters, control, &Open)
+    let ends = end_all(rt, alloc, submitters)?;
+    Ok(finish(rt, pipeline, ends, control, &Open)?)
 }
 
 #[test]
