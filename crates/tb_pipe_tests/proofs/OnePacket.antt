@@ -1,6 +1,6 @@
 -- The replies that are due in a run with one packet.
 use Rattle.std.proofs.Common.{◌≡◌, ◌<◌, ◌≤◌, ◌⊎◌, inl, inr, ℕ, zero, suc, ◌+◌, Bool, true, false, List, [], ◌∷◌, ◌++◌, map, length, get_or, length-append, sym, refl, ap, ◌∙◌, subst, arith}
-use Rattle.std.specs.Prelude.{◌==◌, filter, if◌then◌else◌}
+use Rattle.std.specs.Prelude.{◌==◌, slice_index_or, filter, if◌then◌else◌}
 use Rattle.std.specs.List.{AllByRecursion}
 use Rattle.std.proofs.lemmas.Bool.{eq-eqb, ne_eqb}
 use Rattle.tb_layout.specs.Work.{Work}
@@ -15,7 +15,7 @@ use Rattle.tb_work.specs.declared.packet.Packet.{Packet}
 use Rattle.tb_core.specs.Due.{all_due, all_due_from, due, outcome_at, reply_due, replies_to}
 use Rattle.tb_core.specs.Ledger.{LedgerState, works}
 use Rattle.tb_core.specs.Passage.{Place, Ahead, Behind, next_place}
-use Rattle.tb_submit.specs.Ends.{EndedState, replies_of}
+use Rattle.tb_submit.specs.Ends.{EndedState, IntakeState, Origin, Seat, SubmitterState, ended_with, new_submitter, replies_of, seat_at, with_item}
 use Rattle.tb_pipe_tests.specs.OnePacket.{IsReplyToOne, IsRunOfOne, one_and_end}
 
 -- ---- a queue in which all but one sender only end
@@ -119,3 +119,25 @@ is_reply_read clock packet ledger ends front ended reply rest run is lies =
     let known = lies_for_one clock packet ledger ends front ended run is in
     let same : one_reply clock (works ledger) packet ≡ reply = cc in
     subst (IsReplyToOne clock packet) same (is_reply clock packet ledger ends run)
+
+-- what the one submitter has queued and read once it has ended
+pub queued_one : (packet : Packet) (credit number : ℕ) (intake : IntakeState) (origins : List Origin) (all front : List SubmitterState) (first next : SubmitterState) (ended : EndedState) → all ≡ map (new_submitter credit) origins → length origins ≡ 1 →
+    ((d : Origin) → (slice_index_or origins 0 d).seat ≡ seat_at intake 0) → all ≡ front ++ first ∷ [] → number ≡ length first.queued →
+    next ≡ with_item first (item.Packet (numbered first.origin.seat.number number packet)) → ended ≡ ended_with next item.End → (ended.queued ≡ one_and_end packet) × (ended.read ≡ [])
+queued_one packet credit number intake [] all front first next ended opened one seats is counted queued at = absurd (omega (arith, one))
+queued_one packet credit number intake (origin ∷ other ∷ origins) all front first next ended opened one seats is counted queued at = absurd (omega (arith, one))
+queued_one packet credit number intake (origin ∷ []) all (x ∷ front) first next ended opened one seats is counted queued at =
+    let long : suc (length front + 1) ≡ 1 = sym (ap suc (length-append front (first ∷ []))) ∙ ap length (sym is) ∙ ap length opened in
+    absurd (omega (arith, long))
+queued_one packet credit number intake (origin ∷ []) all [] first next ended opened one seats is counted queued at =
+    let same : first ∷ [] ≡ new_submitter credit origin ∷ [] = sym is ∙ opened in
+    let fresh : first ≡ new_submitter credit origin = cc in
+    let none : first.queued ≡ [] = ap (λ (s : SubmitterState). s.queued) fresh in
+    let zeroth : number ≡ 0 = counted ∙ ap length none in
+    let seat : first.origin.seat.number ≡ 0 = ap (λ (s : SubmitterState). s.origin.seat.number) fresh ∙ ap (λ (s : Seat). s.number) (seats origin) in
+    let its = ap (λ (e : EndedState). e.queued) at ∙ ap (λ (s : SubmitterState). s.queued ++ item.End ∷ []) queued in
+    (
+      its ∙ ap (λ (before : List Item). (before ++ item.Packet (numbered first.origin.seat.number number packet) ∷ []) ++ item.End ∷ []) none
+      ∙ ap (λ n. item.Packet (numbered n number packet) ∷ item.End ∷ []) seat ∙ ap (λ n. item.Packet (numbered 0 n packet) ∷ item.End ∷ []) zeroth,
+      ap (λ (e : EndedState). e.read) at ∙ ap (λ (s : SubmitterState). s.read) queued ∙ ap (λ (s : SubmitterState). s.read) fresh
+    )

@@ -1,6 +1,6 @@
 //! What no clause tells: worked examples by name, the gate's calls, threads, and memory that is refused.
 
-ghost use Rattle.std.specs.Prelude.{◌≡◌, ◌++◌, ◌∷◌, [], IfOk, OnOk, map};
+ghost use Rattle.std.specs.Prelude.{◌≡◌, ◌++◌, ◌∷◌, [], IfOk, OnOk, length, map};
 ghost use Rattle.tb_submit.specs.Ends.{origin_of, end_origin, control_seat};
 ghost use Rattle.tb_pipe_tests.specs.Together.{AreTogether, IsOpenedAs, IsRun};
 
@@ -68,6 +68,7 @@ fn told_by(reply: &Reply) -> Told {
 fn opened(alloc: Global, capacity: u32, credit: u32, submitters: u32) -> Result<Opened, Refusal>
     ensures together { IfOk result (λ opened. AreTogether opened.pipeline opened.submitters.items opened.control) }
     ensures as_asked { IfOk result (λ opened. IsOpenedAs 0 4 submitters opened.pipeline) }
+    ensures number { IfOk result (λ opened. length opened.pipeline.submitters ≡ submitters) }
 {
     open(alloc, 0, 4, capacity, credit, submitters)
 }
@@ -89,7 +90,9 @@ fn opened_lone(alloc: Global, capacity: u32, credit: u32) -> Result<Lone, Refusa
         mut submitters,
         control,
     } = opened(alloc, capacity, credit, 1)?;
-    let submitter = submitters.pop().ok_or(Refusal::BadSubmitters)?;
+    let Some(submitter) = submitters.pop() else {
+        return Err(Refusal::BadSubmitters);
+    };
     Ok(Lone {
         pipeline,
         submitter,

@@ -44,9 +44,9 @@ fn queue_one<R: Wait>(rt: &R, alloc: Global, packet: Packet) -> Result<Queued, F
     let Some(mut submitter) = submitters.pop() else {
         unreachable!()
     };
-    if submitter.submit(rt, alloc, packet).is_err() {
+    let Ok(_number) = submitter.submit(rt, alloc, packet) else {
         return Err("the packet is refused")?;
-    }
+    };
     let Ok(ended) = submitter.end(rt) else {
         return Err("the queue is full")?;
     };
@@ -85,11 +85,10 @@ fn settle_one<R: Threads + Wait + Sync>(
 }
 
 /// The reply that such a run has for its submitter: there is one.
-fn only_reply(report: Report) -> Reply
-    requires { (packet : PacketValue) × IsRunOfOne 0 packet report.ledger report.ends.items }
-    ensures { (packet : PacketValue) → IsRunOfOne 0 packet report.ledger report.ends.items → IsReplyToOne 0 packet result }
+fn only_reply(report: &mut Report) -> Reply
+    requires { (packet : PacketValue) × IsRunOfOne 0 packet report.old.ledger report.old.ends.items }
+    ensures { (packet : PacketValue) → IsRunOfOne 0 packet report.old.ledger report.old.ends.items → IsReplyToOne 0 packet result }
 {
-    let mut report = report;
     let Some(mut ended) = report.ends.pop() else {
         unreachable!()
     };
@@ -108,7 +107,8 @@ fn reply_to_one<R: Threads + Wait + Sync>(
     ensures { IfOk result (λ reply. IsReplyToOne 0 packet reply) }
 {
     let queued = queue_one(rt, alloc, packet)?;
-    Ok(only_reply(settle_one(rt, alloc, queued)?))
+    let mut report = settle_one(rt, alloc, queued)?;
+    Ok(only_reply(&mut report))
 }
 
 /// A packet that asks twice for account 1.
