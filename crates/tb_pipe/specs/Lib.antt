@@ -3,4 +3,3 @@ pub mod Outlets
 pub mod Stages
 pub mod Run
 pub mod Pulses
-pub mod Together

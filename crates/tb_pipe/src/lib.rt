@@ -9,8 +9,6 @@ mod routing;
 mod serving;
 mod settling;
 mod stages;
-#[cfg(test)]
-mod tests;
 mod waiting;
 
 pub use gate::{Gate, Open};

@@ -1,6 +1,0 @@
-use Rattle.std.proofs.Common.{◌≡◌, map}
-use Rattle.tb_submit.specs.Ends.{origin_of}
-use Rattle.tb_pipe.proofs.tests.queue_accounts.Given as goal
-
-abbrev pub invariant-loop-id : goal.invariant-loop-id
-invariant-loop-id g l = map origin_of l.submitters.items ≡ map origin_of l.initial.submitters.items

@@ -1,0 +1,143 @@
+-- The replies that are due in a run with one packet.
+use Rattle.std.proofs.Common.{◌≡◌, ◌<◌, ◌≤◌, ◌⊎◌, inl, inr, ℕ, zero, suc, ◌+◌, Bool, true, false, List, [], ◌∷◌, ◌++◌, map, length, get_or, length-append, sym, refl, ap, ◌∙◌, subst, arith}
+use Rattle.std.specs.Prelude.{◌==◌, slice_index_or, filter, if◌then◌else◌}
+use Rattle.std.specs.List.{AllByRecursion}
+use Rattle.std.proofs.lemmas.Bool.{eq-eqb, ne_eqb}
+use Rattle.tb_layout.specs.Work.{Work}
+use Rattle.tb_work.specs.Job.{Numbered, numbered}
+use Rattle.tb_work.specs.Queue.{part, items_in, ahead, ahead_of}
+use Rattle.tb_work.specs.Reply.{Replied, reply_with}
+use Rattle.tb_work.specs.Work.{work_of}
+use Rattle.tb_work.specs.declared.item.Item.{Item}
+use Rattle.tb_work.specs.declared.item.Item.TheVariants as item
+use Rattle.tb_work.specs.declared.item.Ticket.{Ticket}
+use Rattle.tb_work.specs.declared.packet.Packet.{Packet}
+use Rattle.tb_core.specs.Due.{all_due, all_due_from, due, outcome_at, reply_due, replies_to}
+use Rattle.tb_core.specs.Ledger.{LedgerState, works}
+use Rattle.tb_core.specs.Passage.{Place, Ahead, Behind, next_place}
+use Rattle.tb_submit.specs.Ends.{EndedState, IntakeState, Origin, Seat, SubmitterState, ended_with, new_submitter, replies_of, seat_at, with_item}
+use Rattle.tb_pipe_tests.specs.OnePacket.{IsReplyToOne, IsRunOfOne, one_and_end}
+
+-- ---- a queue in which all but one sender only end
+
+abbrev part_if : Bool → Ticket → ℕ → List Ticket → List Item
+part_if b ticket sender queue =
+    map (λ (t : Ticket). t.item) (if b then ticket ∷ filter (λ (t : Ticket). t.sender == sender) queue else filter (λ (t : Ticket). t.sender == sender) queue)
+
+abbrev AreEnds : List Item → Type 0
+AreEnds items = AllByRecursion (λ x. x ≡ item.End) items
+
+abbrev OthersEnd : List Ticket → Type 0
+OthersEnd queue = (sender : ℕ) → 0 < sender → AreEnds (part sender queue)
+
+behind_one : (b : Bool) (ticket : Ticket) (sender : ℕ) (queue : List Ticket) → AreEnds (part_if b ticket sender queue) → AreEnds (part sender queue)
+behind_one true ticket sender queue all = all.1
+behind_one false ticket sender queue all = all
+
+others_behind : (ticket : Ticket) (queue : List Ticket) → OthersEnd (ticket ∷ queue) → OthersEnd queue
+others_behind ticket queue others = λ sender above. behind_one (ticket.sender == sender) ticket sender queue (others sender above)
+
+is_end_of : (ticket : Ticket) (queue : List Ticket) → OthersEnd (ticket ∷ queue) → 0 < ticket.sender → ticket.item ≡ item.End
+is_end_of ticket queue others above =
+    (subst AreEnds (ap (λ b. part_if b ticket ticket.sender queue) (eq-eqb ticket.sender ticket.sender refl)) (others ticket.sender above)).0
+
+past_end : (place : Place) → next_place place item.End ≡ place
+past_end (Ahead k) = refl
+past_end Behind = refl
+
+-- what one ticket more adds to the part of sender 0
+abbrev Adds : Ticket → List Ticket → Type 0
+Adds ticket queue = ((ticket.sender ≡ 0) × (part 0 (ticket ∷ queue) ≡ ticket.item ∷ part 0 queue)) ⊎ ((0 < ticket.sender) × (part 0 (ticket ∷ queue) ≡ part 0 queue))
+
+adds : (ticket : Ticket) (queue : List Ticket) (k : ℕ) → ticket.sender ≡ k → Adds ticket queue
+adds ticket queue zero is = inl (is, ap (λ b. part_if b ticket 0 queue) (eq-eqb ticket.sender 0 is))
+adds ticket queue (suc k) is = inr (omega (arith, is), ap (λ b. part_if b ticket 0 queue) (ne_eqb ticket.sender 0 (λ e. absurd (omega (arith, is, e)))))
+
+pub due_to_first : (clock : ℕ) (done : List Work) (place : Place) (queue : List Ticket) → OthersEnd queue → all_due_from clock done place (items_in queue) ≡ all_due_from clock done place (part 0 queue)
+due_to_first clock done place [] others = refl
+due_to_first clock done place (ticket ∷ queue) others =
+    let rest : (p : Place) → all_due_from clock done p (items_in queue) ≡ all_due_from clock done p (part 0 queue)
+    = λ p. due_to_first clock done p queue (others_behind ticket queue others) in
+    elim (adds ticket queue ticket.sender refl) [
+      inl mine ↦ ap (λ more. reply_due (outcome_at clock done place) ticket.item ++ more) (rest (next_place place ticket.item)) ∙ ap (all_due_from clock done place) (sym mine.1)
+    | inr other ↦ ap (λ x. all_due_from clock done place (x ∷ items_in queue)) (is_end_of ticket queue others other.0) ∙ ap (λ p. all_due_from clock done p (items_in queue)) (past_end place) ∙ rest place
+      ∙ ap (all_due_from clock done place) (sym other.1)
+    ]
+
+pub ahead_of_first : (queue : List Ticket) → OthersEnd queue → ahead (items_in queue) ≡ ahead (part 0 queue)
+ahead_of_first [] others = refl
+ahead_of_first (ticket ∷ queue) others =
+    let rest = ahead_of_first queue (others_behind ticket queue others) in
+    elim (adds ticket queue ticket.sender refl) [
+      inl mine ↦ ap (ahead_of ticket.item) rest ∙ ap ahead (sym mine.1)
+    | inr other ↦ ap (λ x. ahead (x ∷ items_in queue)) (is_end_of ticket queue others other.0) ∙ rest ∙ ap ahead (sym other.1)
+    ]
+
+-- ---- one packet
+
+front_of_one : (done behind : List Work) (work : Work) → done ++ behind ≡ work ∷ [] → (done ≡ []) ⊎ (done ≡ work ∷ [])
+front_of_one [] behind work e = inl refl
+front_of_one (x ∷ []) behind work e = inr cc
+front_of_one (x ∷ y ∷ done) behind work e = cc
+
+others_end : (clock : ℕ) (packet : Packet) (ledger : LedgerState) (ends : List EndedState) (run : IsRunOfOne clock packet ledger ends) → OthersEnd run.queue
+others_end clock packet ledger ends run zero above = absurd (omega (arith, above))
+others_end clock packet ledger ends run (suc zero) above = subst AreEnds (sym (run.lawful.filled.parts 1 (omega arith) ∙ run.controlled)) (refl, tt)
+others_end clock packet ledger ends run (suc (suc k)) above = subst AreEnds (sym (run.lawful.filled.strangers (suc (suc k)) (omega arith))) tt
+
+abbrev one_reply : ℕ → List Work → Packet → Replied
+one_reply clock done packet = reply_with (outcome_at clock done (Ahead 0)) (numbered 0 0 packet)
+
+pub replies_to_one : (clock : ℕ) (packet : Packet) (ledger : LedgerState) (ends : List EndedState) → IsRunOfOne clock packet ledger ends → replies_of ends 0 ≡ one_reply clock (works ledger) packet ∷ []
+replies_to_one clock packet ledger ends run =
+    let first : part 0 run.queue ≡ one_and_end packet = run.lawful.filled.parts 0 (omega arith) ∙ run.submitted in
+    run.lawful.replied 0 (omega arith)
+    ∙ ap (λ replies. replies_to replies 0) (due_to_first clock (works ledger) (Ahead 0) run.queue (others_end clock packet ledger ends run) ∙ ap (all_due_from clock (works ledger) (Ahead 0)) first)
+
+reply_where : (clock : ℕ) (packet : Packet) (done : List Work) → (done ≡ []) ⊎ (done ≡ work_of (numbered 0 0 packet) ∷ []) → IsReplyToOne clock packet (one_reply clock done packet)
+reply_where clock packet done (inl none) = inl (ap (λ d. one_reply clock d packet) none)
+reply_where clock packet done (inr all) = inr (ap (λ d. one_reply clock d packet) all)
+
+pub is_reply : (clock : ℕ) (packet : Packet) (ledger : LedgerState) (ends : List EndedState) → IsRunOfOne clock packet ledger ends → IsReplyToOne clock packet (one_reply clock (works ledger) packet)
+is_reply clock packet ledger ends run =
+    let first : part 0 run.queue ≡ one_and_end packet = run.lawful.filled.parts 0 (omega arith) ∙ run.submitted in
+    reply_where clock packet (works ledger) (front_of_one (works ledger) run.lawful.behind (work_of (numbered 0 0 packet))
+    (run.lawful.committed ∙ ahead_of_first run.queue (others_end clock packet ledger ends run) ∙ ap ahead first))
+
+-- the one end has the reply still to read
+pub lies_for_one : (clock : ℕ) (packet : Packet) (ledger : LedgerState) (ends front : List EndedState) (ended : EndedState) → IsRunOfOne clock packet ledger ends → ends ≡ front ++ ended ∷ [] → ended.lying ≡ one_reply clock (works ledger) packet ∷ []
+lies_for_one clock packet ledger ends [] ended run is =
+    let unread : ended.read ≡ [] = ap (λ (l : List EndedState). (get_or l 0 ended).read) (sym is) ∙ run.unread ended in
+    ap (λ read. read ++ ended.lying) (sym unread) ∙ ap (λ l. replies_of l 0) (sym is) ∙ replies_to_one clock packet ledger ends run
+lies_for_one clock packet ledger ends (x ∷ front) ended run is =
+    let long : length ends ≡ suc (length front + 1) = ap length is ∙ ap suc (length-append front (ended ∷ [])) in
+    absurd (omega (arith, long, run.long))
+
+pub is_reply_read : (clock : ℕ) (packet : Packet) (ledger : LedgerState) (ends front : List EndedState) (ended : EndedState) (reply : Replied) (rest : List Replied) → IsRunOfOne clock packet ledger ends →
+    ends ≡ front ++ ended ∷ [] → ended.lying ≡ reply ∷ rest → IsReplyToOne clock packet reply
+is_reply_read clock packet ledger ends front ended reply rest run is lies =
+    let known = lies_for_one clock packet ledger ends front ended run is in
+    let same : one_reply clock (works ledger) packet ≡ reply = cc in
+    subst (IsReplyToOne clock packet) same (is_reply clock packet ledger ends run)
+
+-- what the one submitter has queued and read once it has ended
+pub queued_one : (packet : Packet) (credit number : ℕ) (intake : IntakeState) (origins : List Origin) (all front : List SubmitterState) (first next : SubmitterState) (ended : EndedState) → all ≡ map (new_submitter credit) origins → length origins ≡ 1 →
+    ((d : Origin) → (slice_index_or origins 0 d).seat ≡ seat_at intake 0) → all ≡ front ++ first ∷ [] → number ≡ length first.queued →
+    next ≡ with_item first (item.Packet (numbered first.origin.seat.number number packet)) → ended ≡ ended_with next item.End → (ended.queued ≡ one_and_end packet) × (ended.read ≡ [])
+queued_one packet credit number intake [] all front first next ended opened one seats is counted queued at = absurd (omega (arith, one))
+queued_one packet credit number intake (origin ∷ other ∷ origins) all front first next ended opened one seats is counted queued at = absurd (omega (arith, one))
+queued_one packet credit number intake (origin ∷ []) all (x ∷ front) first next ended opened one seats is counted queued at =
+    let long : suc (length front + 1) ≡ 1 = sym (ap suc (length-append front (first ∷ []))) ∙ ap length (sym is) ∙ ap length opened in
+    absurd (omega (arith, long))
+queued_one packet credit number intake (origin ∷ []) all [] first next ended opened one seats is counted queued at =
+    let same : first ∷ [] ≡ new_submitter credit origin ∷ [] = sym is ∙ opened in
+    let fresh : first ≡ new_submitter credit origin = cc in
+    let none : first.queued ≡ [] = ap (λ (s : SubmitterState). s.queued) fresh in
+    let zeroth : number ≡ 0 = counted ∙ ap length none in
+    let seat : first.origin.seat.number ≡ 0 = ap (λ (s : SubmitterState). s.origin.seat.number) fresh ∙ ap (λ (s : Seat). s.number) (seats origin) in
+    let its = ap (λ (e : EndedState). e.queued) at ∙ ap (λ (s : SubmitterState). s.queued ++ item.End ∷ []) queued in
+    (
+      its ∙ ap (λ (before : List Item). (before ++ item.Packet (numbered first.origin.seat.number number packet) ∷ []) ++ item.End ∷ []) none
+      ∙ ap (λ n. item.Packet (numbered n number packet) ∷ item.End ∷ []) seat ∙ ap (λ n. item.Packet (numbered 0 n packet) ∷ item.End ∷ []) zeroth,
+      ap (λ (e : EndedState). e.read) at ∙ ap (λ (s : SubmitterState). s.read) queued ∙ ap (λ (s : SubmitterState). s.read) fresh
+    )

@@ -1,0 +1,2 @@
+pub mod OnePacket
+pub mod Together

@@ -1,0 +1,351 @@
+//! Senders in a thread of their own, while the pipeline is served.
+
+ghost use Rattle.std.specs.Prelude.{◌≡◌, ◌++◌, ◌∷◌, [], map, IfOk};
+ghost use Rattle.tb_submit.specs.Ends.{origin_of, end_origin, control_seat};
+ghost use Rattle.tb_pipe_tests.specs.Together.{IsRun};
+
+use super::{CREATE_ACCOUNTS, MOST_TURNS, Told, clock, end_all, opened, packet_of, put, submit, told_by};
+use std::alloc::Global;
+use std::snapshot::Snapshot;
+use std::sync::Wait;
+use std::test::Fail;
+use std::thread;
+use std::thread::{Promise, Threads};
+use tb_pipe::{Open, Opened, Pipeline, Report, settle};
+use tb_submit::{Control, ControlEnd, Ended, Submitter};
+use tb_work::{Packet, Refusal};
+
+/// What a driver does.
+#[derive(Clone, Copy)]
+pub(super) enum Course {
+    /// A packet and its reply, the Close, a packet and its reply, and a third packet.
+    RoundClose,
+    /// Two replies are read to what was queued before, and then a packet is submitted.
+    ReadTwo,
+    /// Fifty packets, each tried again where the queue is full or a reply is still unread.
+    Fifty,
+}
+
+/// What a driver saw.
+#[derive(Clone, Copy, Debug, PartialEq, Eq)]
+pub(super) enum Saw {
+    /// Two replies, and why the packet after them was refused.
+    Replies(Option<Told>, Option<Told>, Option<Refusal>),
+    /// So many replies, the first committed at place 0 and each of the others at the next place.
+    Places(u64),
+}
+
+/// The ends of one submitter and of the control, and what their driver saw.
+#[derive(Drop)]
+struct Driven {
+    ended: Ended,
+    control: ControlEnd,
+    saw: Saw,
+}
+
+/// The ends that come back are those of the senders that were handed over.
+#[derive(Drop)]
+struct ComesBack {
+    submitter: Snapshot<Submitter>,
+    control: Snapshot<Control>,
+}
+
+impl Promise<Driven> for ComesBack {
+    ghost use Rattle.std.specs.Prelude.{◌≡◌};
+    ghost use Rattle.tb_submit.specs.Ends.{origin_of, end_origin};
+
+    ghost kept_by = { λ p r. (end_origin r.ended ≡ origin_of p.submitter.value) × (r.control.seat ≡ p.control.value.seat) };
+}
+
+/// Ends a submitter, again and again while the queue is full.
+fn end<R: Wait>(rt: &R, submitter: Submitter) -> Ended
+    ensures { end_origin result ≡ origin_of submitter }
+{
+    let mut submitter = submitter;
+    for _ in rt.forever() {
+        match submitter.end(rt) {
+            Ok(ended) => return ended,
+            Err((back, _)) => submitter = back,
+        }
+        thread::yield_now();
+    }
+    unreachable!()
+}
+
+fn end_control<R: Wait>(rt: &R, control: Control, shut: bool) -> ControlEnd
+    ensures { result.seat ≡ control.seat }
+{
+    let mut control = control;
+    for _ in rt.forever() {
+        let ended = if shut {
+            control.shut(rt)
+        } else {
+            control.end(rt)
+        };
+        match ended {
+            Ok(end) => return end,
+            Err((back, _)) => control = back,
+        }
+        thread::yield_now();
+    }
+    unreachable!()
+}
+
+/// The next reply; None where it doesn't come in time.
+fn wait_for_reply(submitter: &mut Submitter) -> Option<Told>
+    ensures { origin_of submitter.new ≡ origin_of submitter.old }
+{
+    for _ in 0..MOST_TURNS {
+        if let Some(reply) = submitter.reply() {
+            return Some(told_by(&reply));
+        }
+        thread::yield_now();
+    }
+    None
+}
+
+/// Queues a packet with this account and waits for its reply.
+fn round<R: Wait>(rt: &R, alloc: Global, submitter: &mut Submitter, id: u8) -> Option<Told>
+    ensures { origin_of submitter.new ≡ origin_of submitter.old }
+{
+    let packet = packet_of(alloc, CREATE_ACCOUNTS, id).ok()?;
+    submit(rt, alloc, submitter, packet).ok()?;
+    wait_for_reply(submitter)
+}
+
+/// Why a packet of an unknown operation, without events, is refused; it takes no memory.
+fn refusal<R: Wait>(rt: &R, alloc: Global, submitter: &mut Submitter) -> Option<Refusal>
+    ensures { origin_of submitter.new ≡ origin_of submitter.old }
+{
+    let packet = packet_of(alloc, 200, 0).ok()?;
+    match submit(rt, alloc, submitter, packet) {
+        Ok(_) => None,
+        Err((_, refusal)) => Some(refusal),
+    }
+}
+
+fn drive_round_close<R: Wait>(
+    rt: &R,
+    alloc: Global,
+    submitter: Submitter,
+    control: Control,
+) -> Driven
+    ensures { (end_origin result.ended ≡ origin_of submitter) × (result.control.seat ≡ control.seat) }
+{
+    let mut submitter = submitter;
+    let first = round(rt, alloc, &mut submitter, 1);
+    let control = end_control(rt, control, true);
+    let second = round(rt, alloc, &mut submitter, 2);
+    let third = refusal(rt, alloc, &mut submitter);
+    Driven {
+        ended: end(rt, submitter),
+        control,
+        saw: Saw::Replies(first, second, third),
+    }
+}
+
+fn drive_read_two<R: Wait>(rt: &R, alloc: Global, submitter: Submitter, control: Control) -> Driven
+    ensures { (end_origin result.ended ≡ origin_of submitter) × (result.control.seat ≡ control.seat) }
+{
+    let mut submitter = submitter;
+    let control = end_control(rt, control, false);
+    let first = wait_for_reply(&mut submitter);
+    let second = wait_for_reply(&mut submitter);
+    let third = refusal(rt, alloc, &mut submitter);
+    Driven {
+        ended: end(rt, submitter),
+        control,
+        saw: Saw::Replies(first, second, third),
+    }
+}
+
+/// Reads a reply where there is one, and counts it where it is committed at the next place.
+fn read_one(submitter: &mut Submitter, next: &mut u64)
+    ensures { origin_of submitter.new ≡ origin_of submitter.old }
+{
+    if let Some(reply) = submitter.reply() {
+        if told_by(&reply) == Told::Committed(*next) {
+            *next = next.wrapping_add(1);
+        }
+    }
+}
+
+/// Submits a packet until it is queued or refused for another reason than a full queue or the credit, and reads
+/// replies meanwhile.
+fn submit_trying<R: Wait>(
+    rt: &R,
+    alloc: Global,
+    submitter: &mut Submitter,
+    packet: Packet,
+    next: &mut u64,
+)
+    ensures { origin_of submitter.new ≡ origin_of submitter.old }
+{
+    let mut packet = packet;
+    for _ in 0..MOST_TURNS {
+        match submit(rt, alloc, submitter, packet) {
+            Err((back, Refusal::InFlight)) => packet = back,
+            Err((back, Refusal::Full)) => packet = back,
+            _ => return,
+        }
+        read_one(submitter, next);
+        thread::yield_now();
+    }
+}
+
+fn submit_fifty<R: Wait>(rt: &R, alloc: Global, submitter: &mut Submitter) -> u64
+    ensures { origin_of submitter.new ≡ origin_of submitter.old }
+{
+    let mut next = 0;
+    for id in 1..51u8 {
+        if let Ok(packet) = packet_of(alloc, CREATE_ACCOUNTS, id) {
+            submit_trying(rt, alloc, submitter, packet, &mut next);
+        }
+    }
+    next
+}
+
+fn drive_fifty<R: Wait>(rt: &R, alloc: Global, submitter: Submitter, control: Control) -> Driven
+    ensures { (end_origin result.ended ≡ origin_of submitter) × (result.control.seat ≡ control.seat) }
+{
+    let mut submitter = submitter;
+    let mut places = submit_fifty(rt, alloc, &mut submitter);
+    if wait_for_reply(&mut submitter) == Some(Told::Committed(places)) {
+        places = places.wrapping_add(1);
+    }
+    let control = end_control(rt, control, false);
+    Driven {
+        ended: end(rt, submitter),
+        control,
+        saw: Saw::Places(places),
+    }
+}
+
+fn drive<R: Wait>(
+    rt: &R,
+    alloc: Global,
+    submitter: Submitter,
+    control: Control,
+    course: Course,
+) -> Driven
+    ensures { (end_origin result.ended ≡ origin_of submitter) × (result.control.seat ≡ control.seat) }
+{
+    match course {
+        Course::RoundClose => drive_round_close(rt, alloc, submitter, control),
+        Course::ReadTwo => drive_read_two(rt, alloc, submitter, control),
+        Course::Fifty => drive_fifty(rt, alloc, submitter, control),
+    }
+}
+
+/// A pipeline, the ends of the submitters that have ended, the last submitter, and the control.
+#[derive(Drop)]
+pub(super) struct Driving {
+    pub(super) pipeline: Pipeline,
+    pub(super) ends: Vec<Ended>,
+    pub(super) last: Submitter,
+    pub(super) control: Control,
+}
+
+/// A thread drives the last submitter and the control. The report, and what the driver saw. From opening to the
+/// report it is proved lawful by the clauses of the calls alone.
+pub(super) fn run<R: Threads + Wait + Sync>(
+    rt: &R,
+    alloc: Global,
+    driving: Driving,
+    course: Course,
+) -> Result<(Report, Saw), Refusal>
+    requires own { map end_origin driving.ends.items ++ origin_of driving.last ∷ [] ≡ driving.pipeline.submitters }
+    requires control { driving.control.seat ≡ control_seat driving.pipeline.intake }
+    ensures { IfOk result (λ run. IsRun driving.pipeline.clock driving.pipeline.intake.limit driving.pipeline.intake.submitters run.0.ledger run.0.ends.items) }
+{
+    let Driving {
+        pipeline,
+        ends,
+        last,
+        control,
+    } = driving;
+    thread::scope(
+        thread::scope_env(),
+        rt,
+        |scope| -> Result<(Report, Saw), Refusal>
+            requires own { map end_origin ends.items ++ origin_of last ∷ [] ≡ pipeline.submitters }
+            requires control { control.seat ≡ control_seat pipeline.intake }
+            ensures { IfOk result (λ run. IsRun pipeline.clock pipeline.intake.limit pipeline.intake.submitters run.0.ledger run.0.ends.items) }
+        {
+            let mut ends = ends;
+            let promise = ComesBack {
+                submitter: Snapshot::of(&last),
+                control: Snapshot::of(&control),
+            };
+            let Ok(driver) = scope.spawn_with(
+                promise,
+                move || -> Driven
+                    ensures { (end_origin result.ended ≡ origin_of last) × (result.control.seat ≡ control.seat) }
+                { drive(rt, alloc, last, control, course) },
+            ) else {
+                return Err(Refusal::NoThread);
+            };
+            let Ok(served) = pipeline.serve(rt, &Open) else {
+                return Err(Refusal::NoThread);
+            };
+            let Driven {
+                ended,
+                control,
+                saw,
+            } = driver.join(rt);
+            put(&mut ends, ended)?;
+            Ok((settle(served, ends, control), saw))
+        },
+    )
+}
+
+/// Opens for so many submitters, of which all but the last end at once.
+fn opened_driving<R: Wait>(
+    rt: &R,
+    alloc: Global,
+    capacity: u32,
+    credit: u32,
+    submitters: u32,
+) -> Result<Driving, Fail>
+    ensures own { IfOk result (λ driving. map end_origin driving.ends.items ++ origin_of driving.last ∷ [] ≡ driving.pipeline.submitters) }
+    ensures control { IfOk result (λ driving. driving.control.seat ≡ control_seat driving.pipeline.intake) }
+{
+    let Opened {
+        pipeline,
+        mut submitters,
+        control,
+    } = opened(alloc, capacity, credit, submitters)?;
+    let last = submitters.pop().ok_or("no submitter")?;
+    let ends = end_all(rt, alloc, submitters)?;
+    Ok(Driving {
+        pipeline,
+        ends,
+        last,
+        control,
+    })
+}
+
+#[test]
+fn close_between_two_packets(rt: HostRuntime) -> Result<(), Fail> {
+    let wanted = Saw::Replies(
+        Some(Told::Committed(0)),
+        Some(Told::Shutdown),
+        Some(Refusal::Shutdown),
+    );
+    for submitters in [1, 2, 16] {
+        let driving = opened_driving(&rt, rt.alloc(), 64, 64, submitters)?;
+        let (report, saw) = run(&rt, rt.alloc(), driving, Course::RoundClose)?;
+        assert_eq!(rt; saw, wanted);
+        assert_eq!(rt; clock(&report), 1);
+    }
+    Ok(())
+}
+
+#[test]
+fn one_place_one_credit(rt: HostRuntime) -> Result<(), Fail> {
+    let driving = opened_driving(&rt, rt.alloc(), 1, 1, 1)?;
+    let (report, saw) = run(&rt, rt.alloc(), driving, Course::Fifty)?;
+    assert_eq!(rt; saw, Saw::Places(50));
+    assert_eq!(rt; clock(&report), 50);
+    Ok(())
+}

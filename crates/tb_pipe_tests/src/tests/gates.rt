@@ -1,0 +1,104 @@
+//! What the gate sees: batches sealed ahead of their commits, and both stages at once.
+
+use super::queued::{Step, run_queued};
+use super::{CREATE_ACCOUNTS, CREATE_TRANSFERS, MOST_TURNS, Told, replies};
+use std::sync::atomic::Ordering::SeqCst;
+use std::sync::atomic::{AtomicBool, AtomicU64};
+use std::test::Fail;
+use std::thread;
+use tb_pipe::Gate;
+
+/// Gives way until a counter has reached a number; false where it doesn't in time.
+fn waits_for(counter: &AtomicU64, number: u64) -> bool {
+    for _ in 0..MOST_TURNS {
+        if counter.load(SeqCst) >= number {
+            return true;
+        }
+        thread::yield_now();
+    }
+    false
+}
+
+/// Holds batch 0 until so many batches were sealed, and, where both are to meet, the last of these seals until
+/// batch 0 was asked for.
+#[derive(Drop)]
+struct Meeting {
+    sealed: AtomicU64,
+    asked: AtomicU64,
+    number: u64,
+    both: bool,
+    marked: AtomicBool,
+}
+
+impl Meeting {
+    fn new(number: u64, both: bool) -> Meeting {
+        Meeting {
+            sealed: AtomicU64::new(0),
+            asked: AtomicU64::new(0),
+            number,
+            both,
+            marked: AtomicBool::new(false),
+        }
+    }
+}
+
+impl Gate for Meeting {
+    fn sealed(&self, batch: u64) {
+        self.sealed.store(batch.wrapping_add(1), SeqCst);
+        let meets = self.both && batch.wrapping_add(1) == self.number;
+        if meets && !waits_for(&self.asked, 1) {
+            self.marked.store(true, SeqCst);
+        }
+    }
+
+    fn may_commit(&self, batch: u64) -> bool {
+        self.asked.store(batch.wrapping_add(1), SeqCst);
+        if batch == 0 && !waits_for(&self.sealed, self.number) {
+            self.marked.store(true, SeqCst);
+        }
+        true
+    }
+}
+
+/// A packet of accounts without events, and one of transfers.
+const EMPTY: [Step; 2] = [
+    Step::Packet(CREATE_ACCOUNTS, 0),
+    Step::Packet(CREATE_TRANSFERS, 0),
+];
+
+#[test]
+fn batcher_and_committer_overlap(rt: HostRuntime) -> Result<(), Fail> {
+    let gate = Meeting::new(2, true);
+    let mut report = run_queued(&rt, rt.alloc(), &EMPTY, false, &[], &gate)?;
+    assert!(rt; !gate.marked.load(SeqCst));
+    let told = replies(rt.alloc(), &mut report, 0)?;
+    assert_eq!(rt; told.as_slice(), [Told::Committed(0), Told::Committed(1)].as_slice());
+    Ok(())
+}
+
+/// The same two in turn, twenty in all.
+fn twenty_in_turn() -> [Step; 20] {
+    let mut steps = [EMPTY[0]; 20];
+    for k in 0..20usize {
+        steps[k] = EMPTY[k % 2];
+    }
+    steps
+}
+
+fn twenty_places() -> [Told; 20] {
+    let mut told = [Told::Stopped; 20];
+    for place in 0..20usize {
+        told[place] = Told::Committed(place as u64);
+    }
+    told
+}
+
+#[test]
+fn six_batches_sealed_ahead(rt: HostRuntime) -> Result<(), Fail> {
+    let gate = Meeting::new(6, false);
+    let mut report = run_queued(&rt, rt.alloc(), &twenty_in_turn(), false, &[], &gate)?;
+    assert!(rt; !gate.marked.load(SeqCst));
+    let told = replies(rt.alloc(), &mut report, 0)?;
+    assert_eq!(rt; told.as_slice(), twenty_places().as_slice());
+    Ok(())
+}

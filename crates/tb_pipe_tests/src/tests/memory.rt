@@ -1,0 +1,254 @@
+//! What is tried with each allocation refused in turn, by `tools/refuse-each-growth`. Which allocation is the one that
+//! is refused differs from run to run, since the stages and the test itself take memory at once: so the tests look at
+//! the answers alone, and ask once more for what they need themselves.
+
+ghost use Rattle.std.specs.Prelude.{◌≡◌, ◌++◌, ◌∷◌, [], map, IfOk};
+ghost use Rattle.tb_submit.specs.Ends.{origin_of, end_origin, control_seat};
+ghost use Rattle.tb_pipe_tests.specs.Together.{AreTogether};
+
+use super::driven::{Course, Driving, Saw, run};
+use super::{
+    CREATE_ACCOUNTS, Lone, Told, clock, end_control, end_one, holds, opened_lone, packet_of,
+    queue_pulse, room_for_ends, submit, told_by,
+};
+use std::alloc::{AllocError, Global};
+use std::sync::Wait;
+use std::test::Fail;
+use tb_pipe::{Open, Pipeline, Report, settle};
+use tb_submit::{Control, ControlEnd, Ended, Intake, Submitter};
+use tb_work::{Item, Packet, Refusal, Ticket};
+
+fn packet_again(alloc: Global, id: u8) -> Result<Packet, AllocError> {
+    match packet_of(alloc, CREATE_ACCOUNTS, id) {
+        Ok(packet) => Ok(packet),
+        Err(_) => packet_of(alloc, CREATE_ACCOUNTS, id),
+    }
+}
+
+/// A pipeline of one submitter, opened once more where that is refused for want of memory; whether it was.
+fn open_again(alloc: Global) -> Result<(Lone, bool), Fail>
+    ensures { IfOk result (λ made. AreTogether made.0.pipeline (made.0.submitter ∷ []) made.0.control) }
+{
+    match opened_lone(alloc, 64, 64) {
+        Ok(lone) => Ok((lone, false)),
+        Err(refusal) => {
+            holds(refusal == Refusal::NoMemory, "not for want of memory")?;
+            Ok((opened_lone(alloc, 64, 64)?, true))
+        }
+    }
+}
+
+/// Submits a packet with this account, once more where that is refused for want of memory; whether it was.
+fn submit_again<R: Wait>(
+    rt: &R,
+    alloc: Global,
+    submitter: &mut Submitter,
+    id: u8,
+) -> Result<bool, Fail>
+    ensures { origin_of submitter.new ≡ origin_of submitter.old }
+{
+    let packet = packet_again(alloc, id)?;
+    match submit(rt, alloc, submitter, packet) {
+        Ok(_) => Ok(false),
+        Err((back, refusal)) => {
+            holds(refusal == Refusal::NoMemory, "not for want of memory")?;
+            let queued = submit(rt, alloc, submitter, back).is_ok();
+            holds(queued, "it is refused once more")?;
+            Ok(true)
+        }
+    }
+}
+
+/// Two accounts, a pulse, and four accounts, each in its packet; whether a packet was refused at first.
+fn queue_seven<R: Wait>(
+    rt: &R,
+    alloc: Global,
+    submitter: &mut Submitter,
+    control: &mut Control,
+) -> Result<bool, Fail>
+    ensures submitter { origin_of submitter.new ≡ origin_of submitter.old }
+    ensures control { control.new.seat ≡ control.old.seat }
+{
+    let mut told = false;
+    for id in 1..7u8 {
+        if id == 3 {
+            queue_pulse(rt, control, 5)?;
+        }
+        if submit_again(rt, alloc, submitter, id)? {
+            told = true;
+        }
+    }
+    Ok(told)
+}
+
+/// A pipeline with all that is queued for it, and whether a want of memory was told meanwhile.
+#[derive(Drop)]
+struct Queued {
+    pipeline: Pipeline,
+    ends: Vec<Ended>,
+    control: ControlEnd,
+    told: bool,
+}
+
+fn all_queued<R: Wait>(rt: &R, alloc: Global) -> Result<Queued, Fail>
+    ensures ends { IfOk result (λ queued. map end_origin queued.ends.items ≡ queued.pipeline.submitters) }
+    ensures control { IfOk result (λ queued. queued.control.seat ≡ control_seat queued.pipeline.intake) }
+{
+    let mut ends = room_for_ends(alloc)?;
+    let (lone, opening) = open_again(alloc)?;
+    let Lone {
+        pipeline,
+        mut submitter,
+        mut control,
+    } = lone;
+    let submitting = queue_seven(rt, alloc, &mut submitter, &mut control)?;
+    let control = end_control(rt, control, false)?;
+    end_one(rt, &mut ends, submitter)?;
+    Ok(Queued {
+        pipeline,
+        ends,
+        control,
+        told: opening || submitting,
+    })
+}
+
+/// What a ticket says: a packet with its number, or a pulse with its moment.
+#[derive(Clone, Copy, Debug, PartialEq, Eq)]
+enum Said {
+    Packet(u64),
+    Pulse(u64),
+    End,
+    Close,
+}
+
+fn said_by(ticket: &Ticket) -> (u32, Said) {
+    let said = match &ticket.item {
+        Item::Packet(job) => Said::Packet(job.stub().number),
+        Item::Pulse(moment) => Said::Pulse(moment.get()),
+        Item::End => Said::End,
+        Item::Close => Said::Close,
+    };
+    (ticket.sender, said)
+}
+
+/// The first ten tickets of a queue, each with its sender.
+fn ten_tickets<R: Wait>(rt: &R, intake: &mut Intake) -> [Option<(u32, Said)>; 10] {
+    let mut tickets = [None; 10];
+    for k in 0..10usize {
+        tickets[k] = intake.take(rt).map(|ticket| said_by(&ticket));
+    }
+    tickets
+}
+
+/// The first seven replies to submitter 0.
+fn seven_replies(report: &mut Report) -> [Option<Told>; 7] {
+    let mut replies = [None; 7];
+    if let Some(ended) = report.ends.get_mut(0) {
+        for k in 0..7usize {
+            replies[k] = ended.reply().map(|reply| told_by(&reply));
+        }
+    }
+    replies
+}
+
+/// The replies to the six packets of the seven items, of which so many are committed.
+fn replies_where(committed: u64) -> [Option<Told>; 7] {
+    let mut replies = [None; 7];
+    let places = [0, 1, 3, 4, 5, 6];
+    for k in 0..6usize {
+        replies[k] = Some(if places[k] < committed {
+            Told::Committed(places[k])
+        } else {
+            Told::Stopped
+        });
+    }
+    replies
+}
+
+/// The clock where so many of the seven items are committed.
+const CLOCKS: [u64; 8] = [0, 1, 2, 5, 6, 7, 8, 9];
+
+#[test]
+fn each_growth_refused_memory(rt: HostRuntime) -> Result<(), Fail> {
+    let Queued {
+        pipeline,
+        ends,
+        control,
+        told,
+    } = all_queued(&rt, rt.alloc())?;
+    match pipeline.serve(&rt, &Open) {
+        Ok(served) => {
+            let mut report = settle(served, ends, control);
+            let committed = report.ledger.places();
+            assert!(rt; committed < 7 && !told || committed == 7);
+            assert_eq!(rt; clock(&report), CLOCKS[committed as usize]);
+            assert_eq!(rt; seven_replies(&mut report), replies_where(committed));
+        }
+        Err((mut intake, refusal)) => {
+            assert_eq!(rt; refusal, Refusal::NoThread);
+            assert_eq!(rt; ten_tickets(&rt, &mut intake), ALL_TICKETS);
+        }
+    }
+    Ok(())
+}
+
+/// The tickets of the seven items and of both ends, in order, and nothing behind them.
+const ALL_TICKETS: [Option<(u32, Said)>; 10] = [
+    Some((0, Said::Packet(0))),
+    Some((0, Said::Packet(1))),
+    Some((1, Said::Pulse(5))),
+    Some((0, Said::Packet(2))),
+    Some((0, Said::Packet(3))),
+    Some((0, Said::Packet(4))),
+    Some((0, Said::Packet(5))),
+    Some((1, Said::End)),
+    Some((0, Said::End)),
+    None,
+];
+
+/// A pipeline for which two accounts, each in its packet, and a pulse are queued.
+fn three_queued<R: Wait>(rt: &R, alloc: Global) -> Result<Driving, Fail>
+    ensures own { IfOk result (λ driving. map end_origin driving.ends.items ++ origin_of driving.last ∷ [] ≡ driving.pipeline.submitters) }
+    ensures control { IfOk result (λ driving. driving.control.seat ≡ control_seat driving.pipeline.intake) }
+{
+    let ends = room_for_ends(alloc)?;
+    let (lone, _) = open_again(alloc)?;
+    let Lone {
+        pipeline,
+        submitter: mut last,
+        mut control,
+    } = lone;
+    submit_again(rt, alloc, &mut last, 1)?;
+    submit_again(rt, alloc, &mut last, 2)?;
+    queue_pulse(rt, &mut control, 5)?;
+    Ok(Driving {
+        pipeline,
+        ends,
+        last,
+        control,
+    })
+}
+
+/// Where the first commit is refused the journal stays empty, and the submitter is told twice, and then by a refusal.
+#[test]
+fn first_commit_refused_memory(rt: HostRuntime) -> Result<(), Fail> {
+    let driving = three_queued(&rt, rt.alloc())?;
+    let (report, saw) = match run(&rt, rt.alloc(), driving, Course::ReadTwo) {
+        Ok(ran) => ran,
+        Err(refusal) => {
+            assert_eq!(rt; refusal, Refusal::NoThread);
+            return Ok(());
+        }
+    };
+    if report.ledger.places() == 0 {
+        assert_eq!(rt; saw, ALL_STOPPED);
+        assert_eq!(rt; clock(&report), 0);
+    }
+    Ok(())
+}
+
+const ALL_STOPPED: Saw = Saw::Replies(
+    Some(Told::Stopped),
+    Some(Told::Stopped),
+    Some(Refusal::Stopped),
+);
