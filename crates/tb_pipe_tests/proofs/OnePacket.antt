@@ -4,7 +4,7 @@ use Rattle.std.specs.Prelude.{◌==◌, slice_index_or, filter, if◌then◌else
 use Rattle.std.specs.List.{AllByRecursion}
 use Rattle.std.proofs.lemmas.Bool.{eq-eqb, ne_eqb}
 use Rattle.tb_layout.specs.Work.{Work}
-use Rattle.tb_work.specs.Job.{Numbered, numbered}
+use Rattle.tb_work.specs.Job.{Numbered, numbered_packet}
 use Rattle.tb_work.specs.Queue.{part, items_in, ahead, ahead_of}
 use Rattle.tb_work.specs.Reply.{Replied, reply_with}
 use Rattle.tb_work.specs.Work.{work_of}
@@ -86,7 +86,7 @@ others_end clock packet ledger ends run (suc zero) above = subst AreEnds (sym (r
 others_end clock packet ledger ends run (suc (suc k)) above = subst AreEnds (sym (run.lawful.filled.strangers (suc (suc k)) (omega arith))) tt
 
 abbrev one_reply : ℕ → List Work → Packet → Replied
-one_reply clock done packet = reply_with (outcome_at clock done (Ahead 0)) (numbered 0 0 packet)
+one_reply clock done packet = reply_with (outcome_at clock done (Ahead 0)) (numbered_packet 0 0 packet)
 
 pub replies_to_one : (clock : ℕ) (packet : Packet) (ledger : LedgerState) (ends : List EndedState) → IsRunOfOne clock packet ledger ends → replies_of ends 0 ≡ one_reply clock (works ledger) packet ∷ []
 replies_to_one clock packet ledger ends run =
@@ -94,14 +94,14 @@ replies_to_one clock packet ledger ends run =
     run.lawful.replied 0 (omega arith)
     ∙ ap (λ replies. replies_to replies 0) (due_to_first clock (works ledger) (Ahead 0) run.queue (others_end clock packet ledger ends run) ∙ ap (all_due_from clock (works ledger) (Ahead 0)) first)
 
-reply_where : (clock : ℕ) (packet : Packet) (done : List Work) → (done ≡ []) ⊎ (done ≡ work_of (numbered 0 0 packet) ∷ []) → IsReplyToOne clock packet (one_reply clock done packet)
+reply_where : (clock : ℕ) (packet : Packet) (done : List Work) → (done ≡ []) ⊎ (done ≡ work_of (numbered_packet 0 0 packet) ∷ []) → IsReplyToOne clock packet (one_reply clock done packet)
 reply_where clock packet done (inl none) = inl (ap (λ d. one_reply clock d packet) none)
 reply_where clock packet done (inr all) = inr (ap (λ d. one_reply clock d packet) all)
 
 pub is_reply : (clock : ℕ) (packet : Packet) (ledger : LedgerState) (ends : List EndedState) → IsRunOfOne clock packet ledger ends → IsReplyToOne clock packet (one_reply clock (works ledger) packet)
 is_reply clock packet ledger ends run =
     let first : part 0 run.queue ≡ one_and_end packet = run.lawful.filled.parts 0 (omega arith) ∙ run.submitted in
-    reply_where clock packet (works ledger) (front_of_one (works ledger) run.lawful.behind (work_of (numbered 0 0 packet))
+    reply_where clock packet (works ledger) (front_of_one (works ledger) run.lawful.behind (work_of (numbered_packet 0 0 packet))
     (run.lawful.committed ∙ ahead_of_first run.queue (others_end clock packet ledger ends run) ∙ ap ahead first))
 
 -- the one end has the reply still to read
@@ -123,7 +123,7 @@ is_reply_read clock packet ledger ends front ended reply rest run is lies =
 -- what the one submitter has queued and read once it has ended
 pub queued_one : (packet : Packet) (credit number : ℕ) (intake : IntakeState) (origins : List Origin) (all front : List SubmitterState) (first next : SubmitterState) (ended : EndedState) → all ≡ map (new_submitter credit) origins → length origins ≡ 1 →
     ((d : Origin) → (slice_index_or origins 0 d).seat ≡ seat_at intake 0) → all ≡ front ++ first ∷ [] → number ≡ length first.queued →
-    next ≡ with_item first (item.Packet (numbered first.origin.seat.number number packet)) → ended ≡ ended_with next item.End → (ended.queued ≡ one_and_end packet) × (ended.read ≡ [])
+    next ≡ with_item first (item.Packet (numbered_packet first.origin.seat.number number packet)) → ended ≡ ended_with next item.End → (ended.queued ≡ one_and_end packet) × (ended.read ≡ [])
 queued_one packet credit number intake [] all front first next ended opened one seats is counted queued at = absurd (omega (arith, one))
 queued_one packet credit number intake (origin ∷ other ∷ origins) all front first next ended opened one seats is counted queued at = absurd (omega (arith, one))
 queued_one packet credit number intake (origin ∷ []) all (x ∷ front) first next ended opened one seats is counted queued at =
@@ -137,7 +137,7 @@ queued_one packet credit number intake (origin ∷ []) all [] first next ended o
     let seat : first.origin.seat.number ≡ 0 = ap (λ (s : SubmitterState). s.origin.seat.number) fresh ∙ ap (λ (s : Seat). s.number) (seats origin) in
     let its = ap (λ (e : EndedState). e.queued) at ∙ ap (λ (s : SubmitterState). s.queued ++ item.End ∷ []) queued in
     (
-      its ∙ ap (λ (before : List Item). (before ++ item.Packet (numbered first.origin.seat.number number packet) ∷ []) ++ item.End ∷ []) none
-      ∙ ap (λ n. item.Packet (numbered n number packet) ∷ item.End ∷ []) seat ∙ ap (λ n. item.Packet (numbered 0 n packet) ∷ item.End ∷ []) zeroth,
+      its ∙ ap (λ (before : List Item). (before ++ item.Packet (numbered_packet first.origin.seat.number number packet) ∷ []) ++ item.End ∷ []) none
+      ∙ ap (λ n. item.Packet (numbered_packet n number packet) ∷ item.End ∷ []) seat ∙ ap (λ n. item.Packet (numbered_packet 0 n packet) ∷ item.End ∷ []) zeroth,
       ap (λ (e : EndedState). e.read) at ∙ ap (λ (s : SubmitterState). s.read) queued ∙ ap (λ (s : SubmitterState). s.read) fresh
     )

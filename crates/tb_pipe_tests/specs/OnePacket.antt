@@ -4,7 +4,7 @@ use Rattle.tb_core.specs.Ledger.{LedgerState, works}
 use Rattle.tb_core.specs.Report.{LawfulReport}
 use Rattle.tb_machine.specs.Replay.{answer_of, opening, replay}
 use Rattle.tb_submit.specs.Ends.{EndedState, replies_of}
-use Rattle.tb_work.specs.Job.{events_in, numbered}
+use Rattle.tb_work.specs.Job.{events_in, numbered_packet}
 use Rattle.tb_work.specs.Reply.{Replied, reply_with}
 use Rattle.tb_work.specs.declared.item.Item.{Item}
 use Rattle.tb_work.specs.declared.item.Item.TheVariants as item
@@ -14,7 +14,7 @@ use Rattle.tb_work.specs.declared.packet.Packet.{Packet}
 
 -- what a submitter has queued that queued one packet and ended
 abbrev pub one_and_end : Packet → List Item
-one_and_end packet = item.Packet (numbered 0 0 packet) ∷ item.End ∷ []
+one_and_end packet = item.Packet (numbered_packet 0 0 packet) ∷ item.End ∷ []
 
 -- the report is lawful of a queue that one submitter filled so; the control only ended, and no reply was read yet
 pub record IsRunOfOne (clock : ℕ) (packet : Packet) (ledger : LedgerState) (ends : List EndedState) : Type 0 where
@@ -29,4 +29,4 @@ pub record IsRunOfOne (clock : ℕ) (packet : Packet) (ledger : LedgerState) (en
 -- the packet as it was handed in, Stopped, or committed at place 0 and answered by the state that was opened
 abbrev pub IsReplyToOne : ℕ → Packet → Replied → Type 0
 IsReplyToOne clock packet reply =
-    (reply ≡ reply_with Stopped (numbered 0 0 packet)) ⊎ (reply ≡ reply_with (Committed 0 (answer_of (opening clock) (events_in packet))) (numbered 0 0 packet))
+    (reply ≡ reply_with Stopped (numbered_packet 0 0 packet)) ⊎ (reply ≡ reply_with (Committed 0 (answer_of (opening clock) (events_in packet))) (numbered_packet 0 0 packet))
