@@ -59,9 +59,9 @@ due_to_first clock done place (ticket ∷ queue) others =
     let rest : (p : Place) → all_due_from clock done p (items_in queue) ≡ all_due_from clock done p (part 0 queue)
     = λ p. due_to_first clock done p queue (others_behind ticket queue others) in
     elim (adds ticket queue ticket.sender refl) [
-      inl mine ↦ ap (λ more. reply_due (outcome_at clock done place) ticket.item ++ more) (rest (next_place place ticket.item)) ∙ ap (all_due_from clock done place) (sym mine.1)
-    | inr other ↦ ap (λ x. all_due_from clock done place (x ∷ items_in queue)) (is_end_of ticket queue others other.0) ∙ ap (λ p. all_due_from clock done p (items_in queue)) (past_end place) ∙ rest place
-      ∙ ap (all_due_from clock done place) (sym other.1)
+      | inl mine ↦ ap (λ more. reply_due (outcome_at clock done place) ticket.item ++ more) (rest (next_place place ticket.item)) ∙ ap (all_due_from clock done place) (sym mine.1)
+      | inr other ↦ ap (λ x. all_due_from clock done place (x ∷ items_in queue)) (is_end_of ticket queue others other.0) ∙ ap (λ p. all_due_from clock done p (items_in queue)) (past_end place) ∙ rest place
+          ∙ ap (all_due_from clock done place) (sym other.1)
     ]
 
 pub ahead_of_first : (queue : List Ticket) → OthersEnd queue → ahead (items_in queue) ≡ ahead (part 0 queue)
@@ -69,8 +69,8 @@ ahead_of_first [] others = refl
 ahead_of_first (ticket ∷ queue) others =
     let rest = ahead_of_first queue (others_behind ticket queue others) in
     elim (adds ticket queue ticket.sender refl) [
-      inl mine ↦ ap (ahead_of ticket.item) rest ∙ ap ahead (sym mine.1)
-    | inr other ↦ ap (λ x. ahead (x ∷ items_in queue)) (is_end_of ticket queue others other.0) ∙ rest ∙ ap ahead (sym other.1)
+      | inl mine ↦ ap (ahead_of ticket.item) rest ∙ ap ahead (sym mine.1)
+      | inr other ↦ ap (λ x. ahead (x ∷ items_in queue)) (is_end_of ticket queue others other.0) ∙ rest ∙ ap ahead (sym other.1)
     ]
 
 -- ---- one packet
@@ -135,9 +135,16 @@ queued_one packet credit number intake (origin ∷ []) all [] first next ended o
     let none : first.queued ≡ [] = ap (λ (s : SubmitterState). s.queued) fresh in
     let zeroth : number ≡ 0 = counted ∙ ap length none in
     let seat : first.origin.seat.number ≡ 0 = ap (λ (s : SubmitterState). s.origin.seat.number) fresh ∙ ap (λ (s : Seat). s.number) (seats origin) in
+<<<<<<< HEAD
     let its = ap (λ (e : EndedState). e.queued) at ∙ ap (λ (s : SubmitterState). s.queued ++ item.End ∷ []) queued in
     (
       its ∙ ap (λ (before : List Item). (before ++ item.Packet (numbered_packet first.origin.seat.number number packet) ∷ []) ++ item.End ∷ []) none
       ∙ ap (λ n. item.Packet (numbered_packet n number packet) ∷ item.End ∷ []) seat ∙ ap (λ n. item.Packet (numbered_packet 0 n packet) ∷ item.End ∷ []) zeroth,
       ap (λ (e : EndedState). e.read) at ∙ ap (λ (s : SubmitterState). s.read) queued ∙ ap (λ (s : SubmitterState). s.read) fresh
+=======
+    let its = ap (λ (e : EndedState). e.queued) at ∙ ap (λ (s : SubmitterState). s.queued ++ item.End ∷ []) queued in (
+      its ∙ ap (λ (before : List Item). (before ++ item.Packet (numbered first.origin.seat.number number packet) ∷ []) ++ item.End ∷ []) none
+          ∙ ap (λ n. item.Packet (numbered n number packet) ∷ item.End ∷ []) seat ∙ ap (λ n. item.Packet (numbered 0 n packet) ∷ item.End ∷ []) zeroth,
+      ap (λ (e : EndedState). e.read) at ∙ ap (λ (s : SubmitterState). s.read) queued ∙ ap (λ (s : SubmitterState). s.read) fresh,
+>>>>>>> b41150d392223a61912237e86cf23a2a9af136a5
     )

@@ -18,8 +18,8 @@ is_run pipeline served queued ledger ends clock intake lawful grouping = (
   served.intake.taken,
   queued,
   subst (λ n. LawfulReport n pipeline.intake.submitters served.intake.taken queued (works ledger) (replay ledger.opening (works ledger)) ledger.stopped (replies_of ends)) clock
-  (subst (λ n. LawfulReport served.clock n served.intake.taken queued (works ledger) (replay ledger.opening (works ledger)) ledger.stopped (replies_of ends)) (ap (λ (i : IntakeState). i.submitters) intake) lawful),
-  subst (λ n. IsGrouping n ledger.groups) (ap (λ (i : IntakeState). i.limit) intake) grouping
+      (subst (λ n. LawfulReport served.clock n served.intake.taken queued (works ledger) (replay ledger.opening (works ledger)) ledger.stopped (replies_of ends)) (ap (λ (i : IntakeState). i.submitters) intake) lawful),
+  subst (λ n. IsGrouping n ledger.groups) (ap (λ (i : IntakeState). i.limit) intake) grouping,
 )
 
 -- the last of submitters, of which there is one

@@ -4,7 +4,9 @@ ghost use Rattle.std.specs.Prelude.{◌≡◌, ◌++◌, ◌∷◌, [], map, IfO
 ghost use Rattle.tb_submit.specs.Ends.{origin_of, end_origin, control_seat};
 ghost use Rattle.tb_pipe_tests.specs.Together.{IsRun};
 
-use super::{CREATE_ACCOUNTS, MOST_TURNS, Told, clock, end_all, opened, packet_of, put, submit, told_by};
+use super::{
+    CREATE_ACCOUNTS, MOST_TURNS, Told, clock, end_all, opened, packet_of, put, submit, told_by,
+};
 use std::alloc::Global;
 use std::snapshot::Snapshot;
 use std::sync::Wait;

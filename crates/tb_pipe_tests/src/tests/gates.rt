@@ -72,7 +72,10 @@ fn batcher_and_committer_overlap(rt: HostRuntime) -> Result<(), Fail> {
     let mut report = run_queued(&rt, rt.alloc(), &EMPTY, false, &[], &gate)?;
     assert!(rt; !gate.marked.load(SeqCst));
     let told = replies(rt.alloc(), &mut report, 0)?;
-    assert_eq!(rt; told.as_slice(), [Told::Committed(0), Told::Committed(1)].as_slice());
+    assert_eq!(rt;
+        told.as_slice(),
+        [Told::Committed(0), Told::Committed(1)].as_slice()
+    );
     Ok(())
 }
 

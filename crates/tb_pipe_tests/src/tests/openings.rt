@@ -27,11 +27,7 @@ fn bad_openings(rt: HostRuntime) -> Result<(), Fail> {
 
 /// What a packet is known by: its operation, how many bytes it has, and its user word.
 fn look_of(packet: &Packet) -> (u8, usize, u64) {
-    (
-        packet.operation,
-        packet.bytes.as_slice().len(),
-        packet.user,
-    )
+    (packet.operation, packet.bytes.as_slice().len(), packet.user)
 }
 
 /// Submits two packets where there is one place: the first one's number, and the answer to the second.

@@ -103,7 +103,10 @@ const SIX_PLACES: [Told; 6] = [
 fn pulse_between_batches(rt: HostRuntime) -> Result<(), Fail> {
     for shut in [false, true] {
         let mut report = run_queued(&rt, rt.alloc(), &TWO_AND_FOUR, shut, &[], &Open)?;
-        assert_eq!(rt; entries(rt.alloc(), &report)?.as_slice(), [2, 0, 4].as_slice());
+        assert_eq!(rt;
+            entries(rt.alloc(), &report)?.as_slice(),
+            [2, 0, 4].as_slice()
+        );
         assert_eq!(rt; clock(&report), 9);
         let told = replies(rt.alloc(), &mut report, 0)?;
         assert_eq!(rt; told.as_slice(), SIX_PLACES.as_slice());
@@ -118,7 +121,10 @@ fn packet_behind_shut(rt: HostRuntime) -> Result<(), Fail> {
     assert_eq!(rt; clock(&report), 1);
     assert_eq!(rt; report.ledger.machine().accounts(), 1);
     let told = replies(rt.alloc(), &mut report, 0)?;
-    assert_eq!(rt; told.as_slice(), [Told::Committed(0), Told::Shutdown].as_slice());
+    assert_eq!(rt;
+        told.as_slice(),
+        [Told::Committed(0), Told::Shutdown].as_slice()
+    );
     Ok(())
 }
 
@@ -196,7 +202,10 @@ fn three_unread<R: Threads + Wait + Sync>(rt: &R, alloc: Global) -> Result<Repor
 fn replies_after_settle(rt: HostRuntime) -> Result<(), Fail> {
     let mut report = three_unread(&rt, rt.alloc())?;
     let told = replies(rt.alloc(), &mut report, 0)?;
-    assert_eq!(rt; told.as_slice(), [Told::Committed(0), Told::Committed(1), Told::Committed(2)].as_slice());
+    assert_eq!(rt;
+        told.as_slice(),
+        [Told::Committed(0), Told::Committed(1), Told::Committed(2)].as_slice()
+    );
     Ok(())
 }
 
@@ -235,11 +244,17 @@ fn one_of_each<R: Threads + Wait + Sync>(rt: &R, alloc: Global) -> Result<Report
 #[test]
 fn sixteen_submitters(rt: HostRuntime) -> Result<(), Fail> {
     let mut report = one_of_each(&rt, rt.alloc())?;
-    assert_eq!(rt; entries(rt.alloc(), &report)?.as_slice(), [4, 4, 4, 4].as_slice());
+    assert_eq!(rt;
+        entries(rt.alloc(), &report)?.as_slice(),
+        [4, 4, 4, 4].as_slice()
+    );
     assert_eq!(rt; clock(&report), 16);
     for sender in 0..16u8 {
         let told = replies(rt.alloc(), &mut report, usize::from(sender))?;
-        assert_eq!(rt; told.as_slice(), [Told::Committed(u64::from(sender))].as_slice());
+        assert_eq!(rt;
+            told.as_slice(),
+            [Told::Committed(u64::from(sender))].as_slice()
+        );
     }
     Ok(())
 }

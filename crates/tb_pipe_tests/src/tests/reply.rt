@@ -132,7 +132,14 @@ fn same_account_twice(alloc: Global) -> Result<Packet, AllocError> {
 fn reply_of_an_account_twice(rt: HostRuntime) -> Result<(), Fail> {
     let reply = reply_to_one(&rt, rt.alloc(), same_account_twice(rt.alloc())?)?;
     assert_eq!(rt; (reply.submitter, reply.number), (0, 0));
-    assert_eq!(rt; (reply.packet.operation, reply.packet.bytes.as_slice().len(), reply.packet.user), (CREATE_ACCOUNTS, 256, 77));
+    assert_eq!(rt;
+        (
+            reply.packet.operation,
+            reply.packet.bytes.as_slice().len(),
+            reply.packet.user
+        ),
+        (CREATE_ACCOUNTS, 256, 77)
+    );
     match &reply.outcome {
         Outcome::Committed {
             place,
