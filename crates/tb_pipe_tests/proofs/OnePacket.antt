@@ -135,16 +135,8 @@ queued_one packet credit number intake (origin ∷ []) all [] first next ended o
     let none : first.queued ≡ [] = ap (λ (s : SubmitterState). s.queued) fresh in
     let zeroth : number ≡ 0 = counted ∙ ap length none in
     let seat : first.origin.seat.number ≡ 0 = ap (λ (s : SubmitterState). s.origin.seat.number) fresh ∙ ap (λ (s : Seat). s.number) (seats origin) in
-<<<<<<< HEAD
-    let its = ap (λ (e : EndedState). e.queued) at ∙ ap (λ (s : SubmitterState). s.queued ++ item.End ∷ []) queued in
-    (
-      its ∙ ap (λ (before : List Item). (before ++ item.Packet (numbered_packet first.origin.seat.number number packet) ∷ []) ++ item.End ∷ []) none
-      ∙ ap (λ n. item.Packet (numbered_packet n number packet) ∷ item.End ∷ []) seat ∙ ap (λ n. item.Packet (numbered_packet 0 n packet) ∷ item.End ∷ []) zeroth,
-      ap (λ (e : EndedState). e.read) at ∙ ap (λ (s : SubmitterState). s.read) queued ∙ ap (λ (s : SubmitterState). s.read) fresh
-=======
     let its = ap (λ (e : EndedState). e.queued) at ∙ ap (λ (s : SubmitterState). s.queued ++ item.End ∷ []) queued in (
-      its ∙ ap (λ (before : List Item). (before ++ item.Packet (numbered first.origin.seat.number number packet) ∷ []) ++ item.End ∷ []) none
-          ∙ ap (λ n. item.Packet (numbered n number packet) ∷ item.End ∷ []) seat ∙ ap (λ n. item.Packet (numbered 0 n packet) ∷ item.End ∷ []) zeroth,
+      its ∙ ap (λ (before : List Item). (before ++ item.Packet (numbered_packet first.origin.seat.number number packet) ∷ []) ++ item.End ∷ []) none
+          ∙ ap (λ n. item.Packet (numbered_packet n number packet) ∷ item.End ∷ []) seat ∙ ap (λ n. item.Packet (numbered_packet 0 n packet) ∷ item.End ∷ []) zeroth,
       ap (λ (e : EndedState). e.read) at ∙ ap (λ (s : SubmitterState). s.read) queued ∙ ap (λ (s : SubmitterState). s.read) fresh,
->>>>>>> b41150d392223a61912237e86cf23a2a9af136a5
     )
