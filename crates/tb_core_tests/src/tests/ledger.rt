@@ -65,16 +65,20 @@ fn feed_packets(
     Ok(())
 }
 
-#[test]
-fn pulse_between_batches(rt: HostRuntime) -> Result<(), Fail> {
-    let mut front = small_front(rt.alloc())?;
-    let mut ledger = Ledger::new(rt.alloc(), 0);
-    let mut told = Vec::new(rt.alloc());
-    pulse_between(&rt, rt.alloc(), &mut front, &mut ledger, &mut told)?;
-    assert_pulse_between(&rt, &ledger);
+/// Applies the group that is held, behind which nothing is.
+fn feed_group(
+    rt: &impl Abort,
+    front: &mut Front,
+    ledger: &mut Ledger,
+    told: &mut Vec<Told>,
+) -> Result<(), Fail> {
+    let batch = front.idle().ok_or("nothing is held")?;
+    tell(ledger.apply(Parcel::Batch(batch)), told)?;
+    assert!(rt; front.idle().is_none(), "nothing more is held");
     Ok(())
 }
 
+/// Feeds two packets, a pulse of the control, and four packets.
 fn pulse_between(
     rt: &impl Abort,
     alloc: Global,
@@ -85,24 +89,32 @@ fn pulse_between(
     requires { front.old.submitters ≡ 1 }
 {
     feed_packets(alloc, front, ledger, &[1, 2], told)?;
-    assert!(rt; told.is_empty(), "two packets are held");
-    feed(front, ledger, ticket(alloc, 1, Made::Pulse(5))?, told)?;
-    assert_eq!(rt;
-        told.as_slice(),
-        [Told::Committed(0), Told::Committed(1)].as_slice()
-    );
-    feed_packets(alloc, front, ledger, &[3, 4, 5, 6], told)?;
+    assert_eq!(rt; told.len(), 0, "two packets are held");
+    let pulse = ticket(alloc, 1, Made::Pulse(5))?;
+    feed(front, ledger, pulse, told)?;
+    assert_eq!(rt; told.len(), 2, "the pulse seals them");
+    feed_packets(alloc, front, ledger, &[3, 4, 5, 6], told)
+}
+
+const PULSE_BETWEEN_BATCHES: [Told; 6] = [
+    Told::Committed(0),
+    Told::Committed(1),
+    Told::Committed(3),
+    Told::Committed(4),
+    Told::Committed(5),
+    Told::Committed(6),
+];
+
+#[test]
+fn pulse_between_batches(rt: HostRuntime) -> Result<(), Fail> {
+    let mut front = small_front(rt.alloc())?;
+    let mut ledger = Ledger::new(rt.alloc(), 0);
+    let mut told = Vec::new(rt.alloc());
+    pulse_between(&rt, rt.alloc(), &mut front, &mut ledger, &mut told)?;
     assert!(rt; !front.finished(), "nobody has ended");
-    let batch = front.idle().ok_or("nothing is held")?;
-    assert!(rt; front.idle().is_none(), "nothing more is held");
-    tell(ledger.apply(Parcel::Batch(batch)), told)?;
-    let last = [
-        Told::Committed(3),
-        Told::Committed(4),
-        Told::Committed(5),
-        Told::Committed(6),
-    ];
-    assert_eq!(rt; told.get(2..), Some(last.as_slice()));
+    feed_group(&rt, &mut front, &mut ledger, &mut told)?;
+    assert_eq!(rt; told.as_slice(), PULSE_BETWEEN_BATCHES.as_slice());
+    assert_pulse_between(&rt, &ledger);
     Ok(())
 }
 
