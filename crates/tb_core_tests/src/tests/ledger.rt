@@ -105,14 +105,27 @@ const PULSE_BETWEEN_BATCHES: [Told; 6] = [
     Told::Committed(6),
 ];
 
+/// What is told of two packets, a pulse and four packets more, and then of the group held.
+fn told_of_all(
+    rt: &impl Abort,
+    alloc: Global,
+    front: &mut Front,
+    ledger: &mut Ledger,
+) -> Result<Vec<Told>, Fail>
+    requires { front.old.submitters ≡ 1 }
+{
+    let mut told = Vec::new(alloc);
+    pulse_between(rt, alloc, front, ledger, &mut told)?;
+    assert!(rt; !front.finished(), "nobody has ended");
+    feed_group(rt, front, ledger, &mut told)?;
+    Ok(told)
+}
+
 #[test]
 fn pulse_between_batches(rt: HostRuntime) -> Result<(), Fail> {
     let mut front = small_front(rt.alloc())?;
     let mut ledger = Ledger::new(rt.alloc(), 0);
-    let mut told = Vec::new(rt.alloc());
-    pulse_between(&rt, rt.alloc(), &mut front, &mut ledger, &mut told)?;
-    assert!(rt; !front.finished(), "nobody has ended");
-    feed_group(&rt, &mut front, &mut ledger, &mut told)?;
+    let told = told_of_all(&rt, rt.alloc(), &mut front, &mut ledger)?;
     assert_eq!(rt; told.as_slice(), PULSE_BETWEEN_BATCHES.as_slice());
     assert_pulse_between(&rt, &ledger);
     Ok(())
