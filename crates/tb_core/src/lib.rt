@@ -14,7 +14,7 @@
 //! }
 //! ```
 //!
-//! (`way_of_a_packet` in the tests is this caller, proved.) `run_list` does so with a list of items. Whatever took
+//! (`way_of_a_packet` in tb_core_tests is this caller, proved.) `run_list` does so with a list of items. Whatever took
 //! the tickets, and whichever growth was refused, what comes of them is one report: `Front` and `Ledger` keep `passes` and
 //! `commits` from call to call, and `run_is_lawful` leads from there to `LawfulReport` (`specs/Report.antt`), in which no
 //! batch is mentioned.
