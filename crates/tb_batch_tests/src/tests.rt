@@ -1,7 +1,7 @@
 //! What no clause says: worked examples by name, and each call once with ample memory.
 
-use tb_batch::{Batch, Batcher, Offered};
 use std::test::Fail;
+use tb_batch::{Batch, Batcher, Offered};
 use tb_work::{Bytes, Job, Packet};
 
 mod calls;

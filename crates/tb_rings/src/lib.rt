@@ -2,7 +2,6 @@
 //! waits.
 #![tactic(auto)]
 
-
 ghost use Rattle.std.specs.Prelude.{◌≡◌, ◌<◌, [], ◌∷◌, ◌++◌, length, OnOk, IfOk, IfErr, IfSome, IfNone, IsSomeAnd};
 ghost use Rattle.tb_rings.specs.Ends.{given, taken, lies, slots, IsRing, SameOutlet, SameInlet};
 

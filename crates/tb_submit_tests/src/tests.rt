@@ -1,9 +1,9 @@
 //! What no clause says: worked examples by name, each refusal once, senders in threads of their own.
 
-use tb_submit::{Control, Ends, Submitter, open_queue};
 use std::alloc::Global;
 use std::sync::Wait;
 use std::test::Fail;
+use tb_submit::{Control, Ends, Submitter, open_queue};
 use tb_work::{Answer, Bytes, Failures, Item, Job, Outcome, Packet, Refusal, Reply, Ticket};
 
 mod calls;

@@ -1,6 +1,6 @@
 use super::job_of;
-use tb_batch::{Batch, Batcher, Offered, Parts};
 use std::test::Fail;
+use tb_batch::{Batch, Batcher, Offered, Parts};
 use tb_work::Refusal;
 
 #[test]

@@ -1,5 +1,5 @@
-use tb_batch::{Batcher, Offered};
 use std::test::Fail;
+use tb_batch::{Batcher, Offered};
 use tb_work::{Bytes, Job, Packet};
 
 /// What is tried with each allocation refused in turn, by `tools/refuse-each-growth`.

@@ -1,8 +1,8 @@
 use super::{Says, answer, ends_of, holds, kind_of, pulse, submit};
-use tb_submit::{Control, Ended, Ends, Intake, Submitter};
 use std::alloc::Global;
 use std::sync::Wait;
 use std::test::Fail;
+use tb_submit::{Control, Ended, Ends, Intake, Submitter};
 use tb_work::Refusal;
 
 /// Takes so many tickets, and then None.

@@ -1,8 +1,8 @@
 use super::{holds, look_of, made_look};
-use tb_submit::{Submitter, open_queue};
 use std::alloc::Global;
 use std::sync::Wait;
 use std::test::Fail;
+use tb_submit::{Submitter, open_queue};
 use tb_work::{Bytes, Packet, Refusal};
 
 /// Tried with each allocation refused in turn, by `tools/refuse-each-growth`: the packet is queued as

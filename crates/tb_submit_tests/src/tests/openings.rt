@@ -1,5 +1,5 @@
-use tb_submit::open_queue;
 use std::test::Fail;
+use tb_submit::open_queue;
 use tb_work::Refusal;
 
 /// Limit, capacity, credit and submitters, and why such a queue is refused.

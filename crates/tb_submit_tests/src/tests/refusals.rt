@@ -1,8 +1,8 @@
 use super::{Says, answer, ends_of, holds, pulse, submit};
-use tb_submit::{Ends, Submitter};
 use std::alloc::Global;
 use std::sync::Wait;
 use std::test::Fail;
+use tb_submit::{Ends, Submitter};
 use tb_work::Refusal;
 
 /// What each of these packets, an operation and a number of bytes, is answered in turn.

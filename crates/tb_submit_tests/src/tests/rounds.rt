@@ -1,8 +1,8 @@
 use super::{Says, answer, ends_of};
-use tb_submit::Ends;
 use std::alloc::Global;
 use std::sync::Wait;
 use std::test::Fail;
+use tb_submit::Ends;
 use tb_work::{Bytes, Packet};
 
 /// A packet goes through the queue and comes back with its reply; its number, and the packet.

@@ -1,9 +1,9 @@
-use tb_submit::{Control, Ends, Intake, Submitter, open_queue};
 use std::alloc::Global;
 use std::sync::Wait;
 use std::test::Fail;
 use std::thread;
 use std::thread::Threads;
+use tb_submit::{Control, Ends, Intake, Submitter, open_queue};
 use tb_work::{Bytes, Item, Packet, Stub, Ticket};
 
 /// How often in all a thread gives way before it gives up.
