@@ -106,22 +106,18 @@ pub record IsUnderWay (clock limit : ℕ) (items rest : List Item) (front : Fron
   pub parts : items ≡ done ++ rest
   pub run : IsRunning clock limit done front ledger replies
 
-pub under_way : (clock limit : ℕ) (items rest : List Item) (front : FrontState) (ledger : LedgerState) (replies : List Replied) → items ≡ rest → front.limit ≡ limit → front.stopped ≡ false →
-    Passes [] front.closed front.stopped (held_by front) → Commits clock [] ledger [] → ledger ≡ record { opening = clock; groups = []; stopped = false } → replies ≡ [] → IsUnderWay clock limit items rest front ledger replies
-under_way clock limit items rest front ledger replies all under going passes commits ledger_is no_replies = record {
-  done = [];
-  parts = all;
-  run = record {
-    sent = [];
-    under = under;
-    passed = passes;
-    goes_on = record {
-      commits = subst (Commits clock [] ledger) (sym no_replies) commits;
-      unmarked = ap (λ (l : LedgerState). l.stopped) ledger_is;
-      joined = subst (λ (l : LedgerState). AreJoined limit l.groups) (sym ledger_is) tt;
-    };
-    unstopped = going;
+pub at_first : (clock limit : ℕ) (front : FrontState) (ledger : LedgerState) (replies : List Replied) → front.limit ≡ limit → front.stopped ≡ false → Passes [] front.closed front.stopped (held_by front) → Commits clock [] ledger [] →
+    ledger ≡ record { opening = clock; groups = []; stopped = false } → replies ≡ [] → IsRunning clock limit [] front ledger replies
+at_first clock limit front ledger replies under going passes commits ledger_is no_replies = record {
+  sent = [];
+  under = under;
+  passed = passes;
+  goes_on = record {
+    commits = subst (Commits clock [] ledger) (sym no_replies) commits;
+    unmarked = ap (λ (l : LedgerState). l.stopped) ledger_is;
+    joined = subst (λ (l : LedgerState). AreJoined limit l.groups) (sym ledger_is) tt;
   };
+  unstopped = going;
 }
 
 pub one_further : (clock limit : ℕ) (items : List Item) (x : Item) (rest others : List Item) (front : FrontState) (ledger : LedgerState) (replies : List Replied) (next : FrontState) (now : LedgerState) (given : List Replied) →
@@ -132,6 +128,12 @@ one_further clock limit items x rest others front ledger replies next now given 
   parts = way.parts ∙ ap (λ its. way.done ++ its) same ∙ sym (append_assoc way.done (x ∷ []) others);
   run = one clock limit way.done way.run;
 }
+
+pub all_taken : (clock limit : ℕ) (items rest : List Item) (front : FrontState) (ledger : LedgerState) (replies : List Replied) → IsUnderWay clock limit items rest front ledger replies → rest ≡ [] →
+    IsRunning clock limit items front ledger replies
+all_taken clock limit items rest front ledger replies way none =
+    let all : items ≡ way.done = way.parts ∙ ap (λ its. way.done ++ its) none ∙ append-nil way.done in
+    subst (λ its. IsRunning clock limit its front ledger replies) (sym all) way.run
 
 -- what was held is applied too
 pub through : (clock limit : ℕ) (items : List Item) (front : FrontState) (ledger : LedgerState) (replies : List Replied) (now : LedgerState) (given : List Replied) → (run : IsRunning clock limit items front ledger replies) →
@@ -148,12 +150,9 @@ pub record IsWhole (clock limit : ℕ) (items : List Item) (ledger : LedgerState
   pub listed : IsListed clock items ledger replies
   pub grouping : AreWithin limit (ahead items) → IsGrouping limit ledger.groups
 
-pub whole : (clock limit : ℕ) (items rest : List Item) (front : FrontState) (ledger : LedgerState) (replies : List Replied) (now : LedgerState) (given : List Replied) →
-    IsUnderWay clock limit items rest front ledger replies → rest ≡ [] → ((done : List Item) → IsRunning clock limit done front ledger replies → IsThrough clock limit done now given) → IsWhole clock limit items now given
-whole clock limit items rest front ledger replies now given way none last =
-    let all : items ≡ way.done = way.parts ∙ ap (λ its. way.done ++ its) none ∙ append-nil way.done in
-    let done = subst (λ its. IsThrough clock limit its now given) (sym all) (last way.done way.run) in
-    let listed = run_is_listed clock items now given done.ran done.unmarked done.unstopped in
+pub whole : (clock limit : ℕ) (items : List Item) (ledger : LedgerState) (replies : List Replied) → IsThrough clock limit items ledger replies → IsWhole clock limit items ledger replies
+whole clock limit items ledger replies done =
+    let listed = run_is_listed clock items ledger replies done.ran done.unmarked done.unstopped in
     record {
       through = done;
       listed = listed;

@@ -92,6 +92,17 @@ impl Listing {
         }
     }
 
+    /// Takes items in order.
+    fn take_all(&mut self, items: Vec<Item>) -> Result<(), NoMemory>
+        ensures { (clock : ℕ) (limit : ℕ) → IsRunning clock limit [] self.old.front self.old.ledger self.old.replies.items
+            → OnOk result (IsRunning clock limit items.items self.new.front self.new.ledger self.new.replies.items) }
+    {
+        for item in items {
+            self.take(item)?;
+        }
+        Ok(())
+    }
+
     /// Applies the group that the front still holds.
     fn finish(&mut self) -> Result<(), NoMemory>
         ensures { (clock : ℕ) (limit : ℕ) (items : List ItemValue) → IsRunning clock limit items self.old.front self.old.ledger self.old.replies.items
@@ -123,9 +134,7 @@ pub fn run_list(alloc: Global, clock: u64, limit: u32, items: Vec<Item>) -> Resu
         ledger: Ledger::new(alloc, clock),
         replies: Vec::new(alloc),
     };
-    for item in items {
-        listing.take(item)?;
-    }
+    listing.take_all(items)?;
     listing.finish()?;
     Ok(Listed {
         ledger: listing.ledger,

@@ -86,14 +86,14 @@ fn newcomers(alloc: Global, submitters: u32) -> Result<Vec<Sender>, NoMemory>
     Ok(senders)
 }
 
-/// A pulse leaves no outcome.
-fn left_by(outcomes: Outcomes) -> Option<Outcomes>
-    ensures { result ≡ left_by outcomes }
+/// Keeps what a parcel came to. A pulse leaves no outcome.
+fn keep(outcome: &mut Option<Outcomes>, outcomes: Outcomes)
+    ensures { outcome.new ≡ left_by outcomes }
 {
-    match outcomes {
+    *outcome = match outcomes {
         Outcomes::Nothing => None,
         outcomes => Some(outcomes),
-    }
+    };
 }
 
 impl World {
@@ -235,12 +235,12 @@ impl World {
             return Ok(false);
         };
         if refused {
-            self.outcome = left_by(self.ledger.apply_as_refused(parcel));
+            keep(&mut self.outcome, self.ledger.apply_as_refused(parcel));
             return Ok(true);
         }
         match self.ledger.try_apply(parcel) {
             Ok(outcomes) => {
-                self.outcome = left_by(outcomes);
+                keep(&mut self.outcome, outcomes);
                 Ok(true)
             }
             Err(parcel) => {
@@ -272,7 +272,7 @@ impl World {
         }
         match self.outcomes.pop_front() {
             Some(outcomes) => {
-                self.left = Left::of(outcomes);
+                self.left.fill(outcomes);
                 true
             }
             None => false,

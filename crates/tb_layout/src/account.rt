@@ -12,7 +12,7 @@ use crate::number::{
 
 /// An account, or the event that asks for one. Amounts are whole numbers of the smallest unit of the
 /// account's ledger.
-#[derive(Clone, Copy, Debug, PartialEq, Eq)]
+#[derive(Clone, Copy, Debug, Default, PartialEq, Eq)]
 pub struct Account {
     pub id: u128,
     pub debits_pending: u128,

@@ -12,7 +12,7 @@ use crate::number::{
 
 /// A transfer, or the event that asks for one. The amount is a whole number of the smallest unit of
 /// the ledger, the timeout is in seconds (0 is none), the timestamp in nanoseconds.
-#[derive(Clone, Copy, Debug, PartialEq, Eq)]
+#[derive(Clone, Copy, Debug, Default, PartialEq, Eq)]
 pub struct Transfer {
     pub id: u128,
     pub debit_account_id: u128,

@@ -21,18 +21,10 @@ const MOST: u128 = u128::MAX;
 fn account(id: u128, flags: u16) -> Account {
     Account {
         id,
-        debits_pending: 0,
-        debits_posted: 0,
-        credits_pending: 0,
-        credits_posted: 0,
-        user_data_128: 0,
-        user_data_64: 0,
-        user_data_32: 0,
-        reserved: 0,
         ledger: 1,
         code: 1,
         flags,
-        timestamp: 0,
+        ..Account::default()
     }
 }
 
@@ -43,15 +35,10 @@ fn transfer(id: u128, debit: u128, credit: u128, amount: u128, flags: u16) -> Tr
         debit_account_id: debit,
         credit_account_id: credit,
         amount,
-        pending_id: 0,
-        user_data_128: 0,
-        user_data_64: 0,
-        user_data_32: 0,
-        timeout: 0,
         ledger: 1,
         code: 1,
         flags,
-        timestamp: 0,
+        ..Transfer::default()
     }
 }
 

@@ -107,22 +107,21 @@ pub(crate) fn commit_all<R: Wait, G: Gate>(
     let mut batches = 0u64;
     let backoff = Backoff::new();
     for _ in rt.forever() {
-        match inlet.take() {
-            Some(parcel) => {
-                backoff.reset();
-                if matches!(parcel, Parcel::Batch(_)) {
-                    wait_for(rt, gate, batches);
-                    batches = batches.wrapping_add(1);
-                }
-                if commit(rt, &mut ledger, &mut outlet, parcel) {
-                    return Committed {
-                        inlet,
-                        outlet,
-                        ledger,
-                    };
-                }
-            }
-            None => backoff.snooze(),
+        let Some(parcel) = inlet.take() else {
+            backoff.snooze();
+            continue;
+        };
+        backoff.reset();
+        if matches!(parcel, Parcel::Batch(_)) {
+            wait_for(rt, gate, batches);
+            batches = batches.wrapping_add(1);
+        }
+        if commit(rt, &mut ledger, &mut outlet, parcel) {
+            return Committed {
+                inlet,
+                outlet,
+                ledger,
+            };
         }
     }
     unreachable!()

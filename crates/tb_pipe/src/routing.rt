@@ -86,14 +86,13 @@ pub(crate) fn route_until_last<R: Wait>(
     let mut outlets = outlets;
     let backoff = Backoff::new();
     for _ in rt.forever() {
-        match inlet.take() {
-            Some(outcomes) => {
-                backoff.reset();
-                if route_all(rt, &mut outlets, outcomes) {
-                    return Routed { inlet, outlets };
-                }
-            }
-            None => backoff.snooze(),
+        let Some(outcomes) = inlet.take() else {
+            backoff.snooze();
+            continue;
+        };
+        backoff.reset();
+        if route_all(rt, &mut outlets, outcomes) {
+            return Routed { inlet, outlets };
         }
     }
     unreachable!()

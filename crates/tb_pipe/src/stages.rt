@@ -1,8 +1,8 @@
 //! The stages, run at once.
 
-ghost use Rattle.std.specs.Prelude.{◌≡◌, IfOk, IfErr};
+ghost use Rattle.std.specs.Prelude.{◌≡◌, IfOk, IfErr, IfSome};
 ghost use Rattle.tb_rings.specs.Ends.{given, taken, SameOutlet, SameInlet};
-ghost use Rattle.tb_pipe.specs.Carried.{IsBatched, AllBatched, IsCommitted, AllCommitted, answers_in};
+ghost use Rattle.tb_pipe.specs.Carried.{IsCommitted, AllCommitted, answers_in};
 ghost use Rattle.tb_pipe.specs.Outlets.{SameOutlets, AllGiven, AllRouted};
 ghost use Rattle.tb_pipe.specs.Stages.{IsReady, HaveServed};
 
@@ -14,7 +14,7 @@ use crate::waiting::give_waiting;
 use std::snapshot::Snapshot;
 use std::sync::Wait;
 use std::thread;
-use std::thread::Threads;
+use std::thread::{PromisedHandle, Scope, Threads};
 use tb_core::{Front, Ledger, Outcomes, Parcel};
 use tb_rings::{Inlet, Outlet};
 use tb_submit::Intake;
@@ -43,7 +43,98 @@ pub struct Remains {
     pub routed: Routed,
 }
 
+/// Starts the committer.
+fn start_committer<'s, E, R: Wait + Sync, G: Gate>(
+    scope: &Scope<'s, E>,
+    rt: &'s R,
+    gate: &'s G,
+    parcels: Inlet<Parcel>,
+    made: Outlet<Outcomes>,
+    ledger: Ledger,
+) -> Option<PromisedHandle<Committed, Commitment>>
+    requires { IsCommitted ledger.opening (taken parcels) ledger (given made) }
+    ensures { IfSome result (λ handle. (handle.promise.inlet.value ≡ parcels) × (handle.promise.outlet.value ≡ made) × (handle.promise.clock ≡ ledger.opening)) }
+{
+    let promise = Commitment {
+        inlet: Snapshot::of(&parcels),
+        outlet: Snapshot::of(&made),
+        clock: ledger.opening(),
+    };
+    let started = scope.spawn_with(
+        promise,
+        move || -> Committed
+            requires { IsCommitted ledger.opening (taken parcels) ledger (given made) }
+            ensures same { SameInlet parcels result.inlet × SameOutlet made result.outlet }
+            ensures all { AllCommitted ledger.opening (taken result.inlet) result.ledger (given result.outlet) }
+        { commit_all(rt, gate, parcels, made, ledger) },
+    );
+    started.ok()
+}
+
+/// Starts the demultiplexer.
+fn start_demultiplexer<'s, E, R: Wait + Sync>(
+    scope: &Scope<'s, E>,
+    rt: &'s R,
+    outcomes: Inlet<Outcomes>,
+    outlets: Vec<Outlet<Reply>>,
+) -> Option<PromisedHandle<Routed, Routing>>
+    requires { AllGiven (answers_in (taken outcomes)) outlets.items }
+    ensures { IfSome result (λ handle. (handle.promise.inlet.value ≡ outcomes) × (handle.promise.outlets.value ≡ outlets)) }
+{
+    let promise = Routing {
+        inlet: Snapshot::of(&outcomes),
+        outlets: Snapshot::of(&outlets),
+    };
+    let started = scope.spawn_with(
+        promise,
+        move || -> Routed
+            requires { AllGiven (answers_in (taken outcomes)) outlets.items }
+            ensures same { SameInlet outcomes result.inlet × SameOutlets outlets.items result.outlets.items }
+            ensures all { AllRouted (taken result.inlet) result.outlets.items }
+        { route_until_last(rt, outcomes, outlets) },
+    );
+    started.ok()
+}
+
 impl Stages {
+    /// Starts the committer and the demultiplexer, is the batcher, and joins both.
+    fn run<'s, E, R: Threads + Wait + Sync, G: Gate>(
+        self,
+        scope: &Scope<'s, E>,
+        rt: &'s R,
+        gate: &'s G,
+    ) -> Result<Remains, Intake>
+        requires { IsReady self }
+        ensures served { IfOk result (λ remains. HaveServed self remains) }
+        ensures refused { IfErr result (λ intake. intake ≡ self.intake) }
+    {
+        let Stages {
+            mut intake,
+            front,
+            mut batches,
+            parcels,
+            ledger,
+            made,
+            outcomes,
+            outlets,
+        } = self;
+        let Some(committer) = start_committer(scope, rt, gate, parcels, made, ledger) else {
+            return Err(intake);
+        };
+        let Some(demultiplexer) = start_demultiplexer(scope, rt, outcomes, outlets) else {
+            give_waiting(rt, &mut batches, Parcel::Last);
+            committer.join(rt);
+            return Err(intake);
+        };
+        batch_all(rt, gate, &mut intake, front, &mut batches);
+        Ok(Remains {
+            intake,
+            batches,
+            committed: committer.join(rt),
+            routed: demultiplexer.join(rt),
+        })
+    }
+
     /// Runs the stages until each sender has ended. The calling thread is the batcher. Where a thread can't be
     /// started the intake comes back.
     pub(crate) fn serve<R: Threads + Wait + Sync, G: Gate>(
@@ -55,75 +146,15 @@ impl Stages {
         ensures served { IfOk result (λ remains. HaveServed self remains) }
         ensures refused { IfErr result (λ intake. intake ≡ self.intake) }
     {
-        let Stages {
-            intake,
-            front,
-            batches,
-            parcels,
-            ledger,
-            made,
-            outcomes,
-            outlets,
-        } = self;
-        let clock = ledger.opening();
+        let stages = self;
         thread::scope(
             thread::scope_env(),
             rt,
             |scope| -> Result<Remains, Intake>
-                requires front { IsBatched intake.limit intake.submitters intake.taken front (given batches) }
-                requires ledger { IsCommitted ledger.opening (taken parcels) ledger (given made) }
-                requires replies { AllGiven (answers_in (taken outcomes)) outlets.items }
-                requires clock { clock ≡ ledger.opening }
-                ensures rings { IfOk result (λ s. SameOutlet batches s.batches × SameInlet parcels s.committed.inlet × SameOutlet made s.committed.outlet × SameInlet outcomes s.routed.inlet × SameOutlets outlets.items s.routed.outlets.items) }
-                ensures intake { IfOk result (λ s. s.intake ≡ record intake { taken = s.intake.taken }) }
-                ensures batched { IfOk result (λ s. AllBatched intake.limit intake.submitters s.intake.taken (given s.batches)) }
-                ensures committed { IfOk result (λ s. AllCommitted clock (taken s.committed.inlet) s.committed.ledger (given s.committed.outlet)) }
-                ensures routed { IfOk result (λ s. AllRouted (taken s.routed.inlet) s.routed.outlets.items) }
-                ensures refused { IfErr result (λ back. back ≡ intake) }
-            {
-                let mut intake = intake;
-                let mut batches = batches;
-                let promise = Commitment {
-                    inlet: Snapshot::of(&parcels),
-                    outlet: Snapshot::of(&made),
-                    clock,
-                };
-                let Ok(committer) = scope.spawn_with(
-                    promise,
-                    move || -> Committed
-                        requires { IsCommitted ledger.opening (taken parcels) ledger (given made) }
-                        ensures same { SameInlet parcels result.inlet × SameOutlet made result.outlet }
-                        ensures all { AllCommitted ledger.opening (taken result.inlet) result.ledger (given result.outlet) }
-                    { commit_all(rt, gate, parcels, made, ledger) },
-                ) else {
-                    return Err(intake);
-                };
-                let promise = Routing {
-                    inlet: Snapshot::of(&outcomes),
-                    outlets: Snapshot::of(&outlets),
-                };
-                let Ok(demultiplexer) = scope.spawn_with(
-                    promise,
-                    move || -> Routed
-                        requires { AllGiven (answers_in (taken outcomes)) outlets.items }
-                        ensures same { SameInlet outcomes result.inlet × SameOutlets outlets.items result.outlets.items }
-                        ensures all { AllRouted (taken result.inlet) result.outlets.items }
-                    { route_until_last(rt, outcomes, outlets) },
-                ) else {
-                    give_waiting(rt, &mut batches, Parcel::Last);
-                    committer.join(rt);
-                    return Err(intake);
-                };
-                batch_all(rt, gate, &mut intake, front, &mut batches);
-                let committed = committer.join(rt);
-                let routed = demultiplexer.join(rt);
-                Ok(Remains {
-                    intake,
-                    batches,
-                    committed,
-                    routed,
-                })
-            },
+                requires { IsReady stages }
+                ensures served { IfOk result (λ remains. HaveServed stages remains) }
+                ensures refused { IfErr result (λ intake. intake ≡ stages.intake) }
+            { stages.run(scope, rt, gate) },
         )
     }
 }

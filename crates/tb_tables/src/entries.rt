@@ -23,6 +23,18 @@ pub fn push_account(accounts: &mut ById<Account>, account: Account) -> Result<()
     Ok(())
 }
 
+/// The row of a transfer that nothing resolved.
+fn new_row(transfer: Transfer) -> Row
+    ensures { result ≡ new_row transfer }
+{
+    let status = if transfer.is_pending() {
+        Some(Status::Pending)
+    } else {
+        None
+    };
+    Row { transfer, status }
+}
+
 /// Puts a new transfer after the others, under its id's key.
 pub fn push_transfer(
     transfers: &mut ById<Row>,
@@ -34,12 +46,7 @@ pub fn push_transfer(
     ensures ok { OnOk result (transfers.new.entries ≡ transfers.old.entries ++ (transfer.id, new_row transfer) ∷ []) }
     ensures err { OnErr result (transfers.new.entries ≡ transfers.old.entries) }
 {
-    let status = if transfer.is_pending() {
-        Some(Status::Pending)
-    } else {
-        None
-    };
-    transfers.insert(key, Row { transfer, status })?;
+    transfers.entry(key)?.or_insert(new_row(transfer));
     Ok(())
 }
 

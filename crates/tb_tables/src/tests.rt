@@ -29,18 +29,10 @@ fn account(id: u128) -> Account
 {
     Account {
         id,
-        debits_pending: 0,
-        debits_posted: 0,
-        credits_pending: 0,
-        credits_posted: 0,
-        user_data_128: 0,
-        user_data_64: 0,
-        user_data_32: 0,
-        reserved: 0,
         ledger: 1,
         code: 1,
-        flags: 0,
         timestamp: 1,
+        ..Account::default()
     }
 }
 
@@ -68,14 +60,11 @@ fn transfer(id: u128, amount: u128, pending_id: u128, flags: u16) -> Transfer
         credit_account_id: 2,
         amount,
         pending_id,
-        user_data_128: 0,
-        user_data_64: 0,
-        user_data_32: 0,
-        timeout: 0,
         ledger: 1,
         code: 1,
         flags,
         timestamp: 3,
+        ..Transfer::default()
     }
 }
 

@@ -12,18 +12,10 @@ mod memory;
 fn account(id: u128, flags: u16) -> Account {
     Account {
         id,
-        debits_pending: 0,
-        debits_posted: 0,
-        credits_pending: 0,
-        credits_posted: 0,
-        user_data_128: 0,
-        user_data_64: 0,
-        user_data_32: 0,
-        reserved: 0,
         ledger: 1,
         code: 1,
         flags,
-        timestamp: 0,
+        ..Account::default()
     }
 }
 

@@ -10,18 +10,9 @@ use tb_work::{Bytes, Packet};
 fn account(id: u128) -> Account {
     Account {
         id,
-        debits_pending: 0,
-        debits_posted: 0,
-        credits_pending: 0,
-        credits_posted: 0,
-        user_data_128: 0,
-        user_data_64: 0,
-        user_data_32: 0,
-        reserved: 0,
         ledger: 1,
         code: 1,
-        flags: 0,
-        timestamp: 0,
+        ..Account::default()
     }
 }
 
@@ -54,15 +45,9 @@ pub fn one_transfer(
         debit_account_id: debit,
         credit_account_id: credit,
         amount,
-        pending_id: 0,
-        user_data_128: 0,
-        user_data_64: 0,
-        user_data_32: 0,
-        timeout: 0,
         ledger: 1,
         code: 1,
-        flags: 0,
-        timestamp: 0,
+        ..Transfer::default()
     };
     let mut bytes = Vec::new(alloc);
     bytes.extend_from_slice(&write_transfer(&transfer))?;

@@ -41,8 +41,14 @@ impl Left {
         }
     }
 
-    /// The replies of an outcome.
-    pub(crate) fn of(outcomes: Outcomes) -> Left
+    /// Puts the replies of an outcome in place of what was left.
+    pub(crate) fn fill(&mut self, outcomes: Outcomes)
+        ensures { self.new ≡ replies_in outcomes }
+    {
+        *self = Left::of(outcomes);
+    }
+
+    fn of(outcomes: Outcomes) -> Left
         ensures { result ≡ replies_in outcomes }
     {
         match outcomes {

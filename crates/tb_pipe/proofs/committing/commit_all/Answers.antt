@@ -3,8 +3,8 @@ use Rattle.tb_rings.specs.Ends.{given, taken}
 use Rattle.tb_pipe.specs.Carried.{CommittedTo}
 use Rattle.tb_pipe.proofs.committing.commit_all.Goals as goal
 
-pub loop-preserved-else-commit : goal.loop-preserved-else-commit
-loop-preserved-else-commit g c =
+pub loop-preserved : goal.loop-preserved
+loop-preserved g c =
     let parcel = c.in-Some-take.parcel in
     let more : CommittedTo c.commit.result c.args.ledger.opening (taken c.loop.inlet ++ parcel ∷ []) c.commit.new.ledger (given c.commit.new.outlet)
     = c.commit.ensures.committed c.args.ledger.opening (taken c.loop.inlet) c.loop.invariant.committed in
