@@ -66,12 +66,16 @@ fn has_all(machine: &Machine) -> bool {
 }
 
 /// 8190 accounts, then 8190 transfers, then 8190 more accounts.
+fn makes_all(rt: &HostRuntime, machine: &mut Machine) -> Result<bool, AllocError> {
+    let made = makes_accounts(rt, machine, 1)?
+        && makes_transfers(rt, machine)?
+        && makes_accounts(rt, machine, 8191)?;
+    Ok(made && has_all(machine))
+}
+
 #[test]
 fn full_bodies(rt: HostRuntime) -> Result<(), Fail> {
     let mut machine = Machine::new(rt.alloc(), 0);
-    assert!(rt; makes_accounts(&rt, &mut machine, 1)?);
-    assert!(rt; makes_transfers(&rt, &mut machine)?);
-    assert!(rt; makes_accounts(&rt, &mut machine, 8191)?);
-    assert!(rt; has_all(&machine));
+    assert!(rt; makes_all(&rt, &mut machine)?);
     Ok(())
 }

@@ -76,146 +76,100 @@ fn is_committed(
     Ok(true)
 }
 
-#[test]
-fn chains_of_transfers_joined_refused_memory(rt: HostRuntime) -> Result<(), Fail> {
-    let Ok(accounts) = accounts_body(
-        &rt,
-        [account(1, 0), account(2, 2), account(3, 0)].as_slice(),
-    ) else {
-        return Ok(());
-    };
-    let without_ledger = Transfer {
-        ledger: 0,
-        ..transfer(3, 1, 3, 10, 0)
-    };
-    let Ok(chain) = transfers_body(
-        &rt,
-        [
-            transfer(1, 1, 2, 10, 1),
-            transfer(2, 2, 3, 10, 1),
-            without_ledger,
-        ]
-        .as_slice(),
-    ) else {
-        return Ok(());
-    };
-    let Ok(single) = transfers_body(&rt, [transfer(2, 2, 3, 10, 0)].as_slice()) else {
-        return Ok(());
-    };
-    let mut machine = Machine::new(rt.alloc(), 0);
-    assert!(rt; chain_and_single(&rt, &mut machine, &accounts, &chain, &single)?);
-    Ok(())
-}
-
-fn chain_and_single(
+/// A packet of accounts, of which none fails.
+fn commits_accounts(
     rt: &HostRuntime,
     machine: &mut Machine,
-    accounts: &[u8],
-    chain: &[u8],
-    single: &[u8],
+    accounts: &[Account],
 ) -> Result<bool, Fail> {
+    let Ok(body) = accounts_body(rt, accounts) else {
+        return Ok(false);
+    };
+    is_committed(rt, machine, CREATE_ACCOUNTS, &body, [].as_slice())
+}
+
+/// A packet of transfers, with just these failures.
+fn commits_transfers(
+    rt: &HostRuntime,
+    machine: &mut Machine,
+    transfers: &[Transfer],
+    failures: &[(u32, TransferCode)],
+) -> Result<bool, Fail> {
+    let Ok(body) = transfers_body(rt, transfers) else {
+        return Ok(false);
+    };
+    is_committed(rt, machine, CREATE_TRANSFERS, &body, failures)
+}
+
+fn chain_and_single(rt: &HostRuntime, machine: &mut Machine) -> Result<bool, Fail> {
+    let accounts = [account(1, 0), account(2, 2), account(3, 0)];
+    let chain = [
+        transfer(1, 1, 2, 10, 1),
+        transfer(2, 2, 3, 10, 1),
+        Transfer {
+            ledger: 0,
+            ..transfer(3, 1, 3, 10, 0)
+        },
+    ];
     let codes = [
         (0, LinkedEventFailed),
         (1, LinkedEventFailed),
         (2, LedgerMustNotBeZero),
     ];
-    let all = is_committed(rt, machine, CREATE_ACCOUNTS, accounts, [].as_slice())?
-        && is_committed(rt, machine, CREATE_TRANSFERS, chain, codes.as_slice())?
-        && is_committed(
-            rt,
-            machine,
-            CREATE_TRANSFERS,
-            single,
-            [(0, ExceedsCredits)].as_slice(),
-        )?;
+    let single = [transfer(2, 2, 3, 10, 0)];
+    let exceeds = [(0, ExceedsCredits)];
+    let all = commits_accounts(rt, machine, accounts.as_slice())?
+        && commits_transfers(rt, machine, chain.as_slice(), codes.as_slice())?
+        && commits_transfers(rt, machine, single.as_slice(), exceeds.as_slice())?;
     Ok(!all || machine.clock() == 7)
 }
 
 #[test]
-fn id_already_failed_refused_memory(rt: HostRuntime) -> Result<(), Fail> {
-    let Ok(accounts) = accounts_body(&rt, [account(1, 0), account(2, 0)].as_slice()) else {
-        return Ok(());
-    };
-    let Ok(chain) = transfers_body(
-        &rt,
-        [transfer(1, 1, 2, 5, 1), transfer(2, 1, 9, 5, 0)].as_slice(),
-    ) else {
-        return Ok(());
-    };
-    let Ok(again) = transfers_body(
-        &rt,
-        [transfer(1, 1, 2, 5, 0), transfer(2, 1, 2, 5, 0)].as_slice(),
-    ) else {
-        return Ok(());
-    };
-    let Ok(post) = transfers_body(&rt, [resolving(3, 8, MOST, 4)].as_slice()) else {
-        return Ok(());
-    };
-    let Ok(last) = transfers_body(
-        &rt,
-        [transfer(3, 1, 2, 1, 0), transfer(2, 1, 2, 1, 6)].as_slice(),
-    ) else {
-        return Ok(());
-    };
+fn chains_of_transfers_joined_refused_memory(rt: HostRuntime) -> Result<(), Fail> {
     let mut machine = Machine::new(rt.alloc(), 0);
-    assert!(rt; four_packets(&rt, &mut machine, &accounts, [&chain, &again, &post, &last])?);
+    assert!(rt; chain_and_single(&rt, &mut machine)?);
     Ok(())
 }
 
-fn four_packets(
-    rt: &HostRuntime,
-    machine: &mut Machine,
-    accounts: &[u8],
-    packets: [&Vec<u8>; 4],
-) -> Result<bool, Fail> {
-    let [chain, again, post, last] = packets;
-    let all = is_committed(rt, machine, CREATE_ACCOUNTS, accounts, [].as_slice())?
-        && is_committed(
-            rt,
-            machine,
-            CREATE_TRANSFERS,
-            chain,
-            [(0, LinkedEventFailed), (1, CreditAccountNotFound)].as_slice(),
-        )?
-        && is_committed(
-            rt,
-            machine,
-            CREATE_TRANSFERS,
-            again,
-            [(1, IdAlreadyFailed)].as_slice(),
-        )?
-        && is_committed(
-            rt,
-            machine,
-            CREATE_TRANSFERS,
-            post,
-            [(0, PendingTransferNotFound)].as_slice(),
-        )?
-        && is_committed(
-            rt,
-            machine,
-            CREATE_TRANSFERS,
-            last,
-            [(0, IdAlreadyFailed), (1, IdAlreadyFailed)].as_slice(),
-        )?;
+/// A chain of which both ids come again, and a post that names nothing, whose id comes again.
+fn four_packets(rt: &HostRuntime, machine: &mut Machine) -> Result<bool, Fail> {
+    let chain = [transfer(1, 1, 2, 5, 1), transfer(2, 1, 9, 5, 0)];
+    let codes = [(0, LinkedEventFailed), (1, CreditAccountNotFound)];
+    let again = [transfer(1, 1, 2, 5, 0), transfer(2, 1, 2, 5, 0)];
+    let failed = [(1, IdAlreadyFailed)];
+    let post = [resolving(3, 8, MOST, 4)];
+    let missing = [(0, PendingTransferNotFound)];
+    let last = [transfer(3, 1, 2, 1, 0), transfer(2, 1, 2, 1, 6)];
+    let both = [(0, IdAlreadyFailed), (1, IdAlreadyFailed)];
+    let all = commits_transfers(rt, machine, chain.as_slice(), codes.as_slice())?
+        && commits_transfers(rt, machine, again.as_slice(), failed.as_slice())?
+        && commits_transfers(rt, machine, post.as_slice(), missing.as_slice())?
+        && commits_transfers(rt, machine, last.as_slice(), both.as_slice())?;
     Ok(!all || machine.clock() == 9)
 }
 
 #[test]
-fn void_of_nothing_refused_memory(rt: HostRuntime) -> Result<(), Fail> {
-    let Ok(void) = transfers_body(&rt, [resolving(1, 8, 0, 8)].as_slice()) else {
-        return Ok(());
-    };
+fn id_already_failed_refused_memory(rt: HostRuntime) -> Result<(), Fail> {
     let mut machine = Machine::new(rt.alloc(), 0);
-    assert!(rt; void_twice(&rt, &mut machine, &void)?);
+    let accounts = [account(1, 0), account(2, 0)];
+    let made = commits_accounts(&rt, &mut machine, accounts.as_slice())?;
+    assert!(rt; !made || four_packets(&rt, &mut machine)?);
     Ok(())
 }
 
 /// A void that names nothing leaves its id behind, and so is refused for that when it comes again.
-fn void_twice(rt: &HostRuntime, machine: &mut Machine, void: &[u8]) -> Result<bool, Fail> {
+fn void_twice(rt: &HostRuntime, machine: &mut Machine) -> Result<bool, Fail> {
+    let void = [resolving(1, 8, 0, 8)];
     let missing = [(0, PendingTransferNotFound)];
     let failed = [(0, IdAlreadyFailed)];
-    let all = is_committed(rt, machine, CREATE_TRANSFERS, void, missing.as_slice())?
-        && is_committed(rt, machine, CREATE_TRANSFERS, void, failed.as_slice())?;
+    let all = commits_transfers(rt, machine, void.as_slice(), missing.as_slice())?
+        && commits_transfers(rt, machine, void.as_slice(), failed.as_slice())?;
     Ok(!all || machine.clock() == 2)
+}
+
+#[test]
+fn void_of_nothing_refused_memory(rt: HostRuntime) -> Result<(), Fail> {
+    let mut machine = Machine::new(rt.alloc(), 0);
+    assert!(rt; void_twice(&rt, &mut machine)?);
+    Ok(())
 }

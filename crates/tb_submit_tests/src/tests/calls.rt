@@ -1,5 +1,6 @@
 use super::{Says, answer, ends_of, holds, kind_of, pulse, submit};
 use std::alloc::Global;
+use std::process::Abort;
 use std::sync::Wait;
 use std::test::Fail;
 use tb_submit::{Control, Ended, Ends, Intake, Submitter};
@@ -82,26 +83,34 @@ fn submit_one<R: Wait>(
     ))
 }
 
-/// Three packets of a credit of three; their replies are read once the submitter has ended.
-#[test]
-fn credit_of_three(rt: HostRuntime) -> Result<(), Fail> {
-    let mut ends = ends_of(rt.alloc(), 4, 8, 3)?;
+/// Three packets use up a credit of three, and two of them are answered.
+fn use_credit<R: Wait + Abort>(rt: &R, alloc: Global, ends: &mut Ends) -> Result<(), Fail> {
     for wanted in [
         (0, Ok(0)),
         (1, Ok(1)),
         (2, Ok(2)),
         (3, Err(Refusal::InFlight)),
     ] {
-        assert_eq!(rt; submit_one(&rt, rt.alloc(), &mut ends)?, wanted);
+        assert_eq!(rt; submit_one(rt, alloc, ends)?, wanted);
     }
-    answer(&rt, rt.alloc(), &mut ends, Says::Committed)?;
-    answer(&rt, rt.alloc(), &mut ends, Says::Committed)?;
-    let mut submitter = one_submitter(&mut ends)?;
+    answer(rt, alloc, ends, Says::Committed)?;
+    answer(rt, alloc, ends, Says::Committed)
+}
+
+/// One reply is read before the submitter ends, and the other afterwards.
+fn read_both<R: Wait + Abort>(rt: &R, submitter: Submitter) -> Result<(), Fail> {
+    let mut submitter = submitter;
     assert!(rt; submitter.reply().is_some());
-    assert_eq!(rt; submitter.in_flight(), 2);
-    assert_eq!(rt; submitter.queued(), 3);
-    let mut ended = end(&rt, submitter).ok().ok_or("the queue is full")?;
+    assert_eq!(rt; (submitter.in_flight(), submitter.queued()), (2, 3));
+    let mut ended = end(rt, submitter).ok().ok_or("the queue is full")?;
     assert!(rt; ended.reply().is_some());
     assert!(rt; ended.reply().is_none());
     Ok(())
+}
+
+#[test]
+fn credit_of_three(rt: HostRuntime) -> Result<(), Fail> {
+    let mut ends = ends_of(rt.alloc(), 4, 8, 3)?;
+    use_credit(&rt, rt.alloc(), &mut ends)?;
+    read_both(&rt, one_submitter(&mut ends)?)
 }

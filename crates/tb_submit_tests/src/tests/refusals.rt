@@ -1,8 +1,9 @@
 use super::{Says, answer, ends_of, holds, pulse, submit};
 use std::alloc::Global;
+use std::process::Abort;
 use std::sync::Wait;
 use std::test::Fail;
-use tb_submit::{Ends, Submitter};
+use tb_submit::{Control, Ends, Submitter};
 use tb_work::Refusal;
 
 /// What each of these packets, an operation and a number of bytes, is answered in turn.
@@ -158,9 +159,8 @@ fn told_of_a_stop(rt: HostRuntime) -> Result<(), Fail> {
     )
 }
 
-#[test]
-fn moments(rt: HostRuntime) -> Result<(), Fail> {
-    let mut ends = ends_of(rt.alloc(), 4, 2, 1)?;
+/// The greatest moment is 2^62; two pulses fill the queue.
+fn pulse_five<R: Wait + Abort>(rt: &R, control: &mut Control) -> Result<(), Fail> {
     for (moment, wanted) in [
         (4_611_686_018_427_387_905, Err(Refusal::MomentTooLarge)),
         (4_611_686_018_427_387_904, Ok(())),
@@ -168,8 +168,15 @@ fn moments(rt: HostRuntime) -> Result<(), Fail> {
         (1, Err(Refusal::Full)),
         (18_446_744_073_709_551_615, Err(Refusal::MomentTooLarge)),
     ] {
-        assert_eq!(rt; pulse(&rt, &mut ends.control, moment)?, wanted);
+        assert_eq!(rt; pulse(rt, control, moment)?, wanted);
     }
+    Ok(())
+}
+
+#[test]
+fn moments(rt: HostRuntime) -> Result<(), Fail> {
+    let mut ends = ends_of(rt.alloc(), 4, 2, 1)?;
+    pulse_five(&rt, &mut ends.control)?;
     assert_eq!(rt; ends.control.queued(), 2);
     Ok(())
 }
