@@ -20,7 +20,7 @@ use Rattle.tb_work.specs.Reply.{reply_with}
 use Rattle.tb_work.specs.Work.{work_of}
 use Rattle.tb_batch.specs.Grouping.{can_share, are_of}
 use Rattle.tb_batch.specs.Batch.{body_of, IsLawful, AreAdmitted}
-use Rattle.tb_core.specs.BatchAnswer.{committed_from}
+use Rattle.tb_core.proofs.Answering.{answers_from}
 use Rattle.tb_core.specs.Ledger.{packets_of}
 use Rattle.tb_core.proofs.Bodies.{first_is, whole_events, packets_of-jobs}
 use Rattle.tb_core.proofs.Committing.{length-chunks, GivesEach, gives}
@@ -156,7 +156,7 @@ pub record GivesOne (place operation : ℕ) (state : State) (jobs : List Numbere
   pub job : Numbered
   pub only : jobs ≡ job ∷ []
   pub lookup : is_lookup job.packet ≡ true
-  pub replies : map (reply_with (Committed place (Looked_up (accounts_found state.facts (ids_of (body_of jobs)))))) jobs ≡ committed_from place state jobs
+  pub replies : map (reply_with (Committed place (Looked_up (accounts_found state.facts (ids_of (body_of jobs)))))) jobs ≡ answers_from place state jobs
   pub states : state ≡ fold after_packet state (map (λ (job : Numbered). events_in job.packet) jobs)
   pub few : length (accounts_found state.facts (ids_of (body_of jobs))) ≤ count_of job.packet
 

@@ -14,7 +14,7 @@ use Rattle.tb_core.specs.declared.parcel.Parcel.{Parcel}
 use Rattle.tb_core.specs.declared.parcel.Parcel.TheVariants as parcel
 use Rattle.tb_core.specs.declared.outcomes.Outcomes.{Outcomes}
 use Rattle.tb_core.specs.declared.outcomes.Outcomes.TheVariants.{Cut, Nothing}
-use Rattle.tb_core.specs.BatchAnswer.{committed_from}
+use Rattle.tb_core.proofs.Answering.{answers_from}
 use Rattle.tb_core.specs.Due.{outcome_with, outcome_at, outcome_of, works_in, replies_from}
 use Rattle.tb_core.specs.Front.{passages_in}
 use Rattle.tb_core.specs.Ledger.{LedgerState, IsLedger, Applied, apply_result, works, must_stop, with_stop, with_entry, step_of_batch, apply_step}
@@ -103,26 +103,27 @@ replies_from-stopped clock journal place (job ∷ jobs) h =
     ∙ ap (λ rs. reply_with outcome.Stopped job ∷ rs) (replies_from-stopped clock journal (place + 1) jobs (omega (arith, h)))
 
 -- packets that were just committed are answered by the machine, each in the state that those before it left
-pub replies_from-committed : (clock place : ℕ) (state : State) (journal before : List Work) (jobs : List Numbered) → journal ≡ before ++ map work_of jobs → place ≡ length before → state ≡ replay clock before →
-    committed_from place state jobs ≡ replies_from clock journal place (map Admitted jobs)
-replies_from-committed clock place state journal before [] all place_is state_is = refl
-replies_from-committed clock place state journal before (job ∷ jobs) all place_is state_is =
+pub replies_from-answers : (clock place : ℕ) (state : State) (journal before : List Work) (jobs : List Numbered) → journal ≡ before ++ map work_of jobs → place ≡ length before → state ≡ replay clock before →
+    answers_from place state jobs ≡ replies_from clock journal place (map Admitted jobs)
+replies_from-answers clock place state journal before [] all place_is state_is = refl
+replies_from-answers clock place state journal before (job ∷ jobs) all place_is state_is =
     let one = work_of job ∷ [] in
     let later = after_packet state (events_in job.packet) in
-    ap (λ o. reply_with o job ∷ committed_from (place + 1) later jobs) (sym (outcome_here clock place state before job (map work_of jobs) place_is state_is))
-    ∙ ap (λ ws. reply_with (outcome_at clock ws (Ahead place)) job ∷ committed_from (place + 1) later jobs) (sym all)
+    ap (λ o. reply_with o job ∷ answers_from (place + 1) later jobs) (sym (outcome_here clock place state before job (map work_of jobs) place_is state_is))
+    ∙ ap (λ ws. reply_with (outcome_at clock ws (Ahead place)) job ∷ answers_from (place + 1) later jobs) (sym all)
     ∙ ap (λ rs. reply_with (outcome_at clock journal (Ahead place)) job ∷ rs)
-    (replies_from-committed clock (place + 1) later journal (before ++ one) jobs (all ∙ sym (append_assoc before one (map work_of jobs))) (omega (arith, place_is, length-append before one))
+    (replies_from-answers clock (place + 1) later journal (before ++ one) jobs (all ∙ sym (append_assoc before one (map work_of jobs))) (omega (arith, place_is, length-append before one))
     (ap (λ s. after_packet s (events_in job.packet)) state_is ∙ sym (fold-append after_work (opening clock) before one)))
 
 -- a batch that the machine took, and the journal has as one entry, is applied
 pub batch_applied : (ledger : LedgerState) (state : State) (places : ℕ) (groups : List (List Work)) (jobs batch : List Numbered) (replies : List Replied) → IsLedger ledger state places →
-    groups ≡ ledger.groups ++ map work_of jobs ∷ [] → jobs ≡ batch → replies ≡ committed_from places state jobs → must_stop false ledger (length batch) ≡ false →
+    groups ≡ ledger.groups ++ map work_of jobs ∷ [] → jobs ≡ batch → replies ≡ replies_from ledger.opening (works ledger ++ map work_of jobs) places (map Admitted jobs) → must_stop false ledger (length batch) ≡ false →
     apply_result (record { opening = ledger.opening; groups = groups; stopped = ledger.stopped }) (Cut replies) ≡ apply_step false ledger (parcel.Batch batch)
 batch_applied ledger state places groups jobs batch replies is groups_is same replies_is goes =
     let next = with_entry ledger (map work_of batch) in
-    let answers = replies_is ∙ ap (λ js. committed_from places state js) same ∙ ap (λ n. committed_from n state batch) is.counted
-    ∙ replies_from-committed ledger.opening (length (works ledger)) state (works next) (works ledger) batch (works-more ledger.groups (map work_of batch)) refl is.machine in
+    let answers = replies_is ∙ ap (λ js. replies_from ledger.opening (works ledger ++ map work_of js) places (map Admitted js)) same
+    ∙ ap (λ n. replies_from ledger.opening (works ledger ++ map work_of batch) n (map Admitted batch)) is.counted
+    ∙ ap (λ ws. replies_from ledger.opening ws (length (works ledger)) (map Admitted batch)) (sym (works-more ledger.groups (map work_of batch))) in
     ap (λ gs. apply_result (record { opening = ledger.opening; groups = gs; stopped = ledger.stopped }) (Cut replies)) (groups_is ∙ ap (λ js. ledger.groups ++ map work_of js ∷ []) same)
     ∙ ap (λ rs. apply_result next (Cut rs)) answers ∙ ap (λ b. if b then apply_result (with_stop ledger) (Cut (map (reply_with outcome.Stopped) batch)) else step_of_batch ledger batch) (sym goes)
 

@@ -19,12 +19,12 @@ use Rattle.tb_work.specs.Reply.{Replied, reply_with}
 use Rattle.tb_batch.specs.Grouping.{can_share, are_of}
 use Rattle.tb_batch.specs.Batch.{body_of, AreAdmitted}
 use Rattle.tb_demux.specs.Cutting.{replies_from}
-use Rattle.tb_core.specs.BatchAnswer.{committed_from}
+use Rattle.tb_core.proofs.Answering.{answers_from}
 use Rattle.tb_core.proofs.Bodies.{first_is, laid-rows}
 
 -- what a batch of accounts or transfers gives: the replies, the state and the failures' range
 pub record GivesEach (place operation : ℕ) (state : State) (jobs : List Numbered) : Type 0 where
-  pub replies : replies_from place 0 (failures_of state (events_of operation (body_of jobs))) jobs ≡ committed_from place state jobs
+  pub replies : replies_from place 0 (failures_of state (events_of operation (body_of jobs))) jobs ≡ answers_from place state jobs
   pub states : after_packet state (events_of operation (body_of jobs)) ≡ fold after_packet state (map (λ (job : Numbered). events_in job.packet) jobs)
   pub rises : RiseWithin 0 (count_of_all jobs) (failures_of state (events_of operation (body_of jobs)))
 
@@ -72,12 +72,12 @@ module _ {Event : Type 0} (is_linked : Event → Bool) (number : ℕ) (f : List 
       ∙ ap (λ replies. reply_with (Committed place (Failures (failures_within offset (length (own job)) failures))) job ∷ replies) (replies_cut (place + 1) (offset + length (own job)) failures jobs first.1)
 
   -- each by itself
-  replies_each : (place : ℕ) (state : State) (jobs : List Numbered) → are_of number jobs ≡ true → committed_from place state jobs ≡ replied place jobs (failures_each state (map packet_of (map own jobs)))
+  replies_each : (place : ℕ) (state : State) (jobs : List Numbered) → are_of number jobs ≡ true → answers_from place state jobs ≡ replied place jobs (failures_each state (map packet_of (map own jobs)))
   replies_each place state [] one = refl
   replies_each place state (job ∷ jobs) one =
       let first = first_is number job jobs one in
-      ap (λ events. reply_with (Committed place (answer_of state events)) job ∷ committed_from (place + 1) (after_packet state events) jobs) (own_is job first.0)
-      ∙ ap (λ answer. reply_with (Committed place answer) job ∷ committed_from (place + 1) (after_packet state (packet_of (own job))) jobs) (answers state (own job))
+      ap (λ events. reply_with (Committed place (answer_of state events)) job ∷ answers_from (place + 1) (after_packet state events) jobs) (own_is job first.0)
+      ∙ ap (λ answer. reply_with (Committed place answer) job ∷ answers_from (place + 1) (after_packet state (packet_of (own job))) jobs) (answers state (own job))
       ∙ ap (λ replies. reply_with (Committed place (Failures (failures_of state (packet_of (own job))))) job ∷ replies) (replies_each (place + 1) (after_packet state (packet_of (own job))) jobs first.1)
 
   states_each : (state : State) (jobs : List Numbered) → are_of number jobs ≡ true → fold after_packet state (map packet_of (map own jobs)) ≡ fold after_packet state (map (λ (job : Numbered). events_in job.packet) jobs)

@@ -1,6 +1,7 @@
 mod Passing
 mod Accounting
 mod Bodies
+mod Answering
 mod Committing
 mod Batches
 mod Recording

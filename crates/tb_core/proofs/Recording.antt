@@ -14,7 +14,8 @@ use Rattle.tb_work.specs.Reply.{reply_with}
 use Rattle.tb_batch.specs.Grouping.{are_of}
 use Rattle.tb_batch.specs.declared.parts.Parts.{Parts}
 use Rattle.tb_demux.specs.Cutting.{replies_to, replies_from, replies_with_answer, IsOutcomeOfAll, IsAnswerToAll}
-use Rattle.tb_core.specs.BatchAnswer.{AreAnswered, answer_in, committed_from}
+use Rattle.tb_core.specs.BatchAnswer.{AreAnswered, answer_in}
+use Rattle.tb_core.proofs.Answering.{answers_from}
 use Rattle.tb_core.proofs.Bodies.{first_is}
 use Rattle.tb_core.proofs.Batches.{JoinInvisibly, gives_each, gives_one}
 
@@ -27,7 +28,7 @@ no_lookups operation (job ∷ jobs) other one =
 -- its outcome may be cut, and the replies are those of the packets each by itself
 pub record IsRecorded (place : ℕ) (state : State) (parts : Parts) : Type 0 where
   pub fits : IsOutcomeOfAll (Committed place (answer_in parts.operation parts.failures.items parts.accounts.items)) parts.jobs.items
-  pub replies : replies_to (Committed place (answer_in parts.operation parts.failures.items parts.accounts.items)) parts.jobs.items ≡ committed_from place state parts.jobs.items
+  pub replies : replies_to (Committed place (answer_in parts.operation parts.failures.items parts.accounts.items)) parts.jobs.items ≡ answers_from place state parts.jobs.items
 
 pub recorded : (law : JoinInvisibly) (place : ℕ) (state : State) (parts : Parts) → place + length parts.jobs.items ≤ 2 ^ 63 → AreAnswered state parts → IsRecorded place state parts
 recorded law place state parts few answered = by (parts.operation == 131) refl
@@ -35,7 +36,7 @@ recorded law place state parts few answered = by (parts.operation == 131) refl
     chosen : Bool → Answer
     chosen b = if b then Accounts parts.accounts.items else Failures parts.failures.items
 
-    of_answer : (b : Bool) → (parts.operation == 131) ≡ b → IsAnswerToAll (chosen b) parts.jobs.items → replies_with_answer place (chosen b) parts.jobs.items ≡ committed_from place state parts.jobs.items → IsRecorded place state parts
+    of_answer : (b : Bool) → (parts.operation == 131) ≡ b → IsAnswerToAll (chosen b) parts.jobs.items → replies_with_answer place (chosen b) parts.jobs.items ≡ answers_from place state parts.jobs.items → IsRecorded place state parts
     of_answer b is fits replies = record {
       fits = (few, subst (λ c. IsAnswerToAll (chosen c) parts.jobs.items) (sym is) fits);
       replies = ap (λ c. replies_with_answer place (chosen c) parts.jobs.items) is ∙ replies;

@@ -3,13 +3,15 @@
 ghost use Rattle.std.specs.Prelude.{◌≡◌, ◌==◌, ◌<◌, ◌≤◌, ◌+◌, ◌^◌, ◌++◌, ◌∷◌, [], ℕ, List, Bool, false, true, length, map, vec_len, vec_capacity, OnOk, OnErr, IfOk, IfErr, nat_lt, ◌||◌};
 ghost use Rattle.tb_layout.specs.Events.{events_of};
 ghost use Rattle.tb_layout.specs.Limits.{clock_max};
-ghost use Rattle.tb_machine.specs.Replay.{State, after_packet};
+ghost use Rattle.tb_layout.specs.Work.{Work};
+ghost use Rattle.tb_machine.specs.Replay.{State, after_packet, replay};
 ghost use Rattle.tb_batch.specs.Batch.{AreAdmitted, AreParts};
 ghost use Rattle.tb_work.specs.Reply.{reply_with};
 ghost use Rattle.tb_work.specs.Work.{work_of};
-ghost use Rattle.tb_core.specs.BatchAnswer.{AreAnswered, answer_in, committed_from};
+ghost use Rattle.tb_core.specs.BatchAnswer.{AreAnswered, answer_in};
 ghost use Rattle.tb_work.specs.declared.outcome.Outcome.TheVariants.{Stopped as StoppedOutcome};
-ghost use Rattle.tb_core.specs.Due.{outcome_of};
+ghost use Rattle.tb_core.specs.Due.{outcome_of, replies_from};
+ghost use Rattle.tb_core.specs.Passage.{Admitted};
 ghost use Rattle.tb_core.specs.Ledger.{group_of};
 
 use crate::journal::Entry;
@@ -81,7 +83,8 @@ fn record(entries: &mut Vec<Entry>, place: u64, parts: Parts) -> Cutter
     requires answered { (state : State) × AreAnswered state parts }
     requires fits { place + length parts.jobs.items ≤ 2 ^ 63 }
     ensures entry { map group_of entries.new.items ≡ map group_of entries.old.items ++ map work_of parts.jobs.items ∷ [] }
-    ensures replies { (state : State) → AreAnswered state parts → result ≡ committed_from place state parts.jobs.items }
+    ensures replies { (clock : ℕ) (before : List Work) → place ≡ length before → AreAnswered (replay clock before) parts
+        → result ≡ replies_from clock (before ++ map work_of parts.jobs.items) place (map Admitted parts.jobs.items) }
 {
     let Parts {
         operation,
@@ -121,7 +124,6 @@ fn returned(job: Job, cause: Cause) -> Reply
 }
 
 impl Ledger {
-    ghost use Rattle.tb_machine.specs.Replay.{replay};
     ghost use Rattle.tb_core.specs.declared.parcel.Parcel.TheVariants as parcel;
     ghost use Rattle.tb_core.specs.declared.outcomes.Outcomes.TheVariants.{Nothing as NothingComes};
     ghost use Rattle.tb_work.specs.Reply.{Replied};

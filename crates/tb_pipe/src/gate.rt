@@ -1,3 +1,5 @@
+ghost use Rattle.std.specs.Prelude.{◌≡◌, true};
+
 /// Watches the batches of a run and may hold their commits back. Batches are counted from 0 in the order in
 /// which they are sealed, and pulses aren't counted.
 pub trait Gate: Sync {
@@ -15,7 +17,9 @@ pub struct Open;
 impl Gate for Open {
     fn sealed(&self, _batch: u64) {}
 
-    fn may_commit(&self, _batch: u64) -> bool {
+    fn may_commit(&self, _batch: u64) -> bool
+        ensures { result ≡ true }
+    {
         true
     }
 }

@@ -32,8 +32,8 @@ fn credits_in(pending: bool) -> Balance
 /// Adds an amount to what is pending, or to what is posted.
 pub fn add_amount(accounts: &mut ById<Account>, places: Places, pending: bool, amount: u128)
     requires { CanAdd accounts.old.entries places pending amount }
-    ensures { (sums : Sums) (rows : List AccountRecord) (debit credit : ℕ) → AreAt rows places debit credit
-        → accounts.old.entries ≡ account_rows sums rows → accounts.new.entries ≡ account_rows (with_amount pending debit credit amount sums) rows }
+    ensures { (sums : Sums) (records : List AccountRecord) (debit credit : ℕ) → AreAt records places debit credit
+        → accounts.old.entries ≡ account_rows sums records → accounts.new.entries ≡ account_rows (with_amount pending debit credit amount sums) records }
 {
     raise_at(accounts, places.debit, debits_in(pending), amount);
     raise_at(accounts, places.credit, credits_in(pending), amount);
@@ -42,8 +42,8 @@ pub fn add_amount(accounts: &mut ById<Account>, places: Places, pending: bool, a
 /// Takes an amount out again.
 pub fn take_amount(accounts: &mut ById<Account>, places: Places, pending: bool, amount: u128)
     requires { CanTake accounts.old.entries places pending amount }
-    ensures { (sums : Sums) (rows : List AccountRecord) (debit credit : ℕ) → AreAt rows places debit credit
-        → accounts.old.entries ≡ account_rows (with_amount pending debit credit amount sums) rows → accounts.new.entries ≡ account_rows sums rows }
+    ensures { (sums : Sums) (records : List AccountRecord) (debit credit : ℕ) → AreAt records places debit credit
+        → accounts.old.entries ≡ account_rows (with_amount pending debit credit amount sums) records → accounts.new.entries ≡ account_rows sums records }
 {
     lower_at(accounts, places.credit, credits_in(pending), amount);
     lower_at(accounts, places.debit, debits_in(pending), amount);
@@ -52,8 +52,8 @@ pub fn take_amount(accounts: &mut ById<Account>, places: Places, pending: bool, 
 /// Adds what a post posts, where it is a post.
 pub fn post_if(accounts: &mut ById<Account>, places: Places, is_post: bool, amount: u128)
     requires { is_post ≡ true → CanAdd accounts.old.entries places false amount }
-    ensures { (sums : Sums) (rows : List AccountRecord) (debit credit : ℕ) → AreAt rows places debit credit
-        → accounts.old.entries ≡ account_rows sums rows → accounts.new.entries ≡ account_rows (posted_if is_post debit credit amount sums) rows }
+    ensures { (sums : Sums) (records : List AccountRecord) (debit credit : ℕ) → AreAt records places debit credit
+        → accounts.old.entries ≡ account_rows sums records → accounts.new.entries ≡ account_rows (posted_if is_post debit credit amount sums) records }
 {
     if is_post {
         add_amount(accounts, places, false, amount);
@@ -63,8 +63,8 @@ pub fn post_if(accounts: &mut ById<Account>, places: Places, is_post: bool, amou
 /// Takes out what a post posted, where it is a post.
 pub fn unpost_if(accounts: &mut ById<Account>, places: Places, is_post: bool, amount: u128)
     requires { is_post ≡ true → CanTake accounts.old.entries places false amount }
-    ensures { (sums : Sums) (rows : List AccountRecord) (debit credit : ℕ) → AreAt rows places debit credit
-        → accounts.old.entries ≡ account_rows (posted_if is_post debit credit amount sums) rows → accounts.new.entries ≡ account_rows sums rows }
+    ensures { (sums : Sums) (records : List AccountRecord) (debit credit : ℕ) → AreAt records places debit credit
+        → accounts.old.entries ≡ account_rows (posted_if is_post debit credit amount sums) records → accounts.new.entries ≡ account_rows sums records }
 {
     if is_post {
         take_amount(accounts, places, false, amount);

@@ -74,9 +74,9 @@ fn settle(
     transfer: Transfer,
 )
     requires names { places.pending ≡ Some pending }
-    requires pushed { (facts : Facts) × (rows : List AccountRecord) × IsPushed facts rows transfer places accounts.old.entries transfers.old.entries }
-    ensures { (facts : Facts) (rows : List AccountRecord) → IsPushed facts rows transfer places accounts.old.entries transfers.old.entries
-        → IsStored facts rows transfer places accounts.new.entries transfers.new.entries }
+    requires pushed { (facts : Facts) × (records : List AccountRecord) × IsPushed facts records transfer places accounts.old.entries transfers.old.entries }
+    ensures { (facts : Facts) (records : List AccountRecord) → IsPushed facts records transfer places accounts.old.entries transfers.old.entries
+        → IsStored facts records transfer places accounts.new.entries transfers.new.entries }
 {
     let reserved = transfer_at(transfers, pending).amount;
     take_amount(accounts, places, true, reserved);
@@ -91,9 +91,9 @@ pub fn apply(
     places: Places,
     transfer: Transfer,
 )
-    requires { (facts : Facts) × (rows : List AccountRecord) × IsPushed facts rows transfer places accounts.old.entries transfers.old.entries }
-    ensures { (facts : Facts) (rows : List AccountRecord) → IsPushed facts rows transfer places accounts.old.entries transfers.old.entries
-        → IsStored facts rows transfer places accounts.new.entries transfers.new.entries }
+    requires { (facts : Facts) × (records : List AccountRecord) × IsPushed facts records transfer places accounts.old.entries transfers.old.entries }
+    ensures { (facts : Facts) (records : List AccountRecord) → IsPushed facts records transfer places accounts.old.entries transfers.old.entries
+        → IsStored facts records transfer places accounts.new.entries transfers.new.entries }
 {
     match places.pending {
         None => add_amount(accounts, places, transfer.is_pending(), transfer.amount),
@@ -110,9 +110,9 @@ fn unsettle(
     transfer: Transfer,
 )
     requires names { places.pending ≡ Some pending }
-    requires popped { (facts : Facts) × (rows : List AccountRecord) × IsPopped facts rows transfer places accounts.old.entries transfers.old.entries }
-    ensures { (facts : Facts) (rows : List AccountRecord) → IsPopped facts rows transfer places accounts.old.entries transfers.old.entries
-        → Hold facts rows accounts.new.entries transfers.new.entries }
+    requires popped { (facts : Facts) × (records : List AccountRecord) × IsPopped facts records transfer places accounts.old.entries transfers.old.entries }
+    ensures { (facts : Facts) (records : List AccountRecord) → IsPopped facts records transfer places accounts.old.entries transfers.old.entries
+        → Hold facts records accounts.new.entries transfers.new.entries }
 {
     let reserved = transfer_at(transfers, pending).amount;
     unpost_if(accounts, places, transfer.is_post(), transfer.amount);
@@ -127,10 +127,10 @@ pub fn take_back(
     expiries: &mut BTreeSet<(u64, usize)>,
     places: Places,
 )
-    requires { (facts : Facts) × (rows : List AccountRecord) × (transfer : TransferRecord) × IsStored facts rows transfer places accounts.old.entries transfers.old.entries }
-    ensures maps { (facts : Facts) (rows : List AccountRecord) (transfer : TransferRecord) → IsStored facts rows transfer places accounts.old.entries transfers.old.entries
-        → Hold facts rows accounts.new.entries transfers.new.entries }
-    ensures index { (facts : Facts) (rows : List AccountRecord) (transfer : TransferRecord) → IsStored facts rows transfer places accounts.old.entries transfers.old.entries → (m p : ℕ)
+    requires { (facts : Facts) × (records : List AccountRecord) × (transfer : TransferRecord) × IsStored facts records transfer places accounts.old.entries transfers.old.entries }
+    ensures maps { (facts : Facts) (records : List AccountRecord) (transfer : TransferRecord) → IsStored facts records transfer places accounts.old.entries transfers.old.entries
+        → Hold facts records accounts.new.entries transfers.new.entries }
+    ensures index { (facts : Facts) (records : List AccountRecord) (transfer : TransferRecord) → IsStored facts records transfer places accounts.old.entries transfers.old.entries → (m p : ℕ)
         → is_indexed expiries.new m p ≡ (not (is_timed_of transfer && same_pair (expires_at_of transfer) (length facts.transfers) m p) && is_indexed expiries.old m p) }
 {
     let transfer = pop_transfer(transfers);

@@ -1,7 +1,9 @@
-use Rattle.std.proofs.Common.{◌∙◌, ap, map, ◌++◌, ◌∷◌, []}
+use Rattle.std.proofs.Common.{◌∙◌, ap, refl, map, ◌++◌, ◌∷◌, []}
 use Rattle.std.proofs.lemmas.List.{map-append}
+use Rattle.tb_machine.specs.Replay.{replay}
 use Rattle.tb_core.specs.Ledger.{group_of, packets_of}
-use Rattle.tb_core.proofs.Batches.{entry_has}
+use Rattle.tb_core.proofs.Batches.{JoinInvisibly, entry_has}
+use Rattle.tb_core.proofs.Committed.{replies_from-answers}
 use Rattle.tb_core.proofs.Recording.{recorded}
 use Rattle.tb_core.proofs.ledger.record.Goals as goal
 
@@ -18,4 +20,7 @@ returns-clause-entry c =
     rw c.push_reserved.ensures.items (map-append group_of c.args.entries.now.items _ ∙ ap (λ group. map group_of c.args.entries.now.items ++ group ∷ []) packets)
 
 pub returns-clause-replies : goal.returns-clause-replies
-returns-clause-replies c = λ state answered. c.new.ensures ∙ rw c.answer-answer.ensures (recorded (record { accounts = c.joining_is_invisible.ensures.accounts; transfers = c.joining_is_invisible.ensures.transfers }) c.args.place state c.args.parts c.requires.fits answered).replies
+returns-clause-replies c = λ clock before at answered.
+    let law : JoinInvisibly = record { accounts = c.joining_is_invisible.ensures.accounts; transfers = c.joining_is_invisible.ensures.transfers } in
+    c.new.ensures ∙ rw c.answer-answer.ensures (recorded law c.args.place (replay clock before) c.args.parts c.requires.fits answered).replies
+    ∙ replies_from-answers clock c.args.place (replay clock before) _ before c.args.parts.jobs.items refl at refl

@@ -1,7 +1,8 @@
-use Rattle.std.proofs.Common.{◌∙◌, ap, sym, false, map, length, ◌++◌, ◌∷◌, []}
+use Rattle.std.proofs.Common.{◌∙◌, ap, sym, subst, false, map, length, ◌++◌, ◌∷◌, []}
 use Rattle.tb_work.specs.Work.{work_of}
 use Rattle.tb_core.specs.declared.parcel.Parcel.TheVariants as parcel
-use Rattle.tb_core.specs.Ledger.{LedgerState, group_of, must_stop, apply_step}
+use Rattle.tb_core.specs.BatchAnswer.{AreAnswered}
+use Rattle.tb_core.specs.Ledger.{LedgerState, group_of, must_stop, apply_step, works}
 use Rattle.tb_core.proofs.Batches.{JoinInvisibly}
 use Rattle.tb_core.proofs.Committed.{batch_applied}
 use Rattle.tb_core.proofs.Growing.{given, batch_entered}
@@ -32,5 +33,5 @@ returns-clause-ok c =
     let same = c.take_batch.ensures.jobs ∙ c.into_parts-parts.ensures.jobs in
     let goes = ap (λ (l : LedgerState). must_stop false l (length c.args.batch)) c.self.view_is ∙ ap (λ jobs. must_stop false c.args.self.now (length jobs)) (sym c.jobs-count.ensures.jobs) ∙ sym c.halts_at.ensures ∙ c.if-halts_at.false in
     batch_applied ledger inside.machine inside.places (map group_of c.record-replies.new.entries.items) parts.jobs.items c.args.batch c.record-replies.result c.self.invariant groups same
-    (c.record-replies.ensures.replies inside.machine answered) goes
+    (c.record-replies.ensures.replies inside.opening (works ledger) c.self.invariant.counted (subst (λ state. AreAnswered state parts) c.self.invariant.machine answered)) goes
     ∙ ap (λ (l : LedgerState). apply_step false l (parcel.Batch c.args.batch)) c.self.view_is
