@@ -85,7 +85,8 @@ fn two_words(words: Words) -> Result<(&[u8], &[u8]), Fault>
 fn is_text(line: &[u8]) -> bool
     ensures { result ≡ is_text line.now }
 {
-    line.iter().all(|b| 32 <= *b && *b <= 126)
+    line.iter()
+        .fold(true, |text, b| text & (32 <= *b && *b <= 126))
 }
 
 impl Script {
