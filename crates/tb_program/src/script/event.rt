@@ -4,7 +4,7 @@ ghost use Rattle.std.specs.Prelude.{◌≡◌, ◌≤◌, ◌<◌, ◌+◌, ◌-
 ghost use Rattle.std.specs.Int.{to_le_bytes, w128};
 ghost use Rattle.tb_program.specs.Text.{words_of};
 ghost use Rattle.tb_program.specs.Steps.{Gives, Makes, Tells};
-ghost use Rattle.tb_program.specs.Event.{Lies, field_of, greatest, sides_of, new_field, written, assigned, all_assigned, blank, event_of, hex_bytes};
+ghost use Rattle.tb_program.specs.Event.{Lies, field_of, greatest, sides_of, new_field, with_number, after_word, after_words, blank, event_of, hex_bytes};
 
 use crate::script::fault::{Fault, LineError};
 use crate::script::number::number_within;
@@ -133,7 +133,7 @@ fn bytes_of(n: u128) -> [u8; 16]
 /// The number put into the field's bytes.
 fn write(draft: &mut Draft, f: Field, n: u128)
     requires { Lies f }
-    ensures { draft.new ≡ written draft.old f n }
+    ensures { draft.new ≡ with_number draft.old f n }
 {
     let bytes = bytes_of(n);
     let place = f.offset;
@@ -159,9 +159,9 @@ fn sides_of(word: &[u8]) -> Result<(&[u8], &[u8]), Fault>
 }
 
 /// One word NAME=N.
-#[tactic(auto, unfolding(crate::specs::Event::assigned))]
+#[tactic(auto, unfolding(crate::specs::Event::after_word))]
 fn assign(layout: Layout, draft: &mut Draft, word: &[u8]) -> Result<(), Fault>
-    ensures { Makes result draft.new (assigned layout draft.old word.now) }
+    ensures { Makes result draft.new (after_word layout draft.old word.now) }
 {
     let (name, number) = sides_of(word)?;
     let f = new_field(draft, field_of(layout, name))?;
@@ -171,9 +171,9 @@ fn assign(layout: Layout, draft: &mut Draft, word: &[u8]) -> Result<(), Fault>
 }
 
 /// All words of a line.
-#[tactic(auto, unfolding(crate::specs::Event::all_assigned))]
+#[tactic(auto, unfolding(crate::specs::Event::after_words))]
 fn assign_all(layout: Layout, draft: &mut Draft, words: Words) -> Result<(), Fault>
-    ensures { Makes result draft.new (all_assigned layout draft.old (words_of words.entry.rest.now)) }
+    ensures { Makes result draft.new (after_words layout draft.old (words_of words.entry.rest.now)) }
 {
     for word in words {
         assign(layout, draft, word)?;
