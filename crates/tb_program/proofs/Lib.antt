@@ -2,5 +2,5 @@ pub mod Texts
 pub mod Numbers
 pub mod Scripts
 pub mod Lines
-pub mod Spelled
-pub mod Printed
+pub mod Spelling
+pub mod Printing

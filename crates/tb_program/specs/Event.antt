@@ -73,8 +73,8 @@ new_field draft None = Err BadField
 new_field draft (Some field) = if slice_index_or draft.given field.place false then Err BadField else Ok field
 
 -- the number in the field's place, its lowest byte first
-abbrev pub written : Draft → Field → ℕ → Draft
-written draft field number = record {
+abbrev pub with_number : Draft → Field → ℕ → Draft
+with_number draft field number = record {
   bytes = take field.offset draft.bytes ++ take field.size (to_le_bytes w128 number) ++ drop (field.offset + field.size) draft.bytes;
   given = set draft.given field.place true;
 }
@@ -91,21 +91,21 @@ sides_of word =
     else Err BadField
 
 -- one word NAME=N
-unfoldable pub assigned : Layout → Draft → List ℕ → Result Draft Fault
-assigned layout draft word = do
+unfoldable pub after_word : Layout → Draft → List ℕ → Result Draft Fault
+after_word layout draft word = do
   sides ← sides_of word
   field ← new_field draft (field_of layout sides.0)
   number ← number_within 0 (greatest field.size) sides.1
-  Ok (written draft field number)
+  Ok (with_number draft field number)
 
-unfoldable pub all_assigned : Layout → Draft → List (List ℕ) → Result Draft Fault
-all_assigned layout draft [] = Ok draft
-all_assigned layout draft (word ∷ words) = assigned layout draft word >>= λ next. all_assigned layout next words
+unfoldable pub after_words : Layout → Draft → List (List ℕ) → Result Draft Fault
+after_words layout draft [] = Ok draft
+after_words layout draft (word ∷ words) = after_word layout draft word >>= λ next. after_words layout next words
 
 -- the 128 bytes of the event that a line's words give
 unfoldable pub event_of : Layout → List (List ℕ) → Result (List ℕ) Fault
 event_of layout words = do
-  draft ← all_assigned layout blank words
+  draft ← after_words layout blank words
   Ok draft.bytes
 
 abbrev pub hex_or_fault : {E : Type 0} → Result (List ℕ) E → Result (List ℕ) Fault

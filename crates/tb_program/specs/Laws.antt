@@ -1,10 +1,10 @@
 -- What the definition of a script promises, in the words of its format.
-use Rattle.std.specs.Prelude.{◌≡◌, ℕ, ◌+◌, false, List, ◌∷◌, ◌++◌, length, Ok, Err, IsOk, unwrap_or}
+use Rattle.std.specs.Prelude.{◌≡◌, ℕ, ◌+◌, false, List, ◌∷◌, ◌++◌, length, Ok, Err, IsOk}
 use Rattle.tb_program.specs.declared.script.fault.Fault.{Fault}
 use Rattle.tb_program.specs.declared.script.item.Settings.{Settings}
 use Rattle.tb_program.specs.declared.script.item.Item.{Item}
-use Rattle.tb_program.specs.Script.{Said, after_line, after_lines, items_of, script_of}
-use Rattle.tb_program.specs.Spelling.{spelled, CanBeSet, CanAllBeSaid}
+use Rattle.tb_program.specs.Script.{Said, after_line, after_lines, items_of, script_of, submitters_of}
+use Rattle.tb_program.specs.Spelling.{spelling_of, CanBeSet, CanAllBeSaid}
 
 -- where some lines have no fault and the next has one, that fault decides, whatever follows, with the number of its line
 abbrev pub FirstFaultDecides : Type 0
@@ -25,9 +25,9 @@ FaultlessLinesAreSaid = (number : ℕ) (said : Said) (lines : List (List ℕ)) �
 
 -- a script spelled from settings and items is read as these
 abbrev pub IsReadAsSpelled : Settings → List Item → Type 0
-IsReadAsSpelled settings items = (said : Said) × (script_of (spelled settings items) ≡ Ok said) × (said.settings ≡ settings) × (items_of said ≡ items)
+IsReadAsSpelled settings items = (said : Said) × (script_of (spelling_of settings items) ≡ Ok said) × (said.settings ≡ settings) × (items_of said ≡ items)
 
 abbrev pub SpelledScriptsAreRead : Type 0
 SpelledScriptsAreRead =
-    (settings : Settings) (items : List Item) → CanBeSet settings → CanAllBeSaid (unwrap_or settings.submitters 2) false items →
+    (settings : Settings) (items : List Item) → CanBeSet settings → CanAllBeSaid (submitters_of settings) false items →
     IsReadAsSpelled settings items

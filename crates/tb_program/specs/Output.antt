@@ -18,7 +18,7 @@ use Rattle.tb_core.specs.Due.{outcome_at}
 use Rattle.tb_program.specs.declared.script.fault.Fault.{Fault}
 use Rattle.tb_program.specs.declared.script.fault.Fault.TheVariants.{LineTooLong, BadByte, UnknownWord, OutOfPlace, WrongNumberOfWords, BadField, BadNumber, BadHex}
 use Rattle.tb_program.specs.Script.{Said, items_of, clock_of, limit_of, script_of}
-use Rattle.tb_program.specs.Plan.{Planned, Packet, Pulse, Close, RefusedPacket, RefusedPulse, queued, queue_of, plan_behind}
+use Rattle.tb_program.specs.Plan.{Planned, Packet, Pulse, Close, RefusedPacket, RefusedPulse, queued_items, queue_of, plan_behind}
 
 abbrev pub fault_text : Fault → List ℕ
 fault_text LineTooLong = codes "line too long"
@@ -106,7 +106,7 @@ line_text clock works place RefusedPulse = refused_pulse_line
 
 unfoldable pub lines_from : ℕ → List Work → Place → List Planned → List ℕ
 lines_from clock works place [] = []
-lines_from clock works place (planned ∷ plan) = line_text clock works place planned ++ lines_from clock works (place_behind place (queued planned)) plan
+lines_from clock works place (planned ∷ plan) = line_text clock works place planned ++ lines_from clock works (place_behind place (queued_items planned)) plan
 
 -- all that is queued ahead of the Close is committed
 abbrev pub plan_text : ℕ → List Planned → List ℕ
@@ -117,13 +117,13 @@ plan_text clock plan =
 abbrev pub listing : Said → List ℕ
 listing said = plan_text (clock_of said.settings) (plan_behind (limit_of said.settings) [] (items_of said))
 
-abbrev pub printed : Result Said (ℕ × Fault) → List ℕ
-printed (Ok said) = listing said
-printed (Err (number, fault)) = fault_line number (fault_text fault)
+abbrev pub script_text : Result Said (ℕ × Fault) → List ℕ
+script_text (Ok said) = listing said
+script_text (Err (number, fault)) = fault_line number (fault_text fault)
 
 -- the output for the bytes of a script
 abbrev pub out : List ℕ → List ℕ
-out bytes = if nat_lt 16777216 (length bytes) then fault_line 0 (codes "script too long") else printed (script_of bytes)
+out bytes = if nat_lt 16777216 (length bytes) then fault_line 0 (codes "script too long") else script_text (script_of bytes)
 
 abbrev pub is_ok_script : Result Said (ℕ × Fault) → Bool
 is_ok_script (Ok said) = true

@@ -22,15 +22,15 @@ pub data Planned : Type 0 where
   RefusedPulse : Planned
 
 -- what is queued of it
-abbrev pub queued : Planned → List work.Item
-queued (Packet job) = queue.Packet job ∷ []
-queued (Pulse moment) = queue.Pulse moment ∷ []
-queued Close = queue.Close ∷ []
-queued (RefusedPacket submitter refusal) = []
-queued RefusedPulse = []
+abbrev pub queued_items : Planned → List work.Item
+queued_items (Packet job) = queue.Packet job ∷ []
+queued_items (Pulse moment) = queue.Pulse moment ∷ []
+queued_items Close = queue.Close ∷ []
+queued_items (RefusedPacket submitter refusal) = []
+queued_items RefusedPulse = []
 
 abbrev pub queue_of : List Planned → List work.Item
-queue_of plan = flat_map queued plan
+queue_of plan = flat_map queued_items plan
 
 -- a submitter's queued packets are numbered from 0
 abbrev pub is_of : ℕ → work.Item → Bool
@@ -63,7 +63,7 @@ planned_as limit items script.Shut = Close
 -- what a script's items come to behind what is queued, packets being of so many events at most
 unfoldable pub plan_behind : ℕ → List work.Item → List Item → List Planned
 plan_behind limit items [] = []
-plan_behind limit items (item ∷ others) = planned_as limit items item ∷ plan_behind limit (items ++ queued (planned_as limit items item)) others
+plan_behind limit items (item ∷ others) = planned_as limit items item ∷ plan_behind limit (items ++ queued_items (planned_as limit items item)) others
 
 -- ---- a plan in two lists
 
@@ -81,7 +81,7 @@ pub record Halves : Type 0 where
   pub lines : List Line
 
 abbrev pub with_planned : Halves → Planned → Halves
-with_planned halves planned = record { queue = halves.queue ++ queued planned; lines = halves.lines ++ line_of planned ∷ [] }
+with_planned halves planned = record { queue = halves.queue ++ queued_items planned; lines = halves.lines ++ line_of planned ∷ [] }
 
 abbrev pub halves_of : List Planned → Halves
 halves_of plan = record { queue = queue_of plan; lines = map line_of plan }

@@ -41,8 +41,8 @@ behind_line Shut place replies = pending None replies
 behind_line (RefusedPacket submitter refusal) place replies = pending place replies
 behind_line RefusedPulse place replies = pending place replies
 
-unfoldable pub printed_from : Option ℕ → List Replied → List Line → List ℕ
-printed_from place replies [] = []
-printed_from place replies (line ∷ lines) =
+unfoldable pub text_from : Option ℕ → List Replied → List Line → List ℕ
+text_from place replies [] = []
+text_from place replies (line ∷ lines) =
     let next = behind_line line place replies in
-    first_text line place replies ++ printed_from next.place next.replies lines
+    first_text line place replies ++ text_from next.place next.replies lines

@@ -1,8 +1,8 @@
 -- What a script says.
-use Rattle.std.specs.Prelude.{◌<◌, ◌≤◌, ℕ, ◌+◌, ◌-◌, ◌^◌, ◌==◌, Bool, true, false, not, ◌&&◌, ◌||◌, List, [], ◌∷◌, ◌++◌, length, Option, Some, None, Result, Ok, Err, is_some, is_none, unwrap_or, if◌then◌else◌, nat_lt, nat_le, slice_index}
+use Rattle.std.specs.Prelude.{◌≤◌, ℕ, ◌+◌, ◌-◌, ◌^◌, ◌==◌, Bool, true, false, not, ◌&&◌, ◌||◌, List, [], ◌∷◌, ◌++◌, length, Option, Some, None, Result, Ok, Err, is_some, is_none, unwrap_or, if◌then◌else◌, nat_lt, nat_le, slice_index}
 use Rattle.std.specs.List.{list_all}
 use Rattle.std.specs.Int.{w128, to_le_bytes}
-use Rattle.tb_layout.specs.Limits.{batch_max}
+use Rattle.tb_layout.specs.Limits.{batch_max, capacity_max, clock_max, submitters_max}
 use Rattle.tb_program.specs.declared.script.fault.Fault.{Fault}
 use Rattle.tb_program.specs.declared.script.fault.Fault.TheVariants.{LineTooLong, BadByte, UnknownWord, OutOfPlace}
 use Rattle.tb_program.specs.declared.script.keyword.Keyword.{Keyword}
@@ -64,6 +64,22 @@ is_in_place said word.Hex = is_some said.packet
 is_in_place said word.Pulse = not said.shut
 is_in_place said word.Shut = not said.shut
 
+-- the settings that hold where a script gives none
+abbrev pub clock_of : Settings → ℕ
+clock_of settings = unwrap_or settings.clock 0
+
+abbrev pub limit_of : Settings → ℕ
+limit_of settings = unwrap_or settings.limit batch_max
+
+abbrev pub capacity_of : Settings → ℕ
+capacity_of settings = unwrap_or settings.capacity 64
+
+abbrev pub credit_of : Settings → ℕ
+credit_of settings = unwrap_or settings.credit 16
+
+abbrev pub submitters_of : Settings → ℕ
+submitters_of settings = unwrap_or settings.submitters 2
+
 abbrev pub set_to : Said → Settings → Said
 set_to said settings = record said { settings = settings }
 
@@ -90,7 +106,7 @@ with_bytes said bytes = record said { packet = more_bytes said.packet bytes }
 unfoldable pub with_line : Said → Keyword → List (List ℕ) → Result Said Fault
 with_line said word.Clock words = do
   text ← one_word words
-  n ← number_within 0 (2 ^ 63 - 1) text
+  n ← number_within 0 clock_max text
   Ok (set_to said (record said.settings { clock = Some n }))
 with_line said word.Limit words = do
   text ← one_word words
@@ -98,19 +114,19 @@ with_line said word.Limit words = do
   Ok (set_to said (record said.settings { limit = Some n }))
 with_line said word.Capacity words = do
   text ← one_word words
-  n ← number_within 1 65536 text
+  n ← number_within 1 capacity_max text
   Ok (set_to said (record said.settings { capacity = Some n }))
 with_line said word.Credit words = do
   text ← one_word words
-  n ← number_within 1 65536 text
+  n ← number_within 1 capacity_max text
   Ok (set_to said (record said.settings { credit = Some n }))
 with_line said word.Submitters words = do
   text ← one_word words
-  n ← number_within 1 16 text
+  n ← number_within 1 submitters_max text
   Ok (set_to said (record said.settings { submitters = Some n }))
 with_line said word.Packet words = do
   texts ← two_words words
-  submitter ← number_within 0 (unwrap_or said.settings.submitters 2 - 1) texts.0
+  submitter ← number_within 0 (submitters_of said.settings - 1) texts.0
   operation ← number_within 0 255 texts.1
   Ok (with_packet said submitter operation)
 with_line said word.Account words = do
@@ -168,17 +184,14 @@ after_lines number said (line ∷ lines) = at_line number (after_line said line)
 abbrev pub script_of : List ℕ → Result Said (ℕ × Fault)
 script_of bytes = after_lines 1 nothing_said (lines_of bytes)
 
--- the settings that hold where a script gives none
-abbrev pub clock_of : Settings → ℕ
-clock_of settings = unwrap_or settings.clock 0
-
-abbrev pub limit_of : Settings → ℕ
-limit_of settings = unwrap_or settings.limit batch_max
-
 -- what is known of the settings of each script
 pub record InBounds (settings : Settings) : Type 0 where
-  pub clock : clock_of settings < 2 ^ 63
+  pub clock : clock_of settings ≤ clock_max
   pub limit_low : 1 ≤ limit_of settings
   pub limit_high : limit_of settings ≤ batch_max
-  pub submitters_low : 1 ≤ unwrap_or settings.submitters 2
-  pub submitters_high : unwrap_or settings.submitters 2 ≤ 16
+  pub capacity_low : 1 ≤ capacity_of settings
+  pub capacity_high : capacity_of settings ≤ capacity_max
+  pub credit_low : 1 ≤ credit_of settings
+  pub credit_high : credit_of settings ≤ capacity_max
+  pub submitters_low : 1 ≤ submitters_of settings
+  pub submitters_high : submitters_of settings ≤ submitters_max

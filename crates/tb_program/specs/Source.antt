@@ -4,7 +4,7 @@ use Rattle.tb_program.specs.declared.script.fault.Fault.{Fault}
 use Rattle.tb_program.specs.declared.source.Source.{Source}
 use Rattle.tb_program.specs.declared.source.Source.TheVariants.{Script, Faulty}
 use Rattle.tb_program.specs.Script.{Said}
-use Rattle.tb_program.specs.Output.{listing, printed, out, fault_line, is_ok_script, is_faultless}
+use Rattle.tb_program.specs.Output.{listing, script_text, out, fault_line, is_ok_script, is_faultless}
 
 -- the line of a fault
 abbrev pub IsFaultAt : ℕ → List ℕ → Source → Type 0
@@ -13,8 +13,8 @@ IsFaultAt line text (Faulty told) = string_bytes told ≡ fault_line line text
 
 -- what is told of a text's lines
 abbrev pub IsTold : Source → Result Said (ℕ × Fault) → Type 0
-IsTold (Script said) told = (printed told ≡ listing said) × (is_ok_script told ≡ true)
-IsTold (Faulty line) told = (string_bytes line ≡ printed told) × (is_ok_script told ≡ false)
+IsTold (Script said) told = (script_text told ≡ listing said) × (is_ok_script told ≡ true)
+IsTold (Faulty line) told = (string_bytes line ≡ script_text told) × (is_ok_script told ≡ false)
 
 -- and of bytes, however many they are
 abbrev pub IsSource : Source → List ℕ → Type 0

@@ -20,7 +20,7 @@ use crate::source::{Source, read_source};
 use std::alloc::Global;
 use std::io::{Read, Write};
 use tb_core::run_list;
-use tb_layout::{BATCH_MAX, NoMemory};
+use tb_layout::NoMemory;
 use tb_work::Item;
 
 /// The lines of a plan whose queue is listed.
@@ -48,10 +48,9 @@ fn output_for(alloc: Global, script: Script) -> Result<String, NoMemory>
     ensures { IfOk result (λ text. string_bytes text ≡ listing script) }
 {
     let (settings, items) = script.finish()?;
-    let clock = settings.clock.unwrap_or(0);
-    let limit = settings.limit.unwrap_or(BATCH_MAX);
+    let limit = settings.limit();
     let (queue, lines) = plan_all(alloc, limit, items)?.into_halves();
-    listed(alloc, clock, limit, queue, &lines)
+    listed(alloc, settings.clock(), limit, queue, &lines)
 }
 
 /// The output for all that a reader has, and whether its script has no fault.

@@ -28,36 +28,31 @@ use std::alloc::Global;
 use std::io::{Read, Write};
 use std::sync::Wait;
 use std::thread::Threads;
-use tb_layout::{BATCH_MAX, NoMemory};
+use tb_layout::NoMemory;
 use tb_pipe::{Opened, open};
 use tb_submit::Submitter;
-use tb_work::Packet;
-
-/// The places of the queue, and the credit of a submitter, where a script doesn't say.
-const CAPACITY: u32 = 64;
-
-const CREDIT: u32 = 16;
-
-/// How many submitters there are where a script doesn't say.
-const SUBMITTERS: u32 = 2;
+use tb_work::{Packet, Refusal};
 
 /// The pipeline that a script's settings open. They are all in range, so that only want of memory refuses it.
-fn opened(alloc: Global, settings: &Settings, submitters: u32) -> Result<Opened, NoMemory>
+fn opened(alloc: Global, settings: &Settings) -> Result<Opened, NoMemory>
     requires { InBounds settings.now }
     ensures own { IfOk result (λ opened. map origin_of opened.submitters.items ≡ opened.pipeline.submitters) }
     ensures control { IfOk result (λ opened. opened.control.seat ≡ control_seat opened.pipeline.intake) }
 {
     let opened = open(
         alloc,
-        settings.clock.unwrap_or(0),
-        settings.limit.unwrap_or(BATCH_MAX),
-        settings.capacity.unwrap_or(CAPACITY),
-        settings.credit.unwrap_or(CREDIT),
-        submitters,
+        settings.clock(),
+        settings.limit(),
+        settings.capacity(),
+        settings.credit(),
+        settings.submitters(),
     );
     match opened {
         Ok(opened) => Ok(opened),
-        Err(_) => Err(NoMemory),
+        Err(refusal) => match refusal {
+            Refusal::NoMemory => Err(NoMemory),
+            _ => unreachable!(),
+        },
     }
 }
 
@@ -85,13 +80,12 @@ fn output_for<T: Threads + Wait + Sync>(
     script: Script,
 ) -> Result<String, ProgramFault> {
     let (settings, items) = script.finish()?;
-    let number = settings.submitters.unwrap_or(SUBMITTERS);
-    let shares = share_out(alloc, number, items)?;
+    let shares = share_out(alloc, settings.submitters(), items)?;
     let Opened {
         pipeline,
         submitters,
         control,
-    } = opened(alloc, &settings, number)?;
+    } = opened(alloc, &settings)?;
     let drivers = drivers(alloc, submitters, shares.packets)?;
     let control_driver = ControlDriver {
         control,

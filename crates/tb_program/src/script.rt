@@ -27,13 +27,10 @@ use crate::script::submitter_number::SubmitterNumber;
 use crate::script::text::Words;
 use std::alloc::Global;
 use std::marker::Model;
-use tb_layout::{BATCH_MAX, CLOCK_MAX, NoMemory, SUBMITTERS_MAX};
+use tb_layout::{BATCH_MAX, CAPACITY_MAX, CLOCK_MAX, NoMemory, SUBMITTERS_MAX};
 
 /// The most bytes of a line, its ending byte not counted.
 const LINE_MAX: usize = 65_536;
-
-/// The most places of the queue, and the greatest credit of a submitter, in packets.
-const CAPACITY_MAX: u128 = 65_536;
 
 /// What the lines so far say.
 #[derive(Drop)]
@@ -85,7 +82,8 @@ fn two_words(words: Words) -> Result<(&[u8], &[u8]), Fault>
 fn is_text(line: &[u8]) -> bool
     ensures { result ≡ is_text line.now }
 {
-    line.iter().all(|b| 32 <= *b && *b <= 126)
+    line.iter()
+        .fold(true, |text, b| text & (32 <= *b && *b <= 126))
 }
 
 impl Script {
@@ -205,7 +203,7 @@ impl Script {
     fn set_capacity(&mut self, words: Words) -> Result<(), LineError>
         ensures { Leaves result self.new (with_line self.old Keyword.Capacity (words_of words.entry.rest.now)) }
     {
-        let n = number_within(one_word(words)?, 1, CAPACITY_MAX)?;
+        let n = number_within(one_word(words)?, 1, CAPACITY_MAX as u128)?;
         self.settings.capacity = Some(n as u32);
         Ok(())
     }
@@ -214,7 +212,7 @@ impl Script {
     fn set_credit(&mut self, words: Words) -> Result<(), LineError>
         ensures { Leaves result self.new (with_line self.old Keyword.Credit (words_of words.entry.rest.now)) }
     {
-        let n = number_within(one_word(words)?, 1, CAPACITY_MAX)?;
+        let n = number_within(one_word(words)?, 1, CAPACITY_MAX as u128)?;
         self.settings.credit = Some(n as u32);
         Ok(())
     }
@@ -233,8 +231,8 @@ impl Script {
         ensures { Leaves result self.new (with_line self.old Keyword.Packet (words_of words.entry.rest.now)) }
     {
         let (submitter, operation) = two_words(words)?;
-        let submitters = self.settings.submitters.unwrap_or(2);
-        let submitter = number_within(submitter, 0, u128::from(submitters.saturating_sub(1)))?;
+        let most = self.settings.submitters().saturating_sub(1);
+        let submitter = number_within(submitter, 0, u128::from(most))?;
         let operation = number_within(operation, 0, 255)?;
         self.begin_packet(
             alloc,

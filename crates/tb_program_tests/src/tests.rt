@@ -2,6 +2,7 @@
 //! prints.
 
 use std::alloc::Global;
+use std::process::Abort;
 use std::sync::Wait;
 use std::test::Fail;
 use std::thread::Threads;
@@ -36,6 +37,13 @@ fn shows(alloc: Global, script: &str, output: &str) -> Result<(), Fail> {
     if listed(alloc, script)?.as_str() != output {
         return Err("another output")?;
     }
+    Ok(())
+}
+
+/// The same, and where it writes another it says for which script.
+fn lists(rt: &impl Abort, alloc: Global, script: &str, output: &str) -> Result<(), Fail> {
+    let text = listed(alloc, script)?;
+    assert_eq!(rt; text.as_str(), output, "at {script:?}");
     Ok(())
 }
 

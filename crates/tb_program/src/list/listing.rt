@@ -6,7 +6,7 @@ ghost use Rattle.tb_machine.specs.Replay.{balanced_accounts};
 ghost use Rattle.tb_core.specs.Report.{IsListed};
 ghost use Rattle.tb_program.specs.Plan.{Planned, queue_of, line_of};
 ghost use Rattle.tb_program.specs.Output.{account_line, reply_line, pulse_line, plan_text};
-ghost use Rattle.tb_program.specs.Printing.{one_further, first_text, behind_line, pending, printed_from};
+ghost use Rattle.tb_program.specs.Printing.{one_further, first_text, behind_line, pending, text_from};
 
 use crate::list::plan::Line;
 use crate::output::{put_close, put_pulse, put_refused, put_refused_pulse, put_reply, put_state};
@@ -79,9 +79,9 @@ impl<'a> Pending<'a> {
 }
 
 /// The lines of all items, in the order of the script.
-#[tactic(auto, unfolding(crate::specs::Printing::printed_from))]
+#[tactic(auto, unfolding(crate::specs::Printing::text_from))]
 fn put_lines(out: &mut String, lines: &[Line], replies: &[Reply]) -> Result<(), AllocError>
-    ensures { OnOk result (string_bytes out.new ≡ string_bytes out.old ++ printed_from (Some 0) replies.now lines.now) }
+    ensures { OnOk result (string_bytes out.new ≡ string_bytes out.old ++ text_from (Some 0) replies.now lines.now) }
 {
     let mut pending = Pending {
         place: Some(0),

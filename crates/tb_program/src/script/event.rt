@@ -1,9 +1,10 @@
 //! Events from their lines.
 
 ghost use Rattle.std.specs.Prelude.{◌≡◌, ◌≤◌, ◌<◌, ◌+◌, ◌-◌, ◌^◌, ◌⊎◌, IfSome, IfOk};
+ghost use Rattle.std.specs.Int.{to_le_bytes, w128};
 ghost use Rattle.tb_program.specs.Text.{words_of};
 ghost use Rattle.tb_program.specs.Steps.{Gives, Makes, Tells};
-ghost use Rattle.tb_program.specs.Event.{Lies, field_of, greatest, sides_of, new_field, written, assigned, all_assigned, blank, event_of, hex_bytes};
+ghost use Rattle.tb_program.specs.Event.{Lies, field_of, greatest, sides_of, new_field, with_number, after_word, after_words, blank, event_of, hex_bytes};
 
 use crate::script::fault::{Fault, LineError};
 use crate::script::number::number_within;
@@ -116,13 +117,32 @@ fn new_field(draft: &Draft, found: Option<Field>) -> Result<Field, Fault>
     }
 }
 
+/// What the lower half of a number of 128 bits stays below.
+const HALF: u128 = 1 << 64;
+
+/// The bytes of a number, the lowest first. Two halves take fewer instructions than the whole.
+fn bytes_of(n: u128) -> [u8; 16]
+    ensures { result ≡ to_le_bytes w128 n }
+{
+    let mut bytes = [0; 16];
+    bytes[..8].copy_from_slice(&((n % HALF) as u64).to_le_bytes());
+    bytes[8..].copy_from_slice(&((n / HALF) as u64).to_le_bytes());
+    bytes
+}
+
 /// The number put into the field's bytes.
 fn write(draft: &mut Draft, f: Field, n: u128)
     requires { Lies f }
-    ensures { draft.new ≡ written draft.old f n }
+    ensures { draft.new ≡ with_number draft.old f n }
 {
-    let bytes = n.to_le_bytes();
-    draft.bytes[f.offset..f.offset + f.size].copy_from_slice(&bytes[..f.size]);
+    let bytes = bytes_of(n);
+    let place = f.offset;
+    match f.size {
+        2 => draft.bytes[place..place + 2].copy_from_slice(&bytes[..2]),
+        4 => draft.bytes[place..place + 4].copy_from_slice(&bytes[..4]),
+        8 => draft.bytes[place..place + 8].copy_from_slice(&bytes[..8]),
+        _ => draft.bytes[place..place + 16].copy_from_slice(&bytes),
+    }
     draft.given[f.place] = true;
 }
 
@@ -139,9 +159,9 @@ fn sides_of(word: &[u8]) -> Result<(&[u8], &[u8]), Fault>
 }
 
 /// One word NAME=N.
-#[tactic(auto, unfolding(crate::specs::Event::assigned))]
+#[tactic(auto, unfolding(crate::specs::Event::after_word))]
 fn assign(layout: Layout, draft: &mut Draft, word: &[u8]) -> Result<(), Fault>
-    ensures { Makes result draft.new (assigned layout draft.old word.now) }
+    ensures { Makes result draft.new (after_word layout draft.old word.now) }
 {
     let (name, number) = sides_of(word)?;
     let f = new_field(draft, field_of(layout, name))?;
@@ -151,18 +171,14 @@ fn assign(layout: Layout, draft: &mut Draft, word: &[u8]) -> Result<(), Fault>
 }
 
 /// All words of a line.
-#[tactic(auto, unfolding(crate::specs::Event::all_assigned))]
-fn all_assigned(layout: Layout, words: Words) -> Result<Draft, Fault>
-    ensures { result ≡ all_assigned layout blank (words_of words.entry.rest.now) }
+#[tactic(auto, unfolding(crate::specs::Event::after_words))]
+fn assign_all(layout: Layout, draft: &mut Draft, words: Words) -> Result<(), Fault>
+    ensures { Makes result draft.new (after_words layout draft.old (words_of words.entry.rest.now)) }
 {
-    let mut draft = Draft {
-        bytes: [0; 128],
-        given: [false; 13],
-    };
     for word in words {
-        assign(layout, &mut draft, word)?;
+        assign(layout, draft, word)?;
     }
-    Ok(draft)
+    Ok(())
 }
 
 /// The event that the words of a line give.
@@ -170,7 +186,12 @@ fn all_assigned(layout: Layout, words: Words) -> Result<Draft, Fault>
 pub fn event_of(layout: Layout, words: Words) -> Result<[u8; 128], Fault>
     ensures { result ≡ event_of layout (words_of words.entry.rest.now) }
 {
-    Ok(all_assigned(layout, words)?.bytes)
+    let mut draft = Draft {
+        bytes: [0; 128],
+        given: [false; 13],
+    };
+    assign_all(layout, &mut draft, words)?;
+    Ok(draft.bytes)
 }
 
 /// The bytes that hexadecimal digits give.

@@ -1,6 +1,6 @@
 //! Numbers in decimal digits.
 
-ghost use Rattle.std.specs.Prelude.{true, ◌≡◌, ◌≤◌, IfOk};
+ghost use Rattle.std.specs.Prelude.{true, ◌≡◌, ◌<◌, ◌≤◌, length, IfOk};
 ghost use Rattle.std.specs.List.{list_all};
 ghost use Rattle.std.specs.Char.{is_ascii_digit};
 ghost use Rattle.tb_program.specs.Number.{number_of, fitting, within, number_within};
@@ -33,10 +33,32 @@ fn text_of(word: &[u8]) -> &str
     }
 }
 
+/// The number that a word spells which has too few digits to leave 64 bits.
+fn short_number(word: &[u8]) -> Option<u64>
+    requires { length word.now < 20 }
+    ensures { result ≡ number_of word.now }
+{
+    if word.is_empty() {
+        return None;
+    }
+    let mut number = 0u64;
+    for byte in word {
+        if !byte.is_ascii_digit() {
+            return None;
+        }
+        number = 10 * number + u64::from(*byte - b'0');
+    }
+    Some(number)
+}
+
 /// The number that a word spells, if it fits.
 fn fitting_number(word: &[u8]) -> Option<u128>
     ensures { result ≡ fitting (number_of word.now) }
 {
+    if word.len() < 20 {
+        let number = short_number(word)?;
+        return Some(u128::from(number));
+    }
     if word.len() >= 40 {
         return None;
     }
@@ -47,6 +69,7 @@ fn fitting_number(word: &[u8]) -> Option<u128>
 }
 
 /// The number that a word spells in 1 to 39 digits, if it is in bounds.
+#[inline(always)]
 pub fn number_within(word: &[u8], low: u128, high: u128) -> Result<u128, Fault>
     ensures value { result ≡ number_within low high word.now }
     ensures bound { IfOk result (λ n. n ≤ high) }

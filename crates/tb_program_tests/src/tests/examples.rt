@@ -1,4 +1,6 @@
-use super::{both_show, listed, shows};
+use super::{both_show, lists, shows};
+use std::alloc::Global;
+use std::process::Abort;
 use std::test::Fail;
 
 #[test]
@@ -62,11 +64,15 @@ fn full_batch_then_overflow(rt: HostRuntime) -> Result<(), Fail> {
     )
 }
 
+/// A packet of accounts and one of no operation, both of these bytes.
+fn two_packets_of(alloc: Global, bytes: &str) -> Result<String, Fail> {
+    Ok(format!(in alloc; "packet 0 129\nhex {bytes}\npacket 0 200\nhex {bytes}\n")?)
+}
+
 #[test]
 fn refused_sizes_and_operations(rt: HostRuntime) -> Result<(), Fail> {
-    let data = "00".repeat(rt.alloc(), 127)?;
-    let bytes = data.as_str();
-    let script = format!(in rt.alloc(); "packet 0 129\nhex {bytes}\npacket 0 200\nhex {bytes}\n")?;
+    let bytes = "00".repeat(rt.alloc(), 127)?;
+    let script = two_packets_of(rt.alloc(), bytes.as_str())?;
     both_show(
         &rt,
         rt.alloc(),
@@ -125,11 +131,15 @@ fn bad_account_fields(rt: HostRuntime) -> Result<(), Fail> {
     )
 }
 
+/// A packet of accounts of these bytes.
+fn packet_of(alloc: Global, bytes: &str) -> Result<String, Fail> {
+    Ok(format!(in alloc; "limit 4\npacket 0 129\nhex {bytes}\n")?)
+}
+
 #[test]
 fn hostile_bytes(rt: HostRuntime) -> Result<(), Fail> {
-    let data = "fF".repeat(rt.alloc(), 256)?;
-    let bytes = data.as_str();
-    let script = format!(in rt.alloc(); "limit 4\npacket 0 129\nhex {bytes}\n")?;
+    let bytes = "fF".repeat(rt.alloc(), 256)?;
+    let script = packet_of(rt.alloc(), bytes.as_str())?;
     both_show(
         &rt,
         rt.alloc(),
@@ -138,50 +148,57 @@ fn hostile_bytes(rt: HostRuntime) -> Result<(), Fail> {
     )
 }
 
-/// Each field of an account, with the code that tells that it stood in its place.
+/// The packet of an account that has ledger and code 1, flags and user data, and the packet that begins behind it.
+const ONE_ACCOUNT: &str = "packet 0 129
+account id=1 ledger=1 code=1 flags=2 user_data_128=3 user_data_64=4 user_data_32=5
+packet 0 129
+";
+
+/// Accounts behind `ONE_ACCOUNT`, with the code that tells that each field stood in its place.
+const ACCOUNT_CODES: [(&str, u32); 19] = [
+    ("timestamp=1 reserved=1", 3),
+    ("reserved=1 flags=16", 4),
+    ("flags=16", 5),
+    ("ledger=1", 6),
+    ("id=340282366920938463463374607431768211455", 7),
+    ("id=1 flags=4 user_data_128=4", 15),
+    ("id=1 flags=2 user_data_128=4", 16),
+    ("id=1 flags=2 user_data_128=3", 17),
+    ("id=1 flags=2 user_data_128=3 user_data_64=4", 18),
+    (
+        "id=1 flags=2 user_data_128=3 user_data_64=4 user_data_32=5",
+        19,
+    ),
+    (
+        "id=1 flags=2 user_data_128=3 user_data_64=4 user_data_32=5 ledger=1",
+        20,
+    ),
+    (
+        "id=1 flags=2 user_data_128=3 user_data_64=4 user_data_32=5 ledger=1 code=1 debits_posted=9",
+        21,
+    ),
+    ("id=2 flags=6 debits_pending=1", 8),
+    ("id=2 debits_pending=1 debits_posted=1", 9),
+    ("id=2 debits_posted=1 credits_pending=1", 10),
+    ("id=2 credits_pending=1 credits_posted=1", 11),
+    ("id=2 credits_posted=1", 12),
+    ("id=2", 13),
+    ("id=2 ledger=1", 14),
+];
+
+/// That an account behind `ONE_ACCOUNT` is answered a code.
+fn is_answered(rt: &impl Abort, alloc: Global, event: &str, code: u32) -> Result<(), Fail> {
+    let script = format!(in alloc; "{ONE_ACCOUNT}account {event}\n")?;
+    let output = format!(in alloc;
+        "packet 0 0 committed 0\npacket 0 1 committed 1 0:{code}\nclock 2\naccount 1 1 0 0 0 0\n"
+    )?;
+    lists(rt, alloc, script.as_str(), output.as_str())
+}
+
 #[test]
 fn account_codes(rt: HostRuntime) -> Result<(), Fail> {
-    let first =
-        "packet 0 129\naccount id=1 ledger=1 code=1 flags=2 user_data_128=3 user_data_64=4 user_data_32=5\npacket 0 129\n";
-    for (event, code) in [
-        ("timestamp=1 reserved=1", "3"),
-        ("reserved=1 flags=16", "4"),
-        ("flags=16", "5"),
-        ("ledger=1", "6"),
-        ("id=340282366920938463463374607431768211455", "7"),
-        ("id=1 flags=4 user_data_128=4", "15"),
-        ("id=1 flags=2 user_data_128=4", "16"),
-        ("id=1 flags=2 user_data_128=3", "17"),
-        ("id=1 flags=2 user_data_128=3 user_data_64=4", "18"),
-        (
-            "id=1 flags=2 user_data_128=3 user_data_64=4 user_data_32=5",
-            "19",
-        ),
-        (
-            "id=1 flags=2 user_data_128=3 user_data_64=4 user_data_32=5 ledger=1",
-            "20",
-        ),
-        (
-            "id=1 flags=2 user_data_128=3 user_data_64=4 user_data_32=5 ledger=1 code=1 debits_posted=9",
-            "21",
-        ),
-        ("id=2 flags=6 debits_pending=1", "8"),
-        ("id=2 debits_pending=1 debits_posted=1", "9"),
-        ("id=2 debits_posted=1 credits_pending=1", "10"),
-        ("id=2 credits_pending=1 credits_posted=1", "11"),
-        ("id=2 credits_posted=1", "12"),
-        ("id=2", "13"),
-        ("id=2 ledger=1", "14"),
-    ] {
-        let script = format!(in rt.alloc(); "{first}account {event}\n")?;
-        let wanted = format!(in rt.alloc();
-            "packet 0 0 committed 0\npacket 0 1 committed 1 0:{code}\nclock 2\naccount 1 1 0 0 0 0\n"
-        )?;
-        assert_eq!(rt;
-            listed(rt.alloc(), script.as_str())?.as_str(),
-            wanted.as_str(),
-            "at {event}"
-        );
+    for (event, code) in ACCOUNT_CODES.iter() {
+        is_answered(&rt, rt.alloc(), event, *code)?;
     }
     Ok(())
 }

@@ -1,5 +1,7 @@
+use std::alloc::Global;
 use std::io;
 use std::io::{Read, Write};
+use std::process::Abort;
 use std::test::Fail;
 use tb_program::{ProgramFault, run_script, run_threads};
 
@@ -89,17 +91,31 @@ fn write_of_a_run_fails(rt: HostRuntime) -> Result<(), Fail> {
     Ok(())
 }
 
+/// A byte, how often it stands in a script that has no other, and what is written for the script.
+const LENGTHS: [(u8, usize, &str); 3] = [
+    (10, 16_777_216, "clock 0\n"),
+    (10, 16_777_217, "fault 0 script too long\n"),
+    (32, 16_777_216, "fault 1 line too long\n"),
+];
+
+/// That this is written, and that the script counts as faultless just where no fault is told.
+fn comes_to(rt: &impl Abort, alloc: Global, script: Repeated, output: &str) -> Result<(), Fail> {
+    let mut script = script;
+    let mut out = Vec::new(alloc);
+    let faultless = run_script(alloc, &mut script, &mut out)?;
+    assert_eq!(rt; out.as_slice(), output.as_bytes());
+    assert_eq!(rt; faultless, output == "clock 0\n");
+    Ok(())
+}
+
 #[test]
 fn script_lengths(rt: HostRuntime) -> Result<(), Fail> {
-    for (byte, left, wanted) in [
-        (10, 16_777_216, "clock 0\n"),
-        (10, 16_777_217, "fault 0 script too long\n"),
-        (32, 16_777_216, "fault 1 line too long\n"),
-    ] {
-        let mut out = Vec::new(rt.alloc());
-        let faultless = run_script(rt.alloc(), &mut Repeated { byte, left }, &mut out)?;
-        assert_eq!(rt; out.as_slice(), wanted.as_bytes());
-        assert_eq!(rt; faultless, wanted == "clock 0\n");
+    for (byte, left, output) in LENGTHS.iter() {
+        let script = Repeated {
+            byte: *byte,
+            left: *left,
+        };
+        comes_to(&rt, rt.alloc(), script, output)?;
     }
     Ok(())
 }

@@ -1,4 +1,4 @@
-use Rattle.tb_program.proofs.Printed.{on_ok, whole}
+use Rattle.tb_program.proofs.Printing.{on_ok, whole}
 use Rattle.tb_program.proofs.list.listing.put_listing.Goals as goal
 
 pub returns : goal.returns

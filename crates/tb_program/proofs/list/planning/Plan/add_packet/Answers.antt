@@ -4,7 +4,7 @@ use Rattle.tb_work.specs.Admission.{admission_of}
 use Rattle.tb_work.specs.Job.{numbered_packet}
 use Rattle.tb_work.specs.declared.packet.Packet as packets
 use Rattle.tb_program.specs.Plan.{Packet, number_in, packet_of, with_planned}
-use Rattle.tb_program.proofs.Printed.{on_ok, admitted_is_queued}
+use Rattle.tb_program.proofs.Printing.{on_ok, admitted_is_queued}
 use Rattle.tb_program.proofs.list.planning.Plan.add_packet.Goals as goal
 
 pub returns-in-Ok : goal.returns-in-Ok

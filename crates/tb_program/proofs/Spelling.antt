@@ -24,8 +24,9 @@ use Rattle.tb_program.specs.Number.{number_of, number_within}
 use Rattle.tb_program.specs.Steps.{◌>>=◌}
 use Rattle.tb_program.specs.Keyword.{keyword_of}
 use Rattle.tb_program.specs.Event.{hex_bytes}
-use Rattle.tb_program.specs.Script.{Said, nothing_said, items_of, is_in_place, is_text, with_words, with_line, with_packet, with_pulse, with_close, after_line, after_lines, at_line}
-use Rattle.tb_program.specs.Spelling.{spaced, ended, setting_lines, settings_lines, byte_line, packet_lines, item_lines, CanBeSet, CanBeSubmitted, CanBeSaid, CanAllBeSaid, shut_by}
+use Rattle.tb_layout.specs.Limits.{capacity_max, clock_max, submitters_max}
+use Rattle.tb_program.specs.Script.{Said, nothing_said, items_of, is_in_place, is_text, with_words, with_line, with_packet, with_pulse, with_close, after_line, after_lines, at_line, submitters_of}
+use Rattle.tb_program.specs.Spelling.{line_of_words, text_of_lines, setting_lines, settings_lines, byte_line, packet_lines, item_lines, CanBeSet, CanBeSubmitted, CanBeSaid, CanAllBeSaid, shut_by}
 use Rattle.tb_program.specs.Laws.{SpelledScriptsAreRead}
 use Rattle.tb_program.proofs.Numbers.{own}
 
@@ -61,43 +62,43 @@ text_no_end x h = grind (arith, nat_tests)
 digit_is_word : (x : ℕ) → is_ascii_digit x ≡ true → is_word_byte x ≡ true
 digit_is_word x h = grind (arith, nat_tests)
 
-words_of-spaced : (words : List (List ℕ)) → list_all is_word words ≡ true → words_of (spaced words) ≡ words
+words_of-line_of_words : (words : List (List ℕ)) → list_all is_word words ≡ true → words_of (line_of_words words) ≡ words
 unfolding words_of
-words_of-spaced [] h = refl
-words_of-spaced (word ∷ []) h =
+words_of-line_of_words [] h = refl
+words_of-line_of_words (word ∷ []) h =
     let parts = and_parts (nat_lt 0 (length word)) (list_all is_word_byte word) (and_parts (is_word word) true h).0 in
     ap (filter (λ w. nat_lt 0 (length w))) (slice_split_none (λ b. b == 32) word (all-implied is_word_byte (λ x. (x == 32) ≡ false) word no_space parts.1))
     ∙ rw parts.0 refl
-words_of-spaced (word ∷ next ∷ words) h =
+words_of-line_of_words (word ∷ next ∷ words) h =
     let both = and_parts (is_word word) (list_all is_word (next ∷ words)) h in
     let parts = and_parts (nat_lt 0 (length word)) (list_all is_word_byte word) both.0 in
-    ap (filter (λ w. nat_lt 0 (length w))) (slice_split_at (λ b. b == 32) word 32 (spaced (next ∷ words)) (all-implied is_word_byte (λ x. (x == 32) ≡ false) word no_space parts.1) refl)
-    ∙ rw parts.0 (ap (λ ws. word ∷ ws) (words_of-spaced (next ∷ words) both.1))
+    ap (filter (λ w. nat_lt 0 (length w))) (slice_split_at (λ b. b == 32) word 32 (line_of_words (next ∷ words)) (all-implied is_word_byte (λ x. (x == 32) ≡ false) word no_space parts.1) refl)
+    ∙ rw parts.0 (ap (λ ws. word ∷ ws) (words_of-line_of_words (next ∷ words) both.1))
 
-is_text-spaced : (words : List (List ℕ)) → list_all is_word words ≡ true → is_text (spaced words) ≡ true
-is_text-spaced [] h = refl
-is_text-spaced (word ∷ []) h =
+is_text-line_of_words : (words : List (List ℕ)) → list_all is_word words ≡ true → is_text (line_of_words words) ≡ true
+is_text-line_of_words [] h = refl
+is_text-line_of_words (word ∷ []) h =
     list_all-implied is_word_byte (λ b. nat_le 32 b && nat_le b 126) word word_is_text (and_parts (nat_lt 0 (length word)) (list_all is_word_byte word) (and_parts (is_word word) true h).0).1
-is_text-spaced (word ∷ next ∷ words) h =
+is_text-line_of_words (word ∷ next ∷ words) h =
     let both = and_parts (is_word word) (list_all is_word (next ∷ words)) h in
     let front = list_all-implied is_word_byte (λ b. nat_le 32 b && nat_le b 126) word word_is_text (and_parts (nat_lt 0 (length word)) (list_all is_word_byte word) both.0).1 in
-    list_all-append (λ b. nat_le 32 b && nat_le b 126) word (32 ∷ spaced (next ∷ words)) ∙ rw (front, is_text-spaced (next ∷ words) both.1) refl
+    list_all-append (λ b. nat_le 32 b && nat_le b 126) word (32 ∷ line_of_words (next ∷ words)) ∙ rw (front, is_text-line_of_words (next ∷ words) both.1) refl
 
 -- ---- lines
 
-lines_of-ended_one : (line rest : List ℕ) → is_text line ≡ true → lines_of (line ++ 10 ∷ rest) ≡ line ∷ lines_of rest
+lines_of-one_more : (line rest : List ℕ) → is_text line ≡ true → lines_of (line ++ 10 ∷ rest) ≡ line ∷ lines_of rest
 unfolding lines_of
-lines_of-ended_one [] rest h = refl
-lines_of-ended_one (b ∷ line) rest h =
+lines_of-one_more [] rest h = refl
+lines_of-one_more (b ∷ line) rest h =
     let parts = and_parts (nat_le 32 b && nat_le b 126) (is_text line) h in
-    rw (text_no_end b parts.0, lines_of-ended_one line rest parts.1) refl
+    rw (text_no_end b parts.0, lines_of-one_more line rest parts.1) refl
 
-lines_of-ended : (lines : List (List ℕ)) → list_all is_text lines ≡ true → lines_of (ended lines) ≡ lines
+lines_of-text_of_lines : (lines : List (List ℕ)) → list_all is_text lines ≡ true → lines_of (text_of_lines lines) ≡ lines
 unfolding lines_of
-lines_of-ended [] h = refl
-lines_of-ended (line ∷ lines) h =
+lines_of-text_of_lines [] h = refl
+lines_of-text_of_lines (line ∷ lines) h =
     let parts = and_parts (is_text line) (list_all is_text lines) h in
-    lines_of-ended_one line (ended lines) parts.0 ∙ ap (λ ls. line ∷ ls) (lines_of-ended lines parts.1)
+    lines_of-one_more line (text_of_lines lines) parts.0 ∙ ap (λ ls. line ∷ ls) (lines_of-text_of_lines lines parts.1)
 
 -- lines that say what leads from one state to another, wherever they stand
 record Says (said : Said) (lines : List (List ℕ)) (next : Said) : Type 0 where
@@ -138,12 +139,12 @@ says_both said between next front back first second = record {
 }
 
 -- a line that begins with a keyword in its place
-keyword_line : (said : Said) (keyword : Keyword) (name : List ℕ) (words : List (List ℕ)) → list_all is_word (name ∷ words) ≡ true → length (spaced (name ∷ words)) ≤ 65536 →
-    (slice_index name 0 == 35) ≡ false → keyword_of name ≡ Some keyword → is_in_place said keyword ≡ true → after_line said (spaced (name ∷ words)) ≡ with_line said keyword words
+keyword_line : (said : Said) (keyword : Keyword) (name : List ℕ) (words : List (List ℕ)) → list_all is_word (name ∷ words) ≡ true → length (line_of_words (name ∷ words)) ≤ 65536 →
+    (slice_index name 0 == 35) ≡ false → keyword_of name ≡ Some keyword → is_in_place said keyword ≡ true → after_line said (line_of_words (name ∷ words)) ≡ with_line said keyword words
 unfolding after_line
 keyword_line said keyword name words good short mark is place =
-    rw (le-ltb 65536 (length (spaced (name ∷ words))) short, is_text-spaced (name ∷ words) good)
-    (ap (with_words said) (words_of-spaced (name ∷ words) good) ∙ rw (mark, is, place) refl)
+    rw (le-ltb 65536 (length (line_of_words (name ∷ words))) short, is_text-line_of_words (name ∷ words) good)
+    (ap (with_words said) (words_of-line_of_words (name ∷ words) good) ∙ rw (mark, is, place) refl)
 
 -- ---- numbers
 
@@ -166,8 +167,8 @@ says_setting : (said next : Said) (keyword : Keyword) (name : List ℕ) (n : ℕ
     keyword_of name ≡ Some keyword → is_in_place said keyword ≡ true → n < 2 ^ 64 → with_line said keyword (decimal n ∷ []) ≡ Ok next → Says said (setting_lines name (Some n)) next
 says_setting said next keyword name n good short mark is place small line =
     let words : list_all is_word (name ∷ decimal n ∷ []) ≡ true = rw (good, decimal_is_word n small) refl in
-    let count : length (spaced (name ∷ decimal n ∷ [])) ≤ 65536 = omega (arith, length-append name (32 ∷ decimal n), length-decimal n small) in
-    says_more said next next _ [] (is_text-spaced (name ∷ decimal n ∷ []) words) (keyword_line said keyword name (decimal n ∷ []) words count mark is place ∙ line) (says_nothing next)
+    let count : length (line_of_words (name ∷ decimal n ∷ [])) ≤ 65536 = omega (arith, length-append name (32 ∷ decimal n), length-decimal n small) in
+    says_more said next next _ [] (is_text-line_of_words (name ∷ decimal n ∷ []) words) (keyword_line said keyword name (decimal n ∷ []) words count mark is place ∙ line) (says_nothing next)
 
 abbrev given : Option ℕ → Option ℕ → Option ℕ → Option ℕ → Option ℕ → Said
 given clock limit capacity credit submitters = record {
@@ -177,30 +178,30 @@ given clock limit capacity credit submitters = record {
   shut = false;
 }
 
-says_clock : (clock : Option ℕ) → IfSome clock (λ n. n < 2 ^ 63) → Says nothing_said (setting_lines (codes "clock") clock) (given clock None None None None)
+says_clock : (clock : Option ℕ) → IfSome clock (λ n. n ≤ clock_max) → Says nothing_said (setting_lines (codes "clock") clock) (given clock None None None None)
 unfolding with_line keyword_of
 says_clock None h = says_nothing nothing_said
-says_clock (Some n) h = says_setting nothing_said _ word.Clock (codes "clock") n refl (omega arith) refl refl refl (omega arith) (rw (number_within-decimal 0 (2 ^ 63 - 1) n (omega arith) (omega arith) (omega arith)) refl)
+says_clock (Some n) h = says_setting nothing_said _ word.Clock (codes "clock") n refl (omega arith) refl refl refl (omega arith) (rw (number_within-decimal 0 clock_max n (omega arith) (omega arith) (omega arith)) refl)
 
 says_limit : (clock limit : Option ℕ) → IfSome limit (λ n. (1 ≤ n) × (n ≤ 8190)) → Says (given clock None None None None) (setting_lines (codes "limit") limit) (given clock limit None None None)
 unfolding with_line keyword_of
 says_limit clock None h = says_nothing _
 says_limit clock (Some n) h = says_setting _ _ word.Limit (codes "limit") n refl (omega arith) refl refl refl (omega (arith, h.1)) (rw (number_within-decimal 1 8190 n h.0 h.1 (omega (arith, h.1))) refl)
 
-says_capacity : (clock limit capacity : Option ℕ) → IfSome capacity (λ n. (1 ≤ n) × (n ≤ 65536)) → Says (given clock limit None None None) (setting_lines (codes "capacity") capacity) (given clock limit capacity None None)
+says_capacity : (clock limit capacity : Option ℕ) → IfSome capacity (λ n. (1 ≤ n) × (n ≤ capacity_max)) → Says (given clock limit None None None) (setting_lines (codes "capacity") capacity) (given clock limit capacity None None)
 unfolding with_line keyword_of
 says_capacity clock limit None h = says_nothing _
-says_capacity clock limit (Some n) h = says_setting _ _ word.Capacity (codes "capacity") n refl (omega arith) refl refl refl (omega (arith, h.1)) (rw (number_within-decimal 1 65536 n h.0 h.1 (omega (arith, h.1))) refl)
+says_capacity clock limit (Some n) h = says_setting _ _ word.Capacity (codes "capacity") n refl (omega arith) refl refl refl (omega (arith, h.1)) (rw (number_within-decimal 1 capacity_max n h.0 h.1 (omega (arith, h.1))) refl)
 
-says_credit : (clock limit capacity credit : Option ℕ) → IfSome credit (λ n. (1 ≤ n) × (n ≤ 65536)) → Says (given clock limit capacity None None) (setting_lines (codes "credit") credit) (given clock limit capacity credit None)
+says_credit : (clock limit capacity credit : Option ℕ) → IfSome credit (λ n. (1 ≤ n) × (n ≤ capacity_max)) → Says (given clock limit capacity None None) (setting_lines (codes "credit") credit) (given clock limit capacity credit None)
 unfolding with_line keyword_of
 says_credit clock limit capacity None h = says_nothing _
-says_credit clock limit capacity (Some n) h = says_setting _ _ word.Credit (codes "credit") n refl (omega arith) refl refl refl (omega (arith, h.1)) (rw (number_within-decimal 1 65536 n h.0 h.1 (omega (arith, h.1))) refl)
+says_credit clock limit capacity (Some n) h = says_setting _ _ word.Credit (codes "credit") n refl (omega arith) refl refl refl (omega (arith, h.1)) (rw (number_within-decimal 1 capacity_max n h.0 h.1 (omega (arith, h.1))) refl)
 
-says_submitters : (clock limit capacity credit submitters : Option ℕ) → IfSome submitters (λ n. (1 ≤ n) × (n ≤ 16)) → Says (given clock limit capacity credit None) (setting_lines (codes "submitters") submitters) (given clock limit capacity credit submitters)
+says_submitters : (clock limit capacity credit submitters : Option ℕ) → IfSome submitters (λ n. (1 ≤ n) × (n ≤ submitters_max)) → Says (given clock limit capacity credit None) (setting_lines (codes "submitters") submitters) (given clock limit capacity credit submitters)
 unfolding with_line keyword_of
 says_submitters clock limit capacity credit None h = says_nothing _
-says_submitters clock limit capacity credit (Some n) h = says_setting _ _ word.Submitters (codes "submitters") n refl (omega arith) refl refl refl (omega (arith, h.1)) (rw (number_within-decimal 1 16 n h.0 h.1 (omega (arith, h.1))) refl)
+says_submitters clock limit capacity credit (Some n) h = says_setting _ _ word.Submitters (codes "submitters") n refl (omega arith) refl refl refl (omega (arith, h.1)) (rw (number_within-decimal 1 submitters_max n h.0 h.1 (omega (arith, h.1))) refl)
 
 says_settings : (s : Settings) → CanBeSet s → Says nothing_said (settings_lines s) (given s.clock s.limit s.capacity s.credit s.submitters)
 says_settings s h =
@@ -245,7 +246,7 @@ says_byte settings shut items packet byte h =
     ∙ rw (one_byte byte h) refl
 
 byte_line_is_text : (byte : ℕ) → byte < 256 → is_text (byte_line byte) ≡ true
-byte_line_is_text byte h = is_text-spaced (codes "hex" ∷ encode_lower (byte ∷ []) ∷ []) (rw (encoded_is_word byte h) refl)
+byte_line_is_text byte h = is_text-line_of_words (codes "hex" ∷ encode_lower (byte ∷ []) ∷ []) (rw (encoded_is_word byte h) refl)
 
 says_bytes : (settings : Settings) (shut : Bool) (items : List Item) (packet : Submission) (bytes : List ℕ) → All (λ byte. byte < 256) bytes →
     Says (adding settings shut items packet) (map byte_line bytes) (adding settings shut items (record packet { bytes = packet.bytes ++ bytes }))
@@ -264,26 +265,26 @@ packet_words_are_words : (packet : Submission) (submitters : ℕ) → submitters
 packet_words_are_words packet submitters few h =
     rw (decimal_is_word packet.submitter (omega (arith, h.submitter)), decimal_is_word packet.operation (omega (arith, h.operation))) refl
 
-says_packet_line : (said : Said) (packet : Submission) → unwrap_or said.settings.submitters 2 ≤ 16 → CanBeSubmitted (unwrap_or said.settings.submitters 2) packet →
-    after_line said (spaced (packet_words packet)) ≡ Ok (with_packet said packet.submitter packet.operation)
+says_packet_line : (said : Said) (packet : Submission) → submitters_of said.settings ≤ submitters_max → CanBeSubmitted (submitters_of said.settings) packet →
+    after_line said (line_of_words (packet_words packet)) ≡ Ok (with_packet said packet.submitter packet.operation)
 unfolding with_line keyword_of
 says_packet_line said packet few h =
     let submitter : packet.submitter < 2 ^ 64 = omega (arith, h.submitter) in
     let operation : packet.operation < 2 ^ 64 = omega (arith, h.operation) in
-    let words = packet_words_are_words packet (unwrap_or said.settings.submitters 2) few h in
-    let short : length (spaced (packet_words packet)) ≤ 65536 =
+    let words = packet_words_are_words packet (submitters_of said.settings) few h in
+    let short : length (line_of_words (packet_words packet)) ≤ 65536 =
     omega (arith, length-append (decimal packet.submitter) (32 ∷ decimal packet.operation), length-decimal packet.submitter submitter, length-decimal packet.operation operation) in
     keyword_line said word.Packet (codes "packet") (decimal packet.submitter ∷ decimal packet.operation ∷ []) words short refl refl refl
-    ∙ rw (number_within-decimal 0 (unwrap_or said.settings.submitters 2 - 1) packet.submitter (omega arith) (omega (arith, h.submitter)) submitter, number_within-decimal 0 255 packet.operation (omega arith) (omega (arith, h.operation)) operation) refl
+    ∙ rw (number_within-decimal 0 (submitters_of said.settings - 1) packet.submitter (omega arith) (omega (arith, h.submitter)) submitter, number_within-decimal 0 255 packet.operation (omega arith) (omega (arith, h.operation)) operation) refl
 
 -- a pulse's line says its pulse
 says_pulse : (said : Said) (moment : ℕ) → said.shut ≡ false → moment < 2 ^ 64 → Says said (item_lines (Pulse moment)) (with_pulse said moment)
 unfolding with_line keyword_of
 says_pulse said moment unshut h =
     let words : list_all is_word (codes "pulse" ∷ decimal moment ∷ []) ≡ true = rw (decimal_is_word moment h) refl in
-    let short : length (spaced (codes "pulse" ∷ decimal moment ∷ [])) ≤ 65536 = omega (arith, length-decimal moment h) in
+    let short : length (line_of_words (codes "pulse" ∷ decimal moment ∷ [])) ≤ 65536 = omega (arith, length-decimal moment h) in
     let line = keyword_line said word.Pulse (codes "pulse") (decimal moment ∷ []) words short refl refl (rw unshut refl) ∙ rw (number_within-decimal 0 (2 ^ 64 - 1) moment (omega arith) (omega arith) h) refl in
-    says_more said (with_pulse said moment) (with_pulse said moment) _ [] (is_text-spaced (codes "pulse" ∷ decimal moment ∷ []) words) line (says_nothing (with_pulse said moment))
+    says_more said (with_pulse said moment) (with_pulse said moment) _ [] (is_text-line_of_words (codes "pulse" ∷ decimal moment ∷ []) words) line (says_nothing (with_pulse said moment))
 
 -- the line of the Close says it
 says_close : (said : Said) → said.shut ≡ false → Says said (item_lines Shut) (with_close said)
@@ -292,12 +293,12 @@ says_close said unshut =
     says_more said (with_close said) (with_close said) _ [] refl (keyword_line said word.Shut (codes "shut") [] refl (omega arith) refl refl (rw unshut refl)) (says_nothing (with_close said))
 
 -- a packet's lines say the packet
-says_packet : (said : Said) (packet : Submission) → unwrap_or said.settings.submitters 2 ≤ 16 → CanBeSubmitted (unwrap_or said.settings.submitters 2) packet →
+says_packet : (said : Said) (packet : Submission) → submitters_of said.settings ≤ submitters_max → CanBeSubmitted (submitters_of said.settings) packet →
     Says said (packet_lines packet) (adding said.settings said.shut (items_of said) packet)
 says_packet said packet few h =
     let started = adding said.settings said.shut (items_of said) (record packet { bytes = [] }) in
-    let words = packet_words_are_words packet (unwrap_or said.settings.submitters 2) few h in
-    says_more said started (adding said.settings said.shut (items_of said) packet) _ (map byte_line packet.bytes) (is_text-spaced (packet_words packet) words) (says_packet_line said packet few h)
+    let words = packet_words_are_words packet (submitters_of said.settings) few h in
+    says_more said started (adding said.settings said.shut (items_of said) packet) _ (map byte_line packet.bytes) (is_text-line_of_words (packet_words packet) words) (says_packet_line said packet few h)
     (says_bytes said.settings said.shut (items_of said) (record packet { bytes = [] }) packet.bytes h.bytes)
 
 -- one item behind those that were said
@@ -306,7 +307,7 @@ with_item said (Packet packet) = adding said.settings said.shut (items_of said) 
 with_item said (Pulse moment) = with_pulse said moment
 with_item said Shut = with_close said
 
-says_item : (said : Said) (item : Item) → unwrap_or said.settings.submitters 2 ≤ 16 → CanBeSaid (unwrap_or said.settings.submitters 2) said.shut item → Says said (item_lines item) (with_item said item)
+says_item : (said : Said) (item : Item) → submitters_of said.settings ≤ submitters_max → CanBeSaid (submitters_of said.settings) said.shut item → Says said (item_lines item) (with_item said item)
 says_item said (Packet packet) few h = says_packet said packet few h
 says_item said (Pulse moment) few h = says_pulse said moment h.0 h.1
 says_item said Shut few h = says_close said h
@@ -333,13 +334,13 @@ record SaysItems (said : Said) (items : List Item) : Type 0 where
   settings : next.settings ≡ said.settings
   all : items_of next ≡ items_of said ++ items
 
-says_items : (said : Said) (items : List Item) → unwrap_or said.settings.submitters 2 ≤ 16 → CanAllBeSaid (unwrap_or said.settings.submitters 2) said.shut items → SaysItems said items
+says_items : (said : Said) (items : List Item) → submitters_of said.settings ≤ submitters_max → CanAllBeSaid (submitters_of said.settings) said.shut items → SaysItems said items
 says_items said [] few all = record { next = said; says = says_nothing said; settings = refl; all = sym (append-nil (items_of said)) }
 says_items said (item ∷ items) few all =
     let between = with_item said item in
     let same = settings_stay said item in
-    let can = subst (λ b. CanAllBeSaid (unwrap_or between.settings.submitters 2) b items) (sym (shut_after said item)) (subst (λ (s : Settings). CanAllBeSaid (unwrap_or s.submitters 2) (shut_by said.shut item) items) (sym same) all.1) in
-    let later = says_items between items (subst (λ (s : Settings). unwrap_or s.submitters 2 ≤ 16) (sym same) few) can in
+    let can = subst (λ b. CanAllBeSaid (submitters_of between.settings) b items) (sym (shut_after said item)) (subst (λ (s : Settings). CanAllBeSaid (submitters_of s) (shut_by said.shut item) items) (sym same) all.1) in
+    let later = says_items between items (subst (λ (s : Settings). submitters_of s ≤ submitters_max) (sym same) few) can in
     record {
       next = later.next;
       says = says_both said between later.next (item_lines item) (flat_map item_lines items) (says_item said item few all.0) later.says;
@@ -347,7 +348,7 @@ says_items said (item ∷ items) few all =
       all = later.all ∙ ap (λ xs. xs ++ items) (item_is_last said item) ∙ append_assoc (items_of said) (item ∷ []) items;
     }
 
-few_submitters : (submitters : Option ℕ) → IfSome submitters (λ n. (1 ≤ n) × (n ≤ 16)) → unwrap_or submitters 2 ≤ 16
+few_submitters : (submitters : Option ℕ) → IfSome submitters (λ n. (1 ≤ n) × (n ≤ submitters_max)) → unwrap_or submitters 2 ≤ submitters_max
 few_submitters None h = omega arith
 few_submitters (Some n) h = h.1
 
@@ -356,4 +357,4 @@ read_as_spelled settings items can all =
     let start = given settings.clock settings.limit settings.capacity settings.credit settings.submitters in
     let later = says_items start items (few_submitters settings.submitters can.submitters) all in
     let whole = says_both nothing_said start later.next (settings_lines settings) (flat_map item_lines items) (says_settings settings can) later.says in
-    (later.next, ap (after_lines 1 nothing_said) (lines_of-ended (settings_lines settings ++ flat_map item_lines items) whole.text) ∙ whole.read 1, later.settings, later.all)
+    (later.next, ap (after_lines 1 nothing_said) (lines_of-text_of_lines (settings_lines settings ++ flat_map item_lines items) whole.text) ∙ whole.read 1, later.settings, later.all)

@@ -1,0 +1,5 @@
+use Rattle.std.proofs.Common.{rules}
+use Rattle.tb_program.proofs.run.output_of.Goals as goal
+
+pub returns-in-Faulty-clause-faultless : goal.returns-in-Faulty-clause-faultless
+returns-in-Faulty-clause-faultless c = search rules
