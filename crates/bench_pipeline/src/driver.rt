@@ -5,7 +5,7 @@ ghost use Rattle.tb_submit.specs.Ends.{origin_of};
 ghost use Rattle.bench_pipeline.specs.Threads.{IsEnd, driver_origin};
 
 use crate::events::{accounts, transfers};
-use crate::load::Load;
+use crate::request::Load;
 use crate::tally::Tally;
 use crossbeam_utils::Backoff;
 use std::alloc::Global;
@@ -172,7 +172,9 @@ impl Driver {
         let mut driver = self;
         let _ = driver.send(rt, alloc, stop);
         let Driver {
-            submitter, tally, ..
+            submitter,
+            tally,
+            ..
         } = driver;
         let ended = end(rt, submitter, stop);
         Driven { ended, tally }

@@ -43,10 +43,10 @@ impl Tally {
     }
 }
 
-/// A sum over all balances.
-pub fn sum_of_balances(machine: &Machine) -> u128 {
+/// A sum over the balances of the first accounts.
+pub fn sum_of_balances(machine: &Machine, accounts: u64) -> u128 {
     let mut sum = 0u128;
-    for place in 0..machine.accounts() {
+    for place in 0..accounts as usize {
         if let Some(account) = machine.account_at(place) {
             let debits = account.debits_posted.wrapping_mul(3);
             let balances = debits.wrapping_add(account.credits_posted);

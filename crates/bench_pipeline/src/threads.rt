@@ -79,7 +79,9 @@ fn start_drivers<'s, E, R: Wait + Sync>(
 {
     let mut handles = Vec::with_capacity(alloc, drivers.len()).ok()?;
     for driver in drivers {
-        handles.push(start_driver(scope, rt, alloc, stop, driver)?).ok()?;
+        handles
+            .push(start_driver(scope, rt, alloc, stop, driver)?)
+            .ok()?;
     }
     Some(handles)
 }

@@ -3,11 +3,9 @@
 use crate::ring::{Consumer, Producer};
 use crate::work::{Batch, Item, Job, Outcome, Parcel, Queue, Reply};
 use crossbeam_utils::Backoff;
-use peer::layout::{BATCH_MAX, CREATE_ACCOUNTS, EVENT_SIZE, Failure};
+use peer::layout::{CREATE_ACCOUNTS, EVENT_SIZE, Failure};
 use peer::machine::Machine;
 use peer::packet::{Entry, Stub};
-
-const BODY_MAX: usize = BATCH_MAX as usize * EVENT_SIZE;
 
 /// The batch that is held, which neighbours may join.
 struct Group {
@@ -34,11 +32,11 @@ impl Group {
         Group { batch, may_share }
     }
 
-    fn takes(&self, job: &Job, may_share: bool) -> bool {
+    fn takes(&self, job: &Job, may_share: bool, limit: u32) -> bool {
         self.may_share
             && may_share
             && self.batch.operation == job.packet.operation
-            && self.batch.body.len() + job.packet.bytes.len() <= BODY_MAX
+            && self.batch.body.len() + job.packet.bytes.len() <= limit as usize * EVENT_SIZE
     }
 
     fn add(&mut self, job: Job) {
@@ -65,10 +63,10 @@ fn give_held(held: &mut Option<Group>, batches: &mut Producer<Parcel>) {
 }
 
 /// Puts a packet into the batch held, or hands that on and begins another.
-fn join(held: &mut Option<Group>, job: Job, batches: &mut Producer<Parcel>) {
+fn join(held: &mut Option<Group>, job: Job, limit: u32, batches: &mut Producer<Parcel>) {
     let may_share = job.packet.may_share();
     match held {
-        Some(group) if group.takes(&job, may_share) => group.add(job),
+        Some(group) if group.takes(&job, may_share, limit) => group.add(job),
         _ => {
             give_held(held, batches);
             *held = Some(Group::new(job, may_share));
@@ -77,14 +75,14 @@ fn join(held: &mut Option<Group>, job: Job, batches: &mut Producer<Parcel>) {
 }
 
 /// Joins packets to batches until all submitters have ended.
-pub fn batch_all(queue: &Queue, submitters: usize, mut batches: Producer<Parcel>) {
+pub fn batch_all(queue: &Queue, submitters: usize, limit: u32, mut batches: Producer<Parcel>) {
     let mut held = None;
     let mut ended = 0;
     let backoff = Backoff::new();
     while ended < submitters {
         match queue.pop() {
             Some(Item::Packet(job)) => {
-                join(&mut held, job, &mut batches);
+                join(&mut held, job, limit, &mut batches);
                 backoff.reset();
             }
             Some(Item::End) => ended += 1,

@@ -4,7 +4,6 @@ use crate::events::{accounts, transfers};
 use crate::ring::Consumer;
 use crate::work::{Item, Job, Queue, Reply, Tally, push_waiting};
 use crossbeam_utils::Backoff;
-use peer::layout::BATCH_MAX;
 use peer::packet::{Packet, Refusal};
 use std::sync::Arc;
 
@@ -12,6 +11,8 @@ pub struct Submitter {
     pub queue: Arc<Queue>,
     pub replies: Consumer<Reply>,
     pub submitter: u32,
+    /// The most events of a packet.
+    pub limit: u32,
     /// How many packets were queued.
     pub queued: u64,
 }
@@ -27,7 +28,7 @@ pub struct Load {
 impl Submitter {
     /// The packet's number.
     fn submit(&mut self, packet: Packet) -> Result<u64, Refusal> {
-        let count = packet.admit(BATCH_MAX)?;
+        let count = packet.admit(self.limit)?;
         let number = self.queued;
         let job = Job {
             packet,
