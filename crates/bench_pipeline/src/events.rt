@@ -8,23 +8,26 @@ use tb_work::{Bytes, Packet};
 /// The accounts of each submitter.
 pub const ACCOUNTS: u64 = 1000;
 
-/// The bytes of an event in ledger 1 with code 1.
-fn event(id: u64) -> [u8; 128] {
-    let mut event = [0u8; 128];
-    event[0..8].copy_from_slice(&id.to_le_bytes());
-    event[112] = 1;
-    event[116] = 1;
-    event
+/// The bytes of an account in ledger 1 with code 1.
+fn account(id: u64) -> [u8; 128] {
+    let mut account = [0u8; 128];
+    account[0..8].copy_from_slice(&id.to_le_bytes());
+    account[112] = 1;
+    account[116] = 1;
+    account
 }
 
-/// The bytes of a plain transfer of the amount 1, between accounts out of a thousand.
+/// The bytes of a plain transfer of the amount 1 between two of a thousand accounts.
 fn transfer(id: u64, first_account: u64, made: u64) -> [u8; 128] {
     let debit = made.wrapping_mul(7) % ACCOUNTS;
     let credit = debit.wrapping_add(1).wrapping_add(made % (ACCOUNTS - 2)) % ACCOUNTS;
-    let mut event = event(id);
+    let mut event = [0u8; 128];
+    event[0..8].copy_from_slice(&id.to_le_bytes());
     event[16..24].copy_from_slice(&first_account.wrapping_add(debit).to_le_bytes());
     event[32..40].copy_from_slice(&first_account.wrapping_add(credit).to_le_bytes());
     event[48] = 1;
+    event[112] = 1;
+    event[116] = 1;
     event
 }
 
@@ -68,7 +71,7 @@ pub fn event_of(kind: Kind, made: u64) -> [u8; 128] {
         Kind::Plain => transfer(made.wrapping_add(1), 1, made),
         Kind::TwoPhase if made % 2 == 0 => pending(made),
         Kind::TwoPhase => resolving(made),
-        Kind::Accounts => event(made.wrapping_add(1)),
+        Kind::Accounts => account(made.wrapping_add(1)),
         Kind::Chains => chained(made),
     }
 }
@@ -91,7 +94,7 @@ pub fn accounts(alloc: Global, submitter: u64) -> Result<Packet, AllocError> {
     let first = first_account(submitter);
     let mut bytes = Vec::with_capacity(alloc, 128_000)?;
     for number in 0..ACCOUNTS {
-        bytes.extend_from_slice(&event(first.wrapping_add(number)))?;
+        bytes.extend_from_slice(&account(first.wrapping_add(number)))?;
     }
     Ok(packet_of(CREATE_ACCOUNTS, bytes))
 }

@@ -33,6 +33,16 @@ struct Left {
 type Started = PromisedHandle<Driven, EndOfSubmitter>;
 
 impl Left {
+    /// Nothing yet, with room for the ends of so many drivers.
+    fn new(alloc: Global, drivers: usize) -> Option<Left>
+        ensures { IfSome result (λ left. left.ends.items ≡ []) }
+    {
+        Some(Left {
+            ends: Vec::with_capacity(alloc, drivers).ok()?,
+            tally: Tally::new(),
+        })
+    }
+
     /// What the next driver left.
     fn add(&mut self, driven: Driven) -> Option<()>
         ensures { (origin : Origin) → IfSome driven.ended (λ end. end_origin end ≡ origin)
@@ -111,10 +121,7 @@ fn run_all<'s, E, R: Threads + Wait + Sync>(
     requires own { map driver_origin drivers.items ≡ pipeline.submitters }
     requires control { control.seat ≡ control_seat pipeline.intake }
 {
-    let room = Left {
-        ends: Vec::with_capacity(alloc, drivers.len()).ok()?,
-        tally: Tally::new(),
-    };
+    let room = Left::new(alloc, drivers.len())?;
     let handles = start_drivers(scope, rt, alloc, stop, drivers)?;
     let served = pipeline.serve(rt, &Open).ok()?;
     let Left { ends, tally } = join_drivers(rt, handles, room)?;
