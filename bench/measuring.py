@@ -3,12 +3,13 @@ import os
 import re
 import statistics
 import subprocess
+import sys
 import tempfile
 import time
 from collections import namedtuple
 
-# What one run of a program took, in seconds and kB, and what it printed.
-Run = namedtuple("Run", "wall processor resident output")
+# What one run of a program took, in seconds, and what it printed.
+Run = namedtuple("Run", "wall processor output")
 
 # The medians of two programs that ran in turn, in seconds, and of their ratio pair by pair, with its quartiles.
 Pair = namedtuple("Pair", "ours peers low ratio high")
@@ -25,7 +26,7 @@ def run(command, source=os.devnull):
         if child.returncode != 0:
             raise SystemExit(f"{command} ended with status {child.returncode}")
         output.seek(0)
-        return Run(wall, used.ru_utime + used.ru_stime, used.ru_maxrss, output.read())
+        return Run(wall, used.ru_utime + used.ru_stime, output.read())
 
 
 def in_turn(ours, peers, turns, source=os.devnull):
@@ -45,6 +46,23 @@ def medians(pairs, measure):
     times = [(getattr(our, measure), getattr(peer, measure)) for our, peer in pairs]
     low, middle, high = statistics.quantiles([our / peer for our, peer in times], n=4, method="inclusive")
     return Pair(statistics.median(t[0] for t in times), statistics.median(t[1] for t in times), low, middle, high)
+
+
+# A process begins with the memory of the one that starts it, so a small one starts it and tells its greatest memory.
+STARTER = """
+import os, sys
+silent = [(os.POSIX_SPAWN_OPEN, 1, os.devnull, os.O_WRONLY, 0)]
+child = os.posix_spawn(sys.argv[1], sys.argv[1:], os.environ, file_actions=silent)
+_, status, used = os.wait4(child, 0)
+print(used.ru_maxrss)
+sys.exit(status != 0)
+"""
+
+
+def resident(command):
+    """The greatest resident set of a run, in bytes. What takes less than some 10 MB can't be told."""
+    ended = subprocess.run([sys.executable, "-S", "-c", STARTER, *command], stdout=subprocess.PIPE, check=True)
+    return int(ended.stdout) * 1024
 
 
 def instructions(command, source=os.devnull):

@@ -67,6 +67,7 @@ fn end<R: Wait>(rt: &R, submitter: Submitter, stop: &AtomicBool) -> Option<Ended
 }
 
 impl Driver {
+    /// The driver of the submitter of a number, which has sent nothing.
     pub fn new(submitter: Submitter, number: u64, load: Load) -> Driver
         ensures { driver_origin result ≡ origin_of submitter }
     {

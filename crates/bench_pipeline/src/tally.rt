@@ -12,6 +12,7 @@ pub struct Tally {
 }
 
 impl Tally {
+    /// That of no reply.
     pub fn new() -> Tally {
         Tally {
             replies: 0,
@@ -20,12 +21,14 @@ impl Tally {
         }
     }
 
+    /// One reply more.
     fn count(&mut self, failures: u64, place: u64) {
         self.replies = self.replies.wrapping_add(1);
         self.failures = self.failures.wrapping_add(failures);
         self.places = self.places.wrapping_add(place);
     }
 
+    /// Adds a reply.
     pub fn add(&mut self, reply: &Reply) {
         match &reply.outcome {
             Outcome::Committed {
@@ -36,6 +39,7 @@ impl Tally {
         }
     }
 
+    /// Adds what other replies came to.
     pub fn join(&mut self, other: Tally) {
         self.replies = self.replies.wrapping_add(other.replies);
         self.failures = self.failures.wrapping_add(other.failures);

@@ -58,12 +58,14 @@ pub struct Tally {
 }
 
 impl Tally {
+    /// Adds a reply.
     pub fn add(&mut self, reply: &Reply) {
         self.replies += 1;
         self.failures += reply.job.failures.len() as u64;
         self.places += reply.place;
     }
 
+    /// Adds what other replies came to.
     pub fn join(&mut self, other: &Tally) {
         self.replies += other.replies;
         self.failures += other.failures;
