@@ -1,0 +1,152 @@
+//! A pipeline in Rust over the original crates, to measure the pipeline of this repository against: submission queue,
+//! batcher, committer over the state machine, demultiplexer, and a ring of replies for each submitter.
+//!
+//!     peer_pipeline run EVENTS PACKETS SUBMITTERS CREDIT CAPACITY LIMIT
+//!     peer_pipeline commit KIND EVENTS PACKETS
+//!     peer_pipeline make KIND EVENTS PACKETS
+//!
+//! `run`: each submitter makes a thousand accounts and sends so many packets of so many plain transfers between them,
+//! with at most so many of them unanswered, over a queue of so many places and in batches of at most so many events.
+//! `commit`: a state machine commits so many packets of so many events, which
+//! are `plain`, `two-phase`, `accounts` or `chains`; `make` makes the packets and lets them go. Prints sums over the
+//! replies and the balances, which are the same in every order.
+
+mod commit;
+mod events;
+mod ring;
+mod stages;
+mod submitter;
+mod work;
+
+use commit::{commit_packets, make_packets};
+use crossbeam_queue::ArrayQueue;
+use events::ACCOUNTS;
+use peer::machine::Machine;
+use peer::packet::Refusal;
+use ring::{Consumer, Producer, ring};
+use stages::{batch_all, commit_all, route_all};
+use std::error::Error;
+use std::sync::Arc;
+use std::thread;
+use submitter::{Load, Submitter};
+use work::{Reply, Tally};
+
+/// The slots of the rings between the stages.
+const STAGE_SLOTS: usize = 8;
+
+/// How a pipeline is opened.
+#[derive(Clone, Copy)]
+struct Opening {
+    submitters: u32,
+    /// The places of the submission queue.
+    capacity: usize,
+    /// The most events of a batch.
+    limit: u32,
+}
+
+/// What is left of a run: the sums over all replies, and the machine.
+struct Report {
+    tally: Tally,
+    machine: Machine,
+}
+
+/// A sum over the balances of the first accounts, whatever their order.
+fn sum_of_balances(machine: &Machine, accounts: u64) -> u128 {
+    machine
+        .accounts()
+        .take(accounts as usize)
+        .map(|account| account.id * (3 * account.debits_posted + account.credits_posted))
+        .sum()
+}
+
+/// A thread for each submitter and each stage; this one is the batcher.
+fn run(opening: Opening, load: Load) -> Result<Report, Refusal> {
+    let Opening {
+        submitters,
+        capacity,
+        limit,
+    } = opening;
+    let queue = Arc::new(ArrayQueue::new(capacity));
+    let (batches, parcels) = ring(STAGE_SLOTS);
+    let (made, outcomes) = ring(STAGE_SLOTS);
+    let (outlets, inlets): (Vec<Producer<Reply>>, Vec<Consumer<Reply>>) =
+        (0..submitters).map(|_| ring(load.credit as usize)).unzip();
+    thread::scope(|scope| {
+        let drivers: Vec<_> = (0..submitters)
+            .zip(inlets)
+            .map(|(submitter, replies)| Submitter {
+                queue: queue.clone(),
+                replies,
+                submitter,
+                limit,
+                queued: 0,
+            })
+            .map(|submitter| scope.spawn(move || submitter.drive(load)))
+            .collect();
+        let committer = scope.spawn(move || commit_all(parcels, made));
+        scope.spawn(move || route_all(outcomes, outlets));
+        batch_all(&queue, submitters as usize, limit, batches);
+        let mut tally = Tally::default();
+        for driver in drivers {
+            tally.join(&driver.join().expect("a driver doesn't panic")?);
+        }
+        let ledger = committer.join().expect("the committer doesn't panic");
+        Ok(Report {
+            tally,
+            machine: ledger.machine,
+        })
+    })
+}
+
+/// The line of a run.
+fn line_of_run(opening: Opening, load: Load) -> Result<String, Refusal> {
+    let Report { tally, machine } = run(opening, load)?;
+    let Tally {
+        replies,
+        failures,
+        places,
+    } = tally;
+    let balances = sum_of_balances(&machine, u64::from(opening.submitters) * ACCOUNTS);
+    Ok(format!(
+        "replies {replies} failures {failures} places {places} balances {balances}"
+    ))
+}
+
+/// The line that the arguments ask for.
+fn line_of(words: &[&str]) -> Result<String, Box<dyn Error>> {
+    match words {
+        ["run", events, packets, submitters, credit, capacity, limit] => {
+            let load = Load {
+                events: events.parse()?,
+                packets: packets.parse()?,
+                credit: credit.parse()?,
+            };
+            let opening = Opening {
+                submitters: submitters.parse()?,
+                capacity: capacity.parse()?,
+                limit: limit.parse()?,
+            };
+            line_of_run(opening, load).map_err(|why| format!("{why:?}").into())
+        }
+        ["commit", kind, events, packets] => {
+            let (machine, failures) =
+                commit_packets(kind.parse()?, events.parse()?, packets.parse()?);
+            let balances = sum_of_balances(&machine, ACCOUNTS);
+            Ok(format!("failures {failures} balances {balances}"))
+        }
+        ["make", kind, events, packets] => {
+            let bytes = make_packets(kind.parse()?, events.parse()?, packets.parse()?);
+            Ok(format!("bytes {bytes}"))
+        }
+        _ => Err(
+            "usage: run EVENTS PACKETS SUBMITTERS CREDIT | commit|make KIND EVENTS PACKETS".into(),
+        ),
+    }
+}
+
+fn main() -> Result<(), Box<dyn Error>> {
+    let words: Vec<String> = std::env::args().skip(1).collect();
+    let words: Vec<&str> = words.iter().map(String::as_str).collect();
+    println!("{}", line_of(&words)?);
+    Ok(())
+}

@@ -1,0 +1,79 @@
+//! A submitter in a thread of its own.
+
+use crate::events::{accounts, transfers};
+use crate::ring::Consumer;
+use crate::work::{Item, Job, Queue, Reply, Tally, push_waiting};
+use crossbeam_utils::Backoff;
+use peer::packet::{Packet, Refusal};
+use std::sync::Arc;
+
+pub struct Submitter {
+    pub queue: Arc<Queue>,
+    pub replies: Consumer<Reply>,
+    pub submitter: u32,
+    /// The most events of a packet.
+    pub limit: u32,
+    /// How many packets were queued.
+    pub queued: u64,
+}
+
+/// What a submitter sends: so many packets of so many events, with at most `credit` of them unanswered.
+#[derive(Clone, Copy)]
+pub struct Load {
+    pub events: u64,
+    pub packets: u64,
+    pub credit: u64,
+}
+
+impl Submitter {
+    /// The packet's number.
+    fn submit(&mut self, packet: Packet) -> Result<u64, Refusal> {
+        let count = packet.admit(self.limit)?;
+        let number = self.queued;
+        let job = Job {
+            packet,
+            number,
+            count,
+            failures: Vec::with_capacity(count as usize),
+        };
+        push_waiting(&self.queue, Item::Packet(job));
+        self.queued += 1;
+        Ok(number)
+    }
+
+    /// Waits for the next reply.
+    fn receive(&mut self, tally: &mut Tally) {
+        let backoff = Backoff::new();
+        loop {
+            if let Some(reply) = self.replies.pop() {
+                tally.add(&reply);
+                return;
+            }
+            backoff.snooze();
+        }
+    }
+
+    /// Makes the accounts, and then sends the load; what its replies came to.
+    fn send(&mut self, load: Load) -> Result<Tally, Refusal> {
+        let mut tally = Tally::default();
+        self.submit(accounts(self.submitter))?;
+        self.receive(&mut tally);
+        for number in 0..load.packets {
+            self.submit(transfers(self.submitter, number * load.events, load.events))?;
+            if number + 1 >= load.credit {
+                self.receive(&mut tally);
+            }
+        }
+        for _ in 1..load.credit.min(load.packets + 1) {
+            self.receive(&mut tally);
+        }
+        Ok(tally)
+    }
+
+    /// Sends the load, and ends.
+    pub fn drive(mut self, load: Load) -> Result<Tally, Refusal> {
+        let tally = self.send(load);
+        push_waiting(&self.queue, Item::End);
+        tally
+    }
+}

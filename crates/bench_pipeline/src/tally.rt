@@ -1,0 +1,61 @@
+//! Sums that are the same in every order.
+
+use tb_machine::Machine;
+use tb_work::{Answer, Outcome, Reply};
+
+/// What replies came to. One that isn't committed counts as a failure.
+#[derive(Clone, Copy)]
+pub struct Tally {
+    pub replies: u64,
+    pub failures: u64,
+    pub places: u64,
+}
+
+impl Tally {
+    /// That of no reply.
+    pub fn new() -> Tally {
+        Tally {
+            replies: 0,
+            failures: 0,
+            places: 0,
+        }
+    }
+
+    /// One reply more.
+    fn count(&mut self, failures: u64, place: u64) {
+        self.replies = self.replies.wrapping_add(1);
+        self.failures = self.failures.wrapping_add(failures);
+        self.places = self.places.wrapping_add(place);
+    }
+
+    /// Adds a reply.
+    pub fn add(&mut self, reply: &Reply) {
+        match &reply.outcome {
+            Outcome::Committed {
+                place,
+                answer: Answer::Failures(failures),
+            } => self.count(failures.as_slice().len() as u64, *place),
+            _ => self.count(1, 0),
+        }
+    }
+
+    /// Adds what other replies came to.
+    pub fn join(&mut self, other: Tally) {
+        self.replies = self.replies.wrapping_add(other.replies);
+        self.failures = self.failures.wrapping_add(other.failures);
+        self.places = self.places.wrapping_add(other.places);
+    }
+}
+
+/// A sum over the balances of the first accounts.
+pub fn sum_of_balances(machine: &Machine, accounts: u64) -> u128 {
+    let mut sum = 0u128;
+    for place in 0..accounts as usize {
+        if let Some(account) = machine.account_at(place) {
+            let debits = account.debits_posted.wrapping_mul(3);
+            let balances = debits.wrapping_add(account.credits_posted);
+            sum = sum.wrapping_add(account.id.wrapping_mul(balances));
+        }
+    }
+    sum
+}
