@@ -120,23 +120,27 @@ is_reply_read clock packet ledger ends front ended reply rest run is lies =
     let same : one_reply clock (works ledger) packet ≡ reply = cc in
     subst (IsReplyToOne clock packet) same (is_reply clock packet ledger ends run)
 
--- what the one submitter has queued and read once it has ended
-pub queued_one : (packet : Packet) (credit number : ℕ) (intake : IntakeState) (origins : List Origin) (all front : List SubmitterState) (first next : SubmitterState) (ended : EndedState) → all ≡ map (new_submitter credit) origins → length origins ≡ 1 →
-    ((d : Origin) → (slice_index_or origins 0 d).seat ≡ seat_at intake 0) → all ≡ front ++ first ∷ [] → number ≡ length first.queued →
-    next ≡ with_item first (item.Packet (numbered_packet first.origin.seat.number number packet)) → ended ≡ ended_with next item.End → (ended.queued ≡ one_and_end packet) × (ended.read ≡ [])
-queued_one packet credit number intake [] all front first next ended opened one seats is counted queued at = absurd (omega (arith, one))
-queued_one packet credit number intake (origin ∷ other ∷ origins) all front first next ended opened one seats is counted queued at = absurd (omega (arith, one))
-queued_one packet credit number intake (origin ∷ []) all (x ∷ front) first next ended opened one seats is counted queued at =
-    let long : suc (length front + 1) ≡ 1 = sym (ap suc (length-append front (first ∷ []))) ∙ ap length (sym is) ∙ ap length opened in
-    absurd (omega (arith, long))
-queued_one packet credit number intake (origin ∷ []) all [] first next ended opened one seats is counted queued at =
-    let same : first ∷ [] ≡ new_submitter credit origin ∷ [] = sym is ∙ opened in
+-- the one submitter of a pipeline that was just opened
+pub record IsFirst (first : SubmitterState) : Type 0 where
+  pub queued : first.queued ≡ []
+  pub read : first.read ≡ []
+  pub number : first.origin.seat.number ≡ 0
+
+pub new_one : (credit : ℕ) (intake : IntakeState) (origins : List Origin) (first : SubmitterState) → first ∷ [] ≡ map (new_submitter credit) origins → ((d : Origin) → (slice_index_or origins 0 d).seat ≡ seat_at intake 0) → IsFirst first
+new_one credit intake [] first is seats = cc
+new_one credit intake (origin ∷ others) first is seats =
     let fresh : first ≡ new_submitter credit origin = cc in
-    let none : first.queued ≡ [] = ap (λ (s : SubmitterState). s.queued) fresh in
-    let zeroth : number ≡ 0 = counted ∙ ap length none in
-    let seat : first.origin.seat.number ≡ 0 = ap (λ (s : SubmitterState). s.origin.seat.number) fresh ∙ ap (λ (s : Seat). s.number) (seats origin) in
-    let its = ap (λ (e : EndedState). e.queued) at ∙ ap (λ (s : SubmitterState). s.queued ++ item.End ∷ []) queued in (
-      its ∙ ap (λ (before : List Item). (before ++ item.Packet (numbered_packet first.origin.seat.number number packet) ∷ []) ++ item.End ∷ []) none
-          ∙ ap (λ n. item.Packet (numbered_packet n number packet) ∷ item.End ∷ []) seat ∙ ap (λ n. item.Packet (numbered_packet 0 n packet) ∷ item.End ∷ []) zeroth,
-      ap (λ (e : EndedState). e.read) at ∙ ap (λ (s : SubmitterState). s.read) queued ∙ ap (λ (s : SubmitterState). s.read) fresh,
-    )
+    record {
+      queued = ap (λ (s : SubmitterState). s.queued) fresh;
+      read = ap (λ (s : SubmitterState). s.read) fresh;
+      number = ap (λ (s : SubmitterState). s.origin.seat.number) fresh ∙ ap (λ (s : Seat). s.number) (seats origin);
+    }
+
+-- what it has queued and read once it has ended
+pub queued_one : (packet : Packet) (first : SubmitterState) (ended : EndedState) → IsFirst first → ended ≡ ended_with (with_item first (item.Packet (numbered_packet first.origin.seat.number 0 packet))) item.End →
+    (ended.queued ≡ one_and_end packet) × (ended.read ≡ [])
+queued_one packet first ended is at = (
+  ap (λ (e : EndedState). e.queued) at ∙ ap (λ (before : List Item). (before ++ item.Packet (numbered_packet first.origin.seat.number 0 packet) ∷ []) ++ item.End ∷ []) is.queued
+      ∙ ap (λ n. item.Packet (numbered_packet n 0 packet) ∷ item.End ∷ []) is.number,
+  ap (λ (e : EndedState). e.read) at ∙ is.read,
+)

@@ -1,5 +1,6 @@
 -- A run from opening to the report, put together from what the calls say.
 use Rattle.std.proofs.Common.{◌≡◌, ℕ, suc, ◌+◌, List, [], ◌∷◌, ◌++◌, map, length, length-append, sym, ap, ◌∙◌, subst, arith}
+use Rattle.std.specs.Prelude.{Result, Ok, Err, IfOk}
 use Rattle.std.proofs.lemmas.List.{length-map}
 use Rattle.tb_core.specs.Grouping.{IsGrouping}
 use Rattle.tb_core.specs.Ledger.{LedgerState, works}
@@ -8,6 +9,7 @@ use Rattle.tb_machine.specs.Replay.{replay}
 use Rattle.tb_submit.specs.Ends.{EndedState, IntakeState, Origin, SubmitterState, origin_of, replies_of}
 use Rattle.tb_work.specs.declared.item.Item.{Item}
 use Rattle.tb_pipe.specs.Run.{PipelineState, ServedState}
+use Rattle.tb_pipe.specs.declared.settling.Report.{Report}
 use Rattle.tb_pipe_tests.specs.Together.{IsOpenedAs, IsRun}
 
 -- what serving leaves of a pipeline, settled
@@ -22,16 +24,14 @@ is_run pipeline served queued ledger ends clock intake lawful grouping = (
   subst (λ n. IsGrouping n ledger.groups) (ap (λ (i : IntakeState). i.limit) intake) grouping,
 )
 
--- the last of submitters, of which there is one
-pub is_alone : (submitters front : List SubmitterState) (last : SubmitterState) (origins : List Origin) → map origin_of submitters ≡ origins → length origins ≡ 1 → submitters ≡ front ++ last ∷ [] → map origin_of (last ∷ []) ≡ origins
-is_alone submitters [] last origins own one is = ap (map origin_of) (sym is) ∙ own
-is_alone submitters (x ∷ front) last origins own one is =
-    let long : length origins ≡ suc (length front + 1) = sym (ap length own) ∙ length-map submitters origin_of ∙ ap length is ∙ ap suc (length-append front (last ∷ [])) in
-    absurd (omega (arith, long, one))
-
 -- the same of a pipeline that was opened so
 pub run_as : (clock limit submitters : ℕ) (pipeline : PipelineState) (ledger : LedgerState) (ends : List EndedState) → IsOpenedAs clock limit submitters pipeline → IsRun pipeline.clock pipeline.intake.limit pipeline.intake.submitters ledger ends →
     IsRun clock limit submitters ledger ends
 run_as clock limit submitters pipeline ledger ends opened run =
     subst (λ n. IsRun n limit submitters ledger ends) opened.0
     (subst (λ n. IsRun pipeline.clock n submitters ledger ends) opened.1 (subst (λ n. IsRun pipeline.clock pipeline.intake.limit n ledger ends) opened.2 run))
+
+pub runs_as : {E : Type 0} (clock limit submitters : ℕ) (pipeline : PipelineState) (result : Result Report E) → IsOpenedAs clock limit submitters pipeline →
+    IfOk result (λ report. IsRun pipeline.clock pipeline.intake.limit pipeline.intake.submitters report.ledger report.ends.items) → IfOk result (λ report. IsRun clock limit submitters report.ledger report.ends.items)
+runs_as clock limit submitters pipeline (Ok report) opened run = run_as clock limit submitters pipeline report.ledger report.ends.items opened run
+runs_as clock limit submitters pipeline (Err e) opened run = tt

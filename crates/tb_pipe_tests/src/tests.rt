@@ -5,12 +5,13 @@ ghost use Rattle.tb_submit.specs.Ends.{origin_of, end_origin, control_seat};
 ghost use Rattle.tb_pipe_tests.specs.Together.{AreTogether, IsOpenedAs, IsRun};
 
 use std::alloc::{AllocError, Global};
+use std::process::Abort;
 use std::sync::Wait;
 use std::test::Fail;
 use std::thread::Threads;
 use tb_core::Entry;
 use tb_pipe::{Gate, Opened, Pipeline, Report, open, settle};
-use tb_submit::{Control, ControlEnd, Ended, Submitter};
+use tb_submit::{Control, ControlEnd, Ended, Intake, Submitter};
 use tb_work::{Bytes, Outcome, Packet, Refusal, Reply};
 
 mod driven;
@@ -81,23 +82,34 @@ struct Lone {
     control: Control,
 }
 
-fn opened_lone(alloc: Global, capacity: u32, credit: u32) -> Result<Lone, Refusal>
-    ensures together { IfOk result (λ lone. AreTogether lone.pipeline (lone.submitter ∷ []) lone.control) }
-    ensures as_asked { IfOk result (λ lone. IsOpenedAs 0 4 1 lone.pipeline) }
+/// The parts of a pipeline that was opened for one submitter.
+fn lone_of(opened: Opened) -> Lone
+    requires { length opened.submitters.items ≡ 1 }
+    ensures { (result.pipeline ≡ opened.pipeline) × (result.submitter ∷ [] ≡ opened.submitters.items) × (result.control ≡ opened.control) }
 {
     let Opened {
         pipeline,
         mut submitters,
         control,
-    } = opened(alloc, capacity, credit, 1)?;
+    } = opened;
     let Some(submitter) = submitters.pop() else {
-        return Err(Refusal::BadSubmitters);
+        unreachable!()
     };
-    Ok(Lone {
+    Lone {
         pipeline,
         submitter,
         control,
-    })
+    }
+}
+
+fn opened_lone(alloc: Global, capacity: u32, credit: u32) -> Result<Lone, Refusal>
+    ensures together { IfOk result (λ lone. AreTogether lone.pipeline (lone.submitter ∷ []) lone.control) }
+    ensures as_asked { IfOk result (λ lone. IsOpenedAs 0 4 1 lone.pipeline) }
+{
+    match opened(alloc, capacity, credit, 1) {
+        Ok(opened) => Ok(lone_of(opened)),
+        Err(refusal) => Err(refusal),
+    }
 }
 
 /// Submits a packet: its number. Where it is refused it comes back.
@@ -199,42 +211,105 @@ fn end_all<R: Wait>(
     Ok(ends)
 }
 
+/// Queues accounts, each in its packet.
+fn queue_accounts<R: Wait>(
+    rt: &R,
+    alloc: Global,
+    submitter: &mut Submitter,
+    ids: &[u8],
+) -> Result<(), Fail>
+    ensures { origin_of submitter.new ≡ origin_of submitter.old }
+{
+    for id in ids {
+        queue(rt, alloc, submitter, CREATE_ACCOUNTS, *id)?;
+    }
+    Ok(())
+}
+
+/// The ends of all submitters, and the control's.
+#[derive(Drop)]
+struct Ends {
+    submitters: Vec<Ended>,
+    control: ControlEnd,
+}
+
+/// Ends the control, queues accounts behind it, and ends the submitter.
+fn end_lone<R: Wait>(
+    rt: &R,
+    alloc: Global,
+    submitter: Submitter,
+    control: Control,
+    shut: bool,
+    behind: &[u8],
+) -> Result<Ends, Fail>
+    ensures own { IfOk result (λ ends. map end_origin ends.submitters.items ≡ origin_of submitter ∷ []) }
+    ensures control { IfOk result (λ ends. ends.control.seat ≡ control.seat) }
+{
+    let mut submitter = submitter;
+    let mut submitters = room_for_ends(alloc)?;
+    let control = end_control(rt, control, shut)?;
+    queue_accounts(rt, alloc, &mut submitter, behind)?;
+    end_one(rt, &mut submitters, submitter)?;
+    Ok(Ends {
+        submitters,
+        control,
+    })
+}
+
 /// Serves what is queued, once all have ended, and settles.
 fn finish<R: Threads + Wait + Sync, G: Gate>(
     rt: &R,
     pipeline: Pipeline,
-    ends: Vec<Ended>,
-    control: ControlEnd,
+    ends: Ends,
     gate: &G,
-) -> Result<Report, Refusal>
-    requires own { map end_origin ends.items ≡ pipeline.submitters }
-    requires control { control.seat ≡ control_seat pipeline.intake }
+) -> Result<Report, (Intake, Refusal)>
+    requires own { map end_origin ends.submitters.items ≡ pipeline.submitters }
+    requires control { ends.control.seat ≡ control_seat pipeline.intake }
     ensures { IfOk result (λ report. IsRun pipeline.clock pipeline.intake.limit pipeline.intake.submitters report.ledger report.ends.items) }
 {
     match pipeline.serve(rt, gate) {
-        Ok(served) => Ok(settle(served, ends, control)),
-        Err((_, refusal)) => Err(refusal),
+        Ok(served) => Ok(settle(served, ends.submitters, ends.control)),
+        Err(back) => Err(back),
     }
 }
 
-/// Ends the one submitter, serves what is queued, and settles.
+/// Ends the control, queues accounts behind it, ends the submitter, serves what is queued, and settles.
 fn finish_lone<R: Threads + Wait + Sync, G: Gate>(
     rt: &R,
     alloc: Global,
-    pipeline: Pipeline,
-    submitter: Submitter,
-    control: ControlEnd,
+    lone: Lone,
+    shut: bool,
+    behind: &[u8],
     gate: &G,
-) -> Result<Report, Refusal>
-    requires own { origin_of submitter ∷ [] ≡ pipeline.submitters }
-    requires control { control.seat ≡ control_seat pipeline.intake }
-    ensures { IfOk result (λ report. IsRun pipeline.clock pipeline.intake.limit pipeline.intake.submitters report.ledger report.ends.items) }
+) -> Result<Report, Fail>
+    requires { AreTogether lone.pipeline (lone.submitter ∷ []) lone.control }
+    ensures { IfOk result (λ report. IsRun lone.pipeline.clock lone.pipeline.intake.limit lone.pipeline.intake.submitters report.ledger report.ends.items) }
 {
-    let Ok(mut ends) = room_for_ends(alloc) else {
-        return Err(Refusal::NoMemory);
-    };
-    end_one(rt, &mut ends, submitter)?;
-    finish(rt, pipeline, ends, control, gate)
+    let Lone {
+        pipeline,
+        submitter,
+        control,
+    } = lone;
+    let ends = end_lone(rt, alloc, submitter, control, shut, behind)?;
+    match finish(rt, pipeline, ends, gate) {
+        Ok(report) => Ok(report),
+        Err(_) => Err("a thread can't be started")?,
+    }
+}
+
+/// Compares a report's clock, and what the replies tell that a submitter has not read.
+fn assert_run(
+    rt: &impl Abort,
+    alloc: Global,
+    report: &mut Report,
+    wanted_clock: u64,
+    submitter: usize,
+    wanted: &[Told],
+) -> Result<(), Fail> {
+    assert_eq!(rt; clock(report), wanted_clock);
+    let told = replies(alloc, report, submitter)?;
+    assert_eq!(rt; told.as_slice(), wanted);
+    Ok(())
 }
 
 /// What the replies tell that a submitter has not read, in order.

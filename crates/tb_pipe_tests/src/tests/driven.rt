@@ -2,12 +2,14 @@
 
 ghost use Rattle.std.specs.Prelude.{◌≡◌, ◌++◌, ◌∷◌, [], map, IfOk};
 ghost use Rattle.tb_submit.specs.Ends.{origin_of, end_origin, control_seat};
-ghost use Rattle.tb_pipe_tests.specs.Together.{IsRun};
+ghost use Rattle.tb_pipe_tests.specs.Together.{AreTogether, IsRun};
 
 use super::{
-    CREATE_ACCOUNTS, MOST_TURNS, Told, clock, end_all, opened, packet_of, put, submit, told_by,
+    CREATE_ACCOUNTS, Lone, MOST_TURNS, Told, clock, end_all, opened, packet_of, put, submit,
+    told_by,
 };
 use std::alloc::Global;
+use std::process::Abort;
 use std::snapshot::Snapshot;
 use std::sync::Wait;
 use std::test::Fail;
@@ -301,6 +303,40 @@ pub(super) fn run<R: Threads + Wait + Sync>(
     )
 }
 
+/// The lone submitter is to be driven; there is room for its end.
+pub(super) fn drive_lone(lone: Lone, ends: Vec<Ended>) -> Driving
+    requires together { AreTogether lone.pipeline (lone.submitter ∷ []) lone.control }
+    requires none { ends.items ≡ [] }
+    ensures own { map end_origin result.ends.items ++ origin_of result.last ∷ [] ≡ result.pipeline.submitters }
+    ensures control { result.control.seat ≡ control_seat result.pipeline.intake }
+{
+    let Lone {
+        pipeline,
+        submitter: last,
+        control,
+    } = lone;
+    Driving {
+        pipeline,
+        ends,
+        last,
+        control,
+    }
+}
+
+/// Ends all but the last.
+fn end_all_but_last<R: Wait>(
+    rt: &R,
+    alloc: Global,
+    submitters: Vec<Submitter>,
+) -> Result<(Vec<Ended>, Submitter), Fail>
+    ensures { IfOk result (λ ends. map end_origin ends.0.items ++ origin_of ends.1 ∷ [] ≡ map origin_of submitters.items) }
+{
+    let mut submitters = submitters;
+    let last = submitters.pop().ok_or("no submitter")?;
+    let ends = end_all(rt, alloc, submitters)?;
+    Ok((ends, last))
+}
+
 /// Opens for so many submitters, of which all but the last end at once.
 fn opened_driving<R: Wait>(
     rt: &R,
@@ -314,17 +350,33 @@ fn opened_driving<R: Wait>(
 {
     let Opened {
         pipeline,
-        mut submitters,
+        submitters,
         control,
     } = opened(alloc, capacity, credit, submitters)?;
-    let last = submitters.pop().ok_or("no submitter")?;
-    let ends = end_all(rt, alloc, submitters)?;
+    let (ends, last) = end_all_but_last(rt, alloc, submitters)?;
     Ok(Driving {
         pipeline,
         ends,
         last,
         control,
     })
+}
+
+/// Compares what the driver saw, and the clock after the run.
+fn assert_driven<R: Threads + Wait + Sync + Abort>(
+    rt: &R,
+    alloc: Global,
+    driving: Driving,
+    course: Course,
+    wanted: Saw,
+    wanted_clock: u64,
+) -> Result<(), Fail>
+    requires own { map end_origin driving.ends.items ++ origin_of driving.last ∷ [] ≡ driving.pipeline.submitters }
+    requires control { driving.control.seat ≡ control_seat driving.pipeline.intake }
+{
+    let (report, saw) = run(rt, alloc, driving, course)?;
+    assert_eq!(rt; (saw, clock(&report)), (wanted, wanted_clock));
+    Ok(())
 }
 
 #[test]
@@ -336,9 +388,7 @@ fn close_between_two_packets(rt: HostRuntime) -> Result<(), Fail> {
     );
     for submitters in [1, 2, 16] {
         let driving = opened_driving(&rt, rt.alloc(), 64, 64, submitters)?;
-        let (report, saw) = run(&rt, rt.alloc(), driving, Course::RoundClose)?;
-        assert_eq!(rt; saw, wanted);
-        assert_eq!(rt; clock(&report), 1);
+        assert_driven(&rt, rt.alloc(), driving, Course::RoundClose, wanted, 1)?;
     }
     Ok(())
 }
@@ -346,8 +396,5 @@ fn close_between_two_packets(rt: HostRuntime) -> Result<(), Fail> {
 #[test]
 fn one_place_one_credit(rt: HostRuntime) -> Result<(), Fail> {
     let driving = opened_driving(&rt, rt.alloc(), 1, 1, 1)?;
-    let (report, saw) = run(&rt, rt.alloc(), driving, Course::Fifty)?;
-    assert_eq!(rt; saw, Saw::Places(50));
-    assert_eq!(rt; clock(&report), 50);
-    Ok(())
+    assert_driven(&rt, rt.alloc(), driving, Course::Fifty, Saw::Places(50), 50)
 }

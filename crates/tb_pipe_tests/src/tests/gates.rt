@@ -1,7 +1,7 @@
 //! What the gate sees: batches sealed ahead of their commits, and both stages at once.
 
 use super::queued::{Step, run_queued};
-use super::{CREATE_ACCOUNTS, CREATE_TRANSFERS, MOST_TURNS, Told, replies};
+use super::{CREATE_ACCOUNTS, CREATE_TRANSFERS, MOST_TURNS, Told, assert_run};
 use std::sync::atomic::Ordering::SeqCst;
 use std::sync::atomic::{AtomicBool, AtomicU64};
 use std::test::Fail;
@@ -71,12 +71,8 @@ fn batcher_and_committer_overlap(rt: HostRuntime) -> Result<(), Fail> {
     let gate = Meeting::new(2, true);
     let mut report = run_queued(&rt, rt.alloc(), &EMPTY, false, &[], &gate)?;
     assert!(rt; !gate.marked.load(SeqCst));
-    let told = replies(rt.alloc(), &mut report, 0)?;
-    assert_eq!(rt;
-        told.as_slice(),
-        [Told::Committed(0), Told::Committed(1)].as_slice()
-    );
-    Ok(())
+    let places = [Told::Committed(0), Told::Committed(1)];
+    assert_run(&rt, rt.alloc(), &mut report, 0, 0, &places)
 }
 
 /// The same two in turn, twenty in all.
@@ -101,7 +97,5 @@ fn six_batches_sealed_ahead(rt: HostRuntime) -> Result<(), Fail> {
     let gate = Meeting::new(6, false);
     let mut report = run_queued(&rt, rt.alloc(), &twenty_in_turn(), false, &[], &gate)?;
     assert!(rt; !gate.marked.load(SeqCst));
-    let told = replies(rt.alloc(), &mut report, 0)?;
-    assert_eq!(rt; told.as_slice(), twenty_places().as_slice());
-    Ok(())
+    assert_run(&rt, rt.alloc(), &mut report, 0, 0, &twenty_places())
 }

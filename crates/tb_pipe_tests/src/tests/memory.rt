@@ -2,20 +2,22 @@
 //! is refused differs from run to run, since the stages and the test itself take memory at once: so the tests look at
 //! the answers alone, and ask once more for what they need themselves.
 
-ghost use Rattle.std.specs.Prelude.{◌≡◌, ◌++◌, ◌∷◌, [], map, IfOk};
-ghost use Rattle.tb_submit.specs.Ends.{origin_of, end_origin, control_seat};
+ghost use Rattle.std.specs.Prelude.{◌≡◌, ◌∷◌, [], IfOk};
+ghost use Rattle.tb_submit.specs.Ends.{origin_of};
 ghost use Rattle.tb_pipe_tests.specs.Together.{AreTogether};
 
-use super::driven::{Course, Driving, Saw, run};
+use super::driven::{Course, Saw, drive_lone, run};
 use super::{
-    CREATE_ACCOUNTS, Lone, Told, clock, end_control, end_one, holds, opened_lone, packet_of,
+    CREATE_ACCOUNTS, Lone, Told, clock, end_lone, finish, holds, opened_lone, packet_of,
     queue_pulse, room_for_ends, submit, told_by,
 };
 use std::alloc::{AllocError, Global};
+use std::process::Abort;
 use std::sync::Wait;
 use std::test::Fail;
-use tb_pipe::{Open, Pipeline, Report, settle};
-use tb_submit::{Control, ControlEnd, Ended, Intake, Submitter};
+use std::thread::Threads;
+use tb_pipe::{Open, Report};
+use tb_submit::{Control, Intake, Submitter};
 use tb_work::{Item, Packet, Refusal, Ticket};
 
 fn packet_again(alloc: Global, id: u8) -> Result<Packet, AllocError> {
@@ -25,15 +27,16 @@ fn packet_again(alloc: Global, id: u8) -> Result<Packet, AllocError> {
     }
 }
 
-/// A pipeline of one submitter, opened once more where that is refused for want of memory; whether it was.
-fn open_again(alloc: Global) -> Result<(Lone, bool), Fail>
-    ensures { IfOk result (λ made. AreTogether made.0.pipeline (made.0.submitter ∷ []) made.0.control) }
+/// A pipeline of one submitter, opened once more where that is refused for want of memory, which is told.
+fn open_again(alloc: Global, told: &mut bool) -> Result<Lone, Fail>
+    ensures { IfOk result (λ lone. AreTogether lone.pipeline (lone.submitter ∷ []) lone.control) }
 {
     match opened_lone(alloc, 64, 64) {
-        Ok(lone) => Ok((lone, false)),
+        Ok(lone) => Ok(lone),
         Err(refusal) => {
             holds(refusal == Refusal::NoMemory, "not for want of memory")?;
-            Ok((opened_lone(alloc, 64, 64)?, true))
+            *told = true;
+            Ok(opened_lone(alloc, 64, 64)?)
         }
     }
 }
@@ -81,35 +84,32 @@ fn queue_seven<R: Wait>(
     Ok(told)
 }
 
-/// A pipeline with all that is queued for it, and whether a want of memory was told meanwhile.
-#[derive(Drop)]
-struct Queued {
-    pipeline: Pipeline,
-    ends: Vec<Ended>,
-    control: ControlEnd,
-    told: bool,
+/// A pipeline with all that is queued for it; a want of memory meanwhile is told.
+fn seven_queued<R: Wait>(rt: &R, alloc: Global, told: &mut bool) -> Result<Lone, Fail>
+    ensures { IfOk result (λ lone. AreTogether lone.pipeline (lone.submitter ∷ []) lone.control) }
+{
+    let mut lone = open_again(alloc, told)?;
+    if queue_seven(rt, alloc, &mut lone.submitter, &mut lone.control)? {
+        *told = true;
+    }
+    Ok(lone)
 }
 
-fn all_queued<R: Wait>(rt: &R, alloc: Global) -> Result<Queued, Fail>
-    ensures ends { IfOk result (λ queued. map end_origin queued.ends.items ≡ queued.pipeline.submitters) }
-    ensures control { IfOk result (λ queued. queued.control.seat ≡ control_seat queued.pipeline.intake) }
+/// The report, or the intake where a thread couldn't be started.
+fn serve_seven<R: Threads + Wait + Sync>(
+    rt: &R,
+    alloc: Global,
+    lone: Lone,
+) -> Result<Result<Report, (Intake, Refusal)>, Fail>
+    requires { AreTogether lone.pipeline (lone.submitter ∷ []) lone.control }
 {
-    let mut ends = room_for_ends(alloc)?;
-    let (lone, opening) = open_again(alloc)?;
     let Lone {
         pipeline,
-        mut submitter,
-        mut control,
-    } = lone;
-    let submitting = queue_seven(rt, alloc, &mut submitter, &mut control)?;
-    let control = end_control(rt, control, false)?;
-    end_one(rt, &mut ends, submitter)?;
-    Ok(Queued {
-        pipeline,
-        ends,
+        submitter,
         control,
-        told: opening || submitting,
-    })
+    } = lone;
+    let ends = end_lone(rt, alloc, submitter, control, false, &[])?;
+    Ok(finish(rt, pipeline, ends, &Open))
 }
 
 /// What a ticket says: a packet with its number, or a pulse with its moment.
@@ -168,26 +168,27 @@ fn replies_where(committed: u64) -> [Option<Told>; 7] {
 /// The clock where so many of the seven items are committed.
 const CLOCKS: [u64; 8] = [0, 1, 2, 5, 6, 7, 8, 9];
 
+/// So many of the seven items are committed, all of them where a want of memory was told.
+fn assert_seven(rt: &impl Abort, report: &mut Report, told: bool) {
+    let committed = report.ledger.places();
+    assert!(rt; committed < 7 && !told || committed == 7);
+    assert_eq!(rt; clock(report), CLOCKS[committed as usize]);
+    assert_eq!(rt; seven_replies(report), replies_where(committed));
+}
+
+/// A thread couldn't be started, and the intake has all that was queued.
+fn assert_none_taken<R: Wait + Abort>(rt: &R, intake: &mut Intake, refusal: Refusal) {
+    assert_eq!(rt; refusal, Refusal::NoThread);
+    assert_eq!(rt; ten_tickets(rt, intake), ALL_TICKETS);
+}
+
 #[test]
 fn each_growth_refused_memory(rt: HostRuntime) -> Result<(), Fail> {
-    let Queued {
-        pipeline,
-        ends,
-        control,
-        told,
-    } = all_queued(&rt, rt.alloc())?;
-    match pipeline.serve(&rt, &Open) {
-        Ok(served) => {
-            let mut report = settle(served, ends, control);
-            let committed = report.ledger.places();
-            assert!(rt; committed < 7 && !told || committed == 7);
-            assert_eq!(rt; clock(&report), CLOCKS[committed as usize]);
-            assert_eq!(rt; seven_replies(&mut report), replies_where(committed));
-        }
-        Err((mut intake, refusal)) => {
-            assert_eq!(rt; refusal, Refusal::NoThread);
-            assert_eq!(rt; ten_tickets(&rt, &mut intake), ALL_TICKETS);
-        }
+    let mut told = false;
+    let lone = seven_queued(&rt, rt.alloc(), &mut told)?;
+    match serve_seven(&rt, rt.alloc(), lone)? {
+        Ok(mut report) => assert_seven(&rt, &mut report, told),
+        Err((mut intake, refusal)) => assert_none_taken(&rt, &mut intake, refusal),
     }
     Ok(())
 }
@@ -206,43 +207,44 @@ const ALL_TICKETS: [Option<(u32, Said)>; 10] = [
     None,
 ];
 
-/// A pipeline for which two accounts, each in its packet, and a pulse are queued.
-fn three_queued<R: Wait>(rt: &R, alloc: Global) -> Result<Driving, Fail>
-    ensures own { IfOk result (λ driving. map end_origin driving.ends.items ++ origin_of driving.last ∷ [] ≡ driving.pipeline.submitters) }
-    ensures control { IfOk result (λ driving. driving.control.seat ≡ control_seat driving.pipeline.intake) }
+/// Two accounts, each in its packet, and a pulse.
+fn queue_three<R: Wait>(
+    rt: &R,
+    alloc: Global,
+    submitter: &mut Submitter,
+    control: &mut Control,
+) -> Result<(), Fail>
+    ensures submitter { origin_of submitter.new ≡ origin_of submitter.old }
+    ensures control { control.new.seat ≡ control.old.seat }
 {
-    let ends = room_for_ends(alloc)?;
-    let (lone, _) = open_again(alloc)?;
-    let Lone {
-        pipeline,
-        submitter: mut last,
-        mut control,
-    } = lone;
-    submit_again(rt, alloc, &mut last, 1)?;
-    submit_again(rt, alloc, &mut last, 2)?;
-    queue_pulse(rt, &mut control, 5)?;
-    Ok(Driving {
-        pipeline,
-        ends,
-        last,
-        control,
-    })
+    submit_again(rt, alloc, submitter, 1)?;
+    submit_again(rt, alloc, submitter, 2)?;
+    queue_pulse(rt, control, 5)
+}
+
+/// A pipeline for which these three are queued.
+fn three_queued<R: Wait>(rt: &R, alloc: Global) -> Result<Lone, Fail>
+    ensures { IfOk result (λ lone. AreTogether lone.pipeline (lone.submitter ∷ []) lone.control) }
+{
+    let mut lone = open_again(alloc, &mut false)?;
+    queue_three(rt, alloc, &mut lone.submitter, &mut lone.control)?;
+    Ok(lone)
 }
 
 /// Where the first commit is refused the journal stays empty, and the submitter is told twice, and then by a refusal.
+/// `tools/refuse-each-growth` counts the lines that this prints: some allocation is that commit's.
 #[test]
 fn first_commit_refused_memory(rt: HostRuntime) -> Result<(), Fail> {
-    let driving = three_queued(&rt, rt.alloc())?;
-    let (report, saw) = match run(&rt, rt.alloc(), driving, Course::ReadTwo) {
-        Ok(ran) => ran,
-        Err(refusal) => {
-            assert_eq!(rt; refusal, Refusal::NoThread);
-            return Ok(());
+    let ends = room_for_ends(rt.alloc())?;
+    let lone = three_queued(&rt, rt.alloc())?;
+    match run(&rt, rt.alloc(), drive_lone(lone, ends), Course::ReadTwo) {
+        Ok((report, saw)) => {
+            if report.ledger.places() == 0 {
+                assert_eq!(rt; (saw, clock(&report)), (ALL_STOPPED, 0));
+                let _ = println!(rt; "the first commit is refused");
+            }
         }
-    };
-    if report.ledger.places() == 0 {
-        assert_eq!(rt; saw, ALL_STOPPED);
-        assert_eq!(rt; clock(&report), 0);
+        Err(refusal) => assert_eq!(rt; refusal, Refusal::NoThread),
     }
     Ok(())
 }

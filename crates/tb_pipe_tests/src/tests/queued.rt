@@ -1,14 +1,15 @@
 //! Runs of which all is queued before they are served.
 
 ghost use Rattle.std.specs.Prelude.{◌≡◌, ◌∷◌, [], IfOk, map};
-ghost use Rattle.tb_submit.specs.Ends.{origin_of};
+ghost use Rattle.tb_submit.specs.Ends.{end_origin, origin_of};
 ghost use Rattle.tb_pipe_tests.specs.Together.{IsRun};
 
 use super::{
-    CREATE_ACCOUNTS, Lone, Told, clock, end_all, end_control, entries, finish, finish_lone, holds,
-    opened, opened_lone, packet_of, queue, queue_pulse, replies, submit,
+    CREATE_ACCOUNTS, Ends, Told, assert_run, end_all, end_control, entries, finish, finish_lone,
+    holds, opened, opened_lone, packet_of, queue, queue_pulse, submit,
 };
 use std::alloc::Global;
+use std::process::Abort;
 use std::sync::Wait;
 use std::test::Fail;
 use std::thread::Threads;
@@ -44,20 +45,6 @@ fn queue_steps<R: Wait>(
     Ok(())
 }
 
-fn queue_accounts<R: Wait>(
-    rt: &R,
-    alloc: Global,
-    submitter: &mut Submitter,
-    ids: &[u8],
-) -> Result<(), Fail>
-    ensures { origin_of submitter.new ≡ origin_of submitter.old }
-{
-    for id in ids {
-        queue(rt, alloc, submitter, CREATE_ACCOUNTS, *id)?;
-    }
-    Ok(())
-}
-
 /// Some steps, the control's end or its Close, and some accounts, each in its packet.
 pub(super) fn run_queued<R: Threads + Wait + Sync, G: Gate>(
     rt: &R,
@@ -69,15 +56,9 @@ pub(super) fn run_queued<R: Threads + Wait + Sync, G: Gate>(
 ) -> Result<Report, Fail>
     ensures { IfOk result (λ report. IsRun 0 4 1 report.ledger report.ends.items) }
 {
-    let Lone {
-        pipeline,
-        mut submitter,
-        mut control,
-    } = opened_lone(alloc, 64, 64)?;
-    queue_steps(rt, alloc, &mut submitter, &mut control, steps)?;
-    let control = end_control(rt, control, shut)?;
-    queue_accounts(rt, alloc, &mut submitter, behind)?;
-    Ok(finish_lone(rt, alloc, pipeline, submitter, control, gate)?)
+    let mut lone = opened_lone(alloc, 64, 64)?;
+    queue_steps(rt, alloc, &mut lone.submitter, &mut lone.control, steps)?;
+    finish_lone(rt, alloc, lone, shut, behind, gate)
 }
 
 const TWO_AND_FOUR: [Step; 7] = [
@@ -99,17 +80,18 @@ const SIX_PLACES: [Told; 6] = [
     Told::Committed(6),
 ];
 
+/// Two packets are joined before the pulse, and four after it.
+fn assert_pulse_between(rt: &impl Abort, alloc: Global, report: &mut Report) -> Result<(), Fail> {
+    let counts = entries(alloc, report)?;
+    assert_eq!(rt; counts.as_slice(), [2, 0, 4].as_slice());
+    assert_run(rt, alloc, report, 9, 0, &SIX_PLACES)
+}
+
 #[test]
 fn pulse_between_batches(rt: HostRuntime) -> Result<(), Fail> {
     for shut in [false, true] {
         let mut report = run_queued(&rt, rt.alloc(), &TWO_AND_FOUR, shut, &[], &Open)?;
-        assert_eq!(rt;
-            entries(rt.alloc(), &report)?.as_slice(),
-            [2, 0, 4].as_slice()
-        );
-        assert_eq!(rt; clock(&report), 9);
-        let told = replies(rt.alloc(), &mut report, 0)?;
-        assert_eq!(rt; told.as_slice(), SIX_PLACES.as_slice());
+        assert_pulse_between(&rt, rt.alloc(), &mut report)?;
     }
     Ok(())
 }
@@ -118,14 +100,15 @@ fn pulse_between_batches(rt: HostRuntime) -> Result<(), Fail> {
 fn packet_behind_shut(rt: HostRuntime) -> Result<(), Fail> {
     let ahead = [Step::Packet(CREATE_ACCOUNTS, 1)];
     let mut report = run_queued(&rt, rt.alloc(), &ahead, true, &[2], &Open)?;
-    assert_eq!(rt; clock(&report), 1);
     assert_eq!(rt; report.ledger.machine().accounts(), 1);
-    let told = replies(rt.alloc(), &mut report, 0)?;
-    assert_eq!(rt;
-        told.as_slice(),
-        [Told::Committed(0), Told::Shutdown].as_slice()
-    );
-    Ok(())
+    assert_run(
+        &rt,
+        rt.alloc(),
+        &mut report,
+        1,
+        0,
+        &[Told::Committed(0), Told::Shutdown],
+    )
 }
 
 /// So many of six packets are ahead of the Close.
@@ -157,9 +140,8 @@ fn told_where(count: usize) -> [Told; 6] {
 fn close_anywhere(rt: HostRuntime) -> Result<(), Fail> {
     for count in 0..7usize {
         let mut report = closes_after(&rt, rt.alloc(), count)?;
-        assert_eq!(rt; clock(&report), count as u64);
-        let told = replies(rt.alloc(), &mut report, 0)?;
-        assert_eq!(rt; told.as_slice(), told_where(count).as_slice());
+        let told = told_where(count);
+        assert_run(&rt, rt.alloc(), &mut report, count as u64, 0, &told)?;
     }
     Ok(())
 }
@@ -188,25 +170,22 @@ fn submit_four<R: Wait>(rt: &R, alloc: Global, submitter: &mut Submitter) -> Res
 fn three_unread<R: Threads + Wait + Sync>(rt: &R, alloc: Global) -> Result<Report, Fail>
     ensures { IfOk result (λ report. IsRun 0 4 1 report.ledger report.ends.items) }
 {
-    let Lone {
-        pipeline,
-        mut submitter,
-        control,
-    } = opened_lone(alloc, 8, 3)?;
-    submit_four(rt, alloc, &mut submitter)?;
-    let control = end_control(rt, control, false)?;
-    Ok(finish_lone(rt, alloc, pipeline, submitter, control, &Open)?)
+    let mut lone = opened_lone(alloc, 8, 3)?;
+    submit_four(rt, alloc, &mut lone.submitter)?;
+    finish_lone(rt, alloc, lone, false, &[], &Open)
 }
 
 #[test]
 fn replies_after_settle(rt: HostRuntime) -> Result<(), Fail> {
     let mut report = three_unread(&rt, rt.alloc())?;
-    let told = replies(rt.alloc(), &mut report, 0)?;
-    assert_eq!(rt;
-        told.as_slice(),
-        [Told::Committed(0), Told::Committed(1), Told::Committed(2)].as_slice()
-    );
-    Ok(())
+    assert_run(
+        &rt,
+        rt.alloc(),
+        &mut report,
+        3,
+        0,
+        &[Told::Committed(0), Told::Committed(1), Told::Committed(2)],
+    )
 }
 
 /// Each submitter queues a packet with the account after its number.
@@ -227,6 +206,25 @@ fn queue_each<R: Wait>(
     Ok(after)
 }
 
+/// Ends the control, has each submitter queue a packet, and ends them all.
+fn end_each<R: Wait>(
+    rt: &R,
+    alloc: Global,
+    submitters: Vec<Submitter>,
+    control: Control,
+) -> Result<Ends, Fail>
+    ensures own { IfOk result (λ ends. map end_origin ends.submitters.items ≡ map origin_of submitters.items) }
+    ensures control { IfOk result (λ ends. ends.control.seat ≡ control.seat) }
+{
+    let submitters = queue_each(rt, alloc, submitters)?;
+    let control = end_control(rt, control, false)?;
+    let submitters = end_all(rt, alloc, submitters)?;
+    Ok(Ends {
+        submitters,
+        control,
+    })
+}
+
 fn one_of_each<R: Threads + Wait + Sync>(rt: &R, alloc: Global) -> Result<Report, Fail>
     ensures { IfOk result (λ report. IsRun 0 4 16 report.ledger report.ends.items) }
 {
@@ -235,26 +233,26 @@ fn one_of_each<R: Threads + Wait + Sync>(rt: &R, alloc: Global) -> Result<Report
         submitters,
         control,
     } = opened(alloc, 64, 64, 16)?;
-    let submitters = queue_each(rt, alloc, submitters)?;
-    let control = end_control(rt, control, false)?;
-    let ends = end_all(rt, alloc, submitters)?;
-    Ok(finish(rt, pipeline, ends, control, &Open)?)
+    let ends = end_each(rt, alloc, submitters, control)?;
+    match finish(rt, pipeline, ends, &Open) {
+        Ok(report) => Ok(report),
+        Err(_) => Err("a thread can't be started")?,
+    }
+}
+
+/// Four batches of four packets, and a reply to each submitter.
+fn assert_one_of_each(rt: &impl Abort, alloc: Global, report: &mut Report) -> Result<(), Fail> {
+    let counts = entries(alloc, report)?;
+    assert_eq!(rt; counts.as_slice(), [4, 4, 4, 4].as_slice());
+    for sender in 0..16u8 {
+        let told = [Told::Committed(u64::from(sender))];
+        assert_run(rt, alloc, report, 16, usize::from(sender), &told)?;
+    }
+    Ok(())
 }
 
 #[test]
 fn sixteen_submitters(rt: HostRuntime) -> Result<(), Fail> {
     let mut report = one_of_each(&rt, rt.alloc())?;
-    assert_eq!(rt;
-        entries(rt.alloc(), &report)?.as_slice(),
-        [4, 4, 4, 4].as_slice()
-    );
-    assert_eq!(rt; clock(&report), 16);
-    for sender in 0..16u8 {
-        let told = replies(rt.alloc(), &mut report, usize::from(sender))?;
-        assert_eq!(rt;
-            told.as_slice(),
-            [Told::Committed(u64::from(sender))].as_slice()
-        );
-    }
-    Ok(())
+    assert_one_of_each(&rt, rt.alloc(), &mut report)
 }

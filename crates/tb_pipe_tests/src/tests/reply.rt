@@ -1,19 +1,20 @@
 //! From opening to the content of a reply.
 
 ghost use Rattle.std.specs.Prelude.{◌≡◌, ◌∷◌, [], IfOk};
-ghost use Rattle.tb_submit.specs.Ends.{end_origin, control_seat, origin_of, replies_of};
+ghost use Rattle.tb_submit.specs.Ends.{end_origin, ended_with, control_seat, sender_with, with_item};
+ghost use Rattle.tb_work.specs.Job.{numbered_packet};
 ghost use Rattle.tb_work.specs.declared.item.Item.TheVariants as item;
 ghost use Rattle.tb_work.specs.declared.packet.Packet.{Packet as PacketValue};
 ghost use Rattle.tb_pipe_tests.specs.OnePacket.{IsReplyToOne, IsRunOfOne, one_and_end};
 
-use super::{CREATE_ACCOUNTS, put, room_for_ends};
+use super::{CREATE_ACCOUNTS, Lone, lone_of, put, room_for_ends};
 use std::alloc::{AllocError, Global};
 use std::sync::Wait;
 use std::test::Fail;
 use std::thread::Threads;
 use tb_layout::Failure;
-use tb_pipe::{Open, Opened, Pipeline, Report, open, settle};
-use tb_submit::{ControlEnd, Ended};
+use tb_pipe::{Open, Pipeline, Report, open, settle};
+use tb_submit::{Control, ControlEnd, Ended, Submitter};
 use tb_work::{Answer, Bytes, Outcome, Packet, Reply};
 
 /// A pipeline whose one submitter queued one packet and ended, as did the control.
@@ -24,6 +25,35 @@ struct Queued {
     control: ControlEnd,
 }
 
+/// Queues a packet, and ends.
+fn queue_and_end<R: Wait>(
+    rt: &R,
+    alloc: Global,
+    submitter: Submitter,
+    packet: Packet,
+) -> Result<Ended, Fail>
+    requires { submitter.queued ≡ [] }
+    ensures { IfOk result (λ ended. ended ≡ ended_with (with_item submitter (item.Packet (numbered_packet submitter.origin.seat.number 0 packet))) item.End) }
+{
+    let mut submitter = submitter;
+    let Ok(_number) = submitter.submit(rt, alloc, packet) else {
+        return Err("the packet is refused")?;
+    };
+    match submitter.end(rt) {
+        Ok(ended) => Ok(ended),
+        Err(_) => Err("the queue is full")?,
+    }
+}
+
+fn end_alone<R: Wait>(rt: &R, control: Control) -> Result<ControlEnd, Fail>
+    ensures { IfOk result (λ end. end ≡ sender_with control item.End) }
+{
+    match control.end(rt) {
+        Ok(end) => Ok(end),
+        Err(_) => Err("the queue is full")?,
+    }
+}
+
 /// A pipeline of one submitter, for which a packet is queued.
 fn queue_one<R: Wait>(rt: &R, alloc: Global, packet: Packet) -> Result<Queued, Fail>
     ensures own { IfOk result (λ queued. end_origin queued.ended ∷ [] ≡ queued.pipeline.submitters) }
@@ -31,28 +61,16 @@ fn queue_one<R: Wait>(rt: &R, alloc: Global, packet: Packet) -> Result<Queued, F
     ensures opened { IfOk result (λ queued. (queued.pipeline.clock ≡ 0) × (queued.pipeline.intake.submitters ≡ 1)) }
     ensures queued { IfOk result (λ queued. (queued.ended.queued ≡ one_and_end packet) × (queued.ended.read ≡ [])) }
 {
-    let Ok(
-        Opened {
-            pipeline,
-            mut submitters,
-            control,
-        },
-    ) = open(alloc, 0, 4, 64, 64, 1)
-    else {
+    let Ok(opened) = open(alloc, 0, 4, 64, 64, 1) else {
         return Err("the opening is refused")?;
     };
-    let Some(mut submitter) = submitters.pop() else {
-        unreachable!()
-    };
-    let Ok(_number) = submitter.submit(rt, alloc, packet) else {
-        return Err("the packet is refused")?;
-    };
-    let Ok(ended) = submitter.end(rt) else {
-        return Err("the queue is full")?;
-    };
-    let Ok(control) = control.end(rt) else {
-        return Err("the queue is full")?;
-    };
+    let Lone {
+        pipeline,
+        submitter,
+        control,
+    } = lone_of(opened);
+    let ended = queue_and_end(rt, alloc, submitter, packet)?;
+    let control = end_alone(rt, control)?;
     Ok(Queued {
         pipeline,
         ended,

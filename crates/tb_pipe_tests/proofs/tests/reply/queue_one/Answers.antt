@@ -1,10 +1,15 @@
-use Rattle.std.proofs.Common.{arith}
-use Rattle.tb_pipe_tests.proofs.OnePacket.{queued_one}
+use Rattle.std.proofs.Common.{◌∙◌, arith}
+use Rattle.tb_pipe_tests.proofs.OnePacket.{new_one, queued_one}
 use Rattle.tb_pipe_tests.proofs.tests.reply.queue_one.Goals as goal
+
+pub queue_and_end-requires : goal.queue_and_end-requires
+queue_and_end-requires g c =
+    let opened = c.in-Ok.ensures in
+    (new_one 64 c.in-Ok.opened.pipeline.intake c.in-Ok.opened.pipeline.submitters c.lone_of-pipeline.result.submitter (c.lone_of-pipeline.ensures.1 ∙ opened.submitters) (λ d. opened.seats 0 d (omega arith))).queued
 
 pub returns-clause-queued : goal.returns-clause-queued
 returns-clause-queued g c =
     let opened = c.in-Ok.ensures in
-    let all = c.in-Ok.field-0 in
-    queued_one c.args.packet 64 c.in-Ok-submit._number all.pipeline.intake all.pipeline.submitters all.submitters.items c.pop.new.self.items c.in-Some.submitter c.submit.new.self c.in-Ok-end.ended opened.submitters opened.number
-    (λ d. opened.seats 0 d (omega arith)) c.in-Some.ensures.items c.in-Ok-submit.ensures.ok.0 c.in-Ok-submit.ensures.ok.1 c.in-Ok-end.ensures.ok
+    let first = c.lone_of-pipeline.result.submitter in
+    queued_one c.args.packet first c.in_ok-ended.ended (new_one 64 c.in-Ok.opened.pipeline.intake c.in-Ok.opened.pipeline.submitters first (c.lone_of-pipeline.ensures.1 ∙ opened.submitters) (λ d. opened.seats 0 d (omega arith)))
+    c.in_ok-ended.ensures
