@@ -113,6 +113,15 @@ impl Listing {
             None => Ok(()),
         }
     }
+
+    /// Takes items in order, and applies the group that is held after them.
+    fn take_all_and_finish(&mut self, items: Vec<Item>) -> Result<(), NoMemory>
+        ensures { (clock : ℕ) (limit : ℕ) → IsRunning clock limit [] self.old.front self.old.ledger self.old.replies.items
+            → OnOk result (IsThrough clock limit items.items self.new.ledger self.new.replies.items) }
+    {
+        self.take_all(items)?;
+        self.finish()
+    }
 }
 
 /// Commits a list of items in order. A packet behind a Close is answered Shutdown, a pulse there has no effect, and an
@@ -134,8 +143,7 @@ pub fn run_list(alloc: Global, clock: u64, limit: u32, items: Vec<Item>) -> Resu
         ledger: Ledger::new(alloc, clock),
         replies: Vec::new(alloc),
     };
-    listing.take_all(items)?;
-    listing.finish()?;
+    listing.take_all_and_finish(items)?;
     Ok(Listed {
         ledger: listing.ledger,
         replies: listing.replies,

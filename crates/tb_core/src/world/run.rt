@@ -3,7 +3,7 @@
 ghost use Rattle.std.specs.Prelude.{◌≡◌, ◌≤◌, IfOk, OnOk};
 ghost use Rattle.tb_layout.specs.Limits.{batch_max, clock_max, submitters_max};
 ghost use Rattle.tb_core.specs.world.EveryOrder.{HasRun};
-ghost use Rattle.tb_core.specs.world.World.{after_event};
+ghost use Rattle.tb_core.specs.world.World.{after_event, run};
 
 use crate::world::World;
 use crate::world::event::Event;
@@ -18,6 +18,16 @@ fn go_on(world: &mut World, event: Event) -> Result<(), NoMemory>
         Ok(_) => Ok(()),
         Err(_) => Err(NoMemory),
     }
+}
+
+/// Events in order.
+fn go_through(world: &mut World, events: Vec<Event>) -> Result<(), NoMemory>
+    ensures { OnOk result (world.new ≡ run world.old events.items) }
+{
+    for event in events {
+        go_on(world, event)?;
+    }
+    Ok(())
 }
 
 /// A new World, and events in order; one that answers false is passed over. The limit is 1 to 8190 events, and
@@ -38,8 +48,6 @@ pub fn run_world(
     let Ok(mut world) = World::new(alloc, clock, limit, submitters) else {
         return Err(NoMemory);
     };
-    for event in events {
-        go_on(&mut world, event)?;
-    }
+    go_through(&mut world, events)?;
     Ok(world)
 }

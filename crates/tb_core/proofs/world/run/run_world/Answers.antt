@@ -1,22 +1,9 @@
-use Rattle.std.proofs.Common.{◌≡◌, ◌≤◌, ◌^◌, ◌∙◌, sym, ap, [], ◌∷◌, length, List, arith}
-use Rattle.tb_core.specs.declared.world.event.Event.{Event}
+use Rattle.std.proofs.Common.{◌≤◌, ◌^◌, ◌∙◌, ap, length, arith}
 use Rattle.tb_core.specs.world.World.{WorldState, run}
-use Rattle.tb_core.proofs.Listing.{none_left}
 use Rattle.tb_core.proofs.orders.Told.{has_run}
 use Rattle.tb_core.proofs.world.run.run_world.Goals as goal
 
-pub loop-event-init : goal.loop-event-init
-loop-event-init c =
-    let all : c.into_iter-event-iterator.result.rest.items ≡ c.args.events.items = c.into_iter-event-iterator.ensures.into_iter_gives.0 in
-    ap (λ (world : WorldState). run world c.args.events.items) (sym c.in-Ok.ensures.world) ∙ ap (λ (events : List Event). run c.in-Ok.world events) (sym all)
-
-pub loop-event-preserved : goal.loop-event-preserved
-loop-event-preserved c =
-    let step : c.loop-event.event-iterator.rest.items ≡ c.in-Some.event ∷ c.next.new.self.rest.items = c.in-Some.ensures.steps.0 in
-    c.loop-event.invariant ∙ ap (λ (events : List Event). run c.loop-event.world events) step ∙ ap (λ (world : WorldState). run world c.next.new.self.rest.items) (sym c.in_ok-go_on.ensures)
-
 pub returns : goal.returns
 returns c =
-    let none : c.loop-event.event-iterator.rest.items ≡ [] = none_left c.loop-event.event-iterator.rest.items c.loop-event.event-iterator.rest.len c.loop-event.event-iterator.rest.ok.0 c.in-None.ensures.steps.0 in
     let short : length c.args.events.items ≤ 2 ^ 63 = omega (arith, c.args.events.small, c.args.events.ok) in
-    has_run c.args.clock c.args.limit c.args.submitters c.args.events.items c.loop-event.world short (sym (c.loop-event.invariant ∙ ap (λ (events : List Event). run c.loop-event.world events) none))
+    has_run c.args.clock c.args.limit c.args.submitters c.args.events.items c.go_through.new.world short (c.in_ok-go_through.ensures ∙ ap (λ (world : WorldState). run world c.args.events.items) c.in-Ok.ensures.world)
