@@ -4,3 +4,4 @@ pub mod Scripts
 pub mod Lines
 pub mod Spelling
 pub mod Printing
+pub mod Fields

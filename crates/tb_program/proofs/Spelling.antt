@@ -3,13 +3,14 @@ use Rattle.std.proofs.Common.{◌≡◌, ℕ, suc, ◌+◌, ◌-◌, ◌/◌, �
 use Rattle.std.specs.Prelude.{◌==◌, ◌&&◌, nat_le, nat_lt, filter, codes, decimal, slice_index, All, IfSome, unwrap_or}
 use Rattle.std.specs.List.{list_all, flat_map}
 use Rattle.std.specs.Char.{is_ascii_digit}
+use Rattle.std.specs.Str.Parse.{digits_value}
 use Rattle.std.proofs.lemmas.List.Folds.{list_all-append}
 use Rattle.std.proofs.lemmas.List.Elements.{All-nil, All-cons, All-head, All-tail}
 use Rattle.std.proofs.lemmas.List.Sums.{AllPass-from_list_all}
 use Rattle.std.proofs.lemmas.List.Splits.{slice_split_at, slice_split_none}
 use Rattle.std.proofs.lemmas.Bool.{and_parts}
 use Rattle.std.proofs.lemmas.Bool.Decides.{nat_tests}
-use Rattle.std.proofs.lemmas.Fmt.{digits_decimal, digits_value-decimal, decimal_nonempty, length-decimal-le}
+use Rattle.std.proofs.lemmas.Fmt.{decimal_is_IsNumeral_wide, length-decimal-le_wide}
 use Rattle.hex.specs.Hex.{IsBytes, encode_lower, encode_with, lower_digits}
 use Rattle.hex.proofs.HexLemmas.{decode_of-encode_lower}
 use Rattle.tb_program.specs.declared.script.keyword.Keyword.{Keyword}
@@ -32,13 +33,13 @@ use Rattle.tb_program.proofs.Numbers.{own}
 
 -- ---- words
 
-abbrev is_word_byte : ℕ → Bool
+abbrev pub is_word_byte : ℕ → Bool
 is_word_byte byte = nat_le 33 byte && nat_le byte 126
 
-abbrev is_word : List ℕ → Bool
+abbrev pub is_word : List ℕ → Bool
 is_word word = nat_lt 0 (length word) && list_all is_word_byte word
 
-list_all-implied : (p q : ℕ → Bool) (xs : List ℕ) → ((x : ℕ) → p x ≡ true → q x ≡ true) → list_all p xs ≡ true → list_all q xs ≡ true
+pub list_all-implied : (p q : ℕ → Bool) (xs : List ℕ) → ((x : ℕ) → p x ≡ true → q x ≡ true) → list_all p xs ≡ true → list_all q xs ≡ true
 list_all-implied p q [] h all = refl
 list_all-implied p q (x ∷ xs) h all =
     let parts = and_parts (p x) (list_all p xs) all in
@@ -139,7 +140,7 @@ says_both said between next front back first second = record {
 }
 
 -- a line that begins with a keyword in its place
-keyword_line : (said : Said) (keyword : Keyword) (name : List ℕ) (words : List (List ℕ)) → list_all is_word (name ∷ words) ≡ true → length (line_of_words (name ∷ words)) ≤ 65536 →
+pub keyword_line : (said : Said) (keyword : Keyword) (name : List ℕ) (words : List (List ℕ)) → list_all is_word (name ∷ words) ≡ true → length (line_of_words (name ∷ words)) ≤ 65536 →
     (slice_index name 0 == 35) ≡ false → keyword_of name ≡ Some keyword → is_in_place said keyword ≡ true → after_line said (line_of_words (name ∷ words)) ≡ with_line said keyword words
 unfolding after_line
 keyword_line said keyword name words good short mark is place =
@@ -148,23 +149,41 @@ keyword_line said keyword name words good short mark is place =
 
 -- ---- numbers
 
-decimal_is_word : (n : ℕ) → n < 2 ^ 64 → is_word (decimal n) ≡ true
+-- what a number is spelled as
+record IsSpelled (n : ℕ) : Type 0 where
+  some : 0 < length (decimal n)
+  short : length (decimal n) ≤ 39
+  digits : list_all is_ascii_digit (decimal n) ≡ true
+  value : digits_value 10 (decimal n) ≡ n
+
+spelled : (n : ℕ) → n < 2 ^ 128 → IsSpelled n
+spelled n h =
+    let numeral = decimal_is_IsNumeral_wide n (omega (arith, h)) in
+    record {
+      some = numeral.0.0;
+      short = length-decimal-le_wide 39 n (omega arith) (omega (arith, h)) (omega (arith, h));
+      digits = own.from (decimal n) numeral.0.1;
+      value = own.same (decimal n) numeral.0.1 ∙ numeral.1;
+    }
+
+pub decimal_is_word : (n : ℕ) → n < 2 ^ 128 → is_word (decimal n) ≡ true
 decimal_is_word n h =
-    rw (lt-ltb 0 (length (decimal n)) (decimal_nonempty n h)) (list_all-implied is_ascii_digit is_word_byte (decimal n) digit_is_word (digits_decimal own n h))
+    let is = spelled n h in
+    rw (lt-ltb 0 (length (decimal n)) is.some) (list_all-implied is_ascii_digit is_word_byte (decimal n) digit_is_word is.digits)
 
-length-decimal : (n : ℕ) → n < 2 ^ 64 → length (decimal n) ≤ 20
-length-decimal n h = length-decimal-le 20 n (omega arith) (omega arith) h
+pub length-decimal : (n : ℕ) → n < 2 ^ 128 → length (decimal n) ≤ 39
+length-decimal n h = (spelled n h).short
 
-number_within-decimal : (low high n : ℕ) → low ≤ n → n ≤ high → n < 2 ^ 64 → number_within low high (decimal n) ≡ Ok n
+pub number_within-decimal : (low high n : ℕ) → low ≤ n → n ≤ high → n < 2 ^ 128 → number_within low high (decimal n) ≡ Ok n
 unfolding number_of
 number_within-decimal low high n above below h =
-    rw (lt-ltb 0 (length (decimal n)) (decimal_nonempty n h), lt-ltb (length (decimal n)) 40 (omega (arith, length-decimal n h)), digits_decimal own n h, digits_value-decimal own n h)
-    (grind (arith, nat_tests))
+    let is = spelled n h in
+    rw (lt-ltb 0 (length (decimal n)) is.some, lt-ltb (length (decimal n)) 40 (omega (arith, is.short)), is.digits, is.value) (grind (arith, nat_tests))
 
 -- ---- settings
 
 says_setting : (said next : Said) (keyword : Keyword) (name : List ℕ) (n : ℕ) → is_word name ≡ true → length name ≤ 16 → (slice_index name 0 == 35) ≡ false →
-    keyword_of name ≡ Some keyword → is_in_place said keyword ≡ true → n < 2 ^ 64 → with_line said keyword (decimal n ∷ []) ≡ Ok next → Says said (setting_lines name (Some n)) next
+    keyword_of name ≡ Some keyword → is_in_place said keyword ≡ true → n < 2 ^ 128 → with_line said keyword (decimal n ∷ []) ≡ Ok next → Says said (setting_lines name (Some n)) next
 says_setting said next keyword name n good short mark is place small line =
     let words : list_all is_word (name ∷ decimal n ∷ []) ≡ true = rw (good, decimal_is_word n small) refl in
     let count : length (line_of_words (name ∷ decimal n ∷ [])) ≤ 65536 = omega (arith, length-append name (32 ∷ decimal n), length-decimal n small) in
@@ -269,8 +288,8 @@ says_packet_line : (said : Said) (packet : Submission) → submitters_of said.se
     after_line said (line_of_words (packet_words packet)) ≡ Ok (with_packet said packet.submitter packet.operation)
 unfolding with_line keyword_of
 says_packet_line said packet few h =
-    let submitter : packet.submitter < 2 ^ 64 = omega (arith, h.submitter) in
-    let operation : packet.operation < 2 ^ 64 = omega (arith, h.operation) in
+    let submitter : packet.submitter < 2 ^ 128 = omega (arith, h.submitter) in
+    let operation : packet.operation < 2 ^ 128 = omega (arith, h.operation) in
     let words = packet_words_are_words packet (submitters_of said.settings) few h in
     let short : length (line_of_words (packet_words packet)) ≤ 65536 =
     omega (arith, length-append (decimal packet.submitter) (32 ∷ decimal packet.operation), length-decimal packet.submitter submitter, length-decimal packet.operation operation) in
@@ -280,10 +299,11 @@ says_packet_line said packet few h =
 -- a pulse's line says its pulse
 says_pulse : (said : Said) (moment : ℕ) → said.shut ≡ false → moment < 2 ^ 64 → Says said (item_lines (Pulse moment)) (with_pulse said moment)
 unfolding with_line keyword_of
-says_pulse said moment unshut h =
+says_pulse said moment unshut small =
+    let h : moment < 2 ^ 128 = omega (arith, small) in
     let words : list_all is_word (codes "pulse" ∷ decimal moment ∷ []) ≡ true = rw (decimal_is_word moment h) refl in
     let short : length (line_of_words (codes "pulse" ∷ decimal moment ∷ [])) ≤ 65536 = omega (arith, length-decimal moment h) in
-    let line = keyword_line said word.Pulse (codes "pulse") (decimal moment ∷ []) words short refl refl (rw unshut refl) ∙ rw (number_within-decimal 0 (2 ^ 64 - 1) moment (omega arith) (omega arith) h) refl in
+    let line = keyword_line said word.Pulse (codes "pulse") (decimal moment ∷ []) words short refl refl (rw unshut refl) ∙ rw (number_within-decimal 0 (2 ^ 64 - 1) moment (omega arith) (omega (arith, small)) h) refl in
     says_more said (with_pulse said moment) (with_pulse said moment) _ [] (is_text-line_of_words (codes "pulse" ∷ decimal moment ∷ []) words) line (says_nothing (with_pulse said moment))
 
 -- the line of the Close says it

@@ -1,10 +1,15 @@
 -- What the definition of a script promises, in the words of its format.
-use Rattle.std.specs.Prelude.{◌≡◌, ℕ, ◌+◌, false, List, ◌∷◌, ◌++◌, length, Ok, Err, IsOk}
+use Rattle.std.specs.Prelude.{◌≡◌, ◌<◌, ℕ, ◌+◌, ◌^◌, true, false, List, ◌∷◌, ◌++◌, length, All, codes, Ok, Err, IsOk, is_some}
+use Rattle.tb_layout.specs.declared.account.Account.{Account}
+use Rattle.tb_layout.specs.declared.transfer.Transfer.{Transfer}
+use Rattle.tb_layout.specs.Account.{account_bytes}
+use Rattle.tb_layout.specs.Bytes.{bytes_of}
+use Rattle.tb_layout.specs.Transfer.{transfer_bytes}
 use Rattle.tb_program.specs.declared.script.fault.Fault.{Fault}
 use Rattle.tb_program.specs.declared.script.item.Settings.{Settings}
 use Rattle.tb_program.specs.declared.script.item.Item.{Item}
-use Rattle.tb_program.specs.Script.{Said, after_line, after_lines, items_of, script_of, submitters_of}
-use Rattle.tb_program.specs.Spelling.{spelling_of, CanBeSet, CanAllBeSaid}
+use Rattle.tb_program.specs.Script.{Said, after_line, after_lines, items_of, script_of, submitters_of, with_bytes}
+use Rattle.tb_program.specs.Spelling.{spelling_of, CanBeSet, CanAllBeSaid, IsOfItsSize, named_of_account, named_of_transfer, fields_line, id_line}
 
 -- where some lines have no fault and the next has one, that fault decides, whatever follows, with the number of its line
 abbrev pub FirstFaultDecides : Type 0
@@ -31,3 +36,21 @@ abbrev pub SpelledScriptsAreRead : Type 0
 SpelledScriptsAreRead =
     (settings : Settings) (items : List Item) → CanBeSet settings → CanAllBeSaid (submitters_of settings) false items →
     IsReadAsSpelled settings items
+
+-- behind a packet's line, this line adds these bytes to the packet
+abbrev pub Adds : List ℕ → List ℕ → Type 0
+Adds line bytes = (said : Said) → is_some said.packet ≡ true → after_line said line ≡ Ok (with_bytes said bytes)
+
+-- a line spelled from an account adds its bytes as they are laid out; so do a transfer's and an id's
+abbrev pub SpelledAccountsAreLaidOut : Type 0
+SpelledAccountsAreLaidOut =
+    (account : Account) → All IsOfItsSize (named_of_account account) →
+    Adds (fields_line (codes "account") (named_of_account account)) (account_bytes account)
+
+abbrev pub SpelledTransfersAreLaidOut : Type 0
+SpelledTransfersAreLaidOut =
+    (transfer : Transfer) → All IsOfItsSize (named_of_transfer transfer) →
+    Adds (fields_line (codes "transfer") (named_of_transfer transfer)) (transfer_bytes transfer)
+
+abbrev pub SpelledIdsAreLaidOut : Type 0
+SpelledIdsAreLaidOut = (id : ℕ) → id < 256 ^ 16 → Adds (id_line id) (bytes_of 16 id)

@@ -24,7 +24,7 @@ use tb_layout::NoMemory;
 use tb_work::Item;
 
 /// The lines of a plan whose queue is listed.
-fn listed(
+fn text_of(
     alloc: Global,
     clock: u64,
     limit: u32,
@@ -50,7 +50,7 @@ fn output_for(alloc: Global, script: Script) -> Result<String, NoMemory>
     let (settings, items) = script.finish()?;
     let limit = settings.limit();
     let (queue, lines) = plan_all(alloc, limit, items)?.into_halves();
-    listed(alloc, settings.clock(), limit, queue, &lines)
+    text_of(alloc, settings.clock(), limit, queue, &lines)
 }
 
 /// The output for all that a reader has, and whether its script has no fault.

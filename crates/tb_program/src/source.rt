@@ -20,7 +20,7 @@ pub enum Source {
     Faulty(String),
 }
 
-fn faulty(alloc: Global, line: usize, text: &str) -> Result<Source, NoMemory>
+fn source_of_fault(alloc: Global, line: usize, text: &str) -> Result<Source, NoMemory>
     ensures { IfOk result (λ source. IsFaultAt line text.now source) }
 {
     let mut out = String::new(alloc);
@@ -29,13 +29,13 @@ fn faulty(alloc: Global, line: usize, text: &str) -> Result<Source, NoMemory>
 }
 
 /// What the text of a script says.
-fn told(alloc: Global, text: &[u8]) -> Result<Source, NoMemory>
+fn source_of(alloc: Global, text: &[u8]) -> Result<Source, NoMemory>
     ensures { IfOk result (λ source. IsTold source (script_of text.now)) }
 {
     match parse(alloc, text) {
         Ok(script) => Ok(Source::Script(script)),
         Err(ScriptError::NoMemory) => Err(NoMemory),
-        Err(ScriptError::Faulty(line, fault)) => faulty(alloc, line, fault.text()),
+        Err(ScriptError::Faulty(line, fault)) => source_of_fault(alloc, line, fault.text()),
     }
 }
 
@@ -44,7 +44,7 @@ pub fn read_source<R: Read>(alloc: Global, reader: &mut R) -> Result<Source, Pro
     ensures { IfOk result (λ source. IfSome (R.remaining reader.old) (λ bytes. IsSource source bytes)) }
 {
     match read_script(alloc, reader)? {
-        Some(text) => Ok(told(alloc, &text)?),
-        None => Ok(faulty(alloc, 0, "script too long")?),
+        Some(text) => Ok(source_of(alloc, &text)?),
+        None => Ok(source_of_fault(alloc, 0, "script too long")?),
     }
 }

@@ -10,6 +10,6 @@ asked_by word =
     else Usage
 
 -- the first word is the program's name
-abbrev pub requested : List (List ℕ) → Request
-requested (program ∷ word ∷ []) = asked_by word
-requested words = Usage
+abbrev pub request_of : List (List ℕ) → Request
+request_of (program ∷ word ∷ []) = asked_by word
+request_of words = Usage

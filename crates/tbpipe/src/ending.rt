@@ -15,7 +15,7 @@ pub enum Ending {
 }
 
 /// How it ends after a script.
-pub fn ended(outcome: Result<bool, ProgramFault>) -> Ending
+pub fn ending_of(outcome: Result<bool, ProgramFault>) -> Ending
     ensures { result ≡ ending_of outcome }
 {
     match outcome {

@@ -7,8 +7,8 @@
 mod ending;
 mod request;
 
-use crate::ending::{Ending, ended};
-use crate::request::{Request, requested};
+use crate::ending::{Ending, ending_of};
+use crate::request::{Request, request_of};
 use std::alloc::Global;
 use std::process::ExitCode;
 use std::rt::Env;
@@ -18,7 +18,7 @@ use tb_program::{ProgramFault, run_script, run_threads};
 /// What the arguments ask for. One that isn't text asks for nothing that there is.
 fn read_arguments(rt: &(impl Env + Alloc<A = Global>)) -> Result<Request, ProgramFault> {
     match env::args(rt) {
-        Ok(words) => Ok(requested(words)),
+        Ok(words) => Ok(request_of(words)),
         Err(error) if error.kind() == io::ErrorKind::InvalidData => Ok(Request::Usage),
         Err(_) => Err(ProgramFault::NoMemory),
     }
@@ -27,8 +27,8 @@ fn read_arguments(rt: &(impl Env + Alloc<A = Global>)) -> Result<Request, Progra
 fn main(rt: HostRuntime) -> ExitCode {
     let alloc = rt.alloc();
     let ending = match read_arguments(&rt) {
-        Ok(Request::List) => ended(run_script(alloc, &mut rt.reader(), &mut io::writer(&rt))),
-        Ok(Request::Run) => ended(run_threads(&rt, alloc, &mut rt.reader(), &mut io::writer(&rt))),
+        Ok(Request::List) => ending_of(run_script(alloc, &mut rt.reader(), &mut io::writer(&rt))),
+        Ok(Request::Run) => ending_of(run_threads(&rt, alloc, &mut rt.reader(), &mut io::writer(&rt))),
         Ok(Request::Usage) => Ending::Usage,
         Err(fault) => Ending::Failed(fault),
     };

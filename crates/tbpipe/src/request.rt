@@ -2,7 +2,7 @@
 
 ghost use Rattle.std.specs.Prelude.{◌≡◌, map, string_bytes};
 ghost use Rattle.std.specs.Vec.Iter.{into_iter_items};
-ghost use Rattle.tbpipe.specs.Request.{asked_by, requested};
+ghost use Rattle.tbpipe.specs.Request.{asked_by, request_of};
 
 use std::env::Args;
 
@@ -27,8 +27,8 @@ fn asked_by(word: &str) -> Request
 }
 
 /// What the words ask for, the first of which is the program's name.
-pub fn requested(words: Args) -> Request
-    ensures { result ≡ requested (map string_bytes (into_iter_items words)) }
+pub fn request_of(words: Args) -> Request
+    ensures { result ≡ request_of (map string_bytes (into_iter_items words)) }
 {
     let mut words = words;
     match (words.next(), words.next(), words.next()) {
