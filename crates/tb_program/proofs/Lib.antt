@@ -1,7 +1,1 @@
-pub mod Texts
-pub mod Numbers
-pub mod Scripts
-pub mod Lines
-pub mod Spelling
 pub mod Printing
-pub mod Fields

@@ -12,7 +12,7 @@ use Rattle.tb_core.specs.Due.{all_due_from, outcome_at}
 use Rattle.tb_core.specs.Ledger.{LedgerState, works}
 use Rattle.tb_core.specs.Passage.{Ahead, Behind}
 use Rattle.tb_core.specs.Report.{IsListed}
-use Rattle.tb_program.specs.declared.script.item.Submission.{Submission}
+use Rattle.tb_script.specs.declared.item.Submission.{Submission}
 use Rattle.tb_program.specs.declared.list.plan.Line.{Line}
 use Rattle.tb_program.specs.Plan.{Planned, Packet, Pulse, Close, RefusedPacket, RefusedPulse, queue_of, line_of, number_in, packet_of, packet_as}
 use Rattle.tb_program.specs.Output.{reply_line, pulse_line, refused_line, refused_pulse_line, state_text, lines_from, plan_text}

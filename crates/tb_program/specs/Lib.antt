@@ -1,14 +1,5 @@
-pub mod Steps
-pub mod Text
-pub mod Number
-pub mod Keyword
-pub mod Event
-pub mod Script
-pub mod Parsing
 pub mod Plan
 pub mod Output
 pub mod Printing
 pub mod Source
-pub mod Spelling
 pub mod Run
-pub mod Laws

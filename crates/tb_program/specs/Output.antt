@@ -15,20 +15,10 @@ use Rattle.tb_work.specs.declared.outcome.Outcome.TheVariants.{Committed, Shutdo
 use Rattle.tb_work.specs.declared.refusal.Refusal.{Refusal}
 use Rattle.tb_core.specs.Passage.{Place, Ahead, Behind, place_behind}
 use Rattle.tb_core.specs.Due.{outcome_at}
-use Rattle.tb_program.specs.declared.script.fault.Fault.{Fault}
-use Rattle.tb_program.specs.declared.script.fault.Fault.TheVariants.{LineTooLong, BadByte, UnknownWord, OutOfPlace, WrongNumberOfWords, BadField, BadNumber, BadHex}
-use Rattle.tb_program.specs.Script.{Said, items_of, clock_of, limit_of, script_of}
+use Rattle.tb_script.specs.declared.fault.Fault.{Fault}
+use Rattle.tb_script.specs.Fault.{fault_text}
+use Rattle.tb_script.specs.Script.{Said, items_of, clock_of, limit_of, script_of}
 use Rattle.tb_program.specs.Plan.{Planned, Packet, Pulse, Close, RefusedPacket, RefusedPulse, queued_items, queue_of, plan_behind}
-
-abbrev pub fault_text : Fault → List ℕ
-fault_text LineTooLong = codes "line too long"
-fault_text BadByte = codes "bad byte"
-fault_text UnknownWord = codes "unknown word"
-fault_text OutOfPlace = codes "out of place"
-fault_text WrongNumberOfWords = codes "wrong number of words"
-fault_text BadField = codes "bad field"
-fault_text BadNumber = codes "bad number"
-fault_text BadHex = codes "bad hex"
 
 abbrev pub fault_line : ℕ → List ℕ → List ℕ
 fault_line number text = codes "fault " ++ decimal number ++ codes " " ++ text ++ codes "\n"

@@ -8,9 +8,9 @@ use Rattle.tb_work.specs.declared.item.Item as work
 use Rattle.tb_work.specs.declared.item.Item.TheVariants as queue
 use Rattle.tb_work.specs.declared.packet.Packet as packets
 use Rattle.tb_work.specs.declared.refusal.Refusal.{Refusal}
-use Rattle.tb_program.specs.declared.script.item.Submission.{Submission}
-use Rattle.tb_program.specs.declared.script.item.Item.{Item}
-use Rattle.tb_program.specs.declared.script.item.Item.TheVariants as script
+use Rattle.tb_script.specs.declared.item.Submission.{Submission}
+use Rattle.tb_script.specs.declared.item.Item.{Item}
+use Rattle.tb_script.specs.declared.item.Item.TheVariants as script
 use Rattle.tb_program.specs.declared.list.plan.Line.{Line}
 use Rattle.tb_program.specs.declared.list.plan.Line.TheVariants as line
 

@@ -1,9 +1,9 @@
 -- What a reader's bytes are: a script, or the fault that is printed of them.
 use Rattle.std.specs.Prelude.{◌≡◌, ℕ, true, false, List, Result, string_bytes}
-use Rattle.tb_program.specs.declared.script.fault.Fault.{Fault}
+use Rattle.tb_script.specs.declared.fault.Fault.{Fault}
 use Rattle.tb_program.specs.declared.source.Source.{Source}
 use Rattle.tb_program.specs.declared.source.Source.TheVariants.{Script, Faulty}
-use Rattle.tb_program.specs.Script.{Said}
+use Rattle.tb_script.specs.Script.{Said}
 use Rattle.tb_program.specs.Output.{listing, script_text, out, fault_line, is_ok_script, is_faultless}
 
 -- the line of a fault

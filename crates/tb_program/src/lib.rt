@@ -5,16 +5,13 @@
 //! the reader failed or memory ran out. `run_threads` takes it through the pipeline, with a thread for each sender.
 #![tactic(auto)]
 
-mod laws;
 mod list;
 mod output;
 mod program_fault;
 mod read;
 mod run;
-mod script;
 mod source;
 
-pub use laws::{faultless_lines_are_said, first_fault_decides, spelled_scripts_are_read};
 pub use list::run_script;
 pub use program_fault::ProgramFault;
 pub use run::run_threads;

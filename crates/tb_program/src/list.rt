@@ -15,12 +15,12 @@ use crate::list::plan::Line;
 use crate::list::planning::plan_all;
 use crate::output::write_out;
 use crate::program_fault::ProgramFault;
-use crate::script::Script;
 use crate::source::{Source, read_source};
 use std::alloc::Global;
 use std::io::{Read, Write};
 use tb_core::run_list;
 use tb_layout::NoMemory;
+use tb_script::Script;
 use tb_work::Item;
 
 /// The lines of a plan whose queue is listed.

@@ -4,34 +4,15 @@ ghost use Rattle.std.specs.Io.KnownBytes.{Appends};
 ghost use Rattle.std.specs.Prelude.{◌≡◌, ◌++◌, OnOk, IfErr, codes, string_bytes};
 ghost use Rattle.tb_program.specs.declared.program_fault.ProgramFault.TheVariants.{Write as WriteFault};
 ghost use Rattle.std.specs.List.{flat_map};
-ghost use Rattle.tb_program.specs.Output.{fault_text, fault_line, refused_line, failure_text, found_debits, found_credits, found_text, answer_text, outcome_text, packet_front, reply_line, pulse_line, refused_pulse_line, clock_line, account_front, balances_text, account_line, state_text};
+ghost use Rattle.tb_program.specs.Output.{fault_line, refused_line, failure_text, found_debits, found_credits, found_text, answer_text, outcome_text, packet_front, reply_line, pulse_line, refused_pulse_line, clock_line, account_front, balances_text, account_line, state_text};
 ghost use Rattle.tb_machine.specs.Replay.{balanced_accounts};
 
 use crate::program_fault::ProgramFault;
-use crate::script::fault::Fault;
 use std::alloc::AllocError;
 use std::io::Write;
 use tb_layout::{Account, Failure};
 use tb_machine::Machine;
 use tb_work::{Answer, Outcome, Refusal, Reply};
-
-impl Fault {
-    /// What is printed of the fault, behind the number of its line.
-    pub fn text(self) -> &'static str
-        ensures { result.now ≡ fault_text self }
-    {
-        match self {
-            Fault::LineTooLong => "line too long",
-            Fault::BadByte => "bad byte",
-            Fault::UnknownWord => "unknown word",
-            Fault::OutOfPlace => "out of place",
-            Fault::WrongNumberOfWords => "wrong number of words",
-            Fault::BadField => "bad field",
-            Fault::BadNumber => "bad number",
-            Fault::BadHex => "bad hex",
-        }
-    }
-}
 
 /// The line of a fault.
 pub fn put_fault(out: &mut String, line: usize, text: &str) -> Result<(), AllocError>

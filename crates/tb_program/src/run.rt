@@ -5,7 +5,7 @@ ghost use Rattle.std.specs.Io.KnownBytes.{Appends, Keeps};
 ghost use Rattle.tb_submit.specs.Ends.{control_seat, origin_of};
 ghost use Rattle.tb_program.specs.Output.{out, is_faultless};
 ghost use Rattle.tb_program.specs.Run.{driver_origin};
-ghost use Rattle.tb_program.specs.Script.{InBounds};
+ghost use Rattle.tb_script.specs.Script.{InBounds};
 
 mod control;
 mod driver;
@@ -21,8 +21,6 @@ use crate::run::driver::Driver;
 use crate::run::report::text_of;
 use crate::run::share::share_out;
 use crate::run::threads::run_pipeline;
-use crate::script::Script;
-use crate::script::item::Settings;
 use crate::source::{Source, read_source};
 use std::alloc::Global;
 use std::io::{Read, Write};
@@ -30,6 +28,7 @@ use std::sync::Wait;
 use std::thread::Threads;
 use tb_layout::NoMemory;
 use tb_pipe::{Opened, open};
+use tb_script::{Script, Settings};
 use tb_submit::Submitter;
 use tb_work::{Packet, Refusal};
 

@@ -1,17 +1,16 @@
 //! The script that a reader has.
 
 ghost use Rattle.std.specs.Prelude.{◌≡◌, IfOk, IfSome};
-ghost use Rattle.tb_program.specs.Script.{script_of};
+ghost use Rattle.tb_script.specs.Script.{script_of};
 ghost use Rattle.tb_program.specs.Source.{IsSource, IsTold, IsFaultAt};
 
 use crate::output::put_fault;
 use crate::program_fault::ProgramFault;
 use crate::read::read_script;
-use crate::script::Script;
-use crate::script::parse::{ScriptError, parse};
 use std::alloc::Global;
 use std::io::Read;
 use tb_layout::NoMemory;
+use tb_script::{Script, ScriptError, parse};
 
 /// What a reader has: a script, or the one line that is printed of a faulty one.
 #[derive(Drop)]

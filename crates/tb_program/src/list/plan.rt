@@ -1,6 +1,6 @@
 //! What is printed of each item of a script.
 
-use crate::script::submitter_number::SubmitterNumber;
+use tb_script::SubmitterNumber;
 use tb_work::Refusal;
 
 /// What an item prints: a packet that is queued its reply, a pulse its place, any other a line that

@@ -3,14 +3,13 @@
 ghost use Rattle.std.specs.Prelude.{◌≡◌, ◌<◌, ◌≤◌, [], ℕ, get_or, OnOk, IfOk};
 ghost use Rattle.tb_layout.specs.Limits.{batch_max};
 ghost use Rattle.tb_program.specs.Plan.{Packet as PacketPlanned, Pulse as PulsePlanned, Close as ClosePlanned, RefusedPacket as RefusedPacketPlanned, RefusedPulse as RefusedPulsePlanned, number_in, pulse_as, planned_as, plan_behind, with_planned, halves_of};
-ghost use Rattle.tb_program.specs.declared.script.item.Item.TheVariants.{Packet as PacketItem};
+ghost use Rattle.tb_script.specs.declared.item.Item.TheVariants.{Packet as PacketItem};
 
 use crate::list::plan::Line;
-use crate::script::item::{Item, Submission};
-use crate::script::submitter_number::SubmitterNumber;
 use std::alloc::Global;
 use std::marker::Model;
 use tb_layout::{MOMENT_MAX, NoMemory};
+use tb_script::{Item, Submission, SubmitterNumber};
 use tb_work::{Bytes, Job, Moment, Packet, Refusal};
 
 /// What the items so far queue, and what is printed of each.

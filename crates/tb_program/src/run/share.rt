@@ -1,8 +1,8 @@
 //! What each thread is to queue.
 
-use crate::script::item::{Item, Submission};
 use std::alloc::Global;
 use tb_layout::NoMemory;
+use tb_script::{Item, Submission};
 use tb_work::{Bytes, Packet};
 
 /// The control's lines.

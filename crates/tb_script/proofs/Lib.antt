@@ -1,0 +1,6 @@
+pub mod Texts
+pub mod Numbers
+pub mod Scripts
+pub mod Lines
+pub mod Spelling
+pub mod Fields

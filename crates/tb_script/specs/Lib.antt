@@ -1,0 +1,10 @@
+pub mod Fault
+pub mod Steps
+pub mod Text
+pub mod Number
+pub mod Keyword
+pub mod Event
+pub mod Script
+pub mod Parsing
+pub mod Spelling
+pub mod Laws

@@ -1,0 +1,207 @@
+//! Events from their lines.
+
+ghost use Rattle.std.specs.Prelude.{◌≡◌, ◌≤◌, ◌<◌, ◌+◌, ◌-◌, ◌^◌, ◌⊎◌, IfSome, IfOk};
+ghost use Rattle.std.specs.Int.{to_le_bytes, w128};
+ghost use Rattle.tb_script.specs.Text.{words_of};
+ghost use Rattle.tb_script.specs.Steps.{Gives, Makes, Tells};
+ghost use Rattle.tb_script.specs.Event.{Lies, field_of, greatest, sides_of, new_field, with_number, after_word, after_words, blank, event_of, hex_bytes};
+
+use crate::fault::{Fault, LineError};
+use crate::number::number_within;
+use crate::table::look_up;
+use crate::text::{Words, length_before};
+use hex::FromHexError;
+use std::alloc::Global;
+
+/// What an event asks for, and so what its fields are.
+#[derive(Clone, Copy)]
+pub enum Layout {
+    Account,
+    Transfer,
+}
+
+/// A field: its place among the fields, and its bytes in the event.
+#[derive(Clone, Copy)]
+pub struct Field {
+    pub place: usize,
+    pub offset: usize,
+    pub size: usize,
+}
+
+/// An event so far: its bytes, and which of its fields were given.
+#[derive(Clone, Copy)]
+pub struct Draft {
+    pub bytes: [u8; 128],
+    pub given: [bool; 13],
+}
+
+/// A field at a place among the fields and at an offset, with a size in bytes.
+macro_rules! lying_at {
+    ($place:expr, $offset:expr, $size:expr) => {
+        Field {
+            place: $place,
+            offset: $offset,
+            size: $size,
+        }
+    };
+}
+
+const ACCOUNT_FIELDS: [(&[u8], Field); 13] = [
+    (b"id", lying_at!(0, 0, 16)),
+    (b"debits_pending", lying_at!(1, 16, 16)),
+    (b"debits_posted", lying_at!(2, 32, 16)),
+    (b"credits_pending", lying_at!(3, 48, 16)),
+    (b"credits_posted", lying_at!(4, 64, 16)),
+    (b"user_data_128", lying_at!(5, 80, 16)),
+    (b"user_data_64", lying_at!(6, 96, 8)),
+    (b"user_data_32", lying_at!(7, 104, 4)),
+    (b"reserved", lying_at!(8, 108, 4)),
+    (b"ledger", lying_at!(9, 112, 4)),
+    (b"code", lying_at!(10, 116, 2)),
+    (b"flags", lying_at!(11, 118, 2)),
+    (b"timestamp", lying_at!(12, 120, 8)),
+];
+
+const TRANSFER_FIELDS: [(&[u8], Field); 13] = [
+    (b"id", lying_at!(0, 0, 16)),
+    (b"debit_account_id", lying_at!(1, 16, 16)),
+    (b"credit_account_id", lying_at!(2, 32, 16)),
+    (b"amount", lying_at!(3, 48, 16)),
+    (b"pending_id", lying_at!(4, 64, 16)),
+    (b"user_data_128", lying_at!(5, 80, 16)),
+    (b"user_data_64", lying_at!(6, 96, 8)),
+    (b"user_data_32", lying_at!(7, 104, 4)),
+    (b"timeout", lying_at!(8, 108, 4)),
+    (b"ledger", lying_at!(9, 112, 4)),
+    (b"code", lying_at!(10, 116, 2)),
+    (b"flags", lying_at!(11, 118, 2)),
+    (b"timestamp", lying_at!(12, 120, 8)),
+];
+
+#[tactic(auto, unfolding(crate::specs::Event::field_of))]
+fn field_of(layout: Layout, name: &[u8]) -> Option<Field>
+    ensures row { result ≡ field_of layout name.now }
+    ensures lies { IfSome result Lies }
+{
+    match layout {
+        Layout::Account => look_up(&ACCOUNT_FIELDS, name),
+        Layout::Transfer => look_up(&TRANSFER_FIELDS, name),
+    }
+}
+
+/// The greatest number of this many bytes.
+fn greatest(size: usize) -> u128
+    requires { (size ≡ 2) ⊎ ((size ≡ 4) ⊎ ((size ≡ 8) ⊎ (size ≡ 16))) }
+    ensures { result ≡ greatest size }
+{
+    if size == 2 {
+        0xffff
+    } else if size == 4 {
+        0xffff_ffff
+    } else if size == 8 {
+        0xffff_ffff_ffff_ffff
+    } else {
+        u128::MAX
+    }
+}
+
+/// A field that wasn't given before.
+fn new_field(draft: &Draft, found: Option<Field>) -> Result<Field, Fault>
+    requires { IfSome found Lies }
+    ensures field { result ≡ new_field draft.now found }
+    ensures lies { IfOk result Lies }
+{
+    match found {
+        Some(f) if !draft.given[f.place] => Ok(f),
+        _ => Err(Fault::BadField),
+    }
+}
+
+/// What the lower half of a number of 128 bits stays below.
+const HALF: u128 = 1 << 64;
+
+/// The bytes of a number, the lowest first. Two halves take fewer instructions than the whole.
+fn bytes_of(n: u128) -> [u8; 16]
+    ensures { result ≡ to_le_bytes w128 n }
+{
+    let mut bytes = [0; 16];
+    bytes[..8].copy_from_slice(&((n % HALF) as u64).to_le_bytes());
+    bytes[8..].copy_from_slice(&((n / HALF) as u64).to_le_bytes());
+    bytes
+}
+
+/// The number put into the field's bytes.
+fn write(draft: &mut Draft, f: Field, n: u128)
+    requires { Lies f }
+    ensures { draft.new ≡ with_number draft.old f n }
+{
+    let bytes = bytes_of(n);
+    let place = f.offset;
+    match f.size {
+        2 => draft.bytes[place..place + 2].copy_from_slice(&bytes[..2]),
+        4 => draft.bytes[place..place + 4].copy_from_slice(&bytes[..4]),
+        8 => draft.bytes[place..place + 8].copy_from_slice(&bytes[..8]),
+        _ => draft.bytes[place..place + 16].copy_from_slice(&bytes),
+    }
+    draft.given[f.place] = true;
+}
+
+/// The name before the first `=`, and the number behind it.
+fn sides_of(word: &[u8]) -> Result<(&[u8], &[u8]), Fault>
+    ensures { Tells (λ sides. (sides.0.now, sides.1.now)) result (sides_of word.now) }
+{
+    let end = length_before(word, 61);
+    if end < word.len() {
+        Ok((&word[..end], &word[end + 1..]))
+    } else {
+        Err(Fault::BadField)
+    }
+}
+
+/// One word NAME=N.
+#[tactic(auto, unfolding(crate::specs::Event::after_word))]
+fn assign(layout: Layout, draft: &mut Draft, word: &[u8]) -> Result<(), Fault>
+    ensures { Makes result draft.new (after_word layout draft.old word.now) }
+{
+    let (name, number) = sides_of(word)?;
+    let f = new_field(draft, field_of(layout, name))?;
+    let n = number_within(number, 0, greatest(f.size))?;
+    write(draft, f, n);
+    Ok(())
+}
+
+/// All words of a line.
+#[tactic(auto, unfolding(crate::specs::Event::after_words))]
+fn assign_all(layout: Layout, draft: &mut Draft, words: Words) -> Result<(), Fault>
+    ensures { Makes result draft.new (after_words layout draft.old (words_of words.entry.rest.now)) }
+{
+    for word in words {
+        assign(layout, draft, word)?;
+    }
+    Ok(())
+}
+
+/// The event that the words of a line give.
+#[tactic(auto, unfolding(crate::specs::Event::event_of))]
+pub fn event_of(layout: Layout, words: Words) -> Result<[u8; 128], Fault>
+    ensures { result ≡ event_of layout (words_of words.entry.rest.now) }
+{
+    let mut draft = Draft {
+        bytes: [0; 128],
+        given: [false; 13],
+    };
+    assign_all(layout, &mut draft, words)?;
+    Ok(draft.bytes)
+}
+
+/// The bytes that hexadecimal digits give.
+#[tactic(auto, unfolding(crate::specs::Event::hex_bytes))]
+pub fn hex_bytes(alloc: Global, word: &[u8]) -> Result<Vec<u8>, LineError>
+    ensures { Gives (λ v. v.items) result (hex_bytes word.now) }
+{
+    match hex::decode(alloc, word) {
+        Ok(bytes) => Ok(bytes),
+        Err(FromHexError::OutOfMemory) => Err(LineError::NoMemory),
+        Err(_) => Err(LineError::Fault(Fault::BadHex)),
+    }
+}

@@ -1,0 +1,70 @@
+//! Why a line of a script is faulty.
+
+ghost use Rattle.std.specs.Prelude.{◌≡◌};
+ghost use Rattle.tb_script.specs.Fault.{fault_text};
+ghost use Rattle.tb_script.specs.declared.fault.LineError.TheVariants.{NoMemory as OutOfMemory, Fault as FaultOf};
+
+use std::alloc::AllocError;
+use tb_layout::NoMemory;
+
+/// What is wrong with a line: the first that applies.
+#[derive(Clone, Copy)]
+pub enum Fault {
+    LineTooLong,
+    BadByte,
+    UnknownWord,
+    OutOfPlace,
+    WrongNumberOfWords,
+    BadField,
+    BadNumber,
+    BadHex,
+}
+
+impl Fault {
+    /// What is printed of the fault, behind the number of its line.
+    pub fn text(self) -> &'static str
+        ensures { result.now ≡ fault_text self }
+    {
+        match self {
+            Fault::LineTooLong => "line too long",
+            Fault::BadByte => "bad byte",
+            Fault::UnknownWord => "unknown word",
+            Fault::OutOfPlace => "out of place",
+            Fault::WrongNumberOfWords => "wrong number of words",
+            Fault::BadField => "bad field",
+            Fault::BadNumber => "bad number",
+            Fault::BadHex => "bad hex",
+        }
+    }
+}
+
+/// Why a line could not be taken.
+#[derive(Clone, Copy)]
+pub enum LineError {
+    NoMemory,
+    Fault(Fault),
+}
+
+impl From<AllocError> for LineError {
+    ghost from_gives = { λ _ error. error ≡ OutOfMemory };
+
+    fn from(_refused: AllocError) -> LineError {
+        LineError::NoMemory
+    }
+}
+
+impl From<NoMemory> for LineError {
+    ghost from_gives = { λ _ error. error ≡ OutOfMemory };
+
+    fn from(_refused: NoMemory) -> LineError {
+        LineError::NoMemory
+    }
+}
+
+impl From<Fault> for LineError {
+    ghost from_gives = { λ fault error. error ≡ FaultOf fault };
+
+    fn from(fault: Fault) -> LineError {
+        LineError::Fault(fault)
+    }
+}

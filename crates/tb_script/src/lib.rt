@@ -1,0 +1,31 @@
+//! Scripts of packets: what their lines say.
+//!
+//! `parse` reads the text of a script into its settings and its items: packets with their bytes, pulses, and the Close.
+//! It promises that these are what `specs/Script.antt` defines for the text, any text, or the number and the fault of the
+//! first faulty line. `laws` says what that definition comes to: a script spelled from settings and items is read as
+//! these, and an event spelled from its fields is the bytes that `tb_layout` lays out.
+#![tactic(auto)]
+
+mod bytes;
+mod event;
+mod fault;
+mod item;
+mod keyword;
+mod laws;
+mod number;
+mod parsing;
+mod script;
+mod submitter_number;
+mod table;
+mod text;
+
+pub use bytes::Bytes;
+pub use fault::Fault;
+pub use item::{Item, Settings, Submission};
+pub use laws::{
+    faultless_lines_are_said, first_fault_decides, spelled_accounts_are_laid_out,
+    spelled_ids_are_laid_out, spelled_scripts_are_read, spelled_transfers_are_laid_out,
+};
+pub use parsing::{ScriptError, parse};
+pub use script::Script;
+pub use submitter_number::SubmitterNumber;

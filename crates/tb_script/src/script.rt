@@ -1,0 +1,342 @@
+//! A script, line after line.
+
+ghost use Rattle.std.specs.Prelude.{◌≡◌, ◌++◌, List, [], IfOk, OnOk};
+ghost use Rattle.tb_script.specs.Text.{words_of};
+ghost use Rattle.tb_script.specs.Steps.{Gives, Tells, Leaves};
+ghost use Rattle.tb_script.specs.Keyword.{no_word, one_word, two_words};
+ghost use Rattle.tb_script.specs.Script.{Said, nothing_said, items_of, has_begun, is_in_place, with_packet, with_pulse, with_close, with_bytes, set_to, with_line, with_keyword, with_words, is_text, after_line, InBounds};
+
+use crate::bytes::Bytes;
+use crate::event::{Layout, event_of, hex_bytes};
+use crate::fault::{Fault, LineError};
+use crate::item::{Item, Settings, Submission};
+use crate::keyword::{Keyword, keyword_of};
+use crate::number::number_within;
+use crate::submitter_number::SubmitterNumber;
+use crate::text::Words;
+use std::alloc::Global;
+use std::marker::Model;
+use tb_layout::{BATCH_MAX, CAPACITY_MAX, CLOCK_MAX, NoMemory, SUBMITTERS_MAX};
+
+/// The most bytes of a line, its ending byte not counted.
+const LINE_MAX: usize = 65_536;
+
+/// What the lines so far say.
+#[derive(Drop)]
+pub struct Script {
+    settings: Settings,
+    items: Vec<Item>,
+    packet: Option<Submission>,
+    shut: bool,
+}
+
+impl Model for Script {
+    ghost Value = { Said };
+
+    ghost view = { λ script. record { settings = script.settings; items = script.items.items; packet = script.packet; shut = script.shut } };
+
+    ghost invariant = { λ script. InBounds script.settings };
+}
+
+fn no_word(words: Words) -> Result<(), Fault>
+    ensures { Tells (λ _. []) result (no_word (words_of words.entry.rest.now)) }
+{
+    let mut words = words;
+    match words.next() {
+        None => Ok(()),
+        Some(_) => Err(Fault::WrongNumberOfWords),
+    }
+}
+
+fn one_word(words: Words) -> Result<&[u8], Fault>
+    ensures { Tells (λ word. word.now) result (one_word (words_of words.entry.rest.now)) }
+{
+    let mut words = words;
+    match (words.next(), words.next()) {
+        (Some(word), None) => Ok(word),
+        _ => Err(Fault::WrongNumberOfWords),
+    }
+}
+
+fn two_words(words: Words) -> Result<(&[u8], &[u8]), Fault>
+    ensures { Tells (λ both. (both.0.now, both.1.now)) result (two_words (words_of words.entry.rest.now)) }
+{
+    let mut words = words;
+    match (words.next(), words.next(), words.next()) {
+        (Some(word), Some(more), None) => Ok((word, more)),
+        _ => Err(Fault::WrongNumberOfWords),
+    }
+}
+
+fn is_text(line: &[u8]) -> bool
+    ensures { result ≡ is_text line.now }
+{
+    line.iter()
+        .fold(true, |text, b| text & (32 <= *b && *b <= 126))
+}
+
+impl Script {
+    /// A script of which no line was taken.
+    pub fn new(alloc: Global) -> Script
+        ensures { result ≡ nothing_said }
+    {
+        Script {
+            settings: Settings {
+                clock: None,
+                limit: None,
+                capacity: None,
+                credit: None,
+                submitters: None,
+            },
+            items: Vec::new(alloc),
+            packet: None,
+            shut: false,
+        }
+    }
+
+    fn has_begun(&self) -> bool
+        ensures { result ≡ has_begun self.now }
+    {
+        !self.items.is_empty() || self.packet.is_some()
+    }
+
+    fn is_in_place(&self, keyword: Keyword) -> bool
+        ensures { result ≡ is_in_place self.now keyword }
+    {
+        match keyword {
+            Keyword::Clock => !self.has_begun() && self.settings.clock.is_none(),
+            Keyword::Limit => !self.has_begun() && self.settings.limit.is_none(),
+            Keyword::Capacity => !self.has_begun() && self.settings.capacity.is_none(),
+            Keyword::Credit => !self.has_begun() && self.settings.credit.is_none(),
+            Keyword::Submitters => !self.has_begun() && self.settings.submitters.is_none(),
+            Keyword::Packet => true,
+            Keyword::Account | Keyword::Transfer | Keyword::Id | Keyword::Hex => {
+                self.packet.is_some()
+            }
+            Keyword::Pulse | Keyword::Shut => !self.shut,
+        }
+    }
+
+    /// Puts the packet to which lines still add behind the items.
+    fn end_packet(&mut self) -> Result<(), NoMemory>
+        ensures { OnOk result (self.new ≡ record self.old { items = items_of self.old; packet = None }) }
+    {
+        if let Some(packet) = self.packet.take() {
+            self.items.push(Item::Packet(packet))?;
+        }
+        Ok(())
+    }
+
+    fn begin_packet(
+        &mut self,
+        alloc: Global,
+        submitter: SubmitterNumber,
+        operation: u8,
+    ) -> Result<(), NoMemory>
+        ensures { OnOk result (self.new ≡ with_packet self.old submitter operation) }
+    {
+        self.end_packet()?;
+        self.packet = Some(Submission {
+            submitter,
+            operation,
+            bytes: Bytes::new(alloc),
+        });
+        Ok(())
+    }
+
+    fn add_pulse(&mut self, moment: u64) -> Result<(), NoMemory>
+        ensures { OnOk result (self.new ≡ with_pulse self.old moment) }
+    {
+        self.end_packet()?;
+        self.items.push(Item::Pulse(moment))?;
+        Ok(())
+    }
+
+    fn add_close(&mut self) -> Result<(), NoMemory>
+        ensures { OnOk result (self.new ≡ with_close self.old) }
+    {
+        self.end_packet()?;
+        self.items.push(Item::Shut)?;
+        self.shut = true;
+        Ok(())
+    }
+
+    fn add_bytes(&mut self, bytes: &[u8]) -> Result<(), NoMemory>
+        ensures { OnOk result (self.new ≡ with_bytes self.old bytes.now) }
+    {
+        if let Some(packet) = &mut self.packet {
+            packet.bytes.extend_from_slice(bytes)?;
+        }
+        Ok(())
+    }
+
+    #[tactic(auto, unfolding(crate::specs::Script::with_line))]
+    fn set_clock(&mut self, words: Words) -> Result<(), LineError>
+        ensures { Leaves result self.new (with_line self.old Keyword.Clock (words_of words.entry.rest.now)) }
+    {
+        let n = number_within(one_word(words)?, 0, CLOCK_MAX as u128)?;
+        self.settings.clock = Some(n as u64);
+        Ok(())
+    }
+
+    #[tactic(auto, unfolding(crate::specs::Script::with_line))]
+    fn set_limit(&mut self, words: Words) -> Result<(), LineError>
+        ensures { Leaves result self.new (with_line self.old Keyword.Limit (words_of words.entry.rest.now)) }
+    {
+        let n = number_within(one_word(words)?, 1, BATCH_MAX as u128)?;
+        self.settings.limit = Some(n as u32);
+        Ok(())
+    }
+
+    #[tactic(auto, unfolding(crate::specs::Script::with_line))]
+    fn set_capacity(&mut self, words: Words) -> Result<(), LineError>
+        ensures { Leaves result self.new (with_line self.old Keyword.Capacity (words_of words.entry.rest.now)) }
+    {
+        let n = number_within(one_word(words)?, 1, CAPACITY_MAX as u128)?;
+        self.settings.capacity = Some(n as u32);
+        Ok(())
+    }
+
+    #[tactic(auto, unfolding(crate::specs::Script::with_line))]
+    fn set_credit(&mut self, words: Words) -> Result<(), LineError>
+        ensures { Leaves result self.new (with_line self.old Keyword.Credit (words_of words.entry.rest.now)) }
+    {
+        let n = number_within(one_word(words)?, 1, CAPACITY_MAX as u128)?;
+        self.settings.credit = Some(n as u32);
+        Ok(())
+    }
+
+    #[tactic(auto, unfolding(crate::specs::Script::with_line))]
+    fn set_submitters(&mut self, words: Words) -> Result<(), LineError>
+        ensures { Leaves result self.new (with_line self.old Keyword.Submitters (words_of words.entry.rest.now)) }
+    {
+        let n = number_within(one_word(words)?, 1, SUBMITTERS_MAX as u128)?;
+        self.settings.submitters = Some(n as u32);
+        Ok(())
+    }
+
+    #[tactic(auto, unfolding(crate::specs::Script::with_line))]
+    fn take_packet(&mut self, alloc: Global, words: Words) -> Result<(), LineError>
+        ensures { Leaves result self.new (with_line self.old Keyword.Packet (words_of words.entry.rest.now)) }
+    {
+        let (submitter, operation) = two_words(words)?;
+        let most = self.settings.submitters().saturating_sub(1);
+        let submitter = number_within(submitter, 0, u128::from(most))?;
+        let operation = number_within(operation, 0, 255)?;
+        self.begin_packet(
+            alloc,
+            SubmitterNumber::new(submitter as u32),
+            operation as u8,
+        )?;
+        Ok(())
+    }
+
+    #[tactic(auto, unfolding(crate::specs::Script::with_line))]
+    fn take_account(&mut self, words: Words) -> Result<(), LineError>
+        ensures { Leaves result self.new (with_line self.old Keyword.Account (words_of words.entry.rest.now)) }
+    {
+        self.add_bytes(&event_of(Layout::Account, words)?)?;
+        Ok(())
+    }
+
+    #[tactic(auto, unfolding(crate::specs::Script::with_line))]
+    fn take_transfer(&mut self, words: Words) -> Result<(), LineError>
+        ensures { Leaves result self.new (with_line self.old Keyword.Transfer (words_of words.entry.rest.now)) }
+    {
+        self.add_bytes(&event_of(Layout::Transfer, words)?)?;
+        Ok(())
+    }
+
+    #[tactic(auto, unfolding(crate::specs::Script::with_line))]
+    fn take_id(&mut self, words: Words) -> Result<(), LineError>
+        ensures { Leaves result self.new (with_line self.old Keyword.Id (words_of words.entry.rest.now)) }
+    {
+        let id = number_within(one_word(words)?, 0, u128::MAX)?;
+        self.add_bytes(&id.to_le_bytes())?;
+        Ok(())
+    }
+
+    #[tactic(auto, unfolding(crate::specs::Script::with_line))]
+    fn take_pulse(&mut self, words: Words) -> Result<(), LineError>
+        ensures { Leaves result self.new (with_line self.old Keyword.Pulse (words_of words.entry.rest.now)) }
+    {
+        let moment = number_within(one_word(words)?, 0, u64::MAX as u128)?;
+        self.add_pulse(moment as u64)?;
+        Ok(())
+    }
+
+    #[tactic(auto, unfolding(crate::specs::Script::with_line))]
+    fn take_hex(&mut self, alloc: Global, words: Words) -> Result<(), LineError>
+        ensures { Leaves result self.new (with_line self.old Keyword.Hex (words_of words.entry.rest.now)) }
+    {
+        let bytes = hex_bytes(alloc, one_word(words)?)?;
+        self.add_bytes(&bytes)?;
+        Ok(())
+    }
+
+    #[tactic(auto, unfolding(crate::specs::Script::with_line))]
+    fn take_close(&mut self, words: Words) -> Result<(), LineError>
+        ensures { Leaves result self.new (with_line self.old Keyword.Shut (words_of words.entry.rest.now)) }
+    {
+        no_word(words)?;
+        self.add_close()?;
+        Ok(())
+    }
+
+    /// A line in its place, with the words behind its first.
+    fn take_line(&mut self, alloc: Global, keyword: Keyword, words: Words) -> Result<(), LineError>
+        ensures { Leaves result self.new (with_line self.old keyword (words_of words.entry.rest.now)) }
+    {
+        match keyword {
+            Keyword::Clock => self.set_clock(words),
+            Keyword::Limit => self.set_limit(words),
+            Keyword::Capacity => self.set_capacity(words),
+            Keyword::Credit => self.set_credit(words),
+            Keyword::Submitters => self.set_submitters(words),
+            Keyword::Packet => self.take_packet(alloc, words),
+            Keyword::Account => self.take_account(words),
+            Keyword::Transfer => self.take_transfer(words),
+            Keyword::Id => self.take_id(words),
+            Keyword::Hex => self.take_hex(alloc, words),
+            Keyword::Pulse => self.take_pulse(words),
+            Keyword::Shut => self.take_close(words),
+        }
+    }
+
+    /// A line behind those so far. After an error the script isn't to be used.
+    #[tactic(auto, unfolding(crate::specs::Script::after_line))]
+    pub fn line(&mut self, alloc: Global, line: &[u8]) -> Result<(), LineError>
+        ensures { Leaves result self.new (after_line self.old line.now) }
+    {
+        if line.len() > LINE_MAX {
+            return Err(LineError::Fault(Fault::LineTooLong));
+        }
+        if !is_text(line) {
+            return Err(LineError::Fault(Fault::BadByte));
+        }
+        let mut words = Words { rest: line };
+        let Some(word) = words.next() else {
+            return Ok(());
+        };
+        if word.starts_with(b"#") {
+            return Ok(());
+        }
+        let Some(keyword) = keyword_of(word) else {
+            return Err(LineError::Fault(Fault::UnknownWord));
+        };
+        if !self.is_in_place(keyword) {
+            return Err(LineError::Fault(Fault::OutOfPlace));
+        }
+        self.take_line(alloc, keyword, words)
+    }
+
+    /// The settings and all items.
+    pub fn finish(self) -> Result<(Settings, Vec<Item>), NoMemory>
+        ensures all { IfOk result (λ both. (both.0 ≡ self.settings) × (both.1.items ≡ items_of self)) }
+        ensures bounds { IfOk result (λ both. InBounds both.0) }
+    {
+        let mut script = self;
+        script.end_packet()?;
+        Ok((script.settings, script.items))
+    }
+}
