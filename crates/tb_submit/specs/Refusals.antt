@@ -1,14 +1,13 @@
 -- Why a call is refused.
 use Rattle.std.specs.Prelude.{◌≡◌, ℕ, ◌-◌, ◌==◌, ◌||◌, if◌then◌else◌, nat_lt, List, [], ◌∷◌, length, Option, Some, None, Result, Ok, Err}
-use Rattle.tb_core.specs.Front.{opening_refusal}
-use Rattle.tb_layout.specs.Limits.{batch_max, capacity_max}
+use Rattle.tb_layout.specs.Limits.{batch_max, capacity_max, submitters_max}
 use Rattle.tb_work.specs.Admission.{admission_of}
 use Rattle.tb_work.specs.Reply.{Replied}
 use Rattle.tb_work.specs.declared.outcome.Outcome.{Outcome}
 use Rattle.tb_work.specs.declared.outcome.Outcome.TheVariants as outcome
 use Rattle.tb_work.specs.declared.packet.Packet.{Packet}
 use Rattle.tb_work.specs.declared.refusal.Refusal.{Refusal}
-use Rattle.tb_work.specs.declared.refusal.Refusal.TheVariants.{InFlight, Shutdown, Stopped, BadLimit, BadCapacity}
+use Rattle.tb_work.specs.declared.refusal.Refusal.TheVariants.{InFlight, Shutdown, Stopped, BadLimit, BadCapacity, BadSubmitters}
 use Rattle.tb_submit.specs.Ends.{SubmitterState}
 
 -- the refusal is the one that is due, or where none is due, one of the others
@@ -28,7 +27,8 @@ abbrev pub queue_refusal : ℕ → ℕ → ℕ → ℕ → Option Refusal
 queue_refusal limit capacity credit submitters =
     if nat_lt limit 1 || nat_lt batch_max limit then Some BadLimit
     else if nat_lt capacity 1 || nat_lt capacity_max capacity || nat_lt credit 1 || nat_lt capacity_max credit then Some BadCapacity
-    else opening_refusal limit submitters
+    else if nat_lt submitters 1 || nat_lt submitters_max submitters then Some BadSubmitters
+    else None
 
 -- ---- submitting
 
