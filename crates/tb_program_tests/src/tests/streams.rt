@@ -25,16 +25,17 @@ impl Read for FailsAtSecond {
     }
 }
 
-/// Gives the same byte again and again, so many in all.
+/// Gives the same byte again and again, so many in all, and at most so many with each read.
 #[derive(Drop)]
 struct Repeated {
     byte: u8,
     left: usize,
+    at_once: usize,
 }
 
 impl Read for Repeated {
     fn read(&mut self, buffer: &mut [u8]) -> io::Result<usize> {
-        let count = buffer.len().min(self.left);
+        let count = buffer.len().min(self.left).min(self.at_once);
         for place in 0..count {
             buffer[place] = self.byte;
         }
@@ -57,6 +58,20 @@ impl Write for TakesNothing {
     }
 }
 
+/// Takes all, and fails where it is to hand it on.
+#[derive(Drop)]
+struct FailsToFlush;
+
+impl Write for FailsToFlush {
+    fn write(&mut self, bytes: &[u8]) -> io::Result<usize> {
+        Ok(bytes.len())
+    }
+
+    fn flush(&mut self) -> io::Result<()> {
+        Err(io::Error::other("full"))
+    }
+}
+
 #[test]
 fn read_fails_in_mid_stream(rt: HostRuntime) -> Result<(), Fail> {
     let mut out = Vec::new(rt.alloc());
@@ -69,6 +84,20 @@ fn read_fails_in_mid_stream(rt: HostRuntime) -> Result<(), Fail> {
 #[test]
 fn write_fails(rt: HostRuntime) -> Result<(), Fail> {
     let answer = run_script(rt.alloc(), &mut "clock 1\n".as_bytes(), &mut TakesNothing);
+    assert!(rt; matches!(&answer, Err(ProgramFault::Write)));
+    Ok(())
+}
+
+#[test]
+fn flush_fails(rt: HostRuntime) -> Result<(), Fail> {
+    let answer = run_script(rt.alloc(), &mut "clock 1\n".as_bytes(), &mut FailsToFlush);
+    assert!(rt; matches!(&answer, Err(ProgramFault::Write)));
+    Ok(())
+}
+
+#[test]
+fn flush_of_a_run_fails(rt: HostRuntime) -> Result<(), Fail> {
+    let answer = run_threads(&rt, rt.alloc(), &mut "shut\n".as_bytes(), &mut FailsToFlush);
     assert!(rt; matches!(&answer, Err(ProgramFault::Write)));
     Ok(())
 }
@@ -114,8 +143,19 @@ fn script_lengths(rt: HostRuntime) -> Result<(), Fail> {
         let script = Repeated {
             byte: *byte,
             left: *left,
+            at_once: usize::MAX,
         };
         comes_to(&rt, rt.alloc(), script, output)?;
     }
     Ok(())
+}
+
+#[test]
+fn longest_script_a_byte_at_a_time(rt: HostRuntime) -> Result<(), Fail> {
+    let script = Repeated {
+        byte: 10,
+        left: 16_777_216,
+        at_once: 1,
+    };
+    comes_to(&rt, rt.alloc(), script, "clock 0\n")
 }
