@@ -44,7 +44,7 @@ recorded law place state parts few answered = by (parts.operation == 131) refl
 
     by : (b : Bool) → (parts.operation == 131) ≡ b → IsRecorded place state parts
     by true is =
-        let gives = gives_one place parts.operation state parts.jobs.items answered.lawful answered.lawful.all_admitted is in
+        let gives = gives_one place parts.operation state parts.jobs.items answered.lawful is in
         let accounts = answered.accounts is ∙ ap (λ body. accounts_found state.facts (ids_of body)) answered.body in
         of_answer true is
         (gives.job, gives.only, gives.lookup, subst (λ found. length found ≤ count_of gives.job.packet) (sym accounts) gives.few)

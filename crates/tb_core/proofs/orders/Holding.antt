@@ -1,11 +1,11 @@
 -- What holds of a World is kept by each of its steps.
 use Rattle.std.proofs.Common.{refl, sym, ap, ◌∙◌, subst, arith, ◌≡◌, ◌≢◌, ◌==◌, ⊎_elim, ℕ, ◌<◌, Bool, true, false, ◌&&◌, not, List, [], ◌∷◌, ◌++◌, map, length, set, get_or, append_assoc, append-nil, length-set, get_or-set_other, Option, Some, None, unwrap_or}
 use Rattle.std.specs.Prelude.{if◌then◌else◌, flat_map}
+use Rattle.std.specs.List.{AllByRecursion}
 use Rattle.std.proofs.lemmas.List.{get_or-set_same, map-append}
 use Rattle.std.proofs.lemmas.List.Elements.{filter-append}
 use Rattle.std.proofs.lemmas.Grind.{flat_map-append}
-use Rattle.std.proofs.lemmas.Bool.{cases_eq}
-use Rattle.std.proofs.lemmas.Bool.Decides.{nat_tests}
+use Rattle.std.proofs.lemmas.Bool.{cases_eq, eq-eqb, ne_eqb}
 use Rattle.tb_work.specs.Job.{Numbered}
 use Rattle.tb_work.specs.Queue.{items_in}
 use Rattle.tb_work.specs.Reply.{Replied}
@@ -22,10 +22,12 @@ use Rattle.tb_core.specs.Run.{Commits, replies_in}
 use Rattle.tb_core.specs.world.Shelf.{Shelf, empty_shelf, shelf_at, with_reply, shelves_with, after_pop_of}
 use Rattle.tb_core.specs.world.Pushing.{may_push}
 use Rattle.tb_core.specs.world.World.{WorldState, sender_at, is_lawful, pop, batch_push, left_by, batch_pop, outcome_push, outcome_pop, reply_push, reply_pop, senders_after}
-use Rattle.tb_core.proofs.Accounting.{IsClear}
-use Rattle.tb_core.proofs.orders.Below.{HasJobs, passes_more, goes_further, commits_more}
-use Rattle.tb_core.proofs.orders.Fronts.{AllHaveJobs, is_taken_by}
+use Rattle.tb_core.proofs.Accounting.{IsClear, IsStep, is_step, passes_then, goes_on}
+use Rattle.tb_core.proofs.Committed.{HasJobs, all-push, commits_more}
 use Rattle.tb_core.proofs.orders.Pushed.{HavePushed, push_counted}
+
+abbrev pub AllHaveJobs : List Parcel → Type 0
+AllHaveJobs parcels = AllByRecursion HasJobs parcels
 
 -- what the front made of a queue and no ledger took yet, from the batch ring back to the group held
 abbrev pub on_the_way : FrontState → List Parcel → List Parcel → List Passage
@@ -81,20 +83,32 @@ pub record Holds (Unrefused : Type 0) (clock submitters : ℕ) (pushed : List Ti
 items_push : (queue : List Ticket) (ticket : Ticket) → items_in (queue ++ ticket ∷ []) ≡ items_in queue ++ ticket.item ∷ []
 items_push queue ticket = map-append (λ (ticket : Ticket). ticket.item) queue (ticket ∷ [])
 
+stepped : (refused : Bool) (front : FrontState) (ticket : Ticket) → IsClear front → IsStep HasJobs refused front ticket.sender ticket.item (take_step refused front ticket.sender ticket.item)
+stepped refused front ticket clear = is_step HasJobs (λ moment. tt) (λ job cause. tt) refused front ticket.sender ticket.item (λ job jobs held. omega arith) clear
+
 sent_ticket : (refused : Bool) (queue : List Ticket) (applied : List Passage) (front : FrontState) (batches : List Parcel) (ticket : Ticket) → AreSent queue applied front [] batches →
     (let next = take_step refused front ticket.sender ticket.item in AreSent (queue ++ ticket ∷ []) applied next.front next.parcels batches)
 sent_ticket refused queue applied front batches ticket sent =
     let next = take_step refused front ticket.sender ticket.item in
-    let is = is_taken_by refused front ticket.sender ticket.item sent.clear in
-    let before : applied ++ (all_passages_in batches ++ held_by front) ≡ (applied ++ all_passages_in batches) ++ held_by front = sym (append_assoc applied (all_passages_in batches) (held_by front)) in
-    let more = passes_more refused front ticket.sender ticket.item (items_in queue) (applied ++ all_passages_in batches) sent.clear (subst (Passes (items_in queue) front.closed front.stopped) before sent.passes) in
-    let after : ((applied ++ all_passages_in batches) ++ all_passages_in next.parcels) ++ held_by next.front ≡ applied ++ (all_passages_in batches ++ (all_passages_in next.parcels ++ held_by next.front)) = simp append_assoc in
+    let step = stepped refused front ticket sent.clear in
+    let more = passes_then HasJobs refused front ticket.sender ticket.item next step (items_in queue) (applied ++ all_passages_in batches) (rw append_assoc sent.passes) in
+    record { passes = rw items_push (simp append_assoc at more); clear = step.clear; parcel_jobs = step.parcels; batch_jobs = sent.batch_jobs }
+
+-- the batcher goes on
+batched : (Unrefused : Type 0) (clock n : ℕ) (pushed taken queue : List Ticket) (w : WorldState) (front : FrontState) (parcels batches : List Parcel) (last : Bool) → (h : Holds Unrefused clock n pushed w) → pushed ≡ taken ++ queue →
+    (Unrefused → front.stopped ≡ false) → AreSent taken h.applied front parcels batches → Holds Unrefused clock n pushed (record w { queue = queue; front = front; parcels = parcels; last_sent = last; batches = batches })
+batched Unrefused clock n pushed taken queue w front parcels batches last h split goes sent =
     record {
-      passes = subst (λ items. Passes items next.front.closed next.front.stopped (applied ++ on_the_way next.front next.parcels batches)) (sym (items_push queue ticket))
-          (subst (Passes (items_in queue ++ ticket.item ∷ []) next.front.closed next.front.stopped) after more);
-      clear = is.clear;
-      parcel_jobs = is.jobs;
-      batch_jobs = sent.batch_jobs;
+      taken = taken;
+      applied = h.applied;
+      answers = h.answers;
+      split = split;
+      counted = h.counted;
+      senders = h.senders;
+      sent = sent;
+      commits = h.commits;
+      routed = h.routed;
+      goes = λ is. record { front = goes is; ledger = (h.goes is).ledger };
     }
 
 pub pop_holds : (Unrefused : Type 0) (refused : Bool) (clock n : ℕ) (pushed : List Ticket) (w : WorldState) (parcels : List Parcel) (queue : List Ticket) → w.parcels ≡ parcels → w.queue ≡ queue → (Unrefused → refused ≡ false) →
@@ -102,22 +116,11 @@ pub pop_holds : (Unrefused : Type 0) (refused : Bool) (clock n : ℕ) (pushed : 
 pop_holds Unrefused refused clock n pushed w (first ∷ parcels) queue p q u h = h
 pop_holds Unrefused refused clock n pushed w [] [] p q u h = h
 pop_holds Unrefused refused clock n pushed w [] (ticket ∷ queue) p q u h =
-    record {
-      taken = h.taken ++ ticket ∷ [];
-      applied = h.applied;
-      answers = h.answers;
-      split = h.split ∙ ap (λ rest. h.taken ++ rest) q ∙ sym (append_assoc h.taken (ticket ∷ []) queue);
-      counted = h.counted;
-      senders = h.senders;
-      sent = sent_ticket refused h.taken h.applied w.front w.batches ticket (subst (λ ps. AreSent h.taken h.applied w.front ps w.batches) p h.sent);
-      commits = h.commits;
-      routed = h.routed;
-      goes = λ is. (let goes = h.goes is in record { front = goes_further refused w.front ticket.sender ticket.item (u is) goes.front; ledger = goes.ledger });
-    }
-
-jobs_push : (parcels : List Parcel) (p : Parcel) → AllHaveJobs parcels → HasJobs p → AllHaveJobs (parcels ++ p ∷ [])
-jobs_push [] p all has = (has, tt)
-jobs_push (first ∷ parcels) p all has = (all.0, jobs_push parcels p all.1 has)
+    let next = take_step refused w.front ticket.sender ticket.item in
+    let sent = sent_ticket refused h.taken h.applied w.front w.batches ticket (subst (λ ps. AreSent h.taken h.applied w.front ps w.batches) p h.sent) in
+    batched Unrefused clock n pushed (h.taken ++ ticket ∷ []) queue w next.front next.parcels w.batches w.last_sent h
+    (h.split ∙ ap (λ rest. h.taken ++ rest) q ∙ sym (append_assoc h.taken (ticket ∷ []) queue))
+    (λ is. goes_on HasJobs refused w.front ticket.sender ticket.item next (stepped refused w.front ticket h.sent.clear) (u is) (h.goes is).front) sent
 
 -- a parcel goes to the batch ring, from those to push or as the group held
 sent_parcel : (queue : List Ticket) (applied : List Passage) (front next : FrontState) (parcels others batches : List Parcel) (p : Parcel) → HasJobs p → AllHaveJobs others → IsClear next →
@@ -133,42 +136,26 @@ sent_parcel queue applied front next parcels others batches p has all clear clos
           (subst (λ b. Passes (items_in queue) front.closed b (applied ++ on_the_way front parcels batches)) (sym stopped) sent.passes));
       clear = clear;
       parcel_jobs = all;
-      batch_jobs = jobs_push batches p sent.batch_jobs has;
-    }
-
-pushed_on : (Unrefused : Type 0) (clock n : ℕ) (pushed : List Ticket) (w : WorldState) (front : FrontState) (others : List Parcel) (last : Bool) (p : Parcel) → front.stopped ≡ w.front.stopped → (h : Holds Unrefused clock n pushed w) →
-    AreSent h.taken h.applied front others (w.batches ++ p ∷ []) → Holds Unrefused clock n pushed (record w { front = front; parcels = others; last_sent = last; batches = w.batches ++ p ∷ [] })
-pushed_on Unrefused clock n pushed w front others last p stopped h sent =
-    record {
-      taken = h.taken;
-      applied = h.applied;
-      answers = h.answers;
-      split = h.split;
-      counted = h.counted;
-      senders = h.senders;
-      sent = sent;
-      commits = h.commits;
-      routed = h.routed;
-      goes = λ is. (let goes = h.goes is in record { front = stopped ∙ goes.front; ledger = goes.ledger });
+      batch_jobs = all-push HasJobs batches p sent.batch_jobs has;
     }
 
 pub batch_push_holds : (Unrefused : Type 0) (clock n : ℕ) (pushed : List Ticket) (w : WorldState) (parcels : List Parcel) (held : List Numbered) → w.parcels ≡ parcels → w.front.held ≡ held →
     Holds Unrefused clock n pushed w → Holds Unrefused clock n pushed (unwrap_or (batch_push w parcels held) w)
 batch_push_holds Unrefused clock n pushed w (p ∷ parcels) held e g h =
     let sent = subst (λ ps. AreSent h.taken h.applied w.front ps w.batches) e h.sent in
-    pushed_on Unrefused clock n pushed w w.front parcels w.last_sent p refl h
+    batched Unrefused clock n pushed h.taken w.queue w w.front parcels (w.batches ++ p ∷ []) w.last_sent h h.split (λ is. (h.goes is).front)
     (sent_parcel h.taken h.applied w.front w.front (p ∷ parcels) parcels w.batches p sent.parcel_jobs.0 sent.parcel_jobs.1 sent.clear refl refl (append_assoc (passages_in p) (all_passages_in parcels) (held_by w.front)) sent)
 batch_push_holds Unrefused clock n pushed w [] (job ∷ jobs) e g h =
     let group = parcel.Batch (job ∷ jobs) in
     let list : all_passages_in w.parcels ++ held_by w.front ≡ passages_in group ++ (all_passages_in w.parcels ++ []) =
     ap (λ (ps : List Parcel). all_passages_in ps ++ held_by w.front) e ∙ ap (map Admitted) g ∙ sym (append-nil (passages_in group)) ∙ ap (λ (ps : List Parcel). passages_in group ++ (all_passages_in ps ++ [])) (sym e) in
-    pushed_on Unrefused clock n pushed w (with_group w.front []) w.parcels w.last_sent group refl h
+    batched Unrefused clock n pushed h.taken w.queue w (with_group w.front []) w.parcels (w.batches ++ group ∷ []) w.last_sent h h.split (λ is. (h.goes is).front)
     (sent_parcel h.taken h.applied w.front (with_group w.front []) w.parcels w.parcels w.batches group (omega arith) h.sent.parcel_jobs (λ any. refl) refl refl list h.sent)
 batch_push_holds Unrefused clock n pushed w [] [] e g h = by (all_ended w.front && not w.last_sent)
   where
     by : (b : Bool) → Holds Unrefused clock n pushed (unwrap_or (if b then Some (record w { last_sent = true; batches = w.batches ++ parcel.Last ∷ [] }) else None) w)
     by true =
-        pushed_on Unrefused clock n pushed w w.front w.parcels true parcel.Last refl h
+        batched Unrefused clock n pushed h.taken w.queue w w.front w.parcels (w.batches ++ parcel.Last ∷ []) true h h.split (λ is. (h.goes is).front)
         (sent_parcel h.taken h.applied w.front w.front w.parcels w.parcels w.batches parcel.Last tt h.sent.parcel_jobs h.sent.clear refl refl refl h.sent)
     by false = h
 
@@ -223,7 +210,7 @@ batch_pop_holds Unrefused refused clock n pushed w None (p ∷ batches) o e goes
       counted = h.counted;
       senders = h.senders;
       sent = sent_applied h.taken h.applied w.front w.parcels batches p sent;
-      commits = commits_more refused clock h.applied w.ledger h.answers p sent.batch_jobs.0 h.commits;
+      commits = commits_more clock h.applied w.ledger h.answers h.commits refused p sent.batch_jobs.0;
       routed = subst (AreRouted n (h.answers ++ more) w.shelves) way routed;
       goes = λ is. record { front = (h.goes is).front; ledger = goes is p batches e };
     }
@@ -254,12 +241,6 @@ outcome_pop_holds Unrefused clock n pushed w [] (outcome ∷ outcomes) r o h =
     (subst (AreRouted n h.answers w.shelves)
     (ap (λ (rs : List Replied). unrouted rs w.outcomes w.outcome) r ∙ ap (λ (os : List Outcomes). unrouted [] os w.outcome) o ∙ append_assoc (replies_in outcome) (of_all outcomes) (of_one w.outcome)) h.routed)
 
-same_number : (n : ℕ) → (n == n) ≡ true
-same_number n = grind (arith, nat_tests)
-
-differ : (a b : ℕ) → a ≢ b → (a == b) ≡ false
-differ a b h = grind (arith, nat_tests)
-
 -- a reply goes from the way to its submitter's ring
 given_keeps : (n submitter : ℕ) (shelves : List Shelf) (reply : Replied) (way : List Replied) → length shelves ≡ n → submitter < n → shelved submitter shelves (reply ∷ way) ≡ shelved submitter (shelves_with shelves reply) way
 given_keeps n submitter shelves reply way long among =
@@ -271,10 +252,10 @@ given_keeps n submitter shelves reply way long among =
     let shelf = shelf_at shelves submitter in
     let there : with_reply shelf reply ≡ shelf_at (shelves_with shelves reply) submitter =
     ap (λ k. with_reply (shelf_at shelves k) reply) (sym same) ∙ sym (get_or-set_same shelves own new empty_shelf (omega (arith, long, same, among))) ∙ ap (λ k. get_or (set shelves own new) k empty_shelf) same in
-    ap (λ b. shelf.received ++ (shelf.ring ++ (if b then reply ∷ others else others))) (ap (λ k. k == submitter) same ∙ same_number submitter)
+    ap (λ b. shelf.received ++ (shelf.ring ++ (if b then reply ∷ others else others))) (ap (λ k. k == submitter) same ∙ eq-eqb submitter submitter refl)
     ∙ ap (λ rs. shelf.received ++ rs) (sym (append_assoc shelf.ring (reply ∷ []) others)) ∙ ap (λ (s : Shelf). s.received ++ (s.ring ++ others)) there)
     (λ (other : own ≢ submitter).
-    ap (λ b. (shelf_at shelves submitter).received ++ ((shelf_at shelves submitter).ring ++ (if b then reply ∷ others else others))) (differ own submitter other)
+    ap (λ b. (shelf_at shelves submitter).received ++ ((shelf_at shelves submitter).ring ++ (if b then reply ∷ others else others))) (ne_eqb own submitter other)
     ∙ ap (λ (s : Shelf). s.received ++ (s.ring ++ others)) (sym (get_or-set_other shelves own submitter new empty_shelf (λ same. other (sym same)))))
     (cases_eq own submitter)
 
@@ -325,8 +306,8 @@ push_holds Unrefused clock n pushed w ticket true is h =
       applied = h.applied;
       answers = h.answers;
       split = ap (λ l. l ++ ticket ∷ []) h.split ∙ append_assoc h.taken w.queue (ticket ∷ []);
-      counted = h.counted;
       senders = push_counted w.limit n pushed w.senders ticket (subst (λ m. may_push w.limit m ticket.sender (sender_at w.senders ticket.sender) ticket.item ≡ true) h.counted is) h.senders;
+      counted = h.counted;
       sent = h.sent;
       commits = h.commits;
       routed = h.routed;

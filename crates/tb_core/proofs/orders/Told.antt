@@ -3,7 +3,6 @@ use Rattle.std.proofs.Common.{refl, sym, ap, subst, ◌∙◌, ◌≡◌, ℕ, �
 use Rattle.std.specs.List.{list_any}
 use Rattle.std.proofs.lemmas.List.{map-append}
 use Rattle.std.proofs.lemmas.List.Elements.{filter-append}
-use Rattle.std.proofs.lemmas.List.Folds.{list_any-append}
 use Rattle.tb_layout.specs.Work.{Work}
 use Rattle.tb_layout.specs.Work as work
 use Rattle.tb_work.specs.Job.{Numbered}
@@ -21,14 +20,11 @@ use Rattle.tb_core.specs.Due.{outcome_at, reply_due, all_due_from, all_due, repl
 use Rattle.tb_core.specs.Front.{all_passages_in, held_by}
 use Rattle.tb_core.specs.Ledger.{works}
 use Rattle.tb_core.specs.Passage.{Passage, Admitted, Place, Ahead, next_place, Passes}
-use Rattle.tb_core.specs.Report.{is_stopped, tell_a_stop}
 use Rattle.tb_core.specs.Run.{Ran}
 use Rattle.tb_core.specs.world.Shelf.{Shelf, shelf_at, after_pop_of}
 use Rattle.tb_core.specs.world.World.{WorldState, pop, batch_push, batch_pop, outcome_push, outcome_pop, reply_push, reply_pop, received_of, run, new_world}
 use Rattle.tb_core.specs.world.EveryOrder.{history, is_refused, IsAtRest, IsPrefix, IsLawfulSoFar, NoneStopped, Rests, HasRun}
-use Rattle.tb_core.proofs.Committed.{or_parts}
-use Rattle.tb_core.proofs.Runs.{none_among, run_is_lawful}
-use Rattle.tb_core.proofs.orders.Below.{SoFar, so_far}
+use Rattle.tb_core.proofs.Runs.{none_of_first, none_among, SoFar, so_far, run_is_lawful}
 use Rattle.tb_core.proofs.orders.Pushed.{numbered_by, queue_of_all}
 use Rattle.tb_core.proofs.orders.Holding.{on_the_way, unrouted, of_all, of_one, shelved, Holds, Goes}
 use Rattle.tb_core.proofs.orders.Runs.{all_holds}
@@ -90,9 +86,7 @@ module _ (U : Type 0) (clock n : ℕ) (pushed : List Ticket) (w : WorldState) (h
   none_stopped goes = λ submitter among.
       let shelf = shelf_at w.shelves submitter in
       let others = shelf.ring ++ replies_to (unrouted w.replies w.outcomes w.outcome) submitter in
-      let none : tell_a_stop (shelf.received ++ others) ≡ false =
-      ap tell_a_stop (sym (h.routed.each submitter among)) ∙ none_among (λ (reply : Replied). reply.submitter == submitter) h.answers (far.untold goes.front goes.ledger) in
-      (or_parts (tell_a_stop shelf.received) (tell_a_stop others) (sym (list_any-append (λ (reply : Replied). is_stopped reply.outcome) shelf.received others) ∙ none)).0
+      none_of_first shelf.received others (replies_to h.answers submitter) (sym (h.routed.each submitter among)) (none_among (λ (reply : Replied). reply.submitter == submitter) h.answers (far.untold goes.front goes.ledger))
 
 -- ---- at rest
 
@@ -174,9 +168,7 @@ module _ (U : Type 0) (clock n : ℕ) (pushed : List Ticket) (w : WorldState) (h
 
   rests : Rests clock n pushed w
   rests =
-      let is = far U clock n pushed w h in
-      let all : h.answers ≡ all_due clock (items_in pushed) (works w.ledger) =
-      sym (append-nil h.answers) ∙ ap (λ rs. h.answers ++ rs) (sym (is.none_later e.way)) ∙ is.due ∙ ap (λ (queue : List Ticket). all_due clock (items_in queue) (works w.ledger)) taken_all in
+      let all : h.answers ≡ all_due clock (items_in pushed) (works w.ledger) = (far U clock n pushed w h).replied e.way ∙ ap (λ (queue : List Ticket). all_due clock (items_in queue) (works w.ledger)) taken_all in
       record {
         received = λ submitter among. received_all submitter among ∙ ap (λ rs. replies_to rs submitter) all;
         reports = λ over. run_is_lawful clock n pushed (λ sender. part sender pushed) w.ledger h.answers (received_of w) (queue_of_all n pushed w.senders h.senders over) ran received_all;

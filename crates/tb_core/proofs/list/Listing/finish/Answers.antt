@@ -2,7 +2,8 @@ use Rattle.std.proofs.Common.{sym, ap, subst, ◌∙◌, ◌++◌, map, append-n
 use Rattle.tb_batch.specs.Grouping.{IsGroup}
 use Rattle.tb_core.specs.Passage.{Admitted}
 use Rattle.tb_core.specs.Run.{GoesOn}
-use Rattle.tb_core.proofs.Listing.{map_ok, through}
+use Rattle.std.proofs.lemmas.Result.{on_ok_weaker}
+use Rattle.tb_core.proofs.Listing.{through}
 use Rattle.tb_core.proofs.list.Listing.finish.Goals as goal
 
 pub returns-in-Some : goal.returns-in-Some
@@ -13,7 +14,7 @@ returns-in-Some c = λ clock limit items run.
     let now = c.apply.new.ledger in
     let given = c.apply.new.replies.items in
     let held = c.in-Some.ensures.some.0 in
-    map_ok c.apply.result
+    on_ok_weaker c.apply.result
     (λ on. through clock limit items front ledger replies now given run (subst (λ jobs. GoesOn clock limit (run.sent ++ map Admitted jobs) now given) held on))
     (c.apply.ensures clock limit run.sent (subst (IsGroup limit) (sym held) (subst (λ n. IsGroup n front.held) run.under c.in-Some.ensures.lawful)) run.goes_on)
 
