@@ -1,5 +1,5 @@
 -- A ledger with one entry more.
-use Rattle.std.proofs.Common.{refl, sym, ap, ◌∙◌, arith, ◌≡◌, ◌≤◌, ℕ, ◌+◌, ◌^◌, Bool, true, false, List, [], ◌∷◌, ◌++◌, map, length, length-append, append-nil}
+use Rattle.std.proofs.Common.{refl, sym, ap, ◌∙◌, arith, ◌≡◌, ℕ, ◌+◌, ◌^◌, Bool, true, false, List, [], ◌∷◌, ◌++◌, map, length, length-append, append-nil}
 use Rattle.std.specs.Prelude.{◌==◌, fold, Result, Ok, Err, is_err, OnOk}
 use Rattle.std.specs.List.{flat_map}
 use Rattle.std.proofs.lemmas.List.{length-map}
@@ -24,10 +24,6 @@ given (Err e) P ok holds = cc
 pub works-more : (groups : List (List Work)) (group : List Work) → flat_map (λ g. g) (groups ++ group ∷ []) ≡ flat_map (λ g. g) groups ++ group
 works-more groups group = flat_map-append (λ g. g) groups (group ∷ []) ∙ ap (λ rest. flat_map (λ g. g) groups ++ rest) (append-nil group)
 
--- there were places
-within : (refused : Bool) (ledger : LedgerState) (count : ℕ) → must_stop refused ledger count ≡ false → length (works ledger) + count ≤ 2 ^ 63
-within refused ledger count goes = ltb-false (2 ^ 63) _ (or_parts refused _ (or_parts ledger.stopped _ goes).1).1
-
 -- the packets of jobs, one by one
 jobs_after : (state : State) (jobs : List Numbered) → fold after_packet state (map (λ (job : Numbered). events_in job.packet) jobs) ≡ fold after_work state (map work_of jobs)
 jobs_after state [] = refl
@@ -51,12 +47,12 @@ pub batch_entered : (law : JoinInvisibly) (ledger : LedgerState) (state next : S
 batch_entered law ledger state next places groups parts count is answered next_is groups_is count_is goes =
     let group = map work_of parts.jobs.items in
     let all : flat_map (λ g. g) groups ≡ works ledger ++ group = ap (flat_map (λ g. g)) groups_is ∙ works-more ledger.groups group in
-    let room = within false ledger count goes in
+    let room = ltb-false (2 ^ 63) (length (works ledger) + count) (or_parts ledger.stopped _ goes).1 in
     record {
       machine = next_is ∙ batch_state law state parts answered ∙ ap (λ s. fold after_work s group) is.machine
           ∙ sym (fold-append after_work (opening ledger.opening) (works ledger) group)
           ∙ ap (fold after_work (opening ledger.opening)) (sym all);
-      counted = (let e : places + count ≡ length (works ledger ++ group) = omega (arith, is.counted, count_is, length-append (works ledger) group, length-map parts.jobs.items work_of) in e) ∙ ap length (sym all);
+      counted = omega (arith, is.counted, count_is, ap length all, length-append (works ledger) group, length-map parts.jobs.items work_of);
       few = omega (arith, is.counted, room);
       opening = is.opening;
     }

@@ -55,15 +55,18 @@ packet_within [] k h = absurd h
 packet_within (first ∷ works) zero h = omega arith
 packet_within (first ∷ works) (suc k) h = omega (arith, packet_within works k h)
 
--- a packet that is ahead stays where it is
-packet_stays : (items : List Item) (x : Item) (k : ℕ) → IsPacket (slice_get (ahead items) k) → IsPacket (slice_get (ahead (items ++ x ∷ [])) k)
-packet_stays [] x k h = absurd h
-packet_stays (item.Packet job ∷ items) x zero h = h
-packet_stays (item.Packet job ∷ items) x (suc k) h = packet_stays items x k h
-packet_stays (item.Pulse moment ∷ items) x zero h = h
-packet_stays (item.Pulse moment ∷ items) x (suc k) h = packet_stays items x k h
-packet_stays (item.End ∷ items) x k h = packet_stays items x k h
-packet_stays (item.Close ∷ items) x k h = h
+-- what is ahead stays so, whatever comes after it
+pub ahead-first : (items others : List Item) → (rest : List Work) × (ahead items ++ rest ≡ ahead (items ++ others))
+ahead-first [] others = (ahead others, refl)
+ahead-first (item.Packet job ∷ items) others = let more = ahead-first items others in (more.0, ap (λ ws. work_of job ∷ ws) more.1)
+ahead-first (item.Pulse moment ∷ items) others = let more = ahead-first items others in (more.0, ap (λ ws. work.Pulse moment ∷ ws) more.1)
+ahead-first (item.End ∷ items) others = ahead-first items others
+ahead-first (item.Close ∷ items) others = ([], refl)
+
+packet_stays : (works others : List Work) (k : ℕ) → IsPacket (slice_get works k) → IsPacket (slice_get (works ++ others) k)
+packet_stays [] others k h = absurd h
+packet_stays (first ∷ works) others zero h = h
+packet_stays (first ∷ works) others (suc k) h = packet_stays works others k h
 
 -- one that comes now is the last
 packet_last : (works : List Work) (job : Numbered) → IsPacket (slice_get (works ++ work_of job ∷ []) (length works))
@@ -121,7 +124,7 @@ module _ (refused : Bool) (items : List Item) (closed stopped : Bool) (passages 
     where
       more : (stop : Option ℕ) → IfSome stop (λ k. IsPacket (slice_get (ahead items) k)) → IfSome stop (λ k. IsPacket (slice_get (ahead (items ++ x ∷ [])) k))
       more None h = tt
-      more (Some k) h = packet_stays items x k h
+      more (Some k) h = let first = ahead-first items (x ∷ []) in subst (λ ws. IsPacket (slice_get ws k)) first.1 (packet_stays (ahead items) first.0 k h)
   passes_more (Stops is ahead_is going stops job packet) = by passes.stop passes.all (sym going ∙ passes.stops)
     where
       k : ℕ

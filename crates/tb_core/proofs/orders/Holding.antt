@@ -1,5 +1,5 @@
 -- What holds of a World is kept by each of its steps.
-use Rattle.std.proofs.Common.{refl, sym, ap, ◌∙◌, subst, arith, ◌≡◌, ◌≢◌, ◌==◌, ⊎_elim, ℕ, ◌<◌, Bool, true, false, ◌&&◌, not, List, [], ◌∷◌, ◌++◌, map, length, set, get_or, append_assoc, append-nil, length-set, get_or-set_other, Option, Some, None, unwrap_or}
+use Rattle.std.proofs.Common.{refl, sym, ap, ◌∙◌, subst, arith, ◌≡◌, ◌≢◌, ◌==◌, ⊎_elim, ℕ, ◌<◌, Bool, true, false, ◌&&◌, not, List, [], ◌∷◌, ◌++◌, map, length, set, append_assoc, append-nil, length-set, get_or-set_other, Option, Some, None, unwrap_or}
 use Rattle.std.specs.Prelude.{if◌then◌else◌, flat_map}
 use Rattle.std.specs.List.{AllByRecursion}
 use Rattle.std.proofs.lemmas.List.{get_or-set_same, map-append}
@@ -241,58 +241,47 @@ outcome_pop_holds Unrefused clock n pushed w [] (outcome ∷ outcomes) r o h =
     (subst (AreRouted n h.answers w.shelves)
     (ap (λ (rs : List Replied). unrouted rs w.outcomes w.outcome) r ∙ ap (λ (os : List Outcomes). unrouted [] os w.outcome) o ∙ append_assoc (replies_in outcome) (of_all outcomes) (of_one w.outcome)) h.routed)
 
--- a reply goes from the way to its submitter's ring
-given_keeps : (n submitter : ℕ) (shelves : List Shelf) (reply : Replied) (way : List Replied) → length shelves ≡ n → submitter < n → shelved submitter shelves (reply ∷ way) ≡ shelved submitter (shelves_with shelves reply) way
-given_keeps n submitter shelves reply way long among =
-    let own = reply.submitter in
-    let new = with_reply (shelf_at shelves own) reply in
-    let others = replies_to way submitter in
+-- a submitter has the same where a shelf was replaced, and its own replies with what is on the way
+replaced : (n submitter own : ℕ) (shelves : List Shelf) (new : Shelf) (old way : List Replied) → length shelves ≡ n → submitter < n → shelved own shelves old ≡ new.received ++ (new.ring ++ replies_to way own) →
+    (own ≢ submitter → replies_to old submitter ≡ replies_to way submitter) → shelved submitter shelves old ≡ shelved submitter (set shelves own new) way
+replaced n submitter own shelves new old way long among here elsewhere =
     ⊎_elim
-    (λ (same : own ≡ submitter).
-    let shelf = shelf_at shelves submitter in
-    let there : with_reply shelf reply ≡ shelf_at (shelves_with shelves reply) submitter =
-    ap (λ k. with_reply (shelf_at shelves k) reply) (sym same) ∙ sym (get_or-set_same shelves own new empty_shelf (omega (arith, long, same, among))) ∙ ap (λ k. get_or (set shelves own new) k empty_shelf) same in
-    ap (λ b. shelf.received ++ (shelf.ring ++ (if b then reply ∷ others else others))) (ap (λ k. k == submitter) same ∙ eq-eqb submitter submitter refl)
-    ∙ ap (λ rs. shelf.received ++ rs) (sym (append_assoc shelf.ring (reply ∷ []) others)) ∙ ap (λ (s : Shelf). s.received ++ (s.ring ++ others)) there)
-    (λ (other : own ≢ submitter).
-    ap (λ b. (shelf_at shelves submitter).received ++ ((shelf_at shelves submitter).ring ++ (if b then reply ∷ others else others))) (ne_eqb own submitter other)
-    ∙ ap (λ (s : Shelf). s.received ++ (s.ring ++ others)) (sym (get_or-set_other shelves own submitter new empty_shelf (λ same. other (sym same)))))
+    (λ (same : own ≡ submitter). subst (λ k. shelved k shelves old ≡ shelved k (set shelves own new) way) same
+    (here ∙ ap (λ (s : Shelf). s.received ++ (s.ring ++ replies_to way own)) (sym (get_or-set_same shelves own new empty_shelf (omega (arith, long, same, among))))))
+    (λ (other : own ≢ submitter). ap (λ rs. (shelf_at shelves submitter).received ++ ((shelf_at shelves submitter).ring ++ rs)) (elsewhere other)
+    ∙ ap (λ (s : Shelf). s.received ++ (s.ring ++ replies_to way submitter)) (sym (get_or-set_other shelves own submitter new empty_shelf (λ same. other (sym same)))))
     (cases_eq own submitter)
 
+-- a reply goes from the way to its submitter's ring
 pub reply_push_holds : (Unrefused : Type 0) (clock n : ℕ) (pushed : List Ticket) (w : WorldState) (replies : List Replied) → w.replies ≡ replies →
     Holds Unrefused clock n pushed w → Holds Unrefused clock n pushed (unwrap_or (reply_push w replies) w)
 reply_push_holds Unrefused clock n pushed w [] r h = h
 reply_push_holds Unrefused clock n pushed w (reply ∷ replies) r h =
+    let own = reply.submitter in
+    let shelf = shelf_at w.shelves own in
+    let way = unrouted replies w.outcomes w.outcome in
     rerouted Unrefused clock n pushed w replies w.outcomes w.outcome (shelves_with w.shelves reply) h
     (record {
-      long = length-set w.shelves reply.submitter (with_reply (shelf_at w.shelves reply.submitter) reply) ∙ h.routed.long;
+      long = length-set w.shelves own (with_reply shelf reply) ∙ h.routed.long;
       each = λ submitter among. h.routed.each submitter among ∙ ap (λ (rs : List Replied). shelved submitter w.shelves (unrouted rs w.outcomes w.outcome)) r
-          ∙ given_keeps n submitter w.shelves reply (unrouted replies w.outcomes w.outcome) h.routed.long among;
+          ∙ replaced n submitter own w.shelves (with_reply shelf reply) (reply ∷ way) way h.routed.long among
+          (rw (eq-eqb own own refl) (ap (λ rs. shelf.received ++ rs) (sym (append_assoc shelf.ring (reply ∷ []) (replies_to way own))))) (λ other. rw (ne_eqb own submitter other) refl);
     })
 
 -- ---- the submitters
-
-taken_keeps : (n submitter own : ℕ) (shelves : List Shelf) (reply : Replied) (ring way : List Replied) → length shelves ≡ n → submitter < n → (shelf_at shelves own).ring ≡ reply ∷ ring →
-    shelved submitter shelves way ≡ shelved submitter (set shelves own (record { ring = ring; received = (shelf_at shelves own).received ++ reply ∷ [] })) way
-taken_keeps n submitter own shelves reply ring way long among e =
-    let new : Shelf = record { ring = ring; received = (shelf_at shelves own).received ++ reply ∷ [] } in
-    let others = replies_to way submitter in
-    ⊎_elim
-    (λ (same : own ≡ submitter).
-    let there : new ≡ shelf_at (set shelves own new) submitter = sym (get_or-set_same shelves own new empty_shelf (omega (arith, long, same, among))) ∙ ap (λ k. get_or (set shelves own new) k empty_shelf) same in
-    ap (λ k. (shelf_at shelves k).received ++ ((shelf_at shelves k).ring ++ others)) (sym same) ∙ ap (λ rs. (shelf_at shelves own).received ++ (rs ++ others)) e
-    ∙ sym (append_assoc (shelf_at shelves own).received (reply ∷ []) (ring ++ others)) ∙ ap (λ (s : Shelf). s.received ++ (s.ring ++ others)) there)
-    (λ (other : own ≢ submitter). ap (λ (s : Shelf). s.received ++ (s.ring ++ others)) (sym (get_or-set_other shelves own submitter new empty_shelf (λ same. other (sym same)))))
-    (cases_eq own submitter)
 
 pub reply_pop_holds : (Unrefused : Type 0) (clock n : ℕ) (pushed : List Ticket) (w : WorldState) (own : ℕ) (ring : List Replied) → (shelf_at w.shelves own).ring ≡ ring →
     Holds Unrefused clock n pushed w → Holds Unrefused clock n pushed (unwrap_or (reply_pop w own (after_pop_of (shelf_at w.shelves own) ring)) w)
 reply_pop_holds Unrefused clock n pushed w own [] e h = h
 reply_pop_holds Unrefused clock n pushed w own (reply ∷ ring) e h =
+    let received = (shelf_at w.shelves own).received in
+    let new : Shelf = record { ring = ring; received = received ++ reply ∷ [] } in
+    let way = unrouted w.replies w.outcomes w.outcome in
     rerouted Unrefused clock n pushed w w.replies w.outcomes w.outcome _ h
     (record {
-      long = length-set w.shelves own (record { ring = ring; received = (shelf_at w.shelves own).received ++ reply ∷ [] }) ∙ h.routed.long;
-      each = λ submitter among. h.routed.each submitter among ∙ taken_keeps n submitter own w.shelves reply ring (unrouted w.replies w.outcomes w.outcome) h.routed.long among e;
+      long = length-set w.shelves own new ∙ h.routed.long;
+      each = λ submitter among. h.routed.each submitter among
+          ∙ replaced n submitter own w.shelves new way way h.routed.long among (ap (λ rs. received ++ (rs ++ replies_to way own)) e ∙ sym (append_assoc received (reply ∷ []) (ring ++ replies_to way own))) (λ other. refl);
     })
 
 -- ---- a push
