@@ -1,6 +1,6 @@
 -- What a front and a ledger came to is what is due, and the report on it is lawful.
 use Rattle.std.proofs.Common.{refl, sym, ap, subst, ◌∙◌, arith, ◌≡◌, ◌<◌, ◌≤◌, ℕ, zero, suc, ◌+◌, Bool, true, false, List, [], ◌∷◌, ◌++◌, take, drop, length, length-append, length-take, append_assoc, append-nil, Option, Some, None}
-use Rattle.std.specs.Prelude.{◌==◌, ◌||◌, slice_get, is_some, IfSome, filter, if◌then◌else◌}
+use Rattle.std.specs.Prelude.{◌==◌, slice_get, is_some, IfSome, filter, if◌then◌else◌}
 use Rattle.std.specs.List.{AllByRecursion}
 use Rattle.std.proofs.lemmas.Bool.{le-leb, lt-leb, eq-eqb, cond_both, both_ways, or_parts, or_from, or_right}
 use Rattle.std.proofs.lemmas.List.{take-append-drop, drop_all}
@@ -79,9 +79,8 @@ none_told : (clock k : ℕ) (journal before : List Work) (items : List Item) →
 none_told clock k journal before [] all k_is = refl
 none_told clock k journal before (item.Packet job ∷ items) all k_is =
     let one = work_of job ∷ [] in
-    ap (λ ws. is_stopped (outcome_at clock ws (Ahead k)) || tell_a_stop (all_due_from clock journal (Ahead (k + 1)) items)) all
-    ∙ ap (λ o. is_stopped o || tell_a_stop (all_due_from clock journal (Ahead (k + 1)) items)) (outcome_here clock k (replay clock before) before job (ahead items) k_is refl)
-    ∙ none_told clock (k + 1) journal (before ++ one) items (all ∙ sym (append_assoc before one (ahead items))) (omega (arith, k_is, length-append before one))
+    let here = ap (λ ws. outcome_at clock ws (Ahead k)) all ∙ outcome_here clock k (replay clock before) before job (ahead items) k_is refl in
+    rw here (none_told clock (k + 1) journal (before ++ one) items (all ∙ sym (append_assoc before one (ahead items))) (omega (arith, k_is, length-append before one)))
 none_told clock k journal before (item.Pulse moment ∷ items) all k_is =
     let one = work.Pulse moment ∷ [] in
     none_told clock (k + 1) journal (before ++ one) items (all ∙ sym (append_assoc before one (ahead items))) (omega (arith, k_is, length-append before one))

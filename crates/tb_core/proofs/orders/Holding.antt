@@ -123,40 +123,30 @@ pop_holds Unrefused refused clock n pushed w [] (ticket ∷ queue) p q u h =
     (λ is. goes_on HasJobs refused w.front ticket.sender ticket.item next (stepped refused w.front ticket h.sent.clear) (u is) (h.goes is).front) sent
 
 -- a parcel goes to the batch ring, from those to push or as the group held
-sent_parcel : (queue : List Ticket) (applied : List Passage) (front next : FrontState) (parcels others batches : List Parcel) (p : Parcel) → HasJobs p → AllHaveJobs others → IsClear next →
-    next.closed ≡ front.closed → next.stopped ≡ front.stopped → all_passages_in parcels ++ held_by front ≡ passages_in p ++ (all_passages_in others ++ held_by next) → AreSent queue applied front parcels batches → AreSent queue applied next others (batches ++ p ∷ [])
-sent_parcel queue applied front next parcels others batches p has all clear closed stopped list sent =
-    let rest = all_passages_in others ++ held_by next in
-    let spelt : all_passages_in (batches ++ p ∷ []) ≡ all_passages_in batches ++ passages_in p = flat_map-append passages_in batches (p ∷ []) ∙ ap (λ l. all_passages_in batches ++ l) (append-nil (passages_in p)) in
-    let way : on_the_way front parcels batches ≡ on_the_way next others (batches ++ p ∷ []) =
-    ap (λ l. all_passages_in batches ++ l) list ∙ sym (append_assoc (all_passages_in batches) (passages_in p) rest) ∙ ap (λ l. l ++ rest) (sym spelt) in
-    record {
-      passes = subst (Passes (items_in queue) next.closed next.stopped) (ap (λ l. applied ++ l) way)
-          (subst (λ b. Passes (items_in queue) b next.stopped (applied ++ on_the_way front parcels batches)) (sym closed)
-          (subst (λ b. Passes (items_in queue) front.closed b (applied ++ on_the_way front parcels batches)) (sym stopped) sent.passes));
-      clear = clear;
-      parcel_jobs = all;
-      batch_jobs = all-push HasJobs batches p sent.batch_jobs has;
-    }
+sent_parcel : (queue : List Ticket) (applied : List Passage) (front : FrontState) (held : List Numbered) (parcels others batches : List Parcel) (p : Parcel) → HasJobs p → AllHaveJobs others → IsClear (with_group front held) →
+    all_passages_in parcels ++ held_by front ≡ passages_in p ++ (all_passages_in others ++ map Admitted held) → AreSent queue applied front parcels batches → AreSent queue applied (with_group front held) others (batches ++ p ∷ [])
+sent_parcel queue applied front held parcels others batches p has all clear list sent =
+    let way : on_the_way front parcels batches ≡ on_the_way (with_group front held) others (batches ++ p ∷ []) = rw list (simp (flat_map-append passages_in batches (p ∷ []), append-nil, append_assoc)) in
+    record { passes = rw way at sent.passes; clear = clear; parcel_jobs = all; batch_jobs = all-push HasJobs batches p sent.batch_jobs has }
 
 pub batch_push_holds : (Unrefused : Type 0) (clock n : ℕ) (pushed : List Ticket) (w : WorldState) (parcels : List Parcel) (held : List Numbered) → w.parcels ≡ parcels → w.front.held ≡ held →
     Holds Unrefused clock n pushed w → Holds Unrefused clock n pushed (unwrap_or (batch_push w parcels held) w)
 batch_push_holds Unrefused clock n pushed w (p ∷ parcels) held e g h =
     let sent = subst (λ ps. AreSent h.taken h.applied w.front ps w.batches) e h.sent in
     batched Unrefused clock n pushed h.taken w.queue w w.front parcels (w.batches ++ p ∷ []) w.last_sent h h.split (λ is. (h.goes is).front)
-    (sent_parcel h.taken h.applied w.front w.front (p ∷ parcels) parcels w.batches p sent.parcel_jobs.0 sent.parcel_jobs.1 sent.clear refl refl (append_assoc (passages_in p) (all_passages_in parcels) (held_by w.front)) sent)
+    (sent_parcel h.taken h.applied w.front w.front.held (p ∷ parcels) parcels w.batches p sent.parcel_jobs.0 sent.parcel_jobs.1 sent.clear (append_assoc (passages_in p) (all_passages_in parcels) (held_by w.front)) sent)
 batch_push_holds Unrefused clock n pushed w [] (job ∷ jobs) e g h =
     let group = parcel.Batch (job ∷ jobs) in
     let list : all_passages_in w.parcels ++ held_by w.front ≡ passages_in group ++ (all_passages_in w.parcels ++ []) =
     ap (λ (ps : List Parcel). all_passages_in ps ++ held_by w.front) e ∙ ap (map Admitted) g ∙ sym (append-nil (passages_in group)) ∙ ap (λ (ps : List Parcel). passages_in group ++ (all_passages_in ps ++ [])) (sym e) in
     batched Unrefused clock n pushed h.taken w.queue w (with_group w.front []) w.parcels (w.batches ++ group ∷ []) w.last_sent h h.split (λ is. (h.goes is).front)
-    (sent_parcel h.taken h.applied w.front (with_group w.front []) w.parcels w.parcels w.batches group (omega arith) h.sent.parcel_jobs (λ any. refl) refl refl list h.sent)
+    (sent_parcel h.taken h.applied w.front [] w.parcels w.parcels w.batches group (omega arith) h.sent.parcel_jobs (λ any. refl) list h.sent)
 batch_push_holds Unrefused clock n pushed w [] [] e g h = by (all_ended w.front && not w.last_sent)
   where
     by : (b : Bool) → Holds Unrefused clock n pushed (unwrap_or (if b then Some (record w { last_sent = true; batches = w.batches ++ parcel.Last ∷ [] }) else None) w)
     by true =
         batched Unrefused clock n pushed h.taken w.queue w w.front w.parcels (w.batches ++ parcel.Last ∷ []) true h h.split (λ is. (h.goes is).front)
-        (sent_parcel h.taken h.applied w.front w.front w.parcels w.parcels w.batches parcel.Last tt h.sent.parcel_jobs h.sent.clear refl refl refl h.sent)
+        (sent_parcel h.taken h.applied w.front w.front.held w.parcels w.parcels w.batches parcel.Last tt h.sent.parcel_jobs h.sent.clear refl h.sent)
     by false = h
 
 -- ---- the committer
@@ -168,11 +158,7 @@ routed_more : (n : ℕ) (answers : List Replied) (shelves : List Shelf) (way mor
 routed_more n answers shelves way more routed =
     record {
       long = routed.long;
-      each = λ submitter among.
-          let shelf = shelf_at shelves submitter in
-          replies_to-append submitter answers more ∙ ap (λ rs. rs ++ replies_to more submitter) (routed.each submitter among)
-          ∙ append_assoc shelf.received (shelf.ring ++ replies_to way submitter) (replies_to more submitter)
-          ∙ ap (λ rs. shelf.received ++ rs) (append_assoc shelf.ring (replies_to way submitter) (replies_to more submitter) ∙ ap (λ rs. shelf.ring ++ rs) (sym (replies_to-append submitter way more)));
+      each = λ submitter among. rw (replies_to-append submitter answers more, replies_to-append submitter way more, routed.each submitter among) (simp append_assoc);
     }
 
 left_replies : (outcome : Outcomes) → of_one (left_by outcome) ≡ replies_in outcome
@@ -200,8 +186,7 @@ batch_pop_holds Unrefused refused clock n pushed w None (p ∷ batches) o e goes
     let sent = subst (λ ps. AreSent h.taken h.applied w.front w.parcels ps) e h.sent in
     let more = replies_in next.outcomes in
     let routed = routed_more n h.answers w.shelves (unrouted w.replies w.outcomes None) more (subst (λ o. AreRouted n h.answers w.shelves (unrouted w.replies w.outcomes o)) o h.routed) in
-    let way : unrouted w.replies w.outcomes None ++ more ≡ unrouted w.replies w.outcomes (left_by next.outcomes) =
-    append_assoc w.replies (of_all w.outcomes ++ []) more ∙ ap (λ rs. w.replies ++ (rs ++ more)) (append-nil (of_all w.outcomes)) ∙ ap (λ rs. w.replies ++ (of_all w.outcomes ++ rs)) (sym (left_replies next.outcomes)) in
+    let way : unrouted w.replies w.outcomes None ++ more ≡ unrouted w.replies w.outcomes (left_by next.outcomes) = rw left_replies (simp (append-nil, append_assoc)) in
     record {
       taken = h.taken;
       applied = h.applied ++ passages_in p;
@@ -225,8 +210,7 @@ pub outcome_push_holds : (Unrefused : Type 0) (clock n : ℕ) (pushed : List Tic
     Holds Unrefused clock n pushed w → Holds Unrefused clock n pushed (unwrap_or (outcome_push w outcome) w)
 outcome_push_holds Unrefused clock n pushed w None o h = h
 outcome_push_holds Unrefused clock n pushed w (Some outcome) o h =
-    let way : unrouted w.replies w.outcomes (Some outcome) ≡ unrouted w.replies (w.outcomes ++ outcome ∷ []) None =
-    ap (λ rs. w.replies ++ rs) (sym (append-nil (of_all (w.outcomes ++ outcome ∷ [])) ∙ flat_map-append replies_in w.outcomes (outcome ∷ []) ∙ ap (λ rs. of_all w.outcomes ++ rs) (append-nil (replies_in outcome)))) in
+    let way : unrouted w.replies w.outcomes (Some outcome) ≡ unrouted w.replies (w.outcomes ++ outcome ∷ []) None = simp (flat_map-append replies_in w.outcomes (outcome ∷ []), append-nil) in
     rerouted Unrefused clock n pushed w w.replies (w.outcomes ++ outcome ∷ []) None w.shelves h
     (subst (AreRouted n h.answers w.shelves) (ap (unrouted w.replies w.outcomes) o ∙ way) h.routed)
 

@@ -14,7 +14,7 @@ use Rattle.tb_core.specs.declared.parcel.Parcel.TheVariants as parcel
 use Rattle.tb_core.specs.declared.world.event.Event.{Event}
 use Rattle.tb_core.specs.declared.world.event.Event.TheVariants.{Push, Pop, BatchPush, BatchPop, OutcomePush, OutcomePop, ReplyPush, ReplyPop}
 use Rattle.tb_core.specs.Due.{works_in}
-use Rattle.tb_core.specs.Front.{all_passages_in, passages_in, held_by}
+use Rattle.tb_core.specs.Front.{passages_in}
 use Rattle.tb_core.specs.Ledger.{LedgerState, Applied, works, must_stop, apply_step}
 use Rattle.tb_core.specs.world.Pushing.{newcomer}
 use Rattle.tb_core.specs.world.Shelf.{Shelf, empty_shelf, shelf_at}
@@ -45,25 +45,14 @@ goes_on ledger p goes room = by p room
 
 pub parcel_goes : (Unrefused : Type 0) (refused : Bool) (clock n : ℕ) (pushed : List Ticket) (w : WorldState) → (Unrefused → refused ≡ false) → length pushed ≤ 2 ^ 63 → Holds Unrefused clock n pushed w → GoesOn Unrefused refused w
 parcel_goes Unrefused refused clock n pushed w u short h = λ is p batches e.
-    let rest = all_passages_in batches ++ (all_passages_in w.parcels ++ held_by w.front) in
-    let way : works_in (on_the_way w.front w.parcels w.batches) ≡ works_in (passages_in p) ++ works_in rest =
-    ap (λ (ps : List Parcel). works_in (all_passages_in ps ++ (all_passages_in w.parcels ++ held_by w.front))) e
-    ∙ ap works_in (append_assoc (passages_in p) (all_passages_in batches) (all_passages_in w.parcels ++ held_by w.front)) ∙ works_in-append (passages_in p) rest in
-    let far = so_far clock (items_in h.taken) w.front.closed w.front.stopped h.applied (on_the_way w.front w.parcels w.batches) w.ledger h.answers h.sent.passes h.commits in
+    let on_way = on_the_way w.front w.parcels w.batches in
+    let rest = on_the_way w.front w.parcels batches in
+    let way : works_in on_way ≡ works_in (passages_in p) ++ works_in rest = rw e (ap works_in (append_assoc (passages_in p) _ _) ∙ works_in-append (passages_in p) rest) in
+    let far = so_far clock (items_in h.taken) w.front.closed w.front.stopped h.applied on_way w.ledger h.answers h.sent.passes h.commits in
     let all = far.whole (h.goes is).front (h.goes is).ledger in
-    let room : length (works w.ledger) + length (works_in (passages_in p)) ≤ 2 ^ 63 =
-    omega (
-      arith,
-      short,
-      ap length way,
-      length-append (works_in (passages_in p)) (works_in rest),
-      ap length all,
-      length-append (works w.ledger) (works_in (on_the_way w.front w.parcels w.batches)),
-      length-ahead (items_in h.taken),
-      length-map h.taken (λ (ticket : Ticket). ticket.item),
-      ap length h.split,
-      length-append h.taken w.queue,
-    ) in
+    let few : length (ahead (items_in h.taken)) ≤ length pushed = omega (arith, length-ahead (items_in h.taken), length-map h.taken (λ (ticket : Ticket). ticket.item), ap length h.split, length-append h.taken w.queue) in
+    let sum = ap length way ∙ length-append (works_in (passages_in p)) (works_in rest) in
+    let room : length (works w.ledger) + length (works_in (passages_in p)) ≤ 2 ^ 63 = omega (arith, short, few, sum, ap length all, length-append (works w.ledger) (works_in on_way)) in
     subst (λ b. (apply_step b w.ledger p).ledger.stopped ≡ false) (sym (u is)) (goes_on w.ledger p (h.goes is).ledger room)
 
 -- ---- one event

@@ -58,19 +58,19 @@ module _ (U : Type 0) (clock n : ℕ) (pushed : List Ticket) (w : WorldState) (h
 
   is_lawful_so_far : IsLawfulSoFar clock n pushed w
   is_lawful_so_far =
+      let before = items_in h.taken in
+      let after = items_in w.queue in
+      let journal = works w.ledger in
       record {
         submitted = h.senders.submitted;
         numbered = numbered_by n pushed w.senders h.senders;
-        committed = through (works w.ledger) (ahead (items_in h.taken)) (ahead (items_in pushed)) (far.behind, far.committed)
-            (subst (λ items. IsPrefix (ahead (items_in h.taken)) (ahead items)) (sym items_are) (ahead-first (items_in h.taken) (items_in w.queue)));
+        committed = rw items_are (through journal (ahead before) (ahead (before ++ after)) (far.behind, far.committed) (ahead-first before after));
         received = λ submitter among.
             let shelf = shelf_at w.shelves submitter in
             let others = shelf.ring ++ replies_to (unrouted w.replies w.outcomes w.outcome) submitter in
-            let all = all_due clock (items_in pushed) (works w.ledger) in
-            let answers : IsPrefix h.answers all =
-            through h.answers (all_due clock (items_in h.taken) (works w.ledger)) all (far.later, far.due)
-            (subst (λ items. IsPrefix (all_due clock (items_in h.taken) (works w.ledger)) (all_due clock items (works w.ledger))) (sym items_are) (due-prefix clock (works w.ledger) (Ahead 0) (items_in h.taken) (items_in w.queue))) in
-            through shelf.received (replies_to h.answers submitter) (replies_to all submitter) (others, sym (h.routed.each submitter among)) (replies_to-prefix submitter h.answers all answers);
+            let all = all_due clock (before ++ after) journal in
+            let answers = through h.answers (all_due clock before journal) all (far.later, far.due) (due-prefix clock journal (Ahead 0) before after) in
+            rw items_are (through shelf.received (replies_to h.answers submitter) (replies_to all submitter) (others, sym (h.routed.each submitter among)) (replies_to-prefix submitter h.answers all answers));
       }
 
   none_stopped : Goes w.front w.ledger → NoneStopped n w
