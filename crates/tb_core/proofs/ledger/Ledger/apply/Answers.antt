@@ -1,17 +1,23 @@
-use Rattle.std.proofs.Common.{◌≡◌, true, false}
-use Rattle.tb_core.specs.Ledger.{apply_result, apply_step}
-use Rattle.tb_core.proofs.Grouped.{has_applied}
+use Rattle.std.proofs.Common.{true, false}
+use Rattle.tb_core.specs.Ledger.{apply_result}
+use Rattle.tb_core.proofs.Grouped.{HasApplied, has_applied}
 use Rattle.tb_core.proofs.ledger.Ledger.apply.Goals as goal
 
-pub returns-in-Ok : goal.returns-in-Ok
-returns-in-Ok c =
-    let has = has_applied false c.args.self.now c.args.parcel (apply_result c.try_apply.new.self c.in-Ok.outcomes) c.try_apply.ensures.some c.in-Ok.ensures.ok in
-    record { applied = (false, c.in-Ok.ensures.ok); commits = has.commits; joined = has.joined }
+applied : (c : goal.In-Ok) → HasApplied c.args.self.now c.args.parcel (apply_result c.try_apply.new.self c.in-Ok.outcomes)
+applied c = has_applied false c.args.self.now c.args.parcel _ c.try_apply.ensures.some c.in-Ok.ensures.ok
 
 -- the parcel came back, with the ledger as it was
-pub returns-in-Err : goal.returns-in-Err
-returns-in-Err c =
-    let next = apply_result c.refuse.new.self c.refuse.result in
-    let applied : next ≡ apply_step true c.args.self.now c.args.parcel = cc (c.in-Err.ensures.err.0, c.in-Err.ensures.err.1, c.refuse.ensures.applied) in
-    let has = has_applied true c.args.self.now c.args.parcel next c.try_apply.ensures.some applied in
-    record { applied = (true, applied); commits = has.commits; joined = has.joined }
+applied_refused : (c : goal.After-refuse) → HasApplied c.args.self.now c.args.parcel (apply_result c.refuse.new.self c.refuse.result)
+applied_refused c = has_applied true c.args.self.now c.args.parcel _ c.try_apply.ensures.some (cc (c.in-Err.ensures.err.0, c.in-Err.ensures.err.1, c.refuse.ensures.applied))
+
+pub returns-in-Ok-clause-commits : goal.returns-in-Ok-clause-commits
+returns-in-Ok-clause-commits c = (applied c).commits
+
+pub returns-in-Ok-clause-joined : goal.returns-in-Ok-clause-joined
+returns-in-Ok-clause-joined c = (applied c).joined
+
+pub returns-in-Err-clause-commits : goal.returns-in-Err-clause-commits
+returns-in-Err-clause-commits c = (applied_refused c).commits
+
+pub returns-in-Err-clause-joined : goal.returns-in-Err-clause-joined
+returns-in-Err-clause-joined c = (applied_refused c).joined
