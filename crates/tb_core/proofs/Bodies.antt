@@ -1,14 +1,14 @@
 -- The events of a batch's body.
-use Rattle.std.proofs.Common.{refl, sym, ap, subst, ◌∙◌, arith, ◌≡◌, ◌≤◌, ℕ, zero, suc, ◌+◌, ◌*◌, ◌/◌, ◌%◌, Bool, true, false, not, List, [], ◌∷◌, ◌++◌, map, take, drop, length, length-append, Some}
+use Rattle.std.proofs.Common.{refl, sym, ap, subst, ◌∙◌, arith, ◌≡◌, ◌≤◌, ℕ, zero, suc, ◌+◌, ◌*◌, ◌/◌, ◌%◌, Bool, true, false, not, List, [], ◌∷◌, ◌++◌, map, drop, length, length-append, Some}
 use Rattle.std.specs.Prelude.{◌==◌, IsOk, Result, Err, unwrap_or, if◌then◌else◌}
 use Rattle.std.specs.Simd.{first_chunks}
+use Rattle.std.proofs.lemmas.Nat.{div-add-mod'}
 use Rattle.std.proofs.lemmas.List.{map-append, take-append-le, drop-append-le, length-drop}
 use Rattle.std.proofs.Math.Seq.{take-append_seam, drop-append_seam}
 use Rattle.std.proofs.lemmas.Bool.{eqb-true, and_parts}
-use Rattle.tb_layout.specs.Events.{rows, events_of}
+use Rattle.tb_layout.specs.Events.{rows}
 use Rattle.tb_work.specs.Admission.{event_size, admission_of, admission_of_size, count_of, count_of_size}
 use Rattle.tb_work.specs.Job.{Numbered, stub_of}
-use Rattle.tb_layout.specs.Work.{Packet as Packet_of}
 use Rattle.tb_work.specs.Work.{work_of}
 use Rattle.tb_work.specs.declared.packet.Packet.{Packet}
 use Rattle.tb_work.specs.declared.refusal.Refusal.{Refusal}
@@ -27,16 +27,12 @@ chunks-append size (suc k) m xs ys h =
     let fits : size ≤ length xs = grind (arith, h) in
     let rest : length (drop size xs) ≡ k * size = omega (arith, length-drop size xs, h) in
     let count : suc k + m ≡ suc (k + m) = omega arith in
-    ap (λ n. first_chunks size n (xs ++ ys)) count
-    ∙ ap (λ front. front ∷ first_chunks size (k + m) (drop size (xs ++ ys))) (take-append-le size xs ys fits)
-    ∙ ap (λ back. take size xs ∷ first_chunks size (k + m) back) (drop-append-le size xs ys fits)
-    ∙ ap (λ rest_chunks. take size xs ∷ rest_chunks) (chunks-append size k m (drop size xs) ys rest)
+    rw (count, take-append-le size xs ys fits, drop-append-le size xs ys fits, chunks-append size k m (drop size xs) ys rest) refl
 
-rows-append_128 : (xs ys : List ℕ) → length xs % 128 ≡ 0 → rows 128 (xs ++ ys) ≡ rows 128 xs ++ rows 128 ys
-rows-append_128 xs ys h =
-    let whole : length xs ≡ length xs / 128 * 128 = omega (arith, h) in
-    let count : length (xs ++ ys) / 128 ≡ length xs / 128 + length ys / 128 = omega (arith, h, length-append xs ys) in
-    ap (λ n. first_chunks 128 n (xs ++ ys)) count ∙ chunks-append 128 (length xs / 128) (length ys / 128) xs ys whole
+rows-append_128 : (xs ys : List ℕ) → length xs / 128 * 128 ≡ length xs → rows 128 (xs ++ ys) ≡ rows 128 xs ++ rows 128 ys
+rows-append_128 xs ys whole =
+    let count : length (xs ++ ys) / 128 ≡ length xs / 128 + length ys / 128 = omega (arith, whole, length-append xs ys) in
+    ap (λ n. first_chunks 128 n (xs ++ ys)) count ∙ chunks-append 128 (length xs / 128) (length ys / 128) xs ys (sym whole)
 
 -- ---- packets that were admitted
 
@@ -45,9 +41,11 @@ not_refused true refusal rest ok = refl
 not_refused false refusal rest ok = cc
 
 -- the data is whole events
-pub whole_events : (packet : Packet) (size : ℕ) → event_size packet.operation ≡ Some size → IsOk (admission_of 8190 packet) → length packet.bytes % size ≡ 0
+pub whole_events : (packet : Packet) (size : ℕ) → event_size packet.operation ≡ Some size → IsOk (admission_of 8190 packet) → length packet.bytes / size * size ≡ length packet.bytes
 whole_events packet size is ok =
-    eqb-true (length packet.bytes % size) 0 (not_refused (length packet.bytes % size == 0) InvalidDataSize _ (subst (λ s. IsOk (admission_of_size 8190 packet.bytes s)) is ok))
+    let count = length packet.bytes in
+    let whole : count % size ≡ 0 = eqb-true (count % size) 0 (not_refused (count % size == 0) InvalidDataSize _ (subst (λ s. IsOk (admission_of_size 8190 packet.bytes s)) is ok)) in
+    omega (arith, whole, div-add-mod' count size)
 
 -- its operation, of a batch's first packet
 pub first_is : (operation : ℕ) (job : Numbered) (jobs : List Numbered) → are_of operation (job ∷ jobs) ≡ true → (job.packet.operation ≡ operation) × (are_of operation jobs ≡ true)
@@ -56,20 +54,14 @@ first_is operation job jobs all =
     (eqb-true job.packet.operation operation parts.0, parts.1)
 
 -- the stubs cut the body to its packets
-pub packets_of-jobs : (operation size : ℕ) (jobs : List Numbered) → event_size operation ≡ Some size → ((n : ℕ) → n % size ≡ 0 → n / size * size ≡ n) → are_of operation jobs ≡ true → AreAdmitted jobs →
-    packets_of operation (body_of jobs) (map stub_of jobs) ≡ map work_of jobs
-packets_of-jobs operation size [] is exact one all = refl
-packets_of-jobs operation size (job ∷ jobs) is exact one all =
+pub packets_of-jobs : (operation size : ℕ) (jobs : List Numbered) → event_size operation ≡ Some size → are_of operation jobs ≡ true → AreAdmitted jobs → packets_of operation (body_of jobs) (map stub_of jobs) ≡ map work_of jobs
+packets_of-jobs operation size [] is one all = refl
+packets_of-jobs operation size (job ∷ jobs) is one all =
     let first = first_is operation job jobs one in
     let own : event_size job.packet.operation ≡ Some size = ap event_size first.0 ∙ is in
     let bytes = job.packet.bytes in
-    let cut : count_of job.packet * size_of operation ≡ length bytes =
-    ap (λ s. count_of_size bytes s * size_of operation) own ∙ ap (λ s. length bytes / size * unwrap_or s 0) is ∙ exact (length bytes) (whole_events job.packet size own all.0) in
-    ap (λ n. Packet_of job.submitter job.number (events_of operation (take n (bytes ++ body_of jobs))) ∷ packets_of operation (drop n (bytes ++ body_of jobs)) (map stub_of jobs)) cut
-    ∙ ap (λ front. Packet_of job.submitter job.number (events_of operation front) ∷ packets_of operation (drop (length bytes) (bytes ++ body_of jobs)) (map stub_of jobs)) (take-append_seam bytes (body_of jobs))
-    ∙ ap (λ back. Packet_of job.submitter job.number (events_of operation bytes) ∷ packets_of operation back (map stub_of jobs)) (drop-append_seam bytes (body_of jobs))
-    ∙ ap (λ op. Packet_of job.submitter job.number (events_of op bytes) ∷ packets_of operation (body_of jobs) (map stub_of jobs)) (sym first.0)
-    ∙ ap (λ works. work_of job ∷ works) (packets_of-jobs operation size jobs is exact first.1 all.1)
+    let cut : count_of job.packet * size_of operation ≡ length bytes = ap (λ s. count_of_size bytes s * size_of operation) own ∙ ap (λ s. length bytes / size * unwrap_or s 0) is ∙ whole_events job.packet size own all.0 in
+    rw (cut, take-append_seam bytes (body_of jobs), drop-append_seam bytes (body_of jobs), packets_of-jobs operation size jobs is first.1 all.1, first.0) refl
 
 -- the events of the body are those of its packets, laid one behind the other
 pub laid-rows : {Event : Type 0} (f : List ℕ → Event) (operation : ℕ) (jobs : List Numbered) → event_size operation ≡ Some 128 → are_of operation jobs ≡ true → AreAdmitted jobs →

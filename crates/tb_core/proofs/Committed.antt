@@ -1,68 +1,57 @@
 -- What a ledger made of passages, and of one parcel more.
-use Rattle.std.proofs.Common.{refl, sym, ap, ◌∙◌, arith, ◌≡◌, ◌<◌, ◌≤◌, ℕ, zero, suc, ◌+◌, Bool, true, false, List, [], ◌∷◌, ◌++◌, map, take, length, length-append, append_assoc, append-nil, Option, Some, None}
-use Rattle.std.specs.Prelude.{◌||◌, slice_get, if◌then◌else◌}
+use Rattle.std.proofs.Common.{refl, sym, ap, ◌∙◌, arith, ◌≡◌, ◌<◌, ◌≤◌, ℕ, zero, suc, ◌+◌, Bool, true, false, List, [], ◌∷◌, ◌++◌, map, length, length-append, append_assoc, append-nil, Some}
+use Rattle.std.specs.Prelude.{slice_get}
+use Rattle.std.specs.List.{AllByRecursion}
 use Rattle.std.proofs.Math.Seq.{take-append_seam}
+use Rattle.std.proofs.lemmas.Bool.{cond_both, or_parts}
+use Rattle.std.proofs.lemmas.Grind.{fold-append}
+use Rattle.std.proofs.lemmas.List.{take-append-le}
+use Rattle.std.proofs.lemmas.Option.{slice_get_past}
 use Rattle.tb_layout.specs.Work.{Work}
 use Rattle.tb_layout.specs.Work as work
-use Rattle.tb_machine.specs.Replay.{State, opening, answer_of, answer_to, replay, after_work, after_packet}
+use Rattle.tb_machine.specs.Replay.{State, opening, answer_of, replay, after_work, after_packet}
 use Rattle.tb_work.specs.Job.{Numbered, events_in}
 use Rattle.tb_work.specs.Reply.{Replied, reply_with}
 use Rattle.tb_work.specs.Work.{work_of}
-use Rattle.tb_work.specs.declared.outcome.Outcome.{Outcome}
 use Rattle.tb_work.specs.declared.outcome.Outcome.TheVariants as outcome
 use Rattle.tb_core.specs.declared.parcel.Parcel.{Parcel}
 use Rattle.tb_core.specs.declared.parcel.Parcel.TheVariants as parcel
-use Rattle.tb_core.specs.declared.outcomes.Outcomes.{Outcomes}
-use Rattle.tb_core.specs.declared.outcomes.Outcomes.TheVariants.{Cut, Nothing}
+use Rattle.tb_core.specs.declared.outcomes.Outcomes.TheVariants.{Cut}
 use Rattle.tb_core.proofs.Answering.{answers_from}
-use Rattle.tb_core.specs.Due.{outcome_with, outcome_at, outcome_of, works_in, replies_from}
+use Rattle.tb_core.specs.Due.{outcome_at, outcome_of, works_in, replies_from}
 use Rattle.tb_core.specs.Front.{passages_in}
 use Rattle.tb_core.specs.Ledger.{LedgerState, IsLedger, Applied, apply_result, works, must_stop, with_stop, with_entry, step_of_batch, apply_step}
 use Rattle.tb_core.specs.Passage.{Passage, Admitted, Pulsed, Returned, Ahead}
-use Rattle.tb_core.specs.Run.{replies_in, Commits, HasPackets}
-use Rattle.tb_core.proofs.Growing.{works-more, fold-append}
+use Rattle.tb_core.specs.Run.{replies_in, Commits}
+use Rattle.tb_core.proofs.Growing.{works-more}
+
+-- what is so of each is so with one more
+pub all-push : {X : Type 0} (P : X → Type 0) (xs : List X) (x : X) → AllByRecursion P xs → P x → AllByRecursion P (xs ++ x ∷ [])
+all-push P [] x all is = (is, tt)
+all-push P (first ∷ xs) x all is = (all.0, all-push P xs x all.1 is)
 
 -- ---- a place within the journal, and after it
-
-take_within : {X : Type 0} (n : ℕ) (xs ys : List X) → n ≤ length xs → take n (xs ++ ys) ≡ take n xs
-take_within zero xs ys h = refl
-take_within (suc n) [] ys h = absurd (omega (arith, h))
-take_within (suc n) (x ∷ xs) ys h = ap (λ zs. x ∷ zs) (take_within n xs ys (omega (arith, h)))
 
 get_within : {X : Type 0} (n : ℕ) (xs ys : List X) → n < length xs → slice_get (xs ++ ys) n ≡ slice_get xs n
 get_within n [] ys h = absurd (omega (arith, h))
 get_within zero (x ∷ xs) ys h = refl
 get_within (suc n) (x ∷ xs) ys h = get_within n xs ys (omega (arith, h))
 
-get_past : {X : Type 0} (n : ℕ) (xs : List X) → length xs ≤ n → slice_get xs n ≡ None
-get_past n [] h = refl
-get_past zero (x ∷ xs) h = absurd (omega (arith, h))
-get_past (suc n) (x ∷ xs) h = get_past n xs (omega (arith, h))
-
 at_seam : {X : Type 0} (xs : List X) (y : X) (ys : List X) → slice_get (xs ++ y ∷ ys) (length xs) ≡ Some y
 at_seam [] y ys = refl
 at_seam (x ∷ xs) y ys = at_seam xs y ys
 
-abbrev told : ℕ → ℕ → List Work → Option Work → Outcome
-told clock place before found = outcome_with place (answer_to (replay clock before) found)
-
 outcome_within : (clock place : ℕ) (journal others : List Work) → place < length journal → outcome_at clock (journal ++ others) (Ahead place) ≡ outcome_at clock journal (Ahead place)
-outcome_within clock place journal others h =
-    ap (λ before. told clock place before (slice_get (journal ++ others) place)) (take_within place journal others (omega (arith, h)))
-    ∙ ap (λ found. told clock place (take place journal) found) (get_within place journal others h)
+outcome_within clock place journal others h = rw (take-append-le place journal others (omega (arith, h)), get_within place journal others h) refl
 
 pub outcome_past : (clock place : ℕ) (journal : List Work) → length journal ≤ place → outcome_at clock journal (Ahead place) ≡ outcome.Stopped
-outcome_past clock place journal h = ap (λ found. told clock place (take place journal) found) (get_past place journal h)
+outcome_past clock place journal h = rw (slice_get_past journal place h) refl
 
 -- the packet at a place, with those before it
 pub outcome_here : (clock place : ℕ) (state : State) (before : List Work) (job : Numbered) (rest : List Work) → place ≡ length before → state ≡ replay clock before →
     outcome_at clock (before ++ work_of job ∷ rest) (Ahead place) ≡ outcome.Committed place (answer_of state (events_in job.packet))
 outcome_here clock place state before job rest place_is state_is =
-    let others = work_of job ∷ rest in
-    ap (λ n. outcome_with place (answer_to (replay clock (take n (before ++ others))) (slice_get (before ++ others) n))) place_is
-    ∙ ap (λ its. told clock place its (slice_get (before ++ others) (length before))) (take-append_seam before others)
-    ∙ ap (λ found. told clock place before found) (at_seam before (work_of job) rest)
-    ∙ ap (λ s. outcome.Committed place (answer_of s (events_in job.packet))) (sym state_is)
+    rw (state_is, place_is, take-append_seam before (work_of job ∷ rest), at_seam before (work_of job) rest) refl
 
 -- ---- replies to passages
 
@@ -120,102 +109,84 @@ pub batch_applied : (ledger : LedgerState) (state : State) (places : ℕ) (group
     groups ≡ ledger.groups ++ map work_of jobs ∷ [] → jobs ≡ batch → replies ≡ replies_from ledger.opening (works ledger ++ map work_of jobs) places (map Admitted jobs) → must_stop false ledger (length batch) ≡ false →
     apply_result (record { opening = ledger.opening; groups = groups; stopped = ledger.stopped }) (Cut replies) ≡ apply_step false ledger (parcel.Batch batch)
 batch_applied ledger state places groups jobs batch replies is groups_is same replies_is goes =
-    let next = with_entry ledger (map work_of batch) in
-    let answers = replies_is ∙ ap (λ js. replies_from ledger.opening (works ledger ++ map work_of js) places (map Admitted js)) same
-    ∙ ap (λ n. replies_from ledger.opening (works ledger ++ map work_of batch) n (map Admitted batch)) is.counted
-    ∙ ap (λ ws. replies_from ledger.opening ws (length (works ledger)) (map Admitted batch)) (sym (works-more ledger.groups (map work_of batch))) in
-    ap (λ gs. apply_result (record { opening = ledger.opening; groups = gs; stopped = ledger.stopped }) (Cut replies)) (groups_is ∙ ap (λ js. ledger.groups ++ map work_of js ∷ []) same)
-    ∙ ap (λ rs. apply_result next (Cut rs)) answers ∙ ap (λ b. if b then apply_result (with_stop ledger) (Cut (map (reply_with outcome.Stopped) batch)) else step_of_batch ledger batch) (sym goes)
+    rw (goes, groups_is, replies_is, is.counted, same, works-more ledger.groups (map work_of batch)) refl
 
 -- ---- a parcel more
 
-pub or_parts : (a b : Bool) → (a || b) ≡ false → (a ≡ false) × (b ≡ false)
-or_parts true b none = cc
-or_parts false b none = (refl, none)
+-- a batch has a packet
+abbrev pub HasJobs : Parcel → Type 0
+HasJobs (parcel.Batch jobs) = 0 < length jobs
+HasJobs (parcel.Pulse moment) = Unit {0}
+HasJobs (parcel.Return job cause) = Unit {0}
+HasJobs parcel.Last = Unit {0}
 
 nothing_after : {X : Type 0} (xs : List X) (y : X) (ys : List X) → xs ++ y ∷ ys ≡ [] → ⊥
 nothing_after [] y ys e = cc
 nothing_after (x ∷ xs) y ys e = cc
 
-module _ (clock : ℕ) (sent : List Passage) (ledger next : LedgerState) (replies : List Replied) (outcomes : Outcomes) (is : Commits clock sent ledger replies) where
+module _ (clock : ℕ) (sent : List Passage) (ledger : LedgerState) (replies : List Replied) (is : Commits clock sent ledger replies) where
   abbrev journal : List Work
   journal = works ledger
 
-  abbrev ThenCommits : List Passage → Type 0
-  ThenCommits passages = Commits clock (sent ++ passages) next (replies ++ replies_in outcomes)
+  abbrev ThenCommits : List Passage → LedgerState → List Replied → Type 0
+  ThenCommits passages next answers = Commits clock (sent ++ passages) next (replies ++ answers)
 
   -- all of them are committed
-  entered : (group : List Work) (passages : List Passage) → ledger.stopped ≡ false → next ≡ with_entry ledger group → works_in passages ≡ group →
-      replies_in outcomes ≡ replies_from clock (journal ++ group) (length journal) passages → ThenCommits passages
-  entered group passages goes next_is group_is answers =
-      let longer : works next ≡ journal ++ group = ap works next_is ∙ works-more ledger.groups group in
+  entered : (group : List Work) (passages : List Passage) (answers : List Replied) → ledger.stopped ≡ false → works_in passages ≡ group →
+      answers ≡ replies_from clock (works (with_entry ledger group)) (length journal) passages → ThenCommits passages (with_entry ledger group) answers
+  entered group passages answers goes group_is answers_are =
+      let longer : works (with_entry ledger group) ≡ journal ++ group = works-more ledger.groups group in
       let all : journal ≡ works_in sent = sym (append-nil journal) ∙ ap (λ ws. journal ++ ws) (sym (is.whole goes)) ∙ is.committed in
       let count : 0 + length (works_in sent) ≡ length journal = omega (arith, ap length all) in
+      let before : replies ≡ replies_from clock (journal ++ group) 0 sent = is.replied ∙ sym (replies_from-longer clock journal group 0 sent (omega (arith, count))) in
       record {
-        from = ap (λ (l : LedgerState). l.opening) next_is ∙ is.from;
+        from = is.from;
         behind = [];
-        committed = append-nil (works next) ∙ longer ∙ ap (λ ws. ws ++ group) all ∙ ap (λ ws. works_in sent ++ ws) (sym group_is) ∙ sym (works_in-append sent passages);
+        committed = append-nil _ ∙ longer ∙ ap (λ ws. ws ++ group) all ∙ ap (λ ws. works_in sent ++ ws) (sym group_is) ∙ sym (works_in-append sent passages);
         whole = λ any. refl;
-        unstopped = λ any. ap (λ (l : LedgerState). l.stopped) next_is ∙ goes;
-        replied = ap (λ rs. rs ++ replies_in outcomes) (is.replied ∙ sym (replies_from-longer clock journal group 0 sent (omega (arith, count))))
-            ∙ ap (λ rs. replies_from clock (journal ++ group) 0 sent ++ rs) (answers ∙ ap (λ n. replies_from clock (journal ++ group) n passages) (sym count))
-            ∙ sym (replies_from-append clock (journal ++ group) 0 sent passages) ∙ ap (λ ws. replies_from clock ws 0 (sent ++ passages)) (sym longer);
+        unstopped = λ any. goes;
+        replied = rw (replies_from-append clock (works (with_entry ledger group)) 0 sent passages, count, answers_are, longer, before) refl;
       }
 
   -- the journal stays, and what was to be committed stands after it
-  kept : (passages : List Passage) → next.opening ≡ ledger.opening → works next ≡ journal → (next.stopped ≡ false → (ledger.stopped ≡ false) × (works_in passages ≡ [])) →
-      (is.behind ++ works_in passages ≡ [] → next.stopped ≡ false) → ((place : ℕ) → length journal ≤ place → replies_in outcomes ≡ replies_from clock journal place passages) → ThenCommits passages
-  kept passages opens same goes stays answers =
-      let far : length journal ≤ 0 + length (works_in sent) = omega (arith, ap length is.committed, length-append journal is.behind) in
+  kept : (passages : List Passage) (stopped : Bool) (answers : List Replied) → (stopped ≡ false → (ledger.stopped ≡ false) × (works_in passages ≡ [])) → (is.behind ++ works_in passages ≡ [] → stopped ≡ false) →
+      ((place : ℕ) → length journal ≤ place → answers ≡ replies_from clock journal place passages) → ThenCommits passages (record ledger { stopped = stopped }) answers
+  kept passages stopped answers goes stays answers_are =
+      let after = answers_are (0 + length (works_in sent)) (omega (arith, ap length is.committed, length-append journal is.behind)) in
       record {
-        from = opens ∙ is.from;
+        from = is.from;
         behind = is.behind ++ works_in passages;
-        committed = ap (λ ws. ws ++ (is.behind ++ works_in passages)) same ∙ sym (append_assoc journal is.behind (works_in passages)) ∙ ap (λ ws. ws ++ works_in passages) is.committed ∙ sym (works_in-append sent passages);
+        committed = sym (append_assoc journal is.behind (works_in passages)) ∙ ap (λ ws. ws ++ works_in passages) is.committed ∙ sym (works_in-append sent passages);
         whole = λ on. (let both = goes on in ap (λ ws. ws ++ works_in passages) (is.whole both.0) ∙ both.1);
         unstopped = stays;
-        replied = ap (λ rs. rs ++ replies_in outcomes) is.replied ∙ ap (λ rs. replies_from clock journal 0 sent ++ rs) (answers (0 + length (works_in sent)) far)
-            ∙ sym (replies_from-append clock journal 0 sent passages) ∙ ap (λ ws. replies_from clock ws 0 (sent ++ passages)) (sym same);
+        replied = ap (λ rs. rs ++ answers) is.replied ∙ ap (λ rs. replies_from clock journal 0 sent ++ rs) after ∙ sym (replies_from-append clock journal 0 sent passages);
       }
 
   -- nothing of it was to be committed
-  pub aside : (passages : List Passage) → next ≡ ledger → works_in passages ≡ [] → ((place : ℕ) → replies_in outcomes ≡ replies_from clock journal place passages) → ThenCommits passages
-  aside passages next_is none answers =
-      kept passages (ap (λ (l : LedgerState). l.opening) next_is) (ap works next_is) (λ on. (sym (ap (λ (l : LedgerState). l.stopped) next_is) ∙ on, none))
-      (λ e. ap (λ (l : LedgerState). l.stopped) next_is ∙ is.unstopped (sym (append-nil is.behind) ∙ ap (λ ws. is.behind ++ ws) (sym none) ∙ e)) (λ place far. answers place)
+  aside : (passages : List Passage) (answers : List Replied) → works_in passages ≡ [] → ((place : ℕ) → answers ≡ replies_from clock journal place passages) → ThenCommits passages ledger answers
+  aside passages answers none answers_are =
+      kept passages ledger.stopped answers (λ on. (on, none)) (λ e. is.unstopped (sym (append-nil is.behind) ∙ ap (λ ws. is.behind ++ ws) (sym none) ∙ e)) (λ place far. answers_are place)
 
   -- the ledger is marked
-  halted : (first : Work) (others : List Work) (passages : List Passage) → next ≡ with_stop ledger → works_in passages ≡ first ∷ others →
-      ((place : ℕ) → length journal ≤ place → replies_in outcomes ≡ replies_from clock journal place passages) → ThenCommits passages
-  halted first others passages next_is some answers =
-      kept passages (ap (λ (l : LedgerState). l.opening) next_is) (ap works next_is) (λ on. (let e = sym (ap (λ (l : LedgerState). l.stopped) next_is) ∙ on in cc))
-      (λ e. absurd (nothing_after is.behind first others (ap (λ ws. is.behind ++ ws) (sym some) ∙ e))) answers
+  halted : (first : Work) (others : List Work) (passages : List Passage) (answers : List Replied) → works_in passages ≡ first ∷ others → ((place : ℕ) → length journal ≤ place → answers ≡ replies_from clock journal place passages) →
+      ThenCommits passages (with_stop ledger) answers
+  halted first others passages answers some answers_are = kept passages true answers (λ on. cc) (λ e. absurd (nothing_after is.behind first others (ap (λ ws. is.behind ++ ws) (sym some) ∙ e))) answers_are
 
-  abbrev next_of : Applied → LedgerState
-  next_of a = a.ledger
+  abbrev Then : List Passage → Applied → Type 0
+  Then passages next = ThenCommits passages next.ledger (replies_in next.outcomes)
 
-  abbrev replies_of : Applied → List Replied
-  replies_of a = replies_in a.outcomes
-
-  pub batch : (refused b : Bool) (jobs : List Numbered) → must_stop refused ledger (length jobs) ≡ b → 0 < length jobs →
-      apply_result next outcomes ≡ (if b then apply_result (with_stop ledger) (Cut (map (reply_with outcome.Stopped) jobs)) else step_of_batch ledger jobs) → ThenCommits (map Admitted jobs)
-  batch refused b [] h some e = absurd (omega (arith, some))
-  batch refused true (job ∷ jobs) h some e =
-      halted (work_of job) (map work_of jobs) (map Admitted (job ∷ jobs)) (ap next_of e) (works_in-admitted (job ∷ jobs))
-      (λ place far. ap replies_of e ∙ sym (replies_from-stopped clock journal place (job ∷ jobs) far))
-  batch refused false (job ∷ jobs) h some e =
-      let group = map work_of (job ∷ jobs) in
+  pub commits_more : (refused : Bool) (handed : Parcel) → HasJobs handed → Then (passages_in handed) (apply_step refused ledger handed)
+  commits_more refused (parcel.Batch []) some = absurd (omega (arith, some))
+  commits_more refused (parcel.Batch (job ∷ jobs)) some =
       let passages = map Admitted (job ∷ jobs) in
-      entered group passages (or_parts ledger.stopped _ h).0 (ap next_of e) (works_in-admitted (job ∷ jobs))
-      (ap replies_of e ∙ ap (λ start. replies_from start (works (with_entry ledger group)) (length journal) passages) is.from
-      ∙ ap (λ ws. replies_from clock ws (length journal) passages) (works-more ledger.groups group))
-
-  pub pulse : (refused b : Bool) (moment : ℕ) → must_stop refused ledger 1 ≡ b → apply_result next outcomes ≡ (if b then apply_result (with_stop ledger) Nothing else apply_result (with_entry ledger (work.Pulse moment ∷ [])) Nothing) →
-      ThenCommits (Pulsed moment ∷ [])
-  pulse refused true moment h e = halted (work.Pulse moment) [] (Pulsed moment ∷ []) (ap next_of e) refl (λ place far. ap replies_of e)
-  pulse refused false moment h e = entered (work.Pulse moment ∷ []) (Pulsed moment ∷ []) (or_parts ledger.stopped _ h).0 (ap next_of e) refl (ap replies_of e)
-
-  pub commits_more : (refused : Bool) (handed : Parcel) → HasPackets handed → apply_result next outcomes ≡ apply_step refused ledger handed → ThenCommits (passages_in handed)
-  commits_more refused (parcel.Batch jobs) some e = batch refused (must_stop refused ledger (length jobs)) jobs refl some.0 e
-  commits_more refused (parcel.Pulse moment) some e = pulse refused (must_stop refused ledger 1) moment refl e
-  commits_more refused (parcel.Return job cause) some e = aside (Returned job cause ∷ []) (ap next_of e) refl (λ place. ap replies_of e)
-  commits_more refused parcel.Last some e = aside [] (ap next_of e) refl (λ place. ap replies_of e)
+      let group = works_in-admitted (job ∷ jobs) in
+      let next = step_of_batch ledger (job ∷ jobs) in
+      cond_both (must_stop refused ledger (length (job ∷ jobs))) _ _ (Then passages)
+      (λ stops. halted (work_of job) (map work_of jobs) passages _ group (λ place far. sym (replies_from-stopped clock journal place (job ∷ jobs) far)))
+      (λ goes. entered (map work_of (job ∷ jobs)) passages _ (or_parts ledger.stopped _ goes).0 group (ap (λ start. replies_from start (works next.ledger) (length journal) passages) is.from))
+  commits_more refused (parcel.Pulse moment) some =
+      let passages = Pulsed moment ∷ [] in
+      cond_both (must_stop refused ledger 1) _ _ (Then passages) (λ stops. halted (work.Pulse moment) [] passages [] refl (λ place far. refl))
+      (λ goes. entered (work.Pulse moment ∷ []) passages [] (or_parts ledger.stopped _ goes).0 refl refl)
+  commits_more refused (parcel.Return job cause) some = aside (Returned job cause ∷ []) _ refl (λ place. refl)
+  commits_more refused parcel.Last some = aside [] [] refl (λ place. refl)

@@ -1,13 +1,13 @@
 -- A batch that is committed gives each packet what it gives by itself.
 use Rattle.std.proofs.Common.{Bool, refl, sym, ap, subst, ◌∙◌, arith, ◌≡◌, ◌≤◌, ◌<◌, ℕ, zero, suc, drop, ◌+◌, ◌/◌, true, not, List, [], ◌∷◌, map, length, length-append, Some}
-use Rattle.std.specs.Prelude.{◌&&◌, fold}
+use Rattle.std.specs.Prelude.{fold}
 use Rattle.std.specs.List.{list_all}
 use Rattle.std.specs.Simd.{first_chunks}
 use Rattle.std.proofs.lemmas.List.{length-map}
-use Rattle.std.proofs.lemmas.Bool.{and_parts}
+use Rattle.std.proofs.lemmas.Bool.{and_parts, and_from}
 use Rattle.tb_layout.specs.declared.failure.Failure.{Failure}
 use Rattle.tb_layout.specs.Events.{Events, events_of, rows, is_last_linked, is_open}
-use Rattle.tb_layout.specs.Failures.{RiseWithin, failures_within}
+use Rattle.tb_layout.specs.Failures.{RiseWithin}
 use Rattle.tb_layout.specs.Limits.{clock_max}
 use Rattle.tb_machine.specs.Replay.{State, failures_of, answer_of, after_packet}
 use Rattle.tb_machine.specs.Joining.{events_in_turn, none_open, cuts, failures_each, JoiningIsInvisible}
@@ -67,24 +67,18 @@ module _ {Event : Type 0} (is_linked : Event → Bool) (number : ℕ) (f : List 
   replies_cut : (place offset : ℕ) (failures : List Failure) (jobs : List Numbered) → are_of number jobs ≡ true → replies_from place offset failures jobs ≡ replied place jobs (cuts offset (map own jobs) failures)
   replies_cut place offset failures [] one = refl
   replies_cut place offset failures (job ∷ jobs) one =
-      let first = first_is number job jobs one in
-      ap (λ n. reply_with (Committed place (Failures (failures_within offset n failures))) job ∷ replies_from (place + 1) (offset + n) failures jobs) (count_is job first.0)
-      ∙ ap (λ replies. reply_with (Committed place (Failures (failures_within offset (length (own job)) failures))) job ∷ replies) (replies_cut (place + 1) (offset + length (own job)) failures jobs first.1)
+      let first = first_is number job jobs one in rw (count_is job first.0, replies_cut (place + 1) (offset + length (own job)) failures jobs first.1) refl
 
   -- each by itself
   replies_each : (place : ℕ) (state : State) (jobs : List Numbered) → are_of number jobs ≡ true → answers_from place state jobs ≡ replied place jobs (failures_each state (map packet_of (map own jobs)))
   replies_each place state [] one = refl
   replies_each place state (job ∷ jobs) one =
-      let first = first_is number job jobs one in
-      ap (λ events. reply_with (Committed place (answer_of state events)) job ∷ answers_from (place + 1) (after_packet state events) jobs) (own_is job first.0)
-      ∙ ap (λ answer. reply_with (Committed place answer) job ∷ answers_from (place + 1) (after_packet state (packet_of (own job))) jobs) (answers state (own job))
-      ∙ ap (λ replies. reply_with (Committed place (Failures (failures_of state (packet_of (own job))))) job ∷ replies) (replies_each (place + 1) (after_packet state (packet_of (own job))) jobs first.1)
+      let first = first_is number job jobs one in rw (own_is job first.0, answers state (own job), replies_each (place + 1) (after_packet state (packet_of (own job))) jobs first.1) refl
 
   states_each : (state : State) (jobs : List Numbered) → are_of number jobs ≡ true → fold after_packet state (map packet_of (map own jobs)) ≡ fold after_packet state (map (λ (job : Numbered). events_in job.packet) jobs)
   states_each state [] one = refl
   states_each state (job ∷ jobs) one =
-      let first = first_is number job jobs one in
-      ap (λ events. fold after_packet (after_packet state events) (map packet_of (map own jobs))) (sym (own_is job first.0)) ∙ states_each (after_packet state (events_in job.packet)) jobs first.1
+      let first = first_is number job jobs one in rw (own_is job first.0) (states_each (after_packet state (packet_of (own job))) jobs first.1)
 
   -- ---- packets of one batch
 
@@ -94,8 +88,8 @@ module _ {Event : Type 0} (is_linked : Event → Bool) (number : ℕ) (f : List 
       let first = first_is number job jobs one in
       let both = and_parts (can_share job) (list_all can_share jobs) share in
       let closed = (and_parts (not (is_open (events_in job.packet))) _ both.0).0 in
-      ap (λ b. not b && none_open is_linked (map own jobs)) (sym (ap is_open (own_is job first.0) ∙ opens (own job)))
-      ∙ ap (λ b. b && none_open is_linked (map own jobs)) closed ∙ closed_all jobs first.1 both.1
+      let closed_own = sym (ap is_open (own_is job first.0) ∙ opens (own job)) in
+      and_from _ _ (ap not closed_own ∙ closed) (closed_all jobs first.1 both.1)
 
   pub gives : (place : ℕ) (state : State) (jobs : List Numbered) → state.clock ≤ clock_max → are_of number jobs ≡ true → AreAdmitted jobs → (1 < length jobs → list_all can_share jobs ≡ true) → GivesEach place number state jobs
   gives place state jobs in_range one all share =

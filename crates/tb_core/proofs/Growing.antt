@@ -1,11 +1,10 @@
 -- A ledger with one entry more.
-use Rattle.std.proofs.Common.{refl, sym, ap, ◌∙◌, arith, ◌≡◌, ◌≤◌, ℕ, ◌+◌, ◌^◌, Bool, true, false, List, [], ◌∷◌, ◌++◌, map, length, length-append, append-nil}
-use Rattle.std.specs.Prelude.{◌==◌, ◌||◌, nat_lt, fold, Result, Ok, Err, is_err, OnOk}
+use Rattle.std.proofs.Common.{refl, sym, ap, ◌∙◌, arith, ◌≡◌, ℕ, ◌+◌, ◌^◌, Bool, true, false, List, [], ◌∷◌, ◌++◌, map, length, length-append, append-nil}
+use Rattle.std.specs.Prelude.{◌==◌, fold, Result, Ok, Err, is_err, OnOk}
 use Rattle.std.specs.List.{flat_map}
 use Rattle.std.proofs.lemmas.List.{length-map}
-use Rattle.std.proofs.lemmas.Grind.{flat_map-append}
-use Rattle.std.proofs.lemmas.Bool.{eqb-true}
-use Rattle.std.proofs.lemmas.Bool.Decides.{nat_tests}
+use Rattle.std.proofs.lemmas.Grind.{flat_map-append, fold-append}
+use Rattle.std.proofs.lemmas.Bool.{eqb-true, ltb-false, or_parts}
 use Rattle.tb_layout.specs.Events.{events_of}
 use Rattle.tb_machine.specs.Replay.{State, after_packet, after_work, opening}
 use Rattle.tb_work.specs.Job.{Numbered, events_in}
@@ -22,25 +21,8 @@ pub given : {A E : Type 0} (result : Result A E) (P : Type 0) → is_err result 
 given (Ok x) P ok holds = holds
 given (Err e) P ok holds = cc
 
-pub fold-append : {A B : Type 0} (f : A → B → A) (a : A) (xs ys : List B) → fold f a (xs ++ ys) ≡ fold f (fold f a xs) ys
-fold-append f a [] ys = refl
-fold-append f a (x ∷ xs) ys = fold-append f (f a x) xs ys
-
 pub works-more : (groups : List (List Work)) (group : List Work) → flat_map (λ g. g) (groups ++ group ∷ []) ≡ flat_map (λ g. g) groups ++ group
 works-more groups group = flat_map-append (λ g. g) groups (group ∷ []) ∙ ap (λ rest. flat_map (λ g. g) groups ++ rest) (append-nil group)
-
--- there were places
-within : (refused : Bool) (ledger : LedgerState) (count : ℕ) → must_stop refused ledger count ≡ false → length (works ledger) + count ≤ 2 ^ 63
-within refused ledger count goes = by ledger.stopped refused (nat_lt (2 ^ 63) (length (works ledger) + count)) refl goes
-  where
-    at_most : (n most : ℕ) → nat_lt most n ≡ false → n ≤ most
-    at_most n most h = grind (arith, nat_tests)
-
-    by : (a b c : Bool) → nat_lt (2 ^ 63) (length (works ledger) + count) ≡ c → (a || (b || c)) ≡ false → length (works ledger) + count ≤ 2 ^ 63
-    by true b c is h = cc
-    by false true c is h = cc
-    by false false true is h = cc
-    by false false false is h = at_most (length (works ledger) + count) (2 ^ 63) is
 
 -- the packets of jobs, one by one
 jobs_after : (state : State) (jobs : List Numbered) → fold after_packet state (map (λ (job : Numbered). events_in job.packet) jobs) ≡ fold after_work state (map work_of jobs)
@@ -53,13 +35,10 @@ batch_state : (law : JoinInvisibly) (state : State) (parts : Parts) → AreAnswe
 batch_state law state parts answered =
     ap (λ body. after_packet state (events_of parts.operation body)) answered.body ∙ by (parts.operation == 131) refl ∙ jobs_after state parts.jobs.items
   where
-    none : (a : ℕ) → (131 == a) ≡ false → parts.operation ≡ 131 → (parts.operation == a) ≡ false
-    none a h is = ap (λ n. n == a) is ∙ h
-
     by : (b : Bool) → (parts.operation == 131) ≡ b → after_packet state (events_of parts.operation (body_of parts.jobs.items)) ≡ fold after_packet state (map (λ (job : Numbered). events_in job.packet) parts.jobs.items)
     by true is =
         ap (λ op. after_packet state (events_of op (body_of parts.jobs.items))) (eqb-true parts.operation 131 is)
-        ∙ (gives_one 0 parts.operation state parts.jobs.items answered.lawful answered.lawful.all_admitted is).states
+        ∙ (gives_one 0 parts.operation state parts.jobs.items answered.lawful is).states
     by false is = (gives_each law 0 parts.operation state parts.jobs.items answered.in_range answered.lawful is).states
 
 pub batch_entered : (law : JoinInvisibly) (ledger : LedgerState) (state next : State) (places : ℕ) (groups : List (List Work)) (parts : Parts) (count : ℕ) → IsLedger ledger state places → AreAnswered state parts →
@@ -68,12 +47,12 @@ pub batch_entered : (law : JoinInvisibly) (ledger : LedgerState) (state next : S
 batch_entered law ledger state next places groups parts count is answered next_is groups_is count_is goes =
     let group = map work_of parts.jobs.items in
     let all : flat_map (λ g. g) groups ≡ works ledger ++ group = ap (flat_map (λ g. g)) groups_is ∙ works-more ledger.groups group in
-    let room = within false ledger count goes in
+    let room = ltb-false (2 ^ 63) (length (works ledger) + count) (or_parts ledger.stopped _ goes).1 in
     record {
       machine = next_is ∙ batch_state law state parts answered ∙ ap (λ s. fold after_work s group) is.machine
           ∙ sym (fold-append after_work (opening ledger.opening) (works ledger) group)
           ∙ ap (fold after_work (opening ledger.opening)) (sym all);
-      counted = (let e : places + count ≡ length (works ledger ++ group) = omega (arith, is.counted, count_is, length-append (works ledger) group, length-map parts.jobs.items work_of) in e) ∙ ap length (sym all);
+      counted = omega (arith, is.counted, count_is, ap length all, length-append (works ledger) group, length-map parts.jobs.items work_of);
       few = omega (arith, is.counted, room);
       opening = is.opening;
     }

@@ -1,8 +1,10 @@
 -- What a front and a ledger came to is what is due, and the report on it is lawful.
-use Rattle.std.proofs.Common.{refl, sym, ap, subst, ◌∙◌, arith, ◌≡◌, ◌<◌, ◌≤◌, ℕ, zero, suc, ◌+◌, Bool, true, false, List, [], ◌∷◌, ◌++◌, length, length-append, append_assoc, append-nil, Option, Some, None, inl, inr, ⊎_elim, ◌⊎◌}
-use Rattle.std.specs.Prelude.{◌==◌, ◌||◌, slice_get, is_some, IfSome, filter, if◌then◌else◌}
+use Rattle.std.proofs.Common.{refl, sym, ap, subst, ◌∙◌, arith, ◌≡◌, ◌<◌, ◌≤◌, ℕ, zero, suc, ◌+◌, Bool, true, false, List, [], ◌∷◌, ◌++◌, take, drop, length, length-append, length-take, append_assoc, append-nil, Option, Some, None}
+use Rattle.std.specs.Prelude.{◌==◌, slice_get, is_some, IfSome, filter, if◌then◌else◌}
 use Rattle.std.specs.List.{AllByRecursion}
-use Rattle.std.proofs.lemmas.Bool.Decides.{nat_tests}
+use Rattle.std.proofs.lemmas.Bool.{le-leb, lt-leb, eq-eqb, cond_both, both_ways, or_parts, or_from, or_right}
+use Rattle.std.proofs.lemmas.List.{take-append-drop, drop_all}
+use Rattle.std.proofs.lemmas.List.Folds.{list_any-append}
 use Rattle.tb_layout.specs.Work.{Work}
 use Rattle.tb_layout.specs.Work as work
 use Rattle.tb_machine.specs.Replay.{replay}
@@ -15,176 +17,97 @@ use Rattle.tb_work.specs.declared.item.Item.TheVariants as item
 use Rattle.tb_work.specs.declared.item.Ticket.{Ticket}
 use Rattle.tb_core.specs.Due.{outcome_at, reply_due, all_due_from, all_due, replies_to, works_in, replies_from}
 use Rattle.tb_core.specs.Ledger.{LedgerState, works}
-use Rattle.tb_core.specs.Passage.{Passage, Place, Ahead, Behind, next_place, passages_of_item, is_stopped_at, passages_from, passages_of, IsPacket}
-use Rattle.tb_core.specs.Report.{is_stopped, tell_a_stop, NothingStopped, IsListed}
-use Rattle.tb_core.specs.Run.{Ran, RunIsLawful}
-use Rattle.tb_core.proofs.Committed.{outcome_past, outcome_here}
+use Rattle.tb_core.specs.Passage.{Passage, Place, Ahead, Behind, next_place, passages_from, passages_of, IsPacket, Passes}
+use Rattle.tb_core.specs.Report.{is_stopped, tell_a_stop, IsListed}
+use Rattle.tb_core.specs.Run.{Commits, Ran, RunIsLawful}
+use Rattle.tb_core.proofs.Committed.{outcome_past, outcome_here, works_in-append, replies_from-append, replies_from-longer}
 use Rattle.tb_core.proofs.Passing.{never_stops}
 
 -- ---- what a front let through, and what is due to it
 
-stops_here : (k through : ℕ) → through ≤ k → is_stopped_at (Some through) k ≡ true
-stops_here k through h = grind (arith, nat_tests)
-
-goes_here : (k through : ℕ) → k < through → is_stopped_at (Some through) k ≡ false
-goes_here k through h = grind (arith, nat_tests)
-
 -- after the Close each packet comes back
-behind_close : (clock place : ℕ) (stop : Option ℕ) (items : List Item) → (works_in (passages_from stop Behind items) ≡ [])
-    × ((journal : List Work) → replies_from clock journal place (passages_from stop Behind items) ≡ all_due_from clock journal Behind items)
-behind_close clock place stop [] = (refl, λ journal. refl)
-behind_close clock place stop (item.Packet job ∷ items) =
-    let others = behind_close clock place stop items in
-    (others.0, λ journal. ap (λ rs. reply_with outcome.Shutdown job ∷ rs) (others.1 journal))
-behind_close clock place stop (item.Pulse moment ∷ items) = behind_close clock place stop items
-behind_close clock place stop (item.End ∷ items) = behind_close clock place stop items
-behind_close clock place stop (item.Close ∷ items) = behind_close clock place stop items
+behind_close : (clock place : ℕ) (stop : Option ℕ) (journal : List Work) (items : List Item) →
+    (works_in (passages_from stop Behind items) ≡ []) × (replies_from clock journal place (passages_from stop Behind items) ≡ all_due_from clock journal Behind items)
+behind_close clock place stop journal [] = (refl, refl)
+behind_close clock place stop journal (item.Packet job ∷ items) =
+    let others = behind_close clock place stop journal items in (others.0, ap (λ rs. reply_with outcome.Shutdown job ∷ rs) others.1)
+behind_close clock place stop journal (x ∷ items) = behind_close clock place stop journal items
 
 -- from the stop on each packet comes back, as one that the journal doesn't reach
-from_stop : (clock place through k : ℕ) (items : List Item) → through ≤ k → (works_in (passages_from (Some through) (Ahead k) items) ≡ [])
-    × ((journal : List Work) → length journal ≤ k → replies_from clock journal place (passages_from (Some through) (Ahead k) items) ≡ all_due_from clock journal (Ahead k) items)
-from_stop clock place through k [] h = (refl, λ journal far. refl)
-from_stop clock place through k (item.Packet job ∷ items) h =
-    let later = passages_from (Some through) (Ahead (k + 1)) items in
-    let others = from_stop clock place through (k + 1) items (omega (arith, h)) in
-    subst (λ b. (works_in (passages_of_item false b (item.Packet job) ++ later) ≡ [])
-    × ((journal : List Work) → length journal ≤ k → replies_from clock journal place (passages_of_item false b (item.Packet job) ++ later) ≡ all_due_from clock journal (Ahead k) (item.Packet job ∷ items)))
-    (sym (stops_here k through h)) (
-      others.0,
-      λ journal far. ap (λ rs. reply_with outcome.Stopped job ∷ rs) (others.1 journal (omega (arith, far)))
-          ∙ ap (λ o. reply_with o job ∷ all_due_from clock journal (Ahead (k + 1)) items) (sym (outcome_past clock k journal far)),
-    )
-from_stop clock place through k (item.Pulse moment ∷ items) h =
-    let later = passages_from (Some through) (Ahead (k + 1)) items in
-    let others = from_stop clock place through (k + 1) items (omega (arith, h)) in
-    subst (λ b. (works_in (passages_of_item false b (item.Pulse moment) ++ later) ≡ [])
-    × ((journal : List Work) → length journal ≤ k → replies_from clock journal place (passages_of_item false b (item.Pulse moment) ++ later) ≡ all_due_from clock journal (Ahead k) (item.Pulse moment ∷ items)))
-    (sym (stops_here k through h)) (others.0, λ journal far. others.1 journal (omega (arith, far)))
-from_stop clock place through k (item.End ∷ items) h = from_stop clock place through k items h
-from_stop clock place through k (item.Close ∷ items) h =
-    let others = behind_close clock place (Some through) items in (others.0, λ journal far. others.1 journal)
+from_stop : (clock place through k : ℕ) (journal : List Work) (items : List Item) → length journal ≤ through → through ≤ k →
+    (works_in (passages_from (Some through) (Ahead k) items) ≡ []) × (replies_from clock journal place (passages_from (Some through) (Ahead k) items) ≡ all_due_from clock journal (Ahead k) items)
+from_stop clock place through k journal [] far h = (refl, refl)
+from_stop clock place through k journal (item.Packet job ∷ items) far h =
+    let others = from_stop clock place through (k + 1) journal items far (omega (arith, h)) in
+    rw (le-leb through k h) (others.0, rw (outcome_past clock k journal (omega (arith, far, h))) (ap (λ rs. reply_with outcome.Stopped job ∷ rs) others.1))
+from_stop clock place through k journal (item.Pulse moment ∷ items) far h = rw (le-leb through k h) (from_stop clock place through (k + 1) journal items far (omega (arith, h)))
+from_stop clock place through k journal (item.End ∷ items) far h = from_stop clock place through k journal items far h
+from_stop clock place through k journal (item.Close ∷ items) far h = behind_close clock place (Some through) journal items
 
--- what was let through, at most so many, is the first of what is ahead; and a journal that reaches no further answers just
--- what is due
-pub record LetsThrough (clock k most : ℕ) (items : List Item) (passages : List Passage) : Type 0 where
-  pub rest : List Work
-  pub parts : works_in passages ++ rest ≡ ahead items
-  pub few : length (works_in passages) ≤ most
-  pub all : length (ahead items) ≤ most → rest ≡ []
-  pub due : (journal : List Work) → length journal ≤ k + most → replies_from clock journal k passages ≡ all_due_from clock journal (Ahead k) items
-
-no_items : {X : Type 0} (xs : List X) → length xs ≤ 0 → xs ≡ []
-no_items [] h = refl
-no_items (x ∷ xs) h = absurd (omega (arith, h))
-
-let_through : (clock most through k : ℕ) (items : List Item) → through ≡ k + most → LetsThrough clock k most items (passages_from (Some through) (Ahead k) items)
-let_through clock zero through k items h =
-    let none = from_stop clock k through k items (omega (arith, h)) in
-    record {
-      rest = ahead items;
-      parts = ap (λ ws. ws ++ ahead items) none.0;
-      few = omega (arith, ap length none.0);
-      all = λ short. no_items (ahead items) short;
-      due = λ journal far. none.1 journal (omega (arith, far));
-    }
-let_through clock (suc most) through k [] h = record { rest = []; parts = refl; few = omega arith; all = λ short. refl; due = λ journal far. refl }
-let_through clock (suc most) through k (item.Packet job ∷ items) h =
-    let later = passages_from (Some through) (Ahead (k + 1)) items in
-    let others = let_through clock most through (k + 1) items (omega (arith, h)) in
-    subst (λ b. LetsThrough clock k (suc most) (item.Packet job ∷ items) (passages_of_item false b (item.Packet job) ++ later)) (sym (goes_here k through (omega (arith, h))))
-    (record {
-      rest = others.rest;
-      parts = ap (λ ws. work_of job ∷ ws) others.parts;
-      few = omega (arith, others.few);
-      all = λ short. others.all (omega (arith, short));
-      due = λ journal far. ap (λ rs. reply_with (outcome_at clock journal (Ahead k)) job ∷ rs) (others.due journal (omega (arith, far)));
-    })
-let_through clock (suc most) through k (item.Pulse moment ∷ items) h =
-    let later = passages_from (Some through) (Ahead (k + 1)) items in
-    let others = let_through clock most through (k + 1) items (omega (arith, h)) in
-    subst (λ b. LetsThrough clock k (suc most) (item.Pulse moment ∷ items) (passages_of_item false b (item.Pulse moment) ++ later)) (sym (goes_here k through (omega (arith, h))))
-    (record {
-      rest = others.rest;
-      parts = ap (λ ws. work.Pulse moment ∷ ws) others.parts;
-      few = omega (arith, others.few);
-      all = λ short. others.all (omega (arith, short));
-      due = λ journal far. others.due journal (omega (arith, far));
-    })
-let_through clock (suc most) through k (item.End ∷ items) h =
-    let others = let_through clock (suc most) through k items h in
-    record { rest = others.rest; parts = others.parts; few = others.few; all = others.all; due = others.due }
-let_through clock (suc most) through k (item.Close ∷ items) h =
-    let others = behind_close clock k (Some through) items in
-    record {
-      rest = [];
-      parts = append-nil _ ∙ others.0;
-      few = omega (arith, ap length others.0);
-      all = λ short. refl;
-      due = λ journal far. others.1 journal;
-    }
+-- what was let through, so many at most, is the first of what is ahead; and a journal that reaches no further answers what is due
+let_through : (clock most through k : ℕ) (journal : List Work) (items : List Item) → length journal ≤ through → through ≡ k + most →
+    (works_in (passages_from (Some through) (Ahead k) items) ≡ take most (ahead items)) × (replies_from clock journal k (passages_from (Some through) (Ahead k) items) ≡ all_due_from clock journal (Ahead k) items)
+let_through clock zero through k journal items far h = from_stop clock k through k journal items far (omega (arith, h))
+let_through clock (suc most) through k journal [] far h = (refl, refl)
+let_through clock (suc most) through k journal (item.Packet job ∷ items) far h =
+    let others = let_through clock most through (k + 1) journal items far (omega (arith, h)) in
+    rw (lt-leb through k (omega (arith, h))) (ap (λ ws. work_of job ∷ ws) others.0, ap (λ rs. reply_with (outcome_at clock journal (Ahead k)) job ∷ rs) others.1)
+let_through clock (suc most) through k journal (item.Pulse moment ∷ items) far h =
+    let others = let_through clock most through (k + 1) journal items far (omega (arith, h)) in rw (lt-leb through k (omega (arith, h))) (ap (λ ws. work.Pulse moment ∷ ws) others.0, others.1)
+let_through clock (suc most) through k journal (item.End ∷ items) far h = let_through clock (suc most) through k journal items far h
+let_through clock (suc most) through k journal (item.Close ∷ items) far h = behind_close clock k (Some through) journal items
 
 -- how many were let through at most, where the front may have stopped
-abbrev pub most_of : Option ℕ → List Item → ℕ
+abbrev most_of : Option ℕ → List Item → ℕ
 most_of None items = length (ahead items)
 most_of (Some through) items = through
 
-pub passed_through : (clock : ℕ) (stop : Option ℕ) (items : List Item) → LetsThrough clock 0 (most_of stop items) items (passages_of stop items)
-passed_through clock None items =
-    let most = length (ahead items) in
-    subst (LetsThrough clock 0 most items) (sym (never_stops 0 most items (omega arith))) (let_through clock most most 0 items (omega arith))
-passed_through clock (Some through) items = let_through clock through through 0 items (omega arith)
+passed_through : (clock : ℕ) (stop : Option ℕ) (journal : List Work) (items : List Item) → length journal ≤ most_of stop items →
+    (works_in (passages_of stop items) ≡ take (most_of stop items) (ahead items)) × (replies_from clock journal 0 (passages_of stop items) ≡ all_due clock items journal)
+passed_through clock None journal items far = let most = length (ahead items) in rw (never_stops 0 most items (omega arith)) (let_through clock most most 0 journal items far (omega arith))
+passed_through clock (Some through) journal items far = let_through clock through through 0 journal items far (omega arith)
 
 -- ---- who is told that the pipeline stopped
 
 none_behind : (clock : ℕ) (journal : List Work) (items : List Item) → tell_a_stop (all_due_from clock journal Behind items) ≡ false
 none_behind clock journal [] = refl
 none_behind clock journal (item.Packet job ∷ items) = none_behind clock journal items
-none_behind clock journal (item.Pulse moment ∷ items) = none_behind clock journal items
-none_behind clock journal (item.End ∷ items) = none_behind clock journal items
-none_behind clock journal (item.Close ∷ items) = none_behind clock journal items
+none_behind clock journal (x ∷ items) = none_behind clock journal items
 
 -- nobody, where the journal has all that is ahead
-pub none_told : (clock k : ℕ) (journal before : List Work) (items : List Item) → journal ≡ before ++ ahead items → k ≡ length before → tell_a_stop (all_due_from clock journal (Ahead k) items) ≡ false
+none_told : (clock k : ℕ) (journal before : List Work) (items : List Item) → journal ≡ before ++ ahead items → k ≡ length before → tell_a_stop (all_due_from clock journal (Ahead k) items) ≡ false
 none_told clock k journal before [] all k_is = refl
 none_told clock k journal before (item.Packet job ∷ items) all k_is =
     let one = work_of job ∷ [] in
-    ap (λ ws. is_stopped (outcome_at clock ws (Ahead k)) || tell_a_stop (all_due_from clock journal (Ahead (k + 1)) items)) all
-    ∙ ap (λ o. is_stopped o || tell_a_stop (all_due_from clock journal (Ahead (k + 1)) items)) (outcome_here clock k (replay clock before) before job (ahead items) k_is refl)
-    ∙ none_told clock (k + 1) journal (before ++ one) items (all ∙ sym (append_assoc before one (ahead items))) (omega (arith, k_is, length-append before one))
+    let here = ap (λ ws. outcome_at clock ws (Ahead k)) all ∙ outcome_here clock k (replay clock before) before job (ahead items) k_is refl in
+    rw here (none_told clock (k + 1) journal (before ++ one) items (all ∙ sym (append_assoc before one (ahead items))) (omega (arith, k_is, length-append before one)))
 none_told clock k journal before (item.Pulse moment ∷ items) all k_is =
     let one = work.Pulse moment ∷ [] in
     none_told clock (k + 1) journal (before ++ one) items (all ∙ sym (append_assoc before one (ahead items))) (omega (arith, k_is, length-append before one))
 none_told clock k journal before (item.End ∷ items) all k_is = none_told clock k journal before items all k_is
 none_told clock k journal before (item.Close ∷ items) all k_is = none_behind clock journal items
 
-or_true : (b : Bool) → (b || true) ≡ true
-or_true true = refl
-or_true false = refl
-
 -- somebody, where the journal ends in front of a packet that is ahead
 one_told : (clock k left : ℕ) (journal : List Work) (items : List Item) → length journal ≤ k + left → IsPacket (slice_get (ahead items) left) → tell_a_stop (all_due_from clock journal (Ahead k) items) ≡ true
 one_told clock k left journal [] far packet = absurd packet
-one_told clock k zero journal (item.Packet job ∷ items) far packet =
-    ap (λ o. is_stopped o || tell_a_stop (all_due_from clock journal (Ahead (k + 1)) items)) (outcome_past clock k journal (omega (arith, far)))
-one_told clock k (suc left) journal (item.Packet job ∷ items) far packet =
-    ap (λ b. is_stopped (outcome_at clock journal (Ahead k)) || b) (one_told clock (k + 1) left journal items (omega (arith, far)) packet) ∙ or_true _
+one_told clock k zero journal (item.Packet job ∷ items) far packet = rw (outcome_past clock k journal (omega (arith, far))) refl
+one_told clock k (suc left) journal (item.Packet job ∷ items) far packet = or_right _ _ (one_told clock (k + 1) left journal items (omega (arith, far)) packet)
 one_told clock k zero journal (item.Pulse moment ∷ items) far packet = absurd packet
 one_told clock k (suc left) journal (item.Pulse moment ∷ items) far packet = one_told clock (k + 1) left journal items (omega (arith, far)) packet
 one_told clock k left journal (item.End ∷ items) far packet = one_told clock k left journal items far packet
 one_told clock k left journal (item.Close ∷ items) far packet = absurd packet
 
-or_parts : (a b : Bool) → (a || b) ≡ false → (a ≡ false) × (b ≡ false)
-or_parts true b none = cc
-or_parts false b none = (refl, none)
+-- nobody of the first of them
+pub none_of_first : (replies others all : List Replied) → replies ++ others ≡ all → tell_a_stop all ≡ false → tell_a_stop replies ≡ false
+none_of_first replies others all is none = (or_parts (tell_a_stop replies) (tell_a_stop others) (sym (list_any-append (λ (reply : Replied). is_stopped reply.outcome) replies others) ∙ ap tell_a_stop is ∙ none)).0
 
 -- nobody of some
 pub none_among : (q : Replied → Bool) (replies : List Replied) → tell_a_stop replies ≡ false → tell_a_stop (filter q replies) ≡ false
 none_among q [] none = refl
-none_among q (reply ∷ replies) none = let parts = or_parts (is_stopped reply.outcome) (tell_a_stop replies) none in by (q reply) parts.0 (none_among q replies parts.1)
-  where
-    by : (taken : Bool) → is_stopped reply.outcome ≡ false → tell_a_stop (filter q replies) ≡ false → tell_a_stop (if taken then reply ∷ filter q replies else filter q replies) ≡ false
-    by true one others = ap (λ b. b || tell_a_stop (filter q replies)) one ∙ others
-    by false one others = others
+none_among q (reply ∷ replies) none =
+    let parts = or_parts (is_stopped reply.outcome) (tell_a_stop replies) none in
+    let others = none_among q replies parts.1 in
+    cond_both (q reply) _ _ (λ rs. tell_a_stop rs ≡ false) (λ taken. or_from (is_stopped reply.outcome) _ parts.0 others) (λ left. others)
 
 abbrev AreAmong : ℕ → List Replied → Type 0
 AreAmong submitters replies = AllByRecursion (λ (reply : Replied). reply.submitter < submitters) replies
@@ -197,115 +120,143 @@ due_among clock submitters journal place (ticket ∷ queue) all = one ticket.ite
     one : (x : Item) → IsSubmitted submitters ticket.sender x → AreAmong submitters (all_due_from clock journal (next_place place x) (items_in queue)) →
         AreAmong submitters (reply_due (outcome_at clock journal place) x ++ all_due_from clock journal (next_place place x) (items_in queue))
     one (item.Packet job) is others = (subst (λ n. n < submitters) (sym is.0) is.1, others)
-    one (item.Pulse moment) is others = others
-    one item.End is others = others
-    one item.Close is others = others
+    one x is others = others
 
-or_cases : (a b : Bool) → (a || b) ≡ true → (a ≡ true) ⊎ (b ≡ true)
-or_cases true b e = inl refl
-or_cases false b e = inr e
-
-same_number : (n : ℕ) → (n == n) ≡ true
-same_number n = grind (arith, nat_tests)
-
--- where somebody is told, one of the submitters is
-abbrev IsTold : ℕ → List Replied → Type 0
-IsTold submitters replies = (submitter : ℕ) × (submitter < submitters) × (tell_a_stop (replies_to replies submitter) ≡ true)
-
-submitter_told : (submitters : ℕ) (replies : List Replied) → AreAmong submitters replies → tell_a_stop replies ≡ true → IsTold submitters replies
-submitter_told submitters [] all any = cc
-submitter_told submitters (reply ∷ replies) all any =
-    ⊎_elim first (λ is. later (submitter_told submitters replies all.1 is)) (or_cases (is_stopped reply.outcome) (tell_a_stop replies) any)
+-- where none of the submitters is told, nobody is
+none_at_all : (submitters : ℕ) (replies : List Replied) → AreAmong submitters replies → ((submitter : ℕ) → submitter < submitters → tell_a_stop (replies_to replies submitter) ≡ false) → tell_a_stop replies ≡ false
+none_at_all submitters [] all none = refl
+none_at_all submitters (reply ∷ replies) all none =
+    or_from (is_stopped reply.outcome) (tell_a_stop replies) (own (none reply.submitter all.0)) (none_at_all submitters replies all.1 (λ submitter below. others submitter (reply.submitter == submitter) (none submitter below)))
   where
-    first : is_stopped reply.outcome ≡ true → IsTold submitters (reply ∷ replies)
-    first is = (
-      reply.submitter,
-      all.0,
-      ap (λ b. tell_a_stop (if b then reply ∷ replies_to replies reply.submitter else replies_to replies reply.submitter)) (same_number reply.submitter)
-          ∙ ap (λ b. b || tell_a_stop (replies_to replies reply.submitter)) is,
-    )
+    own : tell_a_stop (replies_to (reply ∷ replies) reply.submitter) ≡ false → is_stopped reply.outcome ≡ false
+    own h =
+        let its : (reply.submitter == reply.submitter) ≡ true = eq-eqb reply.submitter reply.submitter refl in
+        (or_parts (is_stopped reply.outcome) _ (rw its at h)).0
 
-    more : (submitter : ℕ) (b : Bool) → tell_a_stop (replies_to replies submitter) ≡ true → tell_a_stop (if b then reply ∷ replies_to replies submitter else replies_to replies submitter) ≡ true
-    more submitter true is = ap (λ b. is_stopped reply.outcome || b) is ∙ or_true (is_stopped reply.outcome)
-    more submitter false is = is
-
-    later : IsTold submitters replies → IsTold submitters (reply ∷ replies)
-    later found = (found.0, found.1, more found.0 (reply.submitter == found.0) found.2)
+    others : (submitter : ℕ) (b : Bool) → tell_a_stop (if b then reply ∷ replies_to replies submitter else replies_to replies submitter) ≡ false → tell_a_stop (replies_to replies submitter) ≡ false
+    others submitter true h = (or_parts (is_stopped reply.outcome) _ h).1
+    others submitter false h = h
 
 -- ---- a run
-
-not_both : (b : Bool) → b ≡ true → b ≡ false → ⊥
-not_both b t f = let e = sym t ∙ f in cc
 
 nothing_left : {X : Type 0} (xs ys : List X) → xs ++ ys ≡ [] → (xs ≡ []) × (ys ≡ [])
 nothing_left [] ys e = (refl, e)
 nothing_left (x ∷ xs) ys e = cc
 
-module _ (clock : ℕ) (items : List Item) (ledger : LedgerState) (answers : List Replied) (run : Ran clock items ledger answers) where
-  abbrev pub journal : List Work
-  journal = works ledger
+-- a ledger took some of what a front made of a queue, and the rest is on the way
+pub record SoFar (clock : ℕ) (items : List Item) (stopped : Bool) (ledger : LedgerState) (answers : List Replied) (way : List Passage) : Type 0 where
+  pub behind : List Work
+  pub committed : works ledger ++ behind ≡ ahead items
+  pub later : List Replied
+  pub due : answers ++ later ≡ all_due clock items (works ledger)
+  pub replied : way ≡ [] → answers ≡ all_due clock items (works ledger)
+  -- all of it is committed or on the way where neither stopped, and then nobody is told of a stop
+  pub whole : stopped ≡ false → ledger.stopped ≡ false → works ledger ++ works_in way ≡ ahead items
+  pub untold : stopped ≡ false → ledger.stopped ≡ false → tell_a_stop answers ≡ false
+  -- with nothing on the way, nothing is behind exactly where the ledger goes on and nobody is told of a stop
+  pub nothing_behind : way ≡ [] → ledger.stopped ≡ false → tell_a_stop answers ≡ false → behind ≡ []
+  pub nothing_stopped : behind ≡ [] → (ledger.stopped ≡ false) × (tell_a_stop answers ≡ false)
 
-  abbrev pub most : ℕ
-  most = most_of run.passed.stop items
+pub so_far : (clock : ℕ) (items : List Item) (closed stopped : Bool) (applied way : List Passage) (ledger : LedgerState) (answers : List Replied) → Passes items closed stopped (applied ++ way) → Commits clock applied ledger answers →
+    SoFar clock items stopped ledger answers way
+so_far clock items closed stopped applied way ledger answers passes commits =
+    record {
+      behind = (commits.behind ++ works_in way) ++ rest;
+      committed = sym (append_assoc journal (commits.behind ++ works_in way) rest) ∙ ap (λ ws. ws ++ rest) longer ∙ parts;
+      later = replies_from clock journal here way;
+      due = due;
+      replied = replied;
+      whole = λ on goes. all (journal_is (commits.whole goes)) (rest_is passes.stop refl (sym on ∙ passes.stops));
+      untold = λ on goes. let is = journal_is (commits.whole goes) in told is (all is (rest_is passes.stop refl (sym on ∙ passes.stops)));
+      nothing_behind = λ none goes untold. ap (λ ws. (ws ++ works_in way) ++ rest) (commits.whole goes) ∙ ap (λ ps. works_in ps ++ rest) none ∙ left passes.stop refl passes.at_packet none untold;
+      nothing_stopped = λ none.
+          let two = nothing_left (commits.behind ++ works_in way) rest none in
+          let one = nothing_left commits.behind (works_in way) two.0 in
+          let is = journal_is one.0 in
+          (commits.unstopped one.0, told is (all is two.1));
+    }
+  where
+    journal : List Work
+    journal = works ledger
 
-  pub through : LetsThrough clock 0 most items run.passages
-  through = subst (LetsThrough clock 0 most items) (sym run.passed.all) (passed_through clock run.passed.stop items)
+    most : ℕ
+    most = most_of passes.stop items
 
-  short : length journal ≤ most
-  short = omega (arith, through.few, ap length run.commits.committed, length-append journal run.commits.behind)
+    -- the place behind what was applied
+    here : ℕ
+    here = 0 + length (works_in applied)
 
-  pub run-committed : journal ++ (run.commits.behind ++ through.rest) ≡ ahead items
-  run-committed = sym (append_assoc journal run.commits.behind through.rest) ∙ ap (λ ws. ws ++ through.rest) run.commits.committed ∙ through.parts
+    rest : List Work
+    rest = drop most (ahead items)
 
-  pub run-replied : answers ≡ all_due clock items journal
-  run-replied = run.commits.replied ∙ through.due journal (omega (arith, short))
+    through : works_in (applied ++ way) ≡ take most (ahead items)
+    through = ap works_in passes.all ∙ (passed_through clock passes.stop [] items (omega arith)).0
 
-  -- a front that stopped left a packet that is ahead, and that packet is told
-  run-stopped : (stop : Option ℕ) → run.passed.stop ≡ stop → IfSome stop (λ k. IsPacket (slice_get (ahead items) k)) → (through.rest ≡ []) ⊎ (tell_a_stop answers ≡ true)
-  run-stopped None is packet = inl (through.all (omega (arith, ap (λ stop. most_of stop items) is)))
-  run-stopped (Some k) is packet = inr (ap tell_a_stop run-replied ∙ one_told clock 0 k journal items (omega (arith, short, ap (λ stop. most_of stop items) is)) packet)
+    parts : works_in (applied ++ way) ++ rest ≡ ahead items
+    parts = ap (λ ws. ws ++ rest) through ∙ take-append-drop most (ahead items)
 
-  run-all : run.commits.behind ++ through.rest ≡ [] → journal ≡ ahead items
-  run-all none = sym (append-nil journal) ∙ ap (λ ws. journal ++ ws) (sym none) ∙ run-committed
+    longer : journal ++ (commits.behind ++ works_in way) ≡ works_in (applied ++ way)
+    longer = sym (append_assoc journal commits.behind (works_in way)) ∙ ap (λ ws. ws ++ works_in way) commits.committed ∙ sym (works_in-append applied way)
 
-  -- all was committed exactly where neither stopped
-  run-whole : ledger.stopped ≡ false → (tell_a_stop answers ≡ true → ⊥) → run.commits.behind ++ through.rest ≡ []
-  run-whole goes untold =
-      ap (λ ws. ws ++ through.rest) (run.commits.whole goes) ∙ ⊎_elim (λ none. none) (λ told. absurd (untold told)) (run-stopped run.passed.stop refl run.passed.at_packet)
+    replies_are : (now : List Work) → length now ≤ most → replies_from clock now 0 applied ++ replies_from clock now here way ≡ all_due clock items now
+    replies_are now short = sym (replies_from-append clock now 0 applied way) ∙ ap (replies_from clock now 0) passes.all ∙ (passed_through clock passes.stop now items short).1
 
-  run-untold : run.commits.behind ++ through.rest ≡ [] → tell_a_stop answers ≡ false
-  run-untold none = ap tell_a_stop (run-replied ∙ ap (all_due clock items) (run-all none)) ∙ none_told clock 0 (ahead items) [] items refl refl
+    short : length journal ≤ most
+    short = omega (arith, ap length longer, length-append journal (commits.behind ++ works_in way), ap length through, length-take most (ahead items))
+
+    due : answers ++ replies_from clock journal here way ≡ all_due clock items journal
+    due = ap (λ rs. rs ++ replies_from clock journal here way) commits.replied ∙ replies_are journal short
+
+    replied : way ≡ [] → answers ≡ all_due clock items journal
+    replied none = sym (append-nil answers) ∙ ap (λ ps. answers ++ replies_from clock journal here ps) (sym none) ∙ due
+
+    rest_is : (stop : Option ℕ) → passes.stop ≡ stop → false ≡ is_some stop → rest ≡ []
+    rest_is None is on = drop_all most (ahead items) (omega (arith, ap (λ stop. most_of stop items) is))
+    rest_is (Some k) is on = cc
+
+    -- a front that stopped left a packet that is ahead, and that packet is told
+    left : (stop : Option ℕ) → passes.stop ≡ stop → IfSome stop (λ k. IsPacket (slice_get (ahead items) k)) → way ≡ [] → tell_a_stop answers ≡ false → rest ≡ []
+    left None is packet none untold = rest_is None is refl
+    left (Some k) is packet none untold =
+        absurd (both_ways (tell_a_stop answers) untold (ap tell_a_stop (replied none) ∙ one_told clock 0 k journal items (omega (arith, short, ap (λ stop. most_of stop items) is)) packet))
+
+    journal_is : commits.behind ≡ [] → journal ≡ works_in applied
+    journal_is none = sym (append-nil journal) ∙ ap (λ ws. journal ++ ws) (sym none) ∙ commits.committed
+
+    all : journal ≡ works_in applied → rest ≡ [] → journal ++ works_in way ≡ ahead items
+    all is none = ap (λ ws. ws ++ works_in way) is ∙ sym (works_in-append applied way) ∙ sym (append-nil _) ∙ ap (λ ws. works_in (applied ++ way) ++ ws) (sym none) ∙ parts
+
+    -- what is on the way doesn't change what was answered
+    told : journal ≡ works_in applied → journal ++ works_in way ≡ ahead items → tell_a_stop answers ≡ false
+    told is all_is =
+        let now = journal ++ works_in way in
+        let same : answers ≡ replies_from clock now 0 applied = commits.replied ∙ sym (replies_from-longer clock journal (works_in way) 0 applied (omega (arith, ap length is))) in
+        let within : length now ≤ most = omega (arith, ap length (ap (λ ws. ws ++ works_in way) is ∙ sym (works_in-append applied way) ∙ through), length-take most (ahead items)) in
+        none_of_first answers (replies_from clock now here way) (all_due clock items now) (ap (λ rs. rs ++ replies_from clock now here way) same ∙ replies_are now within) (none_told clock 0 now [] items all_is refl)
+
+run_so_far : (clock : ℕ) (items : List Item) (ledger : LedgerState) (answers : List Replied) (run : Ran clock items ledger answers) → SoFar clock items run.stopped ledger answers []
+run_so_far clock items ledger answers run = so_far clock items run.closed run.stopped run.passages [] ledger answers (subst (Passes items run.closed run.stopped) (sym (append-nil run.passages)) run.passed) run.commits
 
 pub run_is_lawful : RunIsLawful
 run_is_lawful clock submitters queue queued ledger answers replies filled run theirs =
-    let items = items_in queue in
+    let far = run_so_far clock (items_in queue) ledger answers run in
+    let among = subst (AreAmong submitters) (sym (far.replied refl)) (due_among clock submitters (works ledger) (Ahead 0) queue filled.submitted) in
     record {
       filled = filled;
-      behind = run.commits.behind ++ (through clock items ledger answers run).rest;
-      committed = run-committed clock items ledger answers run;
-      whole = λ nothing. run-whole clock items ledger answers run nothing.unmarked (λ told. contradiction nothing (submitter_told submitters answers all_among told));
+      behind = far.behind;
+      committed = far.committed;
+      whole = λ nothing. far.nothing_behind refl nothing.unmarked (none_at_all submitters answers among (λ submitter below. sym (ap tell_a_stop (theirs submitter below)) ∙ nothing.untold submitter below));
       unstopped = λ none. record {
-        unmarked = run.commits.unstopped (nothing_left run.commits.behind _ none).0;
-        untold = λ submitter below. ap tell_a_stop (theirs submitter below) ∙ none_among (λ (reply : Replied). reply.submitter == submitter) answers (run-untold clock items ledger answers run none);
+        unmarked = (far.nothing_stopped none).0;
+        untold = λ submitter below. ap tell_a_stop (theirs submitter below) ∙ none_among (λ (reply : Replied). reply.submitter == submitter) answers (far.nothing_stopped none).1;
       };
       state_is = ap (λ start. replay start (works ledger)) run.commits.from;
-      replied = λ submitter below. theirs submitter below ∙ ap (λ rs. replies_to rs submitter) (run-replied clock items ledger answers run);
+      replied = λ submitter below. theirs submitter below ∙ ap (λ rs. replies_to rs submitter) (far.replied refl);
     }
-  where
-    all_among : AreAmong submitters answers
-    all_among = subst (AreAmong submitters) (sym (run-replied clock (items_in queue) ledger answers run)) (due_among clock submitters (works ledger) (Ahead 0) queue filled.submitted)
-
-    contradiction : NothingStopped submitters ledger.stopped replies → IsTold submitters answers → ⊥
-    contradiction nothing found = not_both (tell_a_stop (replies found.0)) (ap tell_a_stop (theirs found.0 found.1) ∙ found.2) (nothing.untold found.0 found.1)
 
 -- where neither stopped, a list has been run whole
 pub run_is_listed : (clock : ℕ) (items : List Item) (ledger : LedgerState) (answers : List Replied) (run : Ran clock items ledger answers) → ledger.stopped ≡ false → run.stopped ≡ false → IsListed clock items ledger answers
 run_is_listed clock items ledger answers run goes on =
-    let none : run.commits.behind ++ (through clock items ledger answers run).rest ≡ [] =
-    ap (λ ws. ws ++ (through clock items ledger answers run).rest) (run.commits.whole goes) ∙ by run.passed.stop refl (sym on ∙ run.passed.stops) in
-    let all = run-all clock items ledger answers run none in
-    record { from = run.commits.from; goes_on = goes; committed = all; replied = run-replied clock items ledger answers run ∙ ap (all_due clock items) all }
-  where
-    by : (stop : Option ℕ) → run.passed.stop ≡ stop → false ≡ is_some stop → (through clock items ledger answers run).rest ≡ []
-    by None is e = (through clock items ledger answers run).all (omega (arith, ap (λ stop. most_of stop items) is))
-    by (Some k) is e = cc
+    let far = run_so_far clock items ledger answers run in
+    let all = sym (append-nil (works ledger)) ∙ far.whole on goes in
+    record { from = run.commits.from; goes_on = goes; committed = all; replied = far.replied refl ∙ ap (all_due clock items) all }

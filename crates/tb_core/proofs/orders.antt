@@ -1,5 +1,3 @@
-mod Below
-mod Fronts
 mod Pushed
 mod Holding
 mod Runs

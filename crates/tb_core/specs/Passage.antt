@@ -1,5 +1,5 @@
 -- What becomes of packets and pulses on their way to the state machine; no batch is in it.
-use Rattle.std.specs.Prelude.{◌≡◌, ℕ, ◌+◌, Bool, true, false, not, ◌&&◌, ◌||◌, nat_lt, List, [], ◌∷◌, ◌++◌, slice_get, Option, Some, None, is_some, IfSome, if◌then◌else◌}
+use Rattle.std.specs.Prelude.{◌≡◌, ℕ, ◌+◌, Bool, true, false, ◌||◌, nat_le, List, [], ◌∷◌, ◌++◌, slice_get, Option, Some, None, is_some, IfSome, if◌then◌else◌}
 use Rattle.tb_layout.specs.Work.{Work}
 use Rattle.tb_layout.specs.Work as work
 use Rattle.tb_work.specs.Job.{Numbered}
@@ -51,7 +51,7 @@ place_behind place (item ∷ items) = place_behind (next_place place item) items
 -- whether a growth was refused before so many packets and pulses, or at the next one
 abbrev pub is_stopped_at : Option ℕ → ℕ → Bool
 is_stopped_at None k = false
-is_stopped_at (Some through) k = if nat_lt k through then false else true
+is_stopped_at (Some through) k = nat_le through k
 
 -- what an item comes to at its place, where just so many were let through before a growth was refused, or all were
 abbrev pub passages_at : Option ℕ → Place → Item → List Passage
@@ -79,18 +79,3 @@ pub record Passes (items : List Item) (closed stopped : Bool) (passages : List P
   pub shut : closed ≡ is_behind (place_behind (Ahead 0) items)
   pub stops : stopped ≡ is_some stop
   pub at_packet : IfSome stop (λ through. IsPacket (slice_get (ahead items) through))
-
--- ---- one step of a front
-
-abbrev pub is_close : Item → Bool
-is_close (item.Packet job) = false
-is_close (item.Pulse moment) = false
-is_close item.End = false
-is_close item.Close = true
-
--- whether a front stops at an item: at a packet that is ahead of the Close, and whose growth is refused
-abbrev pub stops_at : Bool → Bool → Item → Bool
-stops_at refused closed (item.Packet job) = refused && not closed
-stops_at refused closed (item.Pulse moment) = false
-stops_at refused closed item.End = false
-stops_at refused closed item.Close = false

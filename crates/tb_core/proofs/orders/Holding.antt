@@ -1,11 +1,11 @@
 -- What holds of a World is kept by each of its steps.
-use Rattle.std.proofs.Common.{refl, sym, ap, ◌∙◌, subst, arith, ◌≡◌, ◌≢◌, ◌==◌, ⊎_elim, ℕ, ◌<◌, Bool, true, false, ◌&&◌, not, List, [], ◌∷◌, ◌++◌, map, length, set, get_or, append_assoc, append-nil, length-set, get_or-set_other, Option, Some, None, unwrap_or}
+use Rattle.std.proofs.Common.{refl, sym, ap, ◌∙◌, subst, arith, ◌≡◌, ◌≢◌, ◌==◌, ⊎_elim, ℕ, ◌<◌, Bool, true, false, ◌&&◌, not, List, [], ◌∷◌, ◌++◌, map, length, set, append_assoc, append-nil, length-set, get_or-set_other, Option, Some, None, unwrap_or}
 use Rattle.std.specs.Prelude.{if◌then◌else◌, flat_map}
+use Rattle.std.specs.List.{AllByRecursion}
 use Rattle.std.proofs.lemmas.List.{get_or-set_same, map-append}
 use Rattle.std.proofs.lemmas.List.Elements.{filter-append}
 use Rattle.std.proofs.lemmas.Grind.{flat_map-append}
-use Rattle.std.proofs.lemmas.Bool.{cases_eq}
-use Rattle.std.proofs.lemmas.Bool.Decides.{nat_tests}
+use Rattle.std.proofs.lemmas.Bool.{cases_eq, eq-eqb, ne_eqb}
 use Rattle.tb_work.specs.Job.{Numbered}
 use Rattle.tb_work.specs.Queue.{items_in}
 use Rattle.tb_work.specs.Reply.{Replied}
@@ -22,10 +22,12 @@ use Rattle.tb_core.specs.Run.{Commits, replies_in}
 use Rattle.tb_core.specs.world.Shelf.{Shelf, empty_shelf, shelf_at, with_reply, shelves_with, after_pop_of}
 use Rattle.tb_core.specs.world.Pushing.{may_push}
 use Rattle.tb_core.specs.world.World.{WorldState, sender_at, is_lawful, pop, batch_push, left_by, batch_pop, outcome_push, outcome_pop, reply_push, reply_pop, senders_after}
-use Rattle.tb_core.proofs.Accounting.{IsClear}
-use Rattle.tb_core.proofs.orders.Below.{HasJobs, passes_more, goes_further, commits_more}
-use Rattle.tb_core.proofs.orders.Fronts.{AllHaveJobs, is_taken_by}
+use Rattle.tb_core.proofs.Accounting.{IsClear, IsStep, is_step, passes_then, goes_on}
+use Rattle.tb_core.proofs.Committed.{HasJobs, all-push, commits_more}
 use Rattle.tb_core.proofs.orders.Pushed.{HavePushed, push_counted}
+
+abbrev pub AllHaveJobs : List Parcel → Type 0
+AllHaveJobs parcels = AllByRecursion HasJobs parcels
 
 -- what the front made of a queue and no ledger took yet, from the batch ring back to the group held
 abbrev pub on_the_way : FrontState → List Parcel → List Parcel → List Passage
@@ -81,20 +83,32 @@ pub record Holds (Unrefused : Type 0) (clock submitters : ℕ) (pushed : List Ti
 items_push : (queue : List Ticket) (ticket : Ticket) → items_in (queue ++ ticket ∷ []) ≡ items_in queue ++ ticket.item ∷ []
 items_push queue ticket = map-append (λ (ticket : Ticket). ticket.item) queue (ticket ∷ [])
 
+stepped : (refused : Bool) (front : FrontState) (ticket : Ticket) → IsClear front → IsStep HasJobs refused front ticket.sender ticket.item (take_step refused front ticket.sender ticket.item)
+stepped refused front ticket clear = is_step HasJobs (λ moment. tt) (λ job cause. tt) refused front ticket.sender ticket.item (λ job jobs held. omega arith) clear
+
 sent_ticket : (refused : Bool) (queue : List Ticket) (applied : List Passage) (front : FrontState) (batches : List Parcel) (ticket : Ticket) → AreSent queue applied front [] batches →
     (let next = take_step refused front ticket.sender ticket.item in AreSent (queue ++ ticket ∷ []) applied next.front next.parcels batches)
 sent_ticket refused queue applied front batches ticket sent =
     let next = take_step refused front ticket.sender ticket.item in
-    let is = is_taken_by refused front ticket.sender ticket.item sent.clear in
-    let before : applied ++ (all_passages_in batches ++ held_by front) ≡ (applied ++ all_passages_in batches) ++ held_by front = sym (append_assoc applied (all_passages_in batches) (held_by front)) in
-    let more = passes_more refused front ticket.sender ticket.item (items_in queue) (applied ++ all_passages_in batches) sent.clear (subst (Passes (items_in queue) front.closed front.stopped) before sent.passes) in
-    let after : ((applied ++ all_passages_in batches) ++ all_passages_in next.parcels) ++ held_by next.front ≡ applied ++ (all_passages_in batches ++ (all_passages_in next.parcels ++ held_by next.front)) = simp append_assoc in
+    let step = stepped refused front ticket sent.clear in
+    let more = passes_then HasJobs refused front ticket.sender ticket.item next step (items_in queue) (applied ++ all_passages_in batches) (rw append_assoc sent.passes) in
+    record { passes = rw items_push (simp append_assoc at more); clear = step.clear; parcel_jobs = step.parcels; batch_jobs = sent.batch_jobs }
+
+-- the batcher goes on
+batched : (Unrefused : Type 0) (clock n : ℕ) (pushed taken queue : List Ticket) (w : WorldState) (front : FrontState) (parcels batches : List Parcel) (last : Bool) → (h : Holds Unrefused clock n pushed w) → pushed ≡ taken ++ queue →
+    (Unrefused → front.stopped ≡ false) → AreSent taken h.applied front parcels batches → Holds Unrefused clock n pushed (record w { queue = queue; front = front; parcels = parcels; last_sent = last; batches = batches })
+batched Unrefused clock n pushed taken queue w front parcels batches last h split goes sent =
     record {
-      passes = subst (λ items. Passes items next.front.closed next.front.stopped (applied ++ on_the_way next.front next.parcels batches)) (sym (items_push queue ticket))
-          (subst (Passes (items_in queue ++ ticket.item ∷ []) next.front.closed next.front.stopped) after more);
-      clear = is.clear;
-      parcel_jobs = is.jobs;
-      batch_jobs = sent.batch_jobs;
+      taken = taken;
+      applied = h.applied;
+      answers = h.answers;
+      split = split;
+      counted = h.counted;
+      senders = h.senders;
+      sent = sent;
+      commits = h.commits;
+      routed = h.routed;
+      goes = λ is. record { front = goes is; ledger = (h.goes is).ledger };
     }
 
 pub pop_holds : (Unrefused : Type 0) (refused : Bool) (clock n : ℕ) (pushed : List Ticket) (w : WorldState) (parcels : List Parcel) (queue : List Ticket) → w.parcels ≡ parcels → w.queue ≡ queue → (Unrefused → refused ≡ false) →
@@ -102,74 +116,37 @@ pub pop_holds : (Unrefused : Type 0) (refused : Bool) (clock n : ℕ) (pushed : 
 pop_holds Unrefused refused clock n pushed w (first ∷ parcels) queue p q u h = h
 pop_holds Unrefused refused clock n pushed w [] [] p q u h = h
 pop_holds Unrefused refused clock n pushed w [] (ticket ∷ queue) p q u h =
-    record {
-      taken = h.taken ++ ticket ∷ [];
-      applied = h.applied;
-      answers = h.answers;
-      split = h.split ∙ ap (λ rest. h.taken ++ rest) q ∙ sym (append_assoc h.taken (ticket ∷ []) queue);
-      counted = h.counted;
-      senders = h.senders;
-      sent = sent_ticket refused h.taken h.applied w.front w.batches ticket (subst (λ ps. AreSent h.taken h.applied w.front ps w.batches) p h.sent);
-      commits = h.commits;
-      routed = h.routed;
-      goes = λ is. (let goes = h.goes is in record { front = goes_further refused w.front ticket.sender ticket.item (u is) goes.front; ledger = goes.ledger });
-    }
-
-jobs_push : (parcels : List Parcel) (p : Parcel) → AllHaveJobs parcels → HasJobs p → AllHaveJobs (parcels ++ p ∷ [])
-jobs_push [] p all has = (has, tt)
-jobs_push (first ∷ parcels) p all has = (all.0, jobs_push parcels p all.1 has)
+    let next = take_step refused w.front ticket.sender ticket.item in
+    let sent = sent_ticket refused h.taken h.applied w.front w.batches ticket (subst (λ ps. AreSent h.taken h.applied w.front ps w.batches) p h.sent) in
+    batched Unrefused clock n pushed (h.taken ++ ticket ∷ []) queue w next.front next.parcels w.batches w.last_sent h
+    (h.split ∙ ap (λ rest. h.taken ++ rest) q ∙ sym (append_assoc h.taken (ticket ∷ []) queue))
+    (λ is. goes_on HasJobs refused w.front ticket.sender ticket.item next (stepped refused w.front ticket h.sent.clear) (u is) (h.goes is).front) sent
 
 -- a parcel goes to the batch ring, from those to push or as the group held
-sent_parcel : (queue : List Ticket) (applied : List Passage) (front next : FrontState) (parcels others batches : List Parcel) (p : Parcel) → HasJobs p → AllHaveJobs others → IsClear next →
-    next.closed ≡ front.closed → next.stopped ≡ front.stopped → all_passages_in parcels ++ held_by front ≡ passages_in p ++ (all_passages_in others ++ held_by next) → AreSent queue applied front parcels batches → AreSent queue applied next others (batches ++ p ∷ [])
-sent_parcel queue applied front next parcels others batches p has all clear closed stopped list sent =
-    let rest = all_passages_in others ++ held_by next in
-    let spelt : all_passages_in (batches ++ p ∷ []) ≡ all_passages_in batches ++ passages_in p = flat_map-append passages_in batches (p ∷ []) ∙ ap (λ l. all_passages_in batches ++ l) (append-nil (passages_in p)) in
-    let way : on_the_way front parcels batches ≡ on_the_way next others (batches ++ p ∷ []) =
-    ap (λ l. all_passages_in batches ++ l) list ∙ sym (append_assoc (all_passages_in batches) (passages_in p) rest) ∙ ap (λ l. l ++ rest) (sym spelt) in
-    record {
-      passes = subst (Passes (items_in queue) next.closed next.stopped) (ap (λ l. applied ++ l) way)
-          (subst (λ b. Passes (items_in queue) b next.stopped (applied ++ on_the_way front parcels batches)) (sym closed)
-          (subst (λ b. Passes (items_in queue) front.closed b (applied ++ on_the_way front parcels batches)) (sym stopped) sent.passes));
-      clear = clear;
-      parcel_jobs = all;
-      batch_jobs = jobs_push batches p sent.batch_jobs has;
-    }
-
-pushed_on : (Unrefused : Type 0) (clock n : ℕ) (pushed : List Ticket) (w : WorldState) (front : FrontState) (others : List Parcel) (last : Bool) (p : Parcel) → front.stopped ≡ w.front.stopped → (h : Holds Unrefused clock n pushed w) →
-    AreSent h.taken h.applied front others (w.batches ++ p ∷ []) → Holds Unrefused clock n pushed (record w { front = front; parcels = others; last_sent = last; batches = w.batches ++ p ∷ [] })
-pushed_on Unrefused clock n pushed w front others last p stopped h sent =
-    record {
-      taken = h.taken;
-      applied = h.applied;
-      answers = h.answers;
-      split = h.split;
-      counted = h.counted;
-      senders = h.senders;
-      sent = sent;
-      commits = h.commits;
-      routed = h.routed;
-      goes = λ is. (let goes = h.goes is in record { front = stopped ∙ goes.front; ledger = goes.ledger });
-    }
+sent_parcel : (queue : List Ticket) (applied : List Passage) (front : FrontState) (held : List Numbered) (parcels others batches : List Parcel) (p : Parcel) → HasJobs p → AllHaveJobs others → IsClear (with_group front held) →
+    all_passages_in parcels ++ held_by front ≡ passages_in p ++ (all_passages_in others ++ map Admitted held) → AreSent queue applied front parcels batches → AreSent queue applied (with_group front held) others (batches ++ p ∷ [])
+sent_parcel queue applied front held parcels others batches p has all clear list sent =
+    let way : on_the_way front parcels batches ≡ on_the_way (with_group front held) others (batches ++ p ∷ []) = rw list (simp (flat_map-append passages_in batches (p ∷ []), append-nil, append_assoc)) in
+    record { passes = rw way at sent.passes; clear = clear; parcel_jobs = all; batch_jobs = all-push HasJobs batches p sent.batch_jobs has }
 
 pub batch_push_holds : (Unrefused : Type 0) (clock n : ℕ) (pushed : List Ticket) (w : WorldState) (parcels : List Parcel) (held : List Numbered) → w.parcels ≡ parcels → w.front.held ≡ held →
     Holds Unrefused clock n pushed w → Holds Unrefused clock n pushed (unwrap_or (batch_push w parcels held) w)
 batch_push_holds Unrefused clock n pushed w (p ∷ parcels) held e g h =
     let sent = subst (λ ps. AreSent h.taken h.applied w.front ps w.batches) e h.sent in
-    pushed_on Unrefused clock n pushed w w.front parcels w.last_sent p refl h
-    (sent_parcel h.taken h.applied w.front w.front (p ∷ parcels) parcels w.batches p sent.parcel_jobs.0 sent.parcel_jobs.1 sent.clear refl refl (append_assoc (passages_in p) (all_passages_in parcels) (held_by w.front)) sent)
+    batched Unrefused clock n pushed h.taken w.queue w w.front parcels (w.batches ++ p ∷ []) w.last_sent h h.split (λ is. (h.goes is).front)
+    (sent_parcel h.taken h.applied w.front w.front.held (p ∷ parcels) parcels w.batches p sent.parcel_jobs.0 sent.parcel_jobs.1 sent.clear (append_assoc (passages_in p) (all_passages_in parcels) (held_by w.front)) sent)
 batch_push_holds Unrefused clock n pushed w [] (job ∷ jobs) e g h =
     let group = parcel.Batch (job ∷ jobs) in
     let list : all_passages_in w.parcels ++ held_by w.front ≡ passages_in group ++ (all_passages_in w.parcels ++ []) =
     ap (λ (ps : List Parcel). all_passages_in ps ++ held_by w.front) e ∙ ap (map Admitted) g ∙ sym (append-nil (passages_in group)) ∙ ap (λ (ps : List Parcel). passages_in group ++ (all_passages_in ps ++ [])) (sym e) in
-    pushed_on Unrefused clock n pushed w (with_group w.front []) w.parcels w.last_sent group refl h
-    (sent_parcel h.taken h.applied w.front (with_group w.front []) w.parcels w.parcels w.batches group (omega arith) h.sent.parcel_jobs (λ any. refl) refl refl list h.sent)
+    batched Unrefused clock n pushed h.taken w.queue w (with_group w.front []) w.parcels (w.batches ++ group ∷ []) w.last_sent h h.split (λ is. (h.goes is).front)
+    (sent_parcel h.taken h.applied w.front [] w.parcels w.parcels w.batches group (omega arith) h.sent.parcel_jobs (λ any. refl) list h.sent)
 batch_push_holds Unrefused clock n pushed w [] [] e g h = by (all_ended w.front && not w.last_sent)
   where
     by : (b : Bool) → Holds Unrefused clock n pushed (unwrap_or (if b then Some (record w { last_sent = true; batches = w.batches ++ parcel.Last ∷ [] }) else None) w)
     by true =
-        pushed_on Unrefused clock n pushed w w.front w.parcels true parcel.Last refl h
-        (sent_parcel h.taken h.applied w.front w.front w.parcels w.parcels w.batches parcel.Last tt h.sent.parcel_jobs h.sent.clear refl refl refl h.sent)
+        batched Unrefused clock n pushed h.taken w.queue w w.front w.parcels (w.batches ++ parcel.Last ∷ []) true h h.split (λ is. (h.goes is).front)
+        (sent_parcel h.taken h.applied w.front w.front.held w.parcels w.parcels w.batches parcel.Last tt h.sent.parcel_jobs h.sent.clear refl h.sent)
     by false = h
 
 -- ---- the committer
@@ -181,11 +158,7 @@ routed_more : (n : ℕ) (answers : List Replied) (shelves : List Shelf) (way mor
 routed_more n answers shelves way more routed =
     record {
       long = routed.long;
-      each = λ submitter among.
-          let shelf = shelf_at shelves submitter in
-          replies_to-append submitter answers more ∙ ap (λ rs. rs ++ replies_to more submitter) (routed.each submitter among)
-          ∙ append_assoc shelf.received (shelf.ring ++ replies_to way submitter) (replies_to more submitter)
-          ∙ ap (λ rs. shelf.received ++ rs) (append_assoc shelf.ring (replies_to way submitter) (replies_to more submitter) ∙ ap (λ rs. shelf.ring ++ rs) (sym (replies_to-append submitter way more)));
+      each = λ submitter among. rw (replies_to-append submitter answers more, replies_to-append submitter way more, routed.each submitter among) (simp append_assoc);
     }
 
 left_replies : (outcome : Outcomes) → of_one (left_by outcome) ≡ replies_in outcome
@@ -213,8 +186,7 @@ batch_pop_holds Unrefused refused clock n pushed w None (p ∷ batches) o e goes
     let sent = subst (λ ps. AreSent h.taken h.applied w.front w.parcels ps) e h.sent in
     let more = replies_in next.outcomes in
     let routed = routed_more n h.answers w.shelves (unrouted w.replies w.outcomes None) more (subst (λ o. AreRouted n h.answers w.shelves (unrouted w.replies w.outcomes o)) o h.routed) in
-    let way : unrouted w.replies w.outcomes None ++ more ≡ unrouted w.replies w.outcomes (left_by next.outcomes) =
-    append_assoc w.replies (of_all w.outcomes ++ []) more ∙ ap (λ rs. w.replies ++ (rs ++ more)) (append-nil (of_all w.outcomes)) ∙ ap (λ rs. w.replies ++ (of_all w.outcomes ++ rs)) (sym (left_replies next.outcomes)) in
+    let way : unrouted w.replies w.outcomes None ++ more ≡ unrouted w.replies w.outcomes (left_by next.outcomes) = rw left_replies (simp (append-nil, append_assoc)) in
     record {
       taken = h.taken;
       applied = h.applied ++ passages_in p;
@@ -223,7 +195,7 @@ batch_pop_holds Unrefused refused clock n pushed w None (p ∷ batches) o e goes
       counted = h.counted;
       senders = h.senders;
       sent = sent_applied h.taken h.applied w.front w.parcels batches p sent;
-      commits = commits_more refused clock h.applied w.ledger h.answers p sent.batch_jobs.0 h.commits;
+      commits = commits_more clock h.applied w.ledger h.answers h.commits refused p sent.batch_jobs.0;
       routed = subst (AreRouted n (h.answers ++ more) w.shelves) way routed;
       goes = λ is. record { front = (h.goes is).front; ledger = goes is p batches e };
     }
@@ -238,8 +210,7 @@ pub outcome_push_holds : (Unrefused : Type 0) (clock n : ℕ) (pushed : List Tic
     Holds Unrefused clock n pushed w → Holds Unrefused clock n pushed (unwrap_or (outcome_push w outcome) w)
 outcome_push_holds Unrefused clock n pushed w None o h = h
 outcome_push_holds Unrefused clock n pushed w (Some outcome) o h =
-    let way : unrouted w.replies w.outcomes (Some outcome) ≡ unrouted w.replies (w.outcomes ++ outcome ∷ []) None =
-    ap (λ rs. w.replies ++ rs) (sym (append-nil (of_all (w.outcomes ++ outcome ∷ [])) ∙ flat_map-append replies_in w.outcomes (outcome ∷ []) ∙ ap (λ rs. of_all w.outcomes ++ rs) (append-nil (replies_in outcome)))) in
+    let way : unrouted w.replies w.outcomes (Some outcome) ≡ unrouted w.replies (w.outcomes ++ outcome ∷ []) None = simp (flat_map-append replies_in w.outcomes (outcome ∷ []), append-nil) in
     rerouted Unrefused clock n pushed w w.replies (w.outcomes ++ outcome ∷ []) None w.shelves h
     (subst (AreRouted n h.answers w.shelves) (ap (unrouted w.replies w.outcomes) o ∙ way) h.routed)
 
@@ -254,64 +225,47 @@ outcome_pop_holds Unrefused clock n pushed w [] (outcome ∷ outcomes) r o h =
     (subst (AreRouted n h.answers w.shelves)
     (ap (λ (rs : List Replied). unrouted rs w.outcomes w.outcome) r ∙ ap (λ (os : List Outcomes). unrouted [] os w.outcome) o ∙ append_assoc (replies_in outcome) (of_all outcomes) (of_one w.outcome)) h.routed)
 
-same_number : (n : ℕ) → (n == n) ≡ true
-same_number n = grind (arith, nat_tests)
-
-differ : (a b : ℕ) → a ≢ b → (a == b) ≡ false
-differ a b h = grind (arith, nat_tests)
-
--- a reply goes from the way to its submitter's ring
-given_keeps : (n submitter : ℕ) (shelves : List Shelf) (reply : Replied) (way : List Replied) → length shelves ≡ n → submitter < n → shelved submitter shelves (reply ∷ way) ≡ shelved submitter (shelves_with shelves reply) way
-given_keeps n submitter shelves reply way long among =
-    let own = reply.submitter in
-    let new = with_reply (shelf_at shelves own) reply in
-    let others = replies_to way submitter in
+-- a submitter has the same where a shelf was replaced, and its own replies with what is on the way
+replaced : (n submitter own : ℕ) (shelves : List Shelf) (new : Shelf) (old way : List Replied) → length shelves ≡ n → submitter < n → shelved own shelves old ≡ new.received ++ (new.ring ++ replies_to way own) →
+    (own ≢ submitter → replies_to old submitter ≡ replies_to way submitter) → shelved submitter shelves old ≡ shelved submitter (set shelves own new) way
+replaced n submitter own shelves new old way long among here elsewhere =
     ⊎_elim
-    (λ (same : own ≡ submitter).
-    let shelf = shelf_at shelves submitter in
-    let there : with_reply shelf reply ≡ shelf_at (shelves_with shelves reply) submitter =
-    ap (λ k. with_reply (shelf_at shelves k) reply) (sym same) ∙ sym (get_or-set_same shelves own new empty_shelf (omega (arith, long, same, among))) ∙ ap (λ k. get_or (set shelves own new) k empty_shelf) same in
-    ap (λ b. shelf.received ++ (shelf.ring ++ (if b then reply ∷ others else others))) (ap (λ k. k == submitter) same ∙ same_number submitter)
-    ∙ ap (λ rs. shelf.received ++ rs) (sym (append_assoc shelf.ring (reply ∷ []) others)) ∙ ap (λ (s : Shelf). s.received ++ (s.ring ++ others)) there)
-    (λ (other : own ≢ submitter).
-    ap (λ b. (shelf_at shelves submitter).received ++ ((shelf_at shelves submitter).ring ++ (if b then reply ∷ others else others))) (differ own submitter other)
-    ∙ ap (λ (s : Shelf). s.received ++ (s.ring ++ others)) (sym (get_or-set_other shelves own submitter new empty_shelf (λ same. other (sym same)))))
+    (λ (same : own ≡ submitter). subst (λ k. shelved k shelves old ≡ shelved k (set shelves own new) way) same
+    (here ∙ ap (λ (s : Shelf). s.received ++ (s.ring ++ replies_to way own)) (sym (get_or-set_same shelves own new empty_shelf (omega (arith, long, same, among))))))
+    (λ (other : own ≢ submitter). ap (λ rs. (shelf_at shelves submitter).received ++ ((shelf_at shelves submitter).ring ++ rs)) (elsewhere other)
+    ∙ ap (λ (s : Shelf). s.received ++ (s.ring ++ replies_to way submitter)) (sym (get_or-set_other shelves own submitter new empty_shelf (λ same. other (sym same)))))
     (cases_eq own submitter)
 
+-- a reply goes from the way to its submitter's ring
 pub reply_push_holds : (Unrefused : Type 0) (clock n : ℕ) (pushed : List Ticket) (w : WorldState) (replies : List Replied) → w.replies ≡ replies →
     Holds Unrefused clock n pushed w → Holds Unrefused clock n pushed (unwrap_or (reply_push w replies) w)
 reply_push_holds Unrefused clock n pushed w [] r h = h
 reply_push_holds Unrefused clock n pushed w (reply ∷ replies) r h =
+    let own = reply.submitter in
+    let shelf = shelf_at w.shelves own in
+    let way = unrouted replies w.outcomes w.outcome in
     rerouted Unrefused clock n pushed w replies w.outcomes w.outcome (shelves_with w.shelves reply) h
     (record {
-      long = length-set w.shelves reply.submitter (with_reply (shelf_at w.shelves reply.submitter) reply) ∙ h.routed.long;
+      long = length-set w.shelves own (with_reply shelf reply) ∙ h.routed.long;
       each = λ submitter among. h.routed.each submitter among ∙ ap (λ (rs : List Replied). shelved submitter w.shelves (unrouted rs w.outcomes w.outcome)) r
-          ∙ given_keeps n submitter w.shelves reply (unrouted replies w.outcomes w.outcome) h.routed.long among;
+          ∙ replaced n submitter own w.shelves (with_reply shelf reply) (reply ∷ way) way h.routed.long among
+          (rw (eq-eqb own own refl) (ap (λ rs. shelf.received ++ rs) (sym (append_assoc shelf.ring (reply ∷ []) (replies_to way own))))) (λ other. rw (ne_eqb own submitter other) refl);
     })
 
 -- ---- the submitters
-
-taken_keeps : (n submitter own : ℕ) (shelves : List Shelf) (reply : Replied) (ring way : List Replied) → length shelves ≡ n → submitter < n → (shelf_at shelves own).ring ≡ reply ∷ ring →
-    shelved submitter shelves way ≡ shelved submitter (set shelves own (record { ring = ring; received = (shelf_at shelves own).received ++ reply ∷ [] })) way
-taken_keeps n submitter own shelves reply ring way long among e =
-    let new : Shelf = record { ring = ring; received = (shelf_at shelves own).received ++ reply ∷ [] } in
-    let others = replies_to way submitter in
-    ⊎_elim
-    (λ (same : own ≡ submitter).
-    let there : new ≡ shelf_at (set shelves own new) submitter = sym (get_or-set_same shelves own new empty_shelf (omega (arith, long, same, among))) ∙ ap (λ k. get_or (set shelves own new) k empty_shelf) same in
-    ap (λ k. (shelf_at shelves k).received ++ ((shelf_at shelves k).ring ++ others)) (sym same) ∙ ap (λ rs. (shelf_at shelves own).received ++ (rs ++ others)) e
-    ∙ sym (append_assoc (shelf_at shelves own).received (reply ∷ []) (ring ++ others)) ∙ ap (λ (s : Shelf). s.received ++ (s.ring ++ others)) there)
-    (λ (other : own ≢ submitter). ap (λ (s : Shelf). s.received ++ (s.ring ++ others)) (sym (get_or-set_other shelves own submitter new empty_shelf (λ same. other (sym same)))))
-    (cases_eq own submitter)
 
 pub reply_pop_holds : (Unrefused : Type 0) (clock n : ℕ) (pushed : List Ticket) (w : WorldState) (own : ℕ) (ring : List Replied) → (shelf_at w.shelves own).ring ≡ ring →
     Holds Unrefused clock n pushed w → Holds Unrefused clock n pushed (unwrap_or (reply_pop w own (after_pop_of (shelf_at w.shelves own) ring)) w)
 reply_pop_holds Unrefused clock n pushed w own [] e h = h
 reply_pop_holds Unrefused clock n pushed w own (reply ∷ ring) e h =
+    let received = (shelf_at w.shelves own).received in
+    let new : Shelf = record { ring = ring; received = received ++ reply ∷ [] } in
+    let way = unrouted w.replies w.outcomes w.outcome in
     rerouted Unrefused clock n pushed w w.replies w.outcomes w.outcome _ h
     (record {
-      long = length-set w.shelves own (record { ring = ring; received = (shelf_at w.shelves own).received ++ reply ∷ [] }) ∙ h.routed.long;
-      each = λ submitter among. h.routed.each submitter among ∙ taken_keeps n submitter own w.shelves reply ring (unrouted w.replies w.outcomes w.outcome) h.routed.long among e;
+      long = length-set w.shelves own new ∙ h.routed.long;
+      each = λ submitter among. h.routed.each submitter among
+          ∙ replaced n submitter own w.shelves new way way h.routed.long among (ap (λ rs. received ++ (rs ++ replies_to way own)) e ∙ sym (append_assoc received (reply ∷ []) (ring ++ replies_to way own))) (λ other. refl);
     })
 
 -- ---- a push
@@ -325,8 +279,8 @@ push_holds Unrefused clock n pushed w ticket true is h =
       applied = h.applied;
       answers = h.answers;
       split = ap (λ l. l ++ ticket ∷ []) h.split ∙ append_assoc h.taken w.queue (ticket ∷ []);
-      counted = h.counted;
       senders = push_counted w.limit n pushed w.senders ticket (subst (λ m. may_push w.limit m ticket.sender (sender_at w.senders ticket.sender) ticket.item ≡ true) h.counted is) h.senders;
+      counted = h.counted;
       sent = h.sent;
       commits = h.commits;
       routed = h.routed;

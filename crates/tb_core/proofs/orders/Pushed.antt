@@ -1,12 +1,9 @@
 -- Who pushed what: the senders of a World count what stands in the history of its pushes.
-use Rattle.std.proofs.Common.{refl, sym, ap, ◌∙◌, subst, arith, ◌≡◌, ◌≢◌, ◌==◌, ⊎_elim, ℕ, ◌+◌, ◌<◌, ◌≤◌, Bool, true, false, not, ◌&&◌, nat_lt, nat_le, List, [], ◌∷◌, ◌++◌, map, length, filter, append-nil, length-set, get_or-set_other}
-use Rattle.std.specs.Prelude.{if◌then◌else◌}
+use Rattle.std.proofs.Common.{refl, sym, ap, ◌∙◌, subst, arith, ◌≡◌, ◌≢◌, ◌==◌, ⊎_elim, ℕ, ◌+◌, ◌<◌, ◌≤◌, Bool, true, false, not, ◌&&◌, nat_lt, List, [], ◌∷◌, ◌++◌, length, append-nil, length-set, get_or-set_other}
 use Rattle.std.specs.List.{list_all, list_any}
-use Rattle.std.proofs.lemmas.List.{get_or-set_same, map-append}
-use Rattle.std.proofs.lemmas.List.Elements.{filter-append}
+use Rattle.std.proofs.lemmas.List.{get_or-set_same}
 use Rattle.std.proofs.lemmas.List.Folds.{list_all-append}
-use Rattle.std.proofs.lemmas.Bool.{cases_eq}
-use Rattle.std.proofs.lemmas.Bool.Decides.{nat_tests}
+use Rattle.std.proofs.lemmas.Bool.{and_parts, cases_eq, eq-eqb, eqb-true, leb-true, ltb-true, ne_eqb, not-true}
 use Rattle.tb_work.specs.Queue.{part, is_end, IsUnended, IsEnded, IsSubmitted, AreSubmitted, AreNumbered, IsQueueOf}
 use Rattle.tb_work.specs.declared.item.Item.{Item}
 use Rattle.tb_work.specs.declared.item.Item.TheVariants as item
@@ -15,38 +12,15 @@ use Rattle.tb_core.specs.declared.world.sender.Sender.{Sender}
 use Rattle.tb_core.specs.world.Pushing.{may_push_item, may_push, newcomer, sender_after}
 use Rattle.tb_core.specs.world.World.{sender_at, senders_after}
 use Rattle.tb_core.specs.Front.{HaveAllEnded}
+use Rattle.tb_core.proofs.Accounting.{part_push}
+use Rattle.tb_core.proofs.Committed.{all-push}
 
 -- ---- what may be pushed
-
-and_parts : (a b : Bool) → (a && b) ≡ true → (a ≡ true) × (b ≡ true)
-and_parts true b h = (refl, h)
-and_parts false b h = cc
-
-not_true : (b : Bool) → not b ≡ true → b ≡ false
-not_true true h = cc
-not_true false h = refl
-
-equal : (a b : ℕ) → (a == b) ≡ true → a ≡ b
-equal a b h = grind (arith, nat_tests)
-
-differ : (a b : ℕ) → a ≢ b → (a == b) ≡ false
-differ a b h = grind (arith, nat_tests)
-
-less : (a b : ℕ) → nat_lt a b ≡ true → a < b
-less a b h = grind (arith, nat_tests)
-
-at_most : (a b : ℕ) → nat_le a b ≡ true → a ≤ b
-at_most a b h = grind (arith, nat_tests)
-
-same_number : (n : ℕ) → (n == n) ≡ true
-same_number n = grind (arith, nat_tests)
 
 -- a packet is its sender's own, with the next number
 abbrev IsNext : ℕ → ℕ → Item → Type 0
 IsNext number next (item.Packet job) = (job.submitter ≡ number) × (job.number ≡ next)
-IsNext number next (item.Pulse moment) = Unit {0}
-IsNext number next item.End = Unit {0}
-IsNext number next item.Close = Unit {0}
+IsNext number next x = Unit {0}
 
 record MayPush (submitters number : ℕ) (sender : Sender) (x : Item) : Type 0 where
   among : number ≤ submitters
@@ -58,41 +32,33 @@ may limit submitters number sender (item.Packet job) h =
     let below = and_parts (nat_lt number submitters) _ h in
     let own = and_parts (job.submitter == number) _ below.1 in
     let counted = and_parts (job.number == sender.pushed) _ own.1 in
-    let few = less number submitters below.0 in
+    let few = ltb-true number submitters below.0 in
     record {
       among = omega (arith, few);
-      next = (equal job.submitter number own.0, equal job.number sender.pushed counted.0);
-      submitted = (equal job.submitter number own.0, few);
+      next = (eqb-true job.submitter number own.0, eqb-true job.number sender.pushed counted.0);
+      submitted = (eqb-true job.submitter number own.0, few);
     }
-may limit submitters number sender (item.Pulse moment) h = let is = equal number submitters h in record { among = omega (arith, is); next = tt; submitted = tt }
-may limit submitters number sender item.End h = record { among = at_most number submitters h; next = tt; submitted = tt }
-may limit submitters number sender item.Close h = let is = equal number submitters h in record { among = omega (arith, is); next = tt; submitted = tt }
+may limit submitters number sender (item.Pulse moment) h = let is = eqb-true number submitters h in record { among = omega (arith, is); next = tt; submitted = tt }
+may limit submitters number sender item.End h = record { among = leb-true number submitters h; next = tt; submitted = tt }
+may limit submitters number sender item.Close h = let is = eqb-true number submitters h in record { among = omega (arith, is); next = tt; submitted = tt }
 
 -- ---- one sender
 
 abbrev pub packets_in : List Item → ℕ
 packets_in [] = 0
 packets_in (item.Packet job ∷ items) = packets_in items + 1
-packets_in (item.Pulse moment ∷ items) = packets_in items
-packets_in (item.End ∷ items) = packets_in items
-packets_in (item.Close ∷ items) = packets_in items
+packets_in (x ∷ items) = packets_in items
 
 packets_in-append : (xs ys : List Item) → packets_in (xs ++ ys) ≡ packets_in xs + packets_in ys
 packets_in-append [] ys = omega arith
 packets_in-append (item.Packet job ∷ xs) ys = omega (arith, packets_in-append xs ys)
-packets_in-append (item.Pulse moment ∷ xs) ys = packets_in-append xs ys
-packets_in-append (item.End ∷ xs) ys = packets_in-append xs ys
-packets_in-append (item.Close ∷ xs) ys = packets_in-append xs ys
+packets_in-append (x ∷ xs) ys = packets_in-append xs ys
 
 numbered_push : (number next : ℕ) (items : List Item) (x : Item) → AreNumbered number next items → IsNext number (next + packets_in items) x → AreNumbered number next (items ++ x ∷ [])
 numbered_push number next [] (item.Packet job) all is = (is.0, is.1 ∙ omega arith, tt)
-numbered_push number next [] (item.Pulse moment) all is = tt
-numbered_push number next [] item.End all is = tt
-numbered_push number next [] item.Close all is = tt
+numbered_push number next [] x all is = tt
 numbered_push number next (item.Packet job ∷ items) x all is = (all.0, all.1, numbered_push number (next + 1) items x all.2 (subst (λ n. IsNext number n x) (omega arith) is))
-numbered_push number next (item.Pulse moment ∷ items) x all is = numbered_push number next items x all is
-numbered_push number next (item.End ∷ items) x all is = numbered_push number next items x all is
-numbered_push number next (item.Close ∷ items) x all is = numbered_push number next items x all is
+numbered_push number next (first ∷ items) x all is = numbered_push number next items x all is
 
 -- a sender has pushed these
 pub record HasPushed (number : ℕ) (sender : Sender) (items : List Item) : Type 0 where
@@ -138,26 +104,8 @@ none_pushed submitters senders long new =
       each = λ sender among. subst (λ s. HasPushed sender s []) (sym (new sender among)) (record { numbered = tt; counted = refl; goes_on = λ on. refl; ended = λ over. cc });
     }
 
-part_push : (sender : ℕ) (queue : List Ticket) (ticket : Ticket) (b : Bool) → (ticket.sender == sender) ≡ b → part sender (queue ++ ticket ∷ []) ≡ part sender queue ++ (if b then ticket.item ∷ [] else [])
-part_push sender queue ticket b is =
-    ap (map item_in) (filter-append is_its queue (ticket ∷ [])) ∙ map-append item_in (filter is_its queue) (filter is_its (ticket ∷ [])) ∙ ap (λ items. part sender queue ++ items) (one b is)
-  where
-    item_in : Ticket → Item
-    item_in ticket = ticket.item
-
-    is_its : Ticket → Bool
-    is_its ticket = ticket.sender == sender
-
-    one : (b : Bool) → (ticket.sender == sender) ≡ b → map item_in (filter is_its (ticket ∷ [])) ≡ (if b then ticket.item ∷ [] else [])
-    one true is = ap (λ c. map item_in (if c then ticket ∷ [] else [])) is
-    one false is = ap (λ c. map item_in (if c then ticket ∷ [] else [])) is
-
 part_of_others : (sender : ℕ) (queue : List Ticket) (ticket : Ticket) → ticket.sender ≢ sender → part sender (queue ++ ticket ∷ []) ≡ part sender queue
-part_of_others sender queue ticket other = part_push sender queue ticket false (differ ticket.sender sender other) ∙ append-nil (part sender queue)
-
-submitted_push : (submitters : ℕ) (queue : List Ticket) (ticket : Ticket) → AreSubmitted submitters queue → IsSubmitted submitters ticket.sender ticket.item → AreSubmitted submitters (queue ++ ticket ∷ [])
-submitted_push submitters [] ticket all is = (is, tt)
-submitted_push submitters (first ∷ queue) ticket all is = (all.0, submitted_push submitters queue ticket all.1 is)
+part_of_others sender queue ticket other = part_push sender queue ticket ∙ rw (ne_eqb ticket.sender sender other) (append-nil (part sender queue))
 
 pub push_counted : (limit submitters : ℕ) (pushed : List Ticket) (senders : List Sender) (ticket : Ticket) → may_push limit submitters ticket.sender (sender_at senders ticket.sender) ticket.item ≡ true → HavePushed submitters pushed senders →
     HavePushed submitters (pushed ++ ticket ∷ []) (senders_after senders ticket)
@@ -169,14 +117,14 @@ push_counted limit submitters pushed senders ticket lawful have =
     let Each : ℕ → Type 0 = λ sender. HasPushed sender (sender_at (senders_after senders ticket) sender) (part sender (pushed ++ ticket ∷ [])) in
     let its : Each ticket.sender =
     subst (λ s. HasPushed ticket.sender s (part ticket.sender (pushed ++ ticket ∷ []))) (sym (get_or-set_same senders ticket.sender new newcomer (omega (arith, have.long, is.among))))
-    (subst (HasPushed ticket.sender new) (sym (part_push ticket.sender pushed ticket true (same_number ticket.sender)))
-    (pushed_more ticket.sender old (part ticket.sender pushed) ticket.item (not_true old.ended both.0) is.next (have.each ticket.sender is.among))) in
+    (subst (HasPushed ticket.sender new) (sym (part_push ticket.sender pushed ticket ∙ rw (eq-eqb ticket.sender ticket.sender refl) refl))
+    (pushed_more ticket.sender old (part ticket.sender pushed) ticket.item (not-true old.ended both.0) is.next (have.each ticket.sender is.among))) in
     let others : (sender : ℕ) → sender ≤ submitters → ticket.sender ≢ sender → Each sender = λ sender among other.
     subst (λ s. HasPushed sender s (part sender (pushed ++ ticket ∷ []))) (sym (get_or-set_other senders ticket.sender sender new newcomer (λ same. other (sym same))))
     (subst (HasPushed sender (sender_at senders sender)) (sym (part_of_others sender pushed ticket other)) (have.each sender among)) in
     record {
       long = length-set senders ticket.sender new ∙ have.long;
-      submitted = submitted_push submitters pushed ticket have.submitted is.submitted;
+      submitted = all-push (λ (t : Ticket). IsSubmitted submitters t.sender t.item) pushed ticket have.submitted is.submitted;
       strangers = λ sender beyond. part_of_others sender pushed ticket (λ same. absurd (omega (arith, is.among, beyond, same))) ∙ have.strangers sender beyond;
       each = λ sender among. ⊎_elim (λ (same : ticket.sender ≡ sender). subst Each same its) (others sender among) (cases_eq ticket.sender sender);
     }
@@ -185,10 +133,9 @@ push_counted limit submitters pushed senders ticket lawful have =
 
 not_both : (items : List Item) → list_all (λ x. not (is_end x)) items ≡ true → list_any is_end items ≡ true → ⊥
 not_both [] all any = cc
-not_both (item.Packet job ∷ items) all any = not_both items all any
-not_both (item.Pulse moment ∷ items) all any = not_both items all any
 not_both (item.End ∷ items) all any = cc
 not_both (item.Close ∷ items) all any = cc
+not_both (x ∷ items) all any = not_both items all any
 
 has_ended : (number : ℕ) (sender : Sender) (items : List Item) → HasPushed number sender items → list_any is_end items ≡ true → IsEnded items
 has_ended number sender items has any = by sender.ended refl

@@ -1,9 +1,9 @@
 -- Every order of steps: what holds of a World after a list of events.
-use Rattle.std.proofs.Common.{refl, sym, ap, subst, ◌∙◌, arith, ◌≡◌, ℕ, ◌+◌, ◌^◌, ◌≤◌, Bool, true, false, ◌||◌, nat_lt, List, [], ◌∷◌, ◌++◌, length, append_assoc, append-nil, length-append, replicate, None}
+use Rattle.std.proofs.Common.{refl, sym, ap, subst, ◌∙◌, arith, ◌≡◌, ℕ, ◌+◌, ◌^◌, ◌≤◌, Bool, true, false, List, [], ◌∷◌, ◌++◌, length, append_assoc, append-nil, length-append, replicate, None}
 use Rattle.std.specs.Prelude.{if◌then◌else◌}
 use Rattle.std.specs.List.{list_any}
 use Rattle.std.proofs.lemmas.List.{get_or-replicate, length-replicate, length-map}
-use Rattle.std.proofs.lemmas.Bool.Decides.{nat_tests}
+use Rattle.std.proofs.lemmas.Bool.{le-ltb, or_parts}
 use Rattle.tb_work.specs.Queue.{ahead, items_in}
 use Rattle.tb_work.specs.Work.{work_of}
 use Rattle.tb_work.specs.declared.item.Item.{Item}
@@ -14,14 +14,14 @@ use Rattle.tb_core.specs.declared.parcel.Parcel.TheVariants as parcel
 use Rattle.tb_core.specs.declared.world.event.Event.{Event}
 use Rattle.tb_core.specs.declared.world.event.Event.TheVariants.{Push, Pop, BatchPush, BatchPop, OutcomePush, OutcomePop, ReplyPush, ReplyPop}
 use Rattle.tb_core.specs.Due.{works_in}
-use Rattle.tb_core.specs.Front.{all_passages_in, passages_in, held_by}
+use Rattle.tb_core.specs.Front.{passages_in}
 use Rattle.tb_core.specs.Ledger.{LedgerState, Applied, works, must_stop, apply_step}
 use Rattle.tb_core.specs.world.Pushing.{newcomer}
 use Rattle.tb_core.specs.world.Shelf.{Shelf, empty_shelf, shelf_at}
 use Rattle.tb_core.specs.world.World.{WorldState, is_lawful, after_event, run, new_world}
 use Rattle.tb_core.specs.world.EveryOrder.{pushed_at, history, is_refused}
 use Rattle.tb_core.proofs.Committed.{works_in-append, works_in-admitted}
-use Rattle.tb_core.proofs.orders.Below.{so_far}
+use Rattle.tb_core.proofs.Runs.{so_far}
 use Rattle.tb_core.proofs.orders.Pushed.{none_pushed}
 use Rattle.tb_core.proofs.orders.Holding.{on_the_way, Holds, GoesOn, push_holds, pop_holds, batch_push_holds, batch_pop_holds, outcome_push_holds, outcome_pop_holds, reply_push_holds, reply_pop_holds}
 
@@ -30,50 +30,29 @@ use Rattle.tb_core.proofs.orders.Holding.{on_the_way, Holds, GoesOn, push_holds,
 length-ahead : (items : List Item) → length (ahead items) ≤ length items
 length-ahead [] = omega arith
 length-ahead (item.Packet job ∷ items) = omega (arith, length-ahead items)
-length-ahead (item.Pulse moment ∷ items) = omega (arith, length-ahead items)
-length-ahead (item.End ∷ items) = omega (arith, length-ahead items)
-length-ahead (item.Close ∷ items) = omega arith
-
-few : (n most : ℕ) → n ≤ most → nat_lt most n ≡ false
-few n most h = grind (arith, nat_tests)
-
-either : (b : Bool) (x y : Applied) → b ≡ false → y.ledger.stopped ≡ false → (if b then x else y).ledger.stopped ≡ false
-either true x y e h = cc
-either false x y e h = h
+length-ahead (x ∷ items) = omega (arith, length-ahead items)
 
 goes_on : (ledger : LedgerState) (p : Parcel) → ledger.stopped ≡ false → length (works ledger) + length (works_in (passages_in p)) ≤ 2 ^ 63 → (apply_step false ledger p).ledger.stopped ≡ false
 goes_on ledger p goes room = by p room
   where
-    none : (count : ℕ) → length (works ledger) + count ≤ 2 ^ 63 → must_stop false ledger count ≡ false
-    none count room = ap (λ b. b || (false || nat_lt (2 ^ 63) (length (works ledger) + count))) goes ∙ few (length (works ledger) + count) (2 ^ 63) room
+    committed : (count : ℕ) (x y : Applied) → length (works ledger) + count ≤ 2 ^ 63 → y.ledger.stopped ≡ false → (if must_stop false ledger count then x else y).ledger.stopped ≡ false
+    committed count x y room on = rw (goes, le-ltb (2 ^ 63) (length (works ledger) + count) room) on
 
     by : (p : Parcel) → length (works ledger) + length (works_in (passages_in p)) ≤ 2 ^ 63 → (apply_step false ledger p).ledger.stopped ≡ false
-    by (parcel.Batch jobs) room = either (must_stop false ledger (length jobs)) _ _ (none (length jobs) (omega (arith, room, ap length (works_in-admitted jobs), length-map jobs work_of))) goes
-    by (parcel.Pulse moment) room = either (must_stop false ledger 1) _ _ (none 1 room) goes
-    by (parcel.Return job cause) room = goes
-    by parcel.Last room = goes
+    by (parcel.Batch jobs) room = committed (length jobs) _ _ (omega (arith, room, ap length (works_in-admitted jobs), length-map jobs work_of)) goes
+    by (parcel.Pulse moment) room = committed 1 _ _ room goes
+    by p room = goes
 
 pub parcel_goes : (Unrefused : Type 0) (refused : Bool) (clock n : ℕ) (pushed : List Ticket) (w : WorldState) → (Unrefused → refused ≡ false) → length pushed ≤ 2 ^ 63 → Holds Unrefused clock n pushed w → GoesOn Unrefused refused w
 parcel_goes Unrefused refused clock n pushed w u short h = λ is p batches e.
-    let rest = all_passages_in batches ++ (all_passages_in w.parcels ++ held_by w.front) in
-    let way : works_in (on_the_way w.front w.parcels w.batches) ≡ works_in (passages_in p) ++ works_in rest =
-    ap (λ (ps : List Parcel). works_in (all_passages_in ps ++ (all_passages_in w.parcels ++ held_by w.front))) e
-    ∙ ap works_in (append_assoc (passages_in p) (all_passages_in batches) (all_passages_in w.parcels ++ held_by w.front)) ∙ works_in-append (passages_in p) rest in
-    let far = so_far clock (items_in h.taken) w.front.closed w.front.stopped h.applied (on_the_way w.front w.parcels w.batches) w.ledger h.answers h.sent.passes h.commits in
+    let on_way = on_the_way w.front w.parcels w.batches in
+    let rest = on_the_way w.front w.parcels batches in
+    let way : works_in on_way ≡ works_in (passages_in p) ++ works_in rest = rw e (ap works_in (append_assoc (passages_in p) _ _) ∙ works_in-append (passages_in p) rest) in
+    let far = so_far clock (items_in h.taken) w.front.closed w.front.stopped h.applied on_way w.ledger h.answers h.sent.passes h.commits in
     let all = far.whole (h.goes is).front (h.goes is).ledger in
-    let room : length (works w.ledger) + length (works_in (passages_in p)) ≤ 2 ^ 63 =
-    omega (
-      arith,
-      short,
-      ap length way,
-      length-append (works_in (passages_in p)) (works_in rest),
-      ap length all,
-      length-append (works w.ledger) (works_in (on_the_way w.front w.parcels w.batches)),
-      length-ahead (items_in h.taken),
-      length-map h.taken (λ (ticket : Ticket). ticket.item),
-      ap length h.split,
-      length-append h.taken w.queue,
-    ) in
+    let few : length (ahead (items_in h.taken)) ≤ length pushed = omega (arith, length-ahead (items_in h.taken), length-map h.taken (λ (ticket : Ticket). ticket.item), ap length h.split, length-append h.taken w.queue) in
+    let sum = ap length way ∙ length-append (works_in (passages_in p)) (works_in rest) in
+    let room : length (works w.ledger) + length (works_in (passages_in p)) ≤ 2 ^ 63 = omega (arith, short, few, sum, ap length all, length-append (works w.ledger) (works_in on_way)) in
     subst (λ b. (apply_step b w.ledger p).ledger.stopped ≡ false) (sym (u is)) (goes_on w.ledger p (h.goes is).ledger room)
 
 -- ---- one event
@@ -94,10 +73,6 @@ event_holds U clock n pushed w ReplyPush u short h = none_more U clock n pushed 
 event_holds U clock n pushed w (ReplyPop own) u short h = none_more U clock n pushed _ (reply_pop_holds U clock n pushed w own (shelf_at w.shelves own).ring refl h)
 
 -- ---- a list of events
-
-or_parts : (a b : Bool) → (a || b) ≡ false → (a ≡ false) × (b ≡ false)
-or_parts true b none = cc
-or_parts false b none = (refl, none)
 
 run_holds : (U : Type 0) (clock n : ℕ) (pushed : List Ticket) (w : WorldState) (es : List Event) → (U → list_any is_refused es ≡ false) → length (pushed ++ history w es) ≤ 2 ^ 63 → Holds U clock n pushed w →
     Holds U clock n (pushed ++ history w es) (run w es)
@@ -120,13 +95,7 @@ length-history w (e ∷ es) = omega (arith, length-append (pushed_at w e) (histo
 
     one : (e : Event) → length (pushed_at w e) ≤ 1
     one (Push ticket) = by (is_lawful w ticket) ticket
-    one (Pop refused) = omega arith
-    one BatchPush = omega arith
-    one (BatchPop refused) = omega arith
-    one OutcomePush = omega arith
-    one OutcomePop = omega arith
-    one ReplyPush = omega arith
-    one (ReplyPop own) = omega arith
+    one e = omega arith
 
 opened_holds : (U : Type 0) (clock limit n : ℕ) → Holds U clock n [] (new_world clock limit n)
 opened_holds U clock limit n =

@@ -3,15 +3,11 @@ use Rattle.std.proofs.Common.{refl, sym, ap, subst, ◌∙◌, ◌≡◌, ℕ, �
 use Rattle.std.specs.List.{list_any}
 use Rattle.std.proofs.lemmas.List.{map-append}
 use Rattle.std.proofs.lemmas.List.Elements.{filter-append}
-use Rattle.std.proofs.lemmas.List.Folds.{list_any-append}
 use Rattle.tb_layout.specs.Work.{Work}
-use Rattle.tb_layout.specs.Work as work
 use Rattle.tb_work.specs.Job.{Numbered}
 use Rattle.tb_work.specs.Queue.{part, ahead, items_in}
 use Rattle.tb_work.specs.Reply.{Replied}
-use Rattle.tb_work.specs.Work.{work_of}
 use Rattle.tb_work.specs.declared.item.Item.{Item}
-use Rattle.tb_work.specs.declared.item.Item.TheVariants as item
 use Rattle.tb_work.specs.declared.item.Ticket.{Ticket}
 use Rattle.tb_core.specs.declared.outcomes.Outcomes.{Outcomes}
 use Rattle.tb_core.specs.declared.parcel.Parcel.{Parcel}
@@ -21,26 +17,17 @@ use Rattle.tb_core.specs.Due.{outcome_at, reply_due, all_due_from, all_due, repl
 use Rattle.tb_core.specs.Front.{all_passages_in, held_by}
 use Rattle.tb_core.specs.Ledger.{works}
 use Rattle.tb_core.specs.Passage.{Passage, Admitted, Place, Ahead, next_place, Passes}
-use Rattle.tb_core.specs.Report.{is_stopped, tell_a_stop}
 use Rattle.tb_core.specs.Run.{Ran}
 use Rattle.tb_core.specs.world.Shelf.{Shelf, shelf_at, after_pop_of}
 use Rattle.tb_core.specs.world.World.{WorldState, pop, batch_push, batch_pop, outcome_push, outcome_pop, reply_push, reply_pop, received_of, run, new_world}
 use Rattle.tb_core.specs.world.EveryOrder.{history, is_refused, IsAtRest, IsPrefix, IsLawfulSoFar, NoneStopped, Rests, HasRun}
-use Rattle.tb_core.proofs.Committed.{or_parts}
-use Rattle.tb_core.proofs.Runs.{none_among, run_is_lawful}
-use Rattle.tb_core.proofs.orders.Below.{SoFar, so_far}
+use Rattle.tb_core.proofs.Passing.{ahead-first}
+use Rattle.tb_core.proofs.Runs.{none_of_first, none_among, SoFar, so_far, run_is_lawful}
 use Rattle.tb_core.proofs.orders.Pushed.{numbered_by, queue_of_all}
 use Rattle.tb_core.proofs.orders.Holding.{on_the_way, unrouted, of_all, of_one, shelved, Holds, Goes}
 use Rattle.tb_core.proofs.orders.Runs.{all_holds}
 
 -- ---- prefixes
-
-ahead-prefix : (items others : List Item) → IsPrefix (ahead items) (ahead (items ++ others))
-ahead-prefix [] others = (ahead others, refl)
-ahead-prefix (item.Packet job ∷ items) others = let more = ahead-prefix items others in (more.0, ap (λ ws. work_of job ∷ ws) more.1)
-ahead-prefix (item.Pulse moment ∷ items) others = let more = ahead-prefix items others in (more.0, ap (λ ws. work.Pulse moment ∷ ws) more.1)
-ahead-prefix (item.End ∷ items) others = ahead-prefix items others
-ahead-prefix (item.Close ∷ items) others = ([], refl)
 
 due-prefix : (clock : ℕ) (journal : List Work) (place : Place) (items others : List Item) → IsPrefix (all_due_from clock journal place items) (all_due_from clock journal place (items ++ others))
 due-prefix clock journal place [] others = (all_due_from clock journal place others, refl)
@@ -71,65 +58,60 @@ module _ (U : Type 0) (clock n : ℕ) (pushed : List Ticket) (w : WorldState) (h
 
   is_lawful_so_far : IsLawfulSoFar clock n pushed w
   is_lawful_so_far =
+      let before = items_in h.taken in
+      let after = items_in w.queue in
+      let journal = works w.ledger in
       record {
         submitted = h.senders.submitted;
         numbered = numbered_by n pushed w.senders h.senders;
-        committed = through (works w.ledger) (ahead (items_in h.taken)) (ahead (items_in pushed)) (far.behind, far.committed)
-            (subst (λ items. IsPrefix (ahead (items_in h.taken)) (ahead items)) (sym items_are) (ahead-prefix (items_in h.taken) (items_in w.queue)));
+        committed = rw items_are (through journal (ahead before) (ahead (before ++ after)) (far.behind, far.committed) (ahead-first before after));
         received = λ submitter among.
             let shelf = shelf_at w.shelves submitter in
             let others = shelf.ring ++ replies_to (unrouted w.replies w.outcomes w.outcome) submitter in
-            let all = all_due clock (items_in pushed) (works w.ledger) in
-            let answers : IsPrefix h.answers all =
-            through h.answers (all_due clock (items_in h.taken) (works w.ledger)) all (far.later, far.due)
-            (subst (λ items. IsPrefix (all_due clock (items_in h.taken) (works w.ledger)) (all_due clock items (works w.ledger))) (sym items_are) (due-prefix clock (works w.ledger) (Ahead 0) (items_in h.taken) (items_in w.queue))) in
-            through shelf.received (replies_to h.answers submitter) (replies_to all submitter) (others, sym (h.routed.each submitter among)) (replies_to-prefix submitter h.answers all answers);
+            let all = all_due clock (before ++ after) journal in
+            let answers = through h.answers (all_due clock before journal) all (far.later, far.due) (due-prefix clock journal (Ahead 0) before after) in
+            rw items_are (through shelf.received (replies_to h.answers submitter) (replies_to all submitter) (others, sym (h.routed.each submitter among)) (replies_to-prefix submitter h.answers all answers));
       }
 
   none_stopped : Goes w.front w.ledger → NoneStopped n w
   none_stopped goes = λ submitter among.
       let shelf = shelf_at w.shelves submitter in
       let others = shelf.ring ++ replies_to (unrouted w.replies w.outcomes w.outcome) submitter in
-      let none : tell_a_stop (shelf.received ++ others) ≡ false =
-      ap tell_a_stop (sym (h.routed.each submitter among)) ∙ none_among (λ (reply : Replied). reply.submitter == submitter) h.answers (far.untold goes.front goes.ledger) in
-      (or_parts (tell_a_stop shelf.received) (tell_a_stop others) (sym (list_any-append (λ (reply : Replied). is_stopped reply.outcome) shelf.received others) ∙ none)).0
+      none_of_first shelf.received others (replies_to h.answers submitter) (sym (h.routed.each submitter among)) (none_among (λ (reply : Replied). reply.submitter == submitter) h.answers (far.untold goes.front goes.ledger))
 
 -- ---- at rest
 
-some_none : {X : Type 0} (x : X) → Some x ≡ None → ⊥
-some_none x h = cc
-
 no_parcels : (w : WorldState) (parcels : List Parcel) (held : List Numbered) → batch_push w parcels held ≡ None → (parcels ≡ []) × (held ≡ [])
-no_parcels w (p ∷ parcels) held h = absurd (some_none _ h)
-no_parcels w [] (job ∷ jobs) h = absurd (some_none _ h)
+no_parcels w (p ∷ parcels) held h = cc
+no_parcels w [] (job ∷ jobs) h = cc
 no_parcels w [] [] h = (refl, refl)
 
 no_queue : (w : WorldState) (parcels : List Parcel) (queue : List Ticket) → parcels ≡ [] → pop false w parcels queue ≡ None → queue ≡ []
 no_queue w (p ∷ parcels) queue e h = cc
 no_queue w [] [] e h = refl
-no_queue w [] (ticket ∷ queue) e h = absurd (some_none _ h)
+no_queue w [] (ticket ∷ queue) e h = cc
 
 no_outcome : (w : WorldState) (outcome : Option Outcomes) → outcome_push w outcome ≡ None → outcome ≡ None
 no_outcome w None h = refl
-no_outcome w (Some outcome) h = absurd (some_none _ h)
+no_outcome w (Some outcome) h = cc
 
 no_batches : (w : WorldState) (outcome : Option Outcomes) (batches : List Parcel) → outcome ≡ None → batch_pop false w outcome batches ≡ None → batches ≡ []
 no_batches w (Some outcome) batches e h = cc
 no_batches w None [] e h = refl
-no_batches w None (p ∷ batches) e h = absurd (some_none _ h)
+no_batches w None (p ∷ batches) e h = cc
 
 no_replies : (w : WorldState) (replies : List Replied) → reply_push w replies ≡ None → replies ≡ []
 no_replies w [] h = refl
-no_replies w (reply ∷ replies) h = absurd (some_none _ h)
+no_replies w (reply ∷ replies) h = cc
 
 no_outcomes : (w : WorldState) (replies : List Replied) (outcomes : List Outcomes) → replies ≡ [] → outcome_pop w replies outcomes ≡ None → outcomes ≡ []
 no_outcomes w (reply ∷ replies) outcomes e h = cc
 no_outcomes w [] [] e h = refl
-no_outcomes w [] (outcome ∷ outcomes) e h = absurd (some_none _ h)
+no_outcomes w [] (outcome ∷ outcomes) e h = cc
 
 no_ring : (w : WorldState) (own : ℕ) (shelf : Shelf) (ring : List Replied) → reply_pop w own (after_pop_of shelf ring) ≡ None → ring ≡ []
 no_ring w own shelf [] h = refl
-no_ring w own shelf (reply ∷ ring) h = absurd (some_none _ h)
+no_ring w own shelf (reply ∷ ring) h = cc
 
 -- stages, queue and rings are empty
 record IsEmpty (w : WorldState) : Type 0 where
@@ -174,9 +156,7 @@ module _ (U : Type 0) (clock n : ℕ) (pushed : List Ticket) (w : WorldState) (h
 
   rests : Rests clock n pushed w
   rests =
-      let is = far U clock n pushed w h in
-      let all : h.answers ≡ all_due clock (items_in pushed) (works w.ledger) =
-      sym (append-nil h.answers) ∙ ap (λ rs. h.answers ++ rs) (sym (is.none_later e.way)) ∙ is.due ∙ ap (λ (queue : List Ticket). all_due clock (items_in queue) (works w.ledger)) taken_all in
+      let all : h.answers ≡ all_due clock (items_in pushed) (works w.ledger) = (far U clock n pushed w h).replied e.way ∙ ap (λ (queue : List Ticket). all_due clock (items_in queue) (works w.ledger)) taken_all in
       record {
         received = λ submitter among. received_all submitter among ∙ ap (λ rs. replies_to rs submitter) all;
         reports = λ over. run_is_lawful clock n pushed (λ sender. part sender pushed) w.ledger h.answers (received_of w) (queue_of_all n pushed w.senders h.senders over) ran received_all;

@@ -16,7 +16,7 @@ pub returns-clause-entry : goal.returns-clause-entry
 returns-clause-entry c =
     let answered = c.requires.answered.1 in
     let parts = c.args.parts in
-    let packets = ap (λ body. packets_of parts.operation body parts.stubs.items) answered.body ∙ ap (packets_of parts.operation _) answered.stubs ∙ entry_has parts.operation parts.jobs.items answered.lawful answered.lawful.all_admitted in
+    let packets = ap (λ body. packets_of parts.operation body parts.stubs.items) answered.body ∙ ap (packets_of parts.operation _) answered.stubs ∙ entry_has parts.operation parts.jobs.items answered.lawful in
     rw c.push_reserved.ensures.items (map-append group_of c.args.entries.now.items _ ∙ ap (λ group. map group_of c.args.entries.now.items ++ group ∷ []) packets)
 
 pub returns-clause-replies : goal.returns-clause-replies

@@ -1,5 +1,11 @@
-use Rattle.tb_core.proofs.Listing.{HaveApplied}
+use Rattle.std.proofs.Common.{ℕ, List, ◌++◌}
+use Rattle.tb_core.specs.Front.{all_passages_in}
+use Rattle.tb_core.specs.Grouping.{AreJoinedParcels}
+use Rattle.tb_core.specs.Passage.{Passage}
+use Rattle.tb_core.specs.Run.{GoesOn}
+use Rattle.tb_core.proofs.Listing.{AreApplied}
 use Rattle.tb_core.proofs.list.apply_all.Given as goal
 
 abbrev pub invariant-loop-parcel : goal.invariant-loop-parcel
-invariant-loop-parcel l = HaveApplied l.fn.parcels.items l.parcel-iterator l.fn.ledger l.fn.replies.items l.ledger l.replies.items
+invariant-loop-parcel l = (clock limit : ℕ) (sent : List Passage) → AreJoinedParcels limit l.fn.parcels.items → GoesOn clock limit sent l.fn.ledger l.fn.replies.items →
+    AreApplied clock limit (sent ++ all_passages_in l.fn.parcels.items) l.parcel-iterator l.ledger l.replies.items

@@ -1,21 +1,33 @@
-use Rattle.std.proofs.Common.{ap}
+use Rattle.std.proofs.Common.{ap, sym, subst, []}
 use Rattle.tb_core.specs.Front.{FrontState}
-use Rattle.tb_core.proofs.Listing.{IsWhole, at_first, whole}
+use Rattle.tb_core.specs.Grouping.{AreWithin}
+use Rattle.tb_core.specs.Ledger.{LedgerState}
+use Rattle.tb_core.specs.Report.{IsListed}
+use Rattle.tb_core.specs.Run.{Commits, IsThrough}
+use Rattle.tb_core.proofs.Runs.{run_is_listed}
 use Rattle.tb_core.proofs.list.run_list.Goals as goal
 
-all : (c : goal.Joined-listing-2) → IsWhole c.args.clock c.args.limit c.args.items.items c.take_all_and_finish.new.self.ledger c.take_all_and_finish.new.self.replies.items
-all c =
-    let front = c.in-Ok.ensures.front in
-    let first = at_first c.args.clock c.args.limit c.in-Ok.front c.new-2.result c.new-3.result.items (ap (λ (f : FrontState). f.limit) front) (ap (λ (f : FrontState). f.stopped) front)
-    c.in-Ok.ensures.passes c.new-2.ensures.commits c.new-2.ensures.ledger c.new-3.ensures.items in
-    whole c.args.clock c.args.limit c.args.items.items c.take_all_and_finish.new.self.ledger c.take_all_and_finish.new.self.replies.items
-    (c.in_ok-take_all_and_finish.ensures c.args.clock c.args.limit first)
+done : (c : goal.Joined-listing-2) → IsThrough c.args.clock c.args.limit c.args.items.items c.take_all_and_finish.new.self.ledger c.take_all_and_finish.new.self.replies.items
+done c = c.in_ok-take_all_and_finish.ensures c.args.clock c.args.limit (record {
+  sent = [];
+  under = ap (λ (f : FrontState). f.limit) c.in-Ok.ensures.front;
+  passed = c.in-Ok.ensures.passes;
+  goes_on = record {
+    commits = subst (Commits c.args.clock [] c.new-2.result) (sym c.new-3.ensures.items) c.new-2.ensures.commits;
+    unmarked = ap (λ (l : LedgerState). l.stopped) c.new-2.ensures.ledger;
+    joined = rw c.new-2.ensures.ledger tt;
+  };
+  unstopped = ap (λ (f : FrontState). f.stopped) c.in-Ok.ensures.front;
+})
+
+listed : (c : goal.Joined-listing-2) → IsListed c.args.clock c.args.items.items c.take_all_and_finish.new.self.ledger c.take_all_and_finish.new.self.replies.items
+listed c = run_is_listed c.args.clock c.args.items.items c.take_all_and_finish.new.self.ledger c.take_all_and_finish.new.self.replies.items (done c).ran (done c).unmarked (done c).unstopped
 
 pub returns-clause-listed : goal.returns-clause-listed
-returns-clause-listed c = (all c).listed
+returns-clause-listed c = listed c
 
 pub returns-clause-ran : goal.returns-clause-ran
-returns-clause-ran c = (all c).through.ran
+returns-clause-ran c = (done c).ran
 
 pub returns-clause-grouping : goal.returns-clause-grouping
-returns-clause-grouping c = (all c).grouping
+returns-clause-grouping c = λ within. record { joined = (done c).joined; within = subst (AreWithin c.args.limit) (sym (listed c).committed) within }

@@ -1,27 +1,23 @@
-use Rattle.std.proofs.Common.{◌≡◌, true, false, ap, ◌∙◌}
-use Rattle.tb_core.specs.declared.parcel.Parcel.{Parcel}
-use Rattle.tb_core.specs.declared.outcomes.Outcomes.{Outcomes}
-use Rattle.tb_core.specs.Ledger.{LedgerState, apply_result, apply_step}
-use Rattle.tb_core.proofs.Committed.{commits_more}
-use Rattle.tb_core.proofs.Grouped.{joined_more}
+use Rattle.std.proofs.Common.{true, false}
+use Rattle.tb_core.specs.Ledger.{apply_result}
+use Rattle.tb_core.proofs.Grouped.{HasApplied, has_applied}
 use Rattle.tb_core.proofs.ledger.Ledger.apply.Goals as goal
 
--- a parcel that came back, with the ledger as it was, is applied as one that was refused
-again : (ledger tried next : LedgerState) (handed back : Parcel) (outcomes : Outcomes) → (back ≡ handed) × (tried ≡ ledger) → apply_result next outcomes ≡ apply_step true tried back → apply_result next outcomes ≡ apply_step true ledger handed
-again ledger tried next handed back outcomes same is = is ∙ ap (apply_step true tried) same.0 ∙ ap (λ l. apply_step true l handed) same.1
+applied : (c : goal.In-Ok) → HasApplied c.args.self.now c.args.parcel (apply_result c.try_apply.new.self c.in-Ok.outcomes)
+applied c = has_applied false c.args.self.now c.args.parcel _ c.try_apply.ensures.some c.in-Ok.ensures.ok
+
+-- the parcel came back, with the ledger as it was
+applied_refused : (c : goal.After-refuse) → HasApplied c.args.self.now c.args.parcel (apply_result c.refuse.new.self c.refuse.result)
+applied_refused c = has_applied true c.args.self.now c.args.parcel _ c.try_apply.ensures.some (cc (c.in-Err.ensures.err.0, c.in-Err.ensures.err.1, c.refuse.ensures.applied))
 
 pub returns-in-Ok-clause-commits : goal.returns-in-Ok-clause-commits
-returns-in-Ok-clause-commits c = λ clock passages replies is. commits_more clock passages c.args.self.now c.try_apply.new.self replies c.in-Ok.outcomes is false c.args.parcel c.try_apply.ensures.some c.in-Ok.ensures.ok
+returns-in-Ok-clause-commits c = (applied c).commits
 
 pub returns-in-Ok-clause-joined : goal.returns-in-Ok-clause-joined
-returns-in-Ok-clause-joined c = λ limit joined all. joined_more false c.args.self.now c.try_apply.new.self c.args.parcel c.in-Ok.outcomes limit c.try_apply.ensures.some c.in-Ok.ensures.ok joined all
+returns-in-Ok-clause-joined c = (applied c).joined
 
 pub returns-in-Err-clause-commits : goal.returns-in-Err-clause-commits
-returns-in-Err-clause-commits c = λ clock passages replies is.
-    commits_more clock passages c.args.self.now c.refuse.new.self replies c.refuse.result is true c.args.parcel c.try_apply.ensures.some
-    (again c.args.self.now c.try_apply.new.self c.refuse.new.self c.args.parcel c.in-Err.parcel c.refuse.result c.in-Err.ensures.err c.refuse.ensures.applied)
+returns-in-Err-clause-commits c = (applied_refused c).commits
 
 pub returns-in-Err-clause-joined : goal.returns-in-Err-clause-joined
-returns-in-Err-clause-joined c = λ limit joined all.
-    joined_more true c.args.self.now c.refuse.new.self c.args.parcel c.refuse.result limit c.try_apply.ensures.some
-    (again c.args.self.now c.try_apply.new.self c.refuse.new.self c.args.parcel c.in-Err.parcel c.refuse.result c.in-Err.ensures.err c.refuse.ensures.applied) joined all
+returns-in-Err-clause-joined c = (applied_refused c).joined

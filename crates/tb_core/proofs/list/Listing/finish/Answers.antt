@@ -1,26 +1,16 @@
-use Rattle.std.proofs.Common.{sym, ap, subst, ◌∙◌, ◌++◌, map, append-nil}
-use Rattle.tb_batch.specs.Grouping.{IsGroup}
-use Rattle.tb_core.specs.Passage.{Admitted}
-use Rattle.tb_core.specs.Run.{GoesOn}
-use Rattle.tb_core.proofs.Listing.{map_ok, through}
+use Rattle.std.proofs.Common.{append-nil}
+use Rattle.std.proofs.lemmas.Result.{on_ok_weaker}
+use Rattle.tb_core.proofs.Listing.{through}
 use Rattle.tb_core.proofs.list.Listing.finish.Goals as goal
 
 pub returns-in-Some : goal.returns-in-Some
 returns-in-Some c = λ clock limit items run.
-    let front = c.args.self.now.front in
-    let ledger = c.args.self.now.ledger in
-    let replies = c.args.self.now.replies.items in
-    let now = c.apply.new.ledger in
-    let given = c.apply.new.replies.items in
     let held = c.in-Some.ensures.some.0 in
-    map_ok c.apply.result
-    (λ on. through clock limit items front ledger replies now given run (subst (λ jobs. GoesOn clock limit (run.sent ++ map Admitted jobs) now given) held on))
-    (c.apply.ensures clock limit run.sent (subst (IsGroup limit) (sym held) (subst (λ n. IsGroup n front.held) run.under c.in-Some.ensures.lawful)) run.goes_on)
+    on_ok_weaker c.apply.result (λ on. through clock limit items c.args.self.now.front c.args.self.now.ledger c.args.self.now.replies.items c.apply.new.ledger c.apply.new.replies.items run (rw held at on))
+    (c.apply.ensures clock limit run.sent (rw (held, ← run.under) c.in-Some.ensures.lawful) run.goes_on)
 
 pub returns-in-None : goal.returns-in-None
 returns-in-None c = λ clock limit items run.
-    let front = c.args.self.now.front in
     let ledger = c.args.self.now.ledger in
     let replies = c.args.self.now.replies.items in
-    let none = ap (λ jobs. run.sent ++ map Admitted jobs) c.in-None.ensures.none ∙ append-nil run.sent in
-    through clock limit items front ledger replies ledger replies run (subst (λ passages. GoesOn clock limit passages ledger replies) (sym none) run.goes_on)
+    through clock limit items c.args.self.now.front ledger replies ledger replies run (rw (c.in-None.ensures.none, append-nil) run.goes_on)

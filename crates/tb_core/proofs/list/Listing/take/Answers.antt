@@ -1,14 +1,16 @@
-use Rattle.std.proofs.Common.{refl}
+use Rattle.std.proofs.Common.{refl, false, subst, ◌∙◌, ◌++◌, arith}
+use Rattle.std.proofs.lemmas.Result.{on_ok_weaker}
 use Rattle.tb_work.specs.declared.item.Ticket.{Ticket}
-use Rattle.tb_core.proofs.Listing.{map_ok, running_more, joined_under}
+use Rattle.tb_core.specs.Front.{take_result, all_passages_in}
+use Rattle.tb_core.specs.Grouping.{AreJoinedParcels}
+use Rattle.tb_core.proofs.Accounting.{has_taken}
 use Rattle.tb_core.proofs.list.Listing.take.Goals as goal
 
 pub returns-in-Ok : goal.returns-in-Ok
 returns-in-Ok c = λ clock limit items run.
     let ticket : Ticket = record { sender = 0; item = c.args.item } in
-    let front = c.args.self.now.front in
-    let next = c.try_take.new.self in
     let parcels = c.in-Ok.parcels.items in
-    map_ok c.apply_all.result
-    (running_more clock limit items front next ticket parcels c.args.self.now.ledger c.args.self.now.replies.items c.apply_all.new.ledger c.apply_all.new.replies.items c.try_take.ensures.front refl c.in-Ok.ensures.ok run)
-    (c.apply_all.ensures clock limit run.sent (joined_under front next ticket parcels limit c.try_take.ensures.front refl c.in-Ok.ensures.ok run.under) run.goes_on)
+    let taken = has_taken false c.args.self.now.front ticket (take_result c.try_take.new.self parcels) c.try_take.ensures.front (omega arith) c.in-Ok.ensures.ok in
+    on_ok_weaker c.apply_all.result
+    (λ on. record { sent = run.sent ++ all_passages_in parcels; under = taken.same.0 ∙ run.under; passed = taken.passes items run.sent run.passed; goes_on = on; unstopped = taken.goes_on refl run.unstopped })
+    (c.apply_all.ensures clock limit run.sent (subst (λ n. AreJoinedParcels n parcels) run.under taken.lawful) run.goes_on)

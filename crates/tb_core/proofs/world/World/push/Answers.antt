@@ -1,4 +1,4 @@
-use Rattle.std.proofs.Common.{◌≤◌, ◌∙◌, sym, subst, All, length-set, arith}
+use Rattle.std.proofs.Common.{◌≤◌, ◌∙◌, sym, subst, All, List, length-set, arith}
 use Rattle.std.proofs.lemmas.List.Elements.{All-push}
 use Rattle.tb_work.specs.declared.item.Ticket.{Ticket}
 use Rattle.tb_core.proofs.world.World.push.Goals as goal
@@ -10,6 +10,6 @@ invariant_of-self c =
     let among : c.args.ticket.sender ≤ most = omega (arith, is.all_senders) in
     record {
       counted = is.counted;
-      queued = subst (All (λ (ticket : Ticket). ticket.sender ≤ most)) (sym c.in-Ok.ensures.items) (All-push (λ (ticket : Ticket). ticket.sender ≤ most) c.self.inside.queue.items c.args.ticket is.queued among);
+      queued = subst (All (λ (ticket : Ticket). ticket.sender ≤ most)) (sym {A = List Ticket} c.in-Ok.ensures.items) (All-push (λ (ticket : Ticket). ticket.sender ≤ most) c.self.inside.queue.items c.args.ticket is.queued among);
       all_senders = length-set c.self.inside.senders.items c.args.ticket.sender c.after-next.result ∙ is.all_senders;
     }

@@ -1,7 +1,7 @@
 use Rattle.std.proofs.Common.{◌≡◌, ◌∙◌, sym, ap, [], ◌∷◌, List}
 use Rattle.tb_core.specs.declared.world.event.Event.{Event}
 use Rattle.tb_core.specs.world.World.{WorldState, run}
-use Rattle.tb_core.proofs.Listing.{none_left}
+use Rattle.std.proofs.lemmas.List.{nil_from_length}
 use Rattle.tb_core.proofs.world.run.go_through.Goals as goal
 
 pub loop-event-init : goal.loop-event-init
@@ -16,5 +16,5 @@ loop-event-preserved c =
 
 pub returns : goal.returns
 returns c =
-    let none : c.loop-event.event-iterator.rest.items ≡ [] = none_left c.loop-event.event-iterator.rest.items c.loop-event.event-iterator.rest.len c.loop-event.event-iterator.rest.ok.0 c.in-None.ensures.steps.0 in
+    let none : c.loop-event.event-iterator.rest.items ≡ [] = nil_from_length c.loop-event.event-iterator.rest.items (sym c.loop-event.event-iterator.rest.ok.0 ∙ c.in-None.ensures.steps.0) in
     sym (c.loop-event.invariant ∙ ap (λ (events : List Event). run c.loop-event.world events) none)
