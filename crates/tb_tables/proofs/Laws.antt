@@ -38,11 +38,7 @@ or_false false = refl
 
 pub find-none : (id : ℕ) (xs : List Transfer) → find (λ (x : Transfer). x.id == id) xs ≡ None → has_id id xs ≡ false
 find-none id [] e = refl
-find-none id (x ∷ xs) e = by (x.id == id) (find-none id xs) e
-  where
-    by : (b : Bool) → (find (λ (y : Transfer). y.id == id) xs ≡ None → has_id id xs ≡ false) → cond b (Some x) (find (λ (y : Transfer). y.id == id) xs) ≡ None → (b || has_id id xs) ≡ false
-    by true rest e = cc
-    by false rest e = rest e
+find-none id (x ∷ xs) e = grind (arith, find-none id xs)
 
 pub distinct-push : (xs : List Transfer) (t : Transfer) → has_id t.id xs ≡ false → ids_distinct xs ≡ true → ids_distinct (xs ++ t ∷ []) ≡ true
 distinct-push [] t fresh distinct = refl
@@ -61,12 +57,7 @@ any-push test xs x = list_any-append test xs (x ∷ []) ∙ ap (λ b. list_any t
 
 module _ (facts : Facts) (t : Transfer) (may : MayAdd facts t) where
   pub resolves_nothing : (id : ℕ) → (is_resolving t && (t.pending_id == id)) ≡ false
-  resolves_nothing id = by (is_post t) (is_void t) may.not_post may.not_void
-    where
-      by : (a b : Bool) → a ≡ false → b ≡ false → ((a || b) && (t.pending_id == id)) ≡ false
-      by true b h k = cc
-      by false true h k = cc
-      by false false h k = refl
+  resolves_nothing id = grind (arith, may.not_post, may.not_void)
 
   pub reserving-same : (y : Transfer) → is_reserving (add_transfer facts t) y ≡ is_reserving facts y
   reserving-same y =
@@ -80,13 +71,7 @@ module _ (facts : Facts) (t : Transfer) (may : MayAdd facts t) where
 
   -- either it reserves its amount, or it has posted it
   once : (p r e v s : Bool) (n : ℕ) → (if (p && not r && not e) && s then n else 0) + (if (not p && not v) && s then n else 0) ≤ (if s then n else 0)
-  once true true e v s n = omega arith
-  once true false true v s n = omega arith
-  once true false false v true n = omega arith
-  once true false false v false n = omega arith
-  once false r e true s n = omega arith
-  once false r e false true n = omega arith
-  once false r e false false n = omega arith
+  once p r e v s n = grind arith
 
   total-push : (side : Transfer → ℕ) (id : ℕ) → total side (add_transfer facts t) id ≤ total side facts id + (if side t == id then t.amount else 0)
   total-push side id =
@@ -113,14 +98,7 @@ module _ (facts : Facts) (t : Transfer) (may : MayAdd facts t) where
 -- ---- one post or void more
 
 or-and : (a b c r s : Bool) → (((a || b) && c) || (r || s)) ≡ (((a && c) || r) || ((b && c) || s))
-or-and true true true r s = refl
-or-and true true false r s = refl
-or-and true false true r s = refl
-or-and true false false r s = refl
-or-and false true true true s = refl
-or-and false true true false s = refl
-or-and false true false r s = refl
-or-and false false c r s = refl
+or-and a b c r s = grind arith
 
 pub resolved_either : (id : ℕ) (xs : List Transfer) →
     list_any (λ x. is_resolving x && (x.pending_id == id)) xs ≡ (list_any (λ x. is_post x && (x.pending_id == id)) xs || list_any (λ x. is_void x && (x.pending_id == id)) xs)
@@ -128,18 +106,11 @@ resolved_either id [] = refl
 resolved_either id (x ∷ xs) = ap (λ b. (is_resolving x && (x.pending_id == id)) || b) (resolved_either id xs) ∙ or-and (is_post x) (is_void x) (x.pending_id == id) _ _
 
 pub pending_is : (a b e : Bool) → (if a then Posted else if b then Voided else if e then Expired else Pending) ≡ Pending → ((a || b) ≡ false) × (e ≡ false)
-pending_is true b e h = cc
-pending_is false true e h = cc
-pending_is false false true h = cc
-pending_is false false false h = (refl, refl)
+pending_is a b e h = grind arith
 
 module _ (facts : Facts) (t : Transfer) (may : MayResolve facts t) where
   pub resolves : is_resolving t ≡ true
-  resolves = by (is_post t) (is_void t) may.post_or_void
-    where
-      by : (a b : Bool) → b ≡ not a → (a || b) ≡ true
-      by true b h = refl
-      by false b h = h
+  resolves = grind (arith, may.post_or_void)
 
   -- the transfer that it names reserves its amount
   pub reserving : is_reserving facts may.pending ≡ true
@@ -150,20 +121,10 @@ module _ (facts : Facts) (t : Transfer) (may : MayResolve facts t) where
       ∙ cc (may.is_pending_one, open_one, s.1)
 
   names : (a b r e x : Bool) → r ≡ true → (a && not (b || (r && e)) && not x) ≡ ((a && not b && not x) && not e)
-  names false b r e x h = refl
-  names true true r e x h = refl
-  names true false true true true h = refl
-  names true false true true false h = refl
-  names true false true false true h = refl
-  names true false true false false h = refl
-  names true false false e x h = cc
+  names a b r e x h = grind arith
 
   and-swap : (a b c : Bool) → ((a && b) && c) ≡ ((a && c) && b)
-  and-swap true true true = refl
-  and-swap true true false = refl
-  and-swap true false true = refl
-  and-swap true false false = refl
-  and-swap false b c = refl
+  and-swap a b c = grind arith
 
   pub reserving-other : (y : Transfer) → is_reserving (add_transfer facts t) y ≡ (is_reserving facts y && not (t.pending_id == y.id))
   reserving-other y =
@@ -178,15 +139,10 @@ module _ (facts : Facts) (t : Transfer) (may : MayResolve facts t) where
       ∙ ap (λ b. reserves side facts id y && not b) (==_swap t.pending_id y.id)
 
   pub reserves_nothing : (p r e s : Bool) (n : ℕ) → p ≡ false → (if (p && r && e) && s then n else 0) ≡ 0
-  reserves_nothing true r e s n h = cc
-  reserves_nothing false r e s n h = refl
+  reserves_nothing p r e s n h = grind arith
 
   at_most_it : (p v s r : Bool) (n m : ℕ) → n ≤ m → r ≡ true → (if (p && v) && s then n else 0) ≤ (if r && s then m else 0)
-  at_most_it p v s false n m h k = cc
-  at_most_it true true true true n m h k = h
-  at_most_it true true false true n m h k = omega arith
-  at_most_it true false s true n m h k = omega arith
-  at_most_it false v s true n m h k = omega arith
+  at_most_it p v s r n m h k = grind arith
 
   total-resolve : (side : Transfer → ℕ) → side t ≡ side may.pending → IsLawful facts → (id : ℕ) → total side (add_transfer facts t) id ≤ total side facts id
   total-resolve side same lawful id =
