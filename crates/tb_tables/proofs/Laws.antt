@@ -43,12 +43,7 @@ find-none id (x ∷ xs) e = grind (arith, find-none id xs)
 pub distinct-push : (xs : List Transfer) (t : Transfer) → has_id t.id xs ≡ false → ids_distinct xs ≡ true → ids_distinct (xs ++ t ∷ []) ≡ true
 distinct-push [] t fresh distinct = refl
 distinct-push (x ∷ xs) t fresh distinct =
-    let rest = distinct-push xs t (or-right (x.id == t.id) (has_id t.id xs) fresh) (not_and-right (has_id x.id xs) (ids_distinct xs) distinct) in
-    let first : has_id x.id (xs ++ t ∷ []) ≡ false =
-    list_any-append (λ (y : Transfer). y.id == x.id) xs (t ∷ [])
-    ∙ ap (λ b. b || ((t.id == x.id) || false)) (not_and-left (has_id x.id xs) (ids_distinct xs) distinct)
-    ∙ or_false (t.id == x.id) ∙ ==_swap t.id x.id ∙ or-left (x.id == t.id) (has_id t.id xs) fresh in
-    ap (λ b. not b && ids_distinct (xs ++ t ∷ [])) first ∙ rest
+    grind (arith, nat_tests, list_any-append (λ (y : Transfer). y.id == x.id) xs (t ∷ []), distinct-push xs t)
 
 -- ---- one plain or pending transfer more
 
@@ -60,11 +55,7 @@ module _ (facts : Facts) (t : Transfer) (may : MayAdd facts t) where
   resolves_nothing id = grind (arith, may.not_post, may.not_void)
 
   pub reserving-same : (y : Transfer) → is_reserving (add_transfer facts t) y ≡ is_reserving facts y
-  reserving-same y =
-      let resolved : is_resolved (add_transfer facts t) y.id ≡ is_resolved facts y.id =
-      any-push (λ other. is_resolving other && (other.pending_id == y.id)) facts.transfers t
-      ∙ ap (λ b. is_resolved facts y.id || b) (resolves_nothing y.id) ∙ or_false (is_resolved facts y.id) in
-      ap (λ b. is_pending y && not b && not (is_expired facts y.id)) resolved
+  reserving-same y = grind (arith, any-push (λ other. is_resolving other && (other.pending_id == y.id)) facts.transfers t, resolves_nothing y.id)
 
   pub reserves-same : (side : Transfer → ℕ) (id : ℕ) (y : Transfer) → reserves side (add_transfer facts t) id y ≡ reserves side facts id y
   reserves-same side id y = ap (λ b. b && (side y == id)) (reserving-same y)
@@ -80,13 +71,7 @@ module _ (facts : Facts) (t : Transfer) (may : MayAdd facts t) where
       omega (arith, once (is_pending t) (is_resolved (add_transfer facts t) t.id) (is_expired facts t.id) (is_void t) (side t == id) t.amount)
 
   total-fits : (side : Transfer → ℕ) → total side facts (side t) + t.amount < 2 ^ 128 → (id : ℕ) → total side facts id < 2 ^ 128 → total side (add_transfer facts t) id < 2 ^ 128
-  total-fits side more id fits = by (side t == id) refl (total-push side id)
-    where
-      by : (b : Bool) → (side t == id) ≡ b → total side (add_transfer facts t) id ≤ total side facts id + (if b then t.amount else 0) → total side (add_transfer facts t) id < 2 ^ 128
-      by true is most =
-          let here = subst (λ k. total side facts k + t.amount < 2 ^ 128) (eqb-true (side t) id is) more in
-          omega arith
-      by false is most = omega arith
+  total-fits side more id fits = grind (arith, nat_tests, total-push side id)
 
   pub add_transfer_lawful : IsLawful facts → IsLawful (add_transfer facts t)
   add_transfer_lawful lawful = record {
@@ -97,13 +82,10 @@ module _ (facts : Facts) (t : Transfer) (may : MayAdd facts t) where
 
 -- ---- one post or void more
 
-or-and : (a b c r s : Bool) → (((a || b) && c) || (r || s)) ≡ (((a && c) || r) || ((b && c) || s))
-or-and a b c r s = grind arith
-
 pub resolved_either : (id : ℕ) (xs : List Transfer) →
     list_any (λ x. is_resolving x && (x.pending_id == id)) xs ≡ (list_any (λ x. is_post x && (x.pending_id == id)) xs || list_any (λ x. is_void x && (x.pending_id == id)) xs)
 resolved_either id [] = refl
-resolved_either id (x ∷ xs) = ap (λ b. (is_resolving x && (x.pending_id == id)) || b) (resolved_either id xs) ∙ or-and (is_post x) (is_void x) (x.pending_id == id) _ _
+resolved_either id (x ∷ xs) = grind (arith, resolved_either id xs)
 
 pub pending_is : (a b e : Bool) → (if a then Posted else if b then Voided else if e then Expired else Pending) ≡ Pending → ((a || b) ≡ false) × (e ≡ false)
 pending_is a b e h = grind arith
@@ -120,23 +102,12 @@ module _ (facts : Facts) (t : Transfer) (may : MayResolve facts t) where
       ap (λ id. is_pending may.pending && not (is_resolved facts id) && not (is_expired facts id)) (found-id (λ (x : Transfer). x.id) t.pending_id facts.transfers may.pending may.named)
       ∙ cc (may.is_pending_one, open_one, s.1)
 
-  names : (a b r e x : Bool) → r ≡ true → (a && not (b || (r && e)) && not x) ≡ ((a && not b && not x) && not e)
-  names a b r e x h = grind arith
-
-  and-swap : (a b c : Bool) → ((a && b) && c) ≡ ((a && c) && b)
-  and-swap a b c = grind arith
-
   pub reserving-other : (y : Transfer) → is_reserving (add_transfer facts t) y ≡ (is_reserving facts y && not (t.pending_id == y.id))
-  reserving-other y =
-      ap (λ b. is_pending y && not b && not (is_expired facts y.id)) (any-push (λ other. is_resolving other && (other.pending_id == y.id)) facts.transfers t)
-      ∙ names (is_pending y) (is_resolved facts y.id) (is_resolving t) (t.pending_id == y.id) (is_expired facts y.id) resolves
+  reserving-other y = grind (arith, any-push (λ other. is_resolving other && (other.pending_id == y.id)) facts.transfers t, resolves)
 
   -- it takes the amount of the one that it names from what is reserved, and nothing else
   pub reserves-but_for : (side : Transfer → ℕ) (id : ℕ) (y : Transfer) → reserves side (add_transfer facts t) id y ≡ but_for t.pending_id (reserves side facts id) y
-  reserves-but_for side id y =
-      ap (λ b. b && (side y == id)) (reserving-other y)
-      ∙ and-swap (is_reserving facts y) (not (t.pending_id == y.id)) (side y == id)
-      ∙ ap (λ b. reserves side facts id y && not b) (==_swap t.pending_id y.id)
+  reserves-but_for side id y = grind (arith, reserving-other y, ==_swap t.pending_id y.id)
 
   pub reserves_nothing : (p r e s : Bool) (n : ℕ) → p ≡ false → (if (p && r && e) && s then n else 0) ≡ 0
   reserves_nothing p r e s n h = grind arith
