@@ -11,15 +11,15 @@ use Rattle.tb_tables.specs.Sums.{Sums, HasRoom, HasAmount, debits_in, credits_in
 use Rattle.tb_tables.specs.declared.balance.Balance.{Balance}
 use Rattle.tb_tables.specs.declared.balance.Balance.TheVariants.{DebitsPending, DebitsPosted, CreditsPending, CreditsPosted}
 use Rattle.tb_tables.proofs.Laws.{==_swap}
-use Rattle.tb_tables.proofs.Stored.{made-at, rows-set, slice_get-map}
+use Rattle.std.proofs.lemmas.Option.{slice_get-map}
+use Rattle.tb_tables.proofs.Stored.{made-at, rows-set}
 
 more_here : (id amount : ℕ) (sum : ℕ → ℕ) → more_at id amount sum id ≡ sum id + amount
 more_here id amount sum = ap (λ b. sum id + (if b then amount else 0)) (eq-eqb id id refl)
 
 more_elsewhere : (id amount : ℕ) (sum : ℕ → ℕ) (other : ℕ) → (other == id) ≡ false → more_at id amount sum other ≡ sum other
 more_elsewhere id amount sum other apart =
-    let e : (if id == other then amount else 0) ≡ 0 = ap (λ b. if b then amount else 0) (==_swap id other ∙ apart) in
-    omega arith
+    grind (arith, ==_swap id other)
 
 raised-here : (balance : Balance) (amount : ℕ) (sums : Sums) (account : Account) → with_sums (with_more balance account.id amount sums) account ≡ raise_balance balance amount (with_sums sums account)
 raised-here DebitsPending amount sums account = ap (λ n. record (with_sums sums account) { debits_pending = n }) (more_here account.id amount sums.debits_pending)
