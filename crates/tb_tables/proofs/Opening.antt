@@ -1,9 +1,9 @@
 -- Accounts and failed ids, added and taken back.
-use Rattle.std.proofs.Common.{refl, sym, ap, subst, ◌∙◌, ◌≡◌, ℕ, ◌-◌, Bool, true, false, cond, List, [], ◌∷◌, ◌++◌, map, take, length, filter, sum_by, slice_get, zero, suc}
+use Rattle.std.proofs.Common.{arith, refl, sym, ap, subst, ◌∙◌, ◌≡◌, ℕ, ◌-◌, Bool, true, false, cond, List, [], ◌∷◌, ◌++◌, map, take, length, filter, sum_by, slice_get, zero, suc}
 use Rattle.std.specs.Prelude.{if◌then◌else◌, ◌==◌, ◌&&◌, ◌||◌, Some, None, find}
 use Rattle.std.specs.List.{AllByRecursion}
-use Rattle.std.proofs.lemmas.Bool.{eqb-true}
-use Rattle.std.proofs.lemmas.List.{map-append, length-map}
+use Rattle.std.proofs.lemmas.Bool.Decides.{nat_tests}
+use Rattle.std.proofs.lemmas.List.{map-append, length-map, take-map}
 use Rattle.tb_layout.specs.declared.account.Account.{Account as AccountRecord}
 use Rattle.tb_layout.specs.declared.transfer.Transfer.{Transfer as TransferRecord}
 use Rattle.tb_tables.specs.Facts.{Facts, account_with, add_account, add_failed}
@@ -29,29 +29,15 @@ use Rattle.tb_tables.proofs.Histories.{history_of-push, history_of-pop, lawful_p
 
 amounts-none : (test : TransferRecord → Bool) (side : TransferRecord → ℕ) (id : ℕ) (xs : List TransferRecord) → AllByRecursion (λ x. (side x == id) ≡ false) xs → amounts (λ x. test x && (side x == id)) xs ≡ 0
 amounts-none test side id [] all = refl
-amounts-none test side id (x ∷ xs) all =
-    ap (λ b. sum_by (λ (t : TransferRecord). t.amount) (if (test x && b) then x ∷ filter (λ y. test y && (side y == id)) xs else filter (λ y. test y && (side y == id)) xs)) all.0
-    ∙ by (test x) (amounts-none test side id xs all.1)
-  where
-    by : (b : Bool) → amounts (λ y. test y && (side y == id)) xs ≡ 0 → sum_by (λ (t : TransferRecord). t.amount) (if (b && false) then x ∷ filter (λ y. test y && (side y == id)) xs else filter (λ y. test y && (side y == id)) xs) ≡ 0
-    by true h = h
-    by false h = h
+amounts-none test side id (x ∷ xs) all = grind (arith, all.0, amounts-none test side id xs all.1)
 
 none-there : (id : ℕ) (accounts : List AccountRecord) → find (λ (a : AccountRecord). a.id == id) accounts ≡ None → has_account id accounts ≡ false
 none-there id [] e = refl
-none-there id (x ∷ xs) e = by (x.id == id) (none-there id xs) e
-  where
-    by : (b : Bool) → (find (λ (a : AccountRecord). a.id == id) xs ≡ None → has_account id xs ≡ false) → cond b (Some x) (find (λ (a : AccountRecord). a.id == id) xs) ≡ None → (b || has_account id xs) ≡ false
-    by true rest e = cc
-    by false rest e = rest e
+none-there id (x ∷ xs) e = grind (arith, none-there id xs)
 
 module _ (facts : Facts) (grounded : AreGrounded facts) (account : AccountRecord) (fresh : account_with facts account.id ≡ None) (none : HasNoBalances account) where
   differs : (side : TransferRecord → ℕ) (x : TransferRecord) → has_account (side x) facts.accounts ≡ true → (side x == account.id) ≡ false
-  differs side x there = by (side x == account.id) refl
-    where
-      by : (b : Bool) → (side x == account.id) ≡ b → b ≡ false
-      by false e = refl
-      by true e = let no : true ≡ false = sym there ∙ ap (λ id. has_account id facts.accounts) (eqb-true (side x) account.id e) ∙ none-there account.id facts.accounts fresh in cc
+  differs side x there = grind (arith, nat_tests, none-there account.id facts.accounts fresh)
 
   debits-differ : (xs : List TransferRecord) → AllByRecursion (IsGrounded facts.accounts facts.transfers) xs → AllByRecursion (λ x. (x.debit_account_id == account.id) ≡ false) xs
   debits-differ [] all = tt
@@ -148,12 +134,7 @@ module _ (old : Stored) (kept : IsKept old) where
   -- ---- taken back
 
   map-without_last : {X Y : Type 0} (f : X → Y) (xs : List X) → map f (without_last xs) ≡ without_last (map f xs)
-  map-without_last {X} {Y} f xs = map-take (length xs - 1) xs ∙ ap (λ n. take (n - 1) (map f xs)) (sym (length-map xs f))
-    where
-      map-take : (n : ℕ) (ys : List X) → map f (take n ys) ≡ take n (map f ys)
-      map-take zero ys = refl
-      map-take (suc n) [] = refl
-      map-take (suc n) (y ∷ ys) = ap (λ zs. f y ∷ zs) (map-take n ys)
+  map-without_last f xs = sym (take-map f (length xs - 1) xs) ∙ ap (λ n. take (n - 1) (map f xs)) (sym (length-map xs f))
 
   module _ (changes : List (Change Places)) where
     abbrev pub without_account : Stored
