@@ -4,7 +4,7 @@ use Rattle.std.specs.Prelude.{if◌then◌else◌, ◌==◌, ◌&&◌, ◌||◌,
 use Rattle.std.specs.Option.{option_map}
 use Rattle.std.specs.List.{IsDistinct}
 use Rattle.std.specs.Map.{keys_of}
-use Rattle.std.proofs.lemmas.Bool.{eqb-true}
+use Rattle.std.proofs.lemmas.Bool.{eqb-true, eq-eqb}
 use Rattle.std.proofs.lemmas.Bool.Decides.{nat_tests}
 use Rattle.std.proofs.lemmas.Option.{slice_get-map}
 use Rattle.indexmap.specs.IndexMap.{set_value_at}
@@ -112,10 +112,7 @@ due-one old kept none moment place is =
     by (slice_get (facts_of (lists_of old)).transfers place) refl (sym (kept.indexed moment place ∙ ap (λ cs. expects (facts_of (lists_of old)) cs moment place) none) ∙ is)
   where
     each : (t e r : Bool) → ((t && e) && (r || false)) ≡ true → (t ≡ true) × (e ≡ true) × (r ≡ true)
-    each true true true h = (refl, refl, refl)
-    each true true false h = cc
-    each true false r h = cc
-    each false e r h = cc
+    each t e r h = grind arith
 
     by : (o : Option Transfer) → slice_get (facts_of (lists_of old)).transfers place ≡ o → expects_of (facts_of (lists_of old)) [] moment place o ≡ true → (can : CanExpire old place) × (expires_at can.transfer ≡ moment) × (is_timed can.transfer ≡ true)
     by None at h = absurd (true≢false (sym h))
@@ -125,11 +122,7 @@ due-one old kept none moment place is =
 
 -- marking it changes nothing in what is left to mark
 expiry-first : (clock : ℕ) (ts : List Transfer) (t : Transfer) (b : Bool) → expires_among clock ts t ≡ true → with_expiry clock ts (t, true) ≡ with_expiry clock ts (t, b)
-expiry-first clock ts t b is = ap (λ c. (t, c)) (sym (ap (λ c. b || c) is ∙ or_true b))
-  where
-    or_true : (c : Bool) → (c || true) ≡ true
-    or_true true = refl
-    or_true false = refl
+expiry-first clock ts t b is = grind (arith, is)
 
 pub expiries-same : (clock : ℕ) (ts : List Transfer) (rows : List (Transfer × Bool)) (place : ℕ) (t : Transfer) (b : Bool) → slice_get rows place ≡ Some (t, b) → expires_among clock ts t ≡ true →
     with_expiries clock ts (set rows place (t, true)) ≡ with_expiries clock ts rows
@@ -140,57 +133,23 @@ expiries-same clock ts (row ∷ rows) zero t b at is =
 expiries-same clock ts (row ∷ rows) (suc place) t b at is = ap (λ rs. with_expiry clock ts row ∷ rs) (expiries-same clock ts rows place t b at is)
 
 is-due : (clock : ℕ) (t : Transfer) → is_timed t ≡ true → expires_at t ≤ clock → is_due clock t ≡ true
-is-due clock t timed within = by (is_pending t) (t.timeout == 0) timed
-  where
-    le : nat_le (expires_at t) clock ≡ true
-    le = grind (arith, nat_tests, within)
-
-    by : (p z : Bool) → (p && not z) ≡ true → (not z && nat_le (expires_at t) clock) ≡ true
-    by true false h = le
-    by true true h = cc
-    by false z h = cc
+is-due clock t timed within = grind (arith, nat_tests)
 
 pub due-expires : (facts : Facts) (clock : ℕ) (t : Transfer) → is_timed t ≡ true → expires_at t ≤ clock → is_reserving facts t ≡ true → expires_among clock facts.transfers t ≡ true
-due-expires facts clock t timed within reserves = by (is_pending t) (is_resolved facts t.id) (is_expired facts t.id) reserves (is-due clock t timed within)
-  where
-    by : (p r e : Bool) → (p && not r && not e) ≡ true → is_due clock t ≡ true → (p && not r && is_due clock t) ≡ true
-    by true false e h d = d
-    by true true e h d = cc
-    by false r e h d = cc
+due-expires facts clock t timed within reserves = grind (arith, is-due clock t timed within)
 
 -- where no pair is due, all is marked
 none-left : (facts : Facts) (clock : ℕ) (xs : List Transfer) → ((p : ℕ) (t : Transfer) → slice_get xs p ≡ Some t → expires_among clock facts.transfers t ≡ true → has_expired (status_in facts t) ≡ true) →
     with_expiries clock facts.transfers (map (marked facts) xs) ≡ map (marked facts) xs
 none-left facts clock [] all = refl
-none-left facts clock (x ∷ xs) all =
-    cc (by (has_expired (status_in facts x)) (expires_among clock facts.transfers x) (all 0 x refl), none-left facts clock xs (λ p. all (suc p)))
-  where
-    by : (b c : Bool) → (c ≡ true → b ≡ true) → ◌≡◌ {A = Transfer × Bool} (x, b || c) (x, b)
-    by true c h = refl
-    by false false h = refl
-    by false true h = let no : false ≡ true = h refl in cc
+none-left facts clock (x ∷ xs) all = grind (arith, all 0 x refl, none-left facts clock xs (λ p. all (suc p)))
 
 -- one that expires and isn't marked reserves its amount
 unmarked-reserves : (facts : Facts) (clock : ℕ) (t : Transfer) → expires_among clock facts.transfers t ≡ true → has_expired (status_in facts t) ≡ false → is_reserving facts t ≡ true
-unmarked-reserves facts clock t is unmarked = by (is_pending t) (is_resolved facts t.id) (is_posted facts t.id) (is_voided facts t.id) (is_expired facts t.id) is (resolved_either t.id facts.transfers) unmarked
-  where
-    by : (p r a b e : Bool) → (p && not r && is_due clock t) ≡ true → r ≡ (a || b) → has_expired (if p then Some (if a then Posted else if b then Voided else if e then Expired else Pending) else None) ≡ false → (p && not r && not e) ≡ true
-    by false r a b e h k l = cc
-    by true true a b e h k l = cc
-    by true false true b e h k l = cc
-    by true false false true e h k l = cc
-    by true false false false true h k l = cc
-    by true false false false false h k l = refl
+unmarked-reserves facts clock t is unmarked = grind (arith, resolved_either t.id facts.transfers)
 
 timed-expires : (facts : Facts) (clock : ℕ) (t : Transfer) → expires_among clock facts.transfers t ≡ true → (is_timed t ≡ true) × (expires_at t ≤ clock)
-timed-expires facts clock t is = by (is_pending t) (is_resolved facts t.id) (t.timeout == 0) (nat_le (expires_at t) clock) refl is
-  where
-    by : (p r z l : Bool) → nat_le (expires_at t) clock ≡ l → (p && not r && (not z && l)) ≡ true → ((p && not z) ≡ true) × (expires_at t ≤ clock)
-    by true false false true e h = (refl, grind (arith, nat_tests, e))
-    by true false false false e h = cc
-    by true false true l e h = cc
-    by true true z l e h = cc
-    by false r z l e h = cc
+timed-expires facts clock t is = grind (arith, nat_tests)
 
 pub all-marked : (old : Stored) (kept : IsKept old) (none : old.changes ≡ []) (clock : ℕ) → ((m p : ℕ) → old.is_indexed m p ≡ true → clock < m) →
     with_expiries clock (transfers_in (lists_of old).rows) (lists_of old).rows ≡ (lists_of old).rows
@@ -209,15 +168,10 @@ all-marked old kept none clock later =
             let reserves = unmarked-reserves facts clock t is e in
             let timed = timed-expires facts clock t is in
             let there : expects_of facts [] (expires_at t) p (Some t) ≡ true =
-            cc (timed.0, eqb-refl (expires_at t), reserves) in
+            cc (timed.0, eq-eqb (expires_at t) (expires_at t) refl, reserves) in
             let indexed = kept.indexed (expires_at t) p ∙ ap (λ cs. expects facts cs (expires_at t) p) none ∙ ap (expects_of facts [] (expires_at t) p) at ∙ there in
-            absurd (below (later (expires_at t) p indexed) timed.1)
-          where
-            eqb-refl : (n : ℕ) → (n == n) ≡ true
-            eqb-refl n = grind (arith, nat_tests)
-
-            below : clock < expires_at t → expires_at t ≤ clock → ⊥
-            below a b = omega (arith, a, b)
+            let after = later (expires_at t) p indexed in
+            absurd (omega (arith, timed.1))
 
 -- what is left to mark stays the same
 pub record StillDue (clock : ℕ) (old now : Stored) : Type 0 where

@@ -3,7 +3,9 @@ use Rattle.std.proofs.Common.{refl, sym, ap, subst, ◌∙◌, arith, ◌≡◌,
 use Rattle.std.specs.Prelude.{◌==◌, ◌&&◌, ◌||◌, Option, Some, None}
 use Rattle.std.specs.Option.{option_map}
 use Rattle.std.specs.List.{list_any, AllByRecursion}
-use Rattle.std.proofs.lemmas.Bool.{eqb-true, eq-eqb}
+use Rattle.std.proofs.lemmas.Bool.{eqb-true, or_right}
+use Rattle.std.proofs.lemmas.Bool.Decides.{nat_tests}
+use Rattle.std.proofs.lemmas.List.{take-map}
 use Rattle.std.proofs.lemmas.Option.{slice_get-map}
 use Rattle.std.proofs.Math.Seq.{take-suc}
 use Rattle.tb_layout.specs.declared.transfer.Transfer.{Transfer}
@@ -35,29 +37,10 @@ module _ (facts : Facts) (change : Change Places) (entries : List (ℕ × Row)) 
 
   -- its pair is the one that the change names
   pub pair-is : (m p : ℕ) → (is_timed there.0 && same_pair (expires_at there.0) place m p) ≡ ((place == p) && is_pair facts m p)
-  pair-is m p = by (place == p) refl
-    where
-      apart : (a b : Bool) → (a && (b && false)) ≡ false
-      apart true true = refl
-      apart true false = refl
-      apart false b = refl
-
-      here : (a b : Bool) → (a && (b && true)) ≡ (a && b)
-      here true true = refl
-      here true false = refl
-      here false b = refl
-
-      by : (b : Bool) → (place == p) ≡ b → (is_timed there.0 && ((expires_at there.0 == m) && b)) ≡ (b && is_pair facts m p)
-      by false is = apart (is_timed there.0) (expires_at there.0 == m)
-      by true is =
-          here (is_timed there.0) (expires_at there.0 == m)
-          ∙ ap (is_pair_of m) (sym (ap (slice_get facts.transfers) (sym (eqb-true place p is)) ∙ there.1))
+  pair-is m p = grind (arith, nat_tests, there.1)
 
 pub all-at : {X : Type 0} (P : X → Type 0) (xs : List X) (k : ℕ) (d : X) → AllByRecursion P xs → k < length xs → P (get_or xs k d)
-all-at P [] k d all h = absurd (below-zero h)
-  where
-    below-zero : k < 0 → ⊥
-    below-zero h = omega arith
+all-at P [] k d all h = absurd (omega arith)
 all-at P (x ∷ xs) zero d all h = all.0
 all-at P (x ∷ xs) (suc k) d all h = all-at P xs k d all.1 (omega arith)
 
@@ -68,27 +51,15 @@ forgotten-more changes k d p pair had now next h was is =
     let e : k + 1 ≡ suc k = omega arith in
     let more : is_resolved_at p (take (k + 1) changes) ≡ (is_resolved_at p (take k changes) || resolves_at p (get_or changes k d)) =
     ap (λ n. is_resolved_at p (take n changes)) e ∙ ap (is_resolved_at p) (take-suc changes k d h) ∙ resolved-push p (take k changes) (get_or changes k d) in
-    is ∙ ap (λ b. not (resolves_at p (get_or changes k d) && pair) && b) was
-    ∙ bits (is_resolved_at p (take k changes)) (resolves_at p (get_or changes k d)) pair had
-    ∙ ap (λ b. not (b && pair) && had) (sym more)
+    is ∙ bits (is_resolved_at p (take k changes)) (resolves_at p (get_or changes k d)) now was ∙ ap (λ b. not (b && pair) && had) (sym more)
   where
-    bits : (a r q h : Bool) → (not (r && q) && (not (a && q) && h)) ≡ (not ((a || r) && q) && h)
-    bits true true true h = refl
-    bits true true false h = refl
-    bits true false true h = refl
-    bits true false false h = refl
-    bits false true true h = refl
-    bits false true false h = refl
-    bits false false true h = refl
-    bits false false false h = refl
+    bits : (a r now : Bool) → now ≡ (not (a && pair) && had) → (not (r && pair) && now) ≡ (not ((a || r) && pair) && had)
+    bits a r now was = grind arith
 
 pub taken-all : {X : Type 0} (xs : List X) (k : ℕ) → length xs ≤ k → take k xs ≡ xs
 taken-all [] zero h = refl
 taken-all [] (suc k) h = refl
-taken-all (x ∷ xs) zero h = absurd (below-zero h)
-  where
-    below-zero : suc (length xs) ≤ 0 → ⊥
-    below-zero h = omega arith
+taken-all (x ∷ xs) zero h = absurd (omega arith)
 taken-all (x ∷ xs) (suc k) h = ap (λ ys. x ∷ ys) (taken-all xs k (omega arith))
 
 -- ---- at `keep`
@@ -96,22 +67,13 @@ taken-all (x ∷ xs) (suc k) h = ap (λ ys. x ∷ ys) (taken-all xs k (omega ari
 prefix-any : {X : Type 0} (test : X → Bool) (n : ℕ) (xs : List X) → list_any test (take n xs) ≡ true → list_any test xs ≡ true
 prefix-any test zero xs h = absurd (true≢false (sym h))
 prefix-any test (suc n) [] h = h
-prefix-any {X} test (suc n) (x ∷ xs) h = by (test x) (prefix-any test n xs) h
-  where
-    by : (b : Bool) → (list_any test (take n xs) ≡ true → list_any test xs ≡ true) → (b || list_any test (take n xs)) ≡ true → (b || list_any test xs) ≡ true
-    by true rest h = refl
-    by false rest h = rest h
+prefix-any test (suc n) (x ∷ xs) h = grind (arith, prefix-any test n xs)
 
 prefix-at : {X : Type 0} (n : ℕ) (xs : List X) (place : ℕ) (x : X) → slice_get (take n xs) place ≡ Some x → slice_get xs place ≡ Some x
 prefix-at zero xs place x at = cc
 prefix-at (suc n) [] place x at = at
 prefix-at (suc n) (y ∷ xs) zero x at = at
 prefix-at (suc n) (y ∷ xs) (suc place) x at = prefix-at n xs place x at
-
-map-take : {X Y : Type 0} (f : X → Y) (n : ℕ) (xs : List X) → map f (take n xs) ≡ take n (map f xs)
-map-take f zero xs = refl
-map-take f (suc n) [] = refl
-map-take f (suc n) (x ∷ xs) = ap (λ ys. f x ∷ ys) (map-take f n xs)
 
 -- a transfer that is resolved stays so, and stays at its place, with each change
 record Settled (lists : Lists) (place : ℕ) : Type 0 where
@@ -123,7 +85,7 @@ settled-before : (change : Change Places) (lists : Lists) (place : ℕ) → Sett
 settled-before Account lists place s = record { transfer = s.transfer; at = s.at; resolved = s.resolved }
 settled-before Failed lists place s = record { transfer = s.transfer; at = s.at; resolved = s.resolved }
 settled-before (WasTransfer places) lists place s =
-    let cut = map-take (λ (row : Transfer × Bool). row.0) (length lists.rows - 1) lists.rows in
+    let cut = sym (take-map (λ (row : Transfer × Bool). row.0) (length lists.rows - 1) lists.rows) in
     record {
       transfer = s.transfer;
       at = prefix-at (length lists.rows - 1) (transfers_in lists.rows) place s.transfer (ap (λ ts. slice_get ts place) (sym cut) ∙ s.at);
@@ -152,14 +114,9 @@ settled-by (WasTransfer places) lists place one is = by places.pending one.1.may
         record {
           transfer = posted.may.pending;
           at = ap (λ (fs : Facts). slice_get fs.transfers place) after ∙ slice_get-append facts.transfers (t ∷ []) place posted.may.pending (ap (slice_get facts.transfers) (sym here) ∙ posted.pending_at);
-          resolved = ap (λ fs. is_resolved fs posted.may.pending.id) after ∙ any-push (λ other. is_resolving other && (other.pending_id == posted.may.pending.id)) facts.transfers t
-              ∙ ap (λ b. is_resolved facts posted.may.pending.id || (b && (t.pending_id == posted.may.pending.id))) (resolves facts t posted.may)
-              ∙ ap (λ b. is_resolved facts posted.may.pending.id || b) (eq-eqb t.pending_id posted.may.pending.id (sym id)) ∙ or_true (is_resolved facts posted.may.pending.id);
+          resolved = ap (λ fs. is_resolved fs posted.may.pending.id) after
+              ∙ grind (arith, nat_tests, any-push (λ other. is_resolving other && (other.pending_id == posted.may.pending.id)) facts.transfers t, resolves facts t posted.may, id);
         }
-      where
-        or_true : (b : Bool) → (b || true) ≡ true
-        or_true true = refl
-        or_true false = refl
 
 settled-all : (changes : List (Change Places)) (lists : Lists) (place : ℕ) → AreUndoable changes lists → is_resolved_at place changes ≡ true → Settled lists place
 settled-all [] lists place all is = absurd (true≢false (sym is))
@@ -170,11 +127,7 @@ settled-all (change ∷ changes) lists place all is = by (resolves_at place chan
     by false e h rest = rest h
 
 not-reserving : (facts : Facts) (t : Transfer) → is_resolved facts t.id ≡ true → is_reserving facts t ≡ false
-not-reserving facts t resolved = ap (λ b. is_pending t && not b && not (is_expired facts t.id)) resolved ∙ by (is_pending t)
-  where
-    by : (b : Bool) → (b && not true && not (is_expired facts t.id)) ≡ false
-    by true = refl
-    by false = refl
+not-reserving facts t resolved = grind arith
 
 pub all-there : {X : Type 0} (P : X → Type 0) (xs : List X) (place : ℕ) (x : X) → AllByRecursion P xs → slice_get xs place ≡ Some x → P x
 all-there P [] place x all at = cc
@@ -191,21 +144,14 @@ module _ (old : Stored) (kept : IsKept old) where
           let s = all place (ap (λ b. b || is_resolved_at place changes) is) in
           (s.transfer, s.at, (all-there (IsGrounded (lists_of old).accounts (transfers_in (lists_of old).rows)) (transfers_in (lists_of old).rows) place s.transfer kept.grounded s.at).expiry_fits);
     },
-    can-all changes (λ p is. all p (or_is (resolves_at p change) (is_resolved_at p changes) is)),
+    can-all changes (λ p is. all p (or_right (resolves_at p change) (is_resolved_at p changes) is)),
   )
-    where
-      or_is : (a b : Bool) → b ≡ true → (a || b) ≡ true
-      or_is true b h = refl
-      or_is false b h = h
 
   pub can-forget : AllByRecursion (λ change. CanForget (facts_of (lists_of old)) change old.transfers) old.changes
   can-forget = can-all old.changes (λ p is. settled-all old.changes (lists_of old) p kept.undoable is)
 
   bits : (r q n : Bool) → (r ≡ true → n ≡ false) → (not (r && q) && (q && (n || r))) ≡ (q && (n || false))
-  bits true true n h = ap (λ b. b || false) (sym (h refl))
-  bits true false n h = refl
-  bits false true n h = refl
-  bits false false n h = refl
+  bits r q n h = grind (arith, h)
 
   pub kept-now : (indexed : ℕ → ℕ → Bool) → ((m p : ℕ) → indexed m p ≡ (not (is_resolved_at p old.changes && is_pair (facts_of (lists_of old)) m p) && old.is_indexed m p)) →
       IsKept (record old { changes = []; is_indexed = indexed })
@@ -222,11 +168,7 @@ module _ (old : Stored) (kept : IsKept old) where
     where
       by : (m p : ℕ) (o : Option Transfer) → slice_get (facts_of (lists_of old)).transfers p ≡ o →
           (not (is_resolved_at p old.changes && is_pair_of m o) && expects_of (facts_of (lists_of old)) old.changes m p o) ≡ expects_of (facts_of (lists_of old)) [] m p o
-      by m p None at = none (is_resolved_at p old.changes)
-        where
-          none : (b : Bool) → (not (b && false) && false) ≡ false
-          none true = refl
-          none false = refl
+      by m p None at = grind arith
       by m p (Some t) at =
           bits (is_resolved_at p old.changes) (is_timed t && (expires_at t == m)) (is_reserving (facts_of (lists_of old)) t)
           (λ resolved.

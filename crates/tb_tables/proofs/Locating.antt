@@ -4,7 +4,7 @@ use Rattle.std.specs.Prelude.{◌==◌, ◌||◌, Option, Some, None, IsSome, fi
 use Rattle.std.specs.List.{position, position_or_len}
 use Rattle.std.specs.Option.{option_map}
 use Rattle.std.specs.Map.{keys_of, lookup}
-use Rattle.std.proofs.lemmas.Bool.{eqb-true, eq-eqb}
+use Rattle.std.proofs.lemmas.Bool.Decides.{nat_tests}
 use Rattle.std.proofs.lemmas.List.{length-map}
 use Rattle.tb_layout.specs.declared.account.Account.{Account}
 use Rattle.tb_layout.specs.declared.transfer.Transfer.{Transfer}
@@ -25,10 +25,6 @@ use Rattle.tb_tables.proofs.Grounding.{all-found}
 use Rattle.tb_tables.specs.Kept.{has_account, IsGrounded}
 use Rattle.tb_tables.proofs.Expecting.{has_id-at}
 
-some-mapped : {X Y : Type 0} (f : X → Y) (o : Option X) → IsSome o → IsSome (option_map f o)
-some-mapped f None h = h
-some-mapped f (Some x) h = refl
-
 keys-map : {X V : Type 0} (key : X → ℕ) (made : X → V) (xs : List X) → keys_of (map (λ x. (key x, made x)) xs) ≡ map key xs
 keys-map key made [] = refl
 keys-map key made (x ∷ xs) = ap (λ ks. key x ∷ ks) (keys-map key made xs)
@@ -36,17 +32,8 @@ keys-map key made (x ∷ xs) = ap (λ ks. key x ∷ ks) (keys-map key made xs)
 -- the transfer at a place is the one that its id finds
 found-at : (id : ℕ) (xs : List Transfer) (place : ℕ) (x p : Transfer) → ids_distinct xs ≡ true → slice_get xs place ≡ Some x → x.id ≡ id → find (λ (t : Transfer). t.id == id) xs ≡ Some p → x ≡ p
 found-at id [] place x p distinct at is found = cc
-found-at id (y ∷ xs) zero x p distinct at is found =
-    let first : y ≡ x = cc in
-    let passes : (y.id == id) ≡ true = eq-eqb y.id id (ap (λ (t : Transfer). t.id) first ∙ is) in
-    let e : Some y ≡ Some p = ap (λ b. cond b (Some y) (find (λ (t : Transfer). t.id == id) xs)) (sym passes) ∙ found in cc
-found-at id (y ∷ xs) (suc place) x p distinct at is found = by (y.id == id) refl (λ f. found-at id xs place x p (not_and-right (has_id y.id xs) (ids_distinct xs) distinct) at is f) found
-  where
-    by : (b : Bool) → (y.id == id) ≡ b → (find (λ (t : Transfer). t.id == id) xs ≡ Some p → x ≡ p) → cond b (Some y) (find (λ (t : Transfer). t.id == id) xs) ≡ Some p → x ≡ p
-    by true e rest f =
-        let there = has_id-at y.id xs place x at (eq-eqb x.id y.id (is ∙ sym (eqb-true y.id id e))) in
-        let no : true ≡ false = sym there ∙ not_and-left (has_id y.id xs) (ids_distinct xs) distinct in cc
-    by false e rest f = rest f
+found-at id (y ∷ xs) zero x p distinct at is found = grind (arith, nat_tests)
+found-at id (y ∷ xs) (suc place) x p distinct at is found = grind (arith, nat_tests, has_id-at y.id xs place x at, found-at id xs place x p)
 
 -- so many accounts stand in front of the one that is found, or all
 abbrev AtPlace : Option Account → List Account → ℕ → Type 0
@@ -97,21 +84,13 @@ module _ (old : Stored) (kept : IsKept old) where
   transfers-length = ap length kept.transfers ∙ length-map facts.transfers (λ (t : Transfer). (t.id, row_in facts t))
 
   pub transfer-found : (id : ℕ) → transfer_with facts id ≡ option_map (λ (row : Row). row.transfer) (lookup (nat_eq id) old.transfers)
-  transfer-found id = by (transfer_with facts id) ∙ ap (option_map (λ (row : Row). row.transfer)) (sym (row-found id))
-    where
-      by : (o : Option Transfer) → o ≡ option_map (λ (row : Row). row.transfer) (option_map (row_in facts) o)
-      by None = refl
-      by (Some t) = refl
+  transfer-found id = grind (arith, row-found id)
 
   pub status-found : (id : ℕ) → status_with facts id ≡ row_status (lookup (nat_eq id) old.transfers)
-  status-found id = by (transfer_with facts id) ∙ ap row_status (sym (row-found id))
-    where
-      by : (o : Option Transfer) → status_if_pending facts o ≡ row_status (option_map (row_in facts) o)
-      by None = refl
-      by (Some t) = refl
+  status-found id = grind (arith, row-found id)
 
   pub account-there : (id : ℕ) → IsSome (account_with facts id) → IsSome (lookup (nat_eq id) old.accounts)
-  account-there id there = subst IsSome (sym (account-found id)) (some-mapped (with_sums (sums_of facts)) (account_with facts id) there)
+  account-there id there = grind (arith, account-found id, there)
 
   account-place : (place id : ℕ) → slice_get (keys_of old.accounts) place ≡ Some id → (a : Account) × (slice_get (lists_of old).accounts place ≡ Some a) × (a.id ≡ id)
   account-place place id at = made-at (λ (a : Account). a.id) (lists_of old).accounts place id
@@ -136,11 +115,7 @@ module _ (old : Stored) (kept : IsKept old) where
   -- the accounts of the transfer that a post or a void names are there
   there : (id : ℕ) (xs : List Account) → has_account id xs ≡ true → IsSome (find (λ (a : Account). a.id == id) xs)
   there id [] h = h
-  there id (x ∷ xs) h = by (x.id == id) (there id xs) h
-    where
-      by : (b : Bool) → (has_account id xs ≡ true → IsSome (find (λ (a : Account). a.id == id) xs)) → (b || has_account id xs) ≡ true → IsSome (cond b (Some x) (find (λ (a : Account). a.id == id) xs))
-      by true rest h = refl
-      by false rest h = rest h
+  there id (x ∷ xs) h = grind (arith, there id xs)
 
   pub has-account : (id : ℕ) → has_account id (lists_of old).accounts ≡ true → IsSome (lookup (nat_eq id) old.accounts)
   has-account id has = account-there id (there id (lists_of old).accounts has)

@@ -1,5 +1,5 @@
 -- A transfer stored and taken back: balances, and the status of what it names.
-use Rattle.std.proofs.Common.{refl, sym, ap, subst, ◌∙◌, arith, ◌≡◌, ℕ, ◌+◌, ◌<◌, ◌^◌, Bool, true, false, List, [], ◌∷◌, ◌++◌, nat_eq, slice_get, length, length-append, true≢false, zero, suc}
+use Rattle.std.proofs.Common.{refl, sym, ap, subst, ◌∙◌, arith, ◌≡◌, ℕ, ◌+◌, ◌<◌, ◌^◌, Bool, true, false, List, [], ◌∷◌, ◌++◌, nat_eq, slice_get, length, length-append, append-nil, true≢false, zero, suc}
 use Rattle.std.specs.Prelude.{if◌then◌else◌, ◌==◌, Option, Some, None}
 use Rattle.std.specs.Option.{option_map}
 use Rattle.std.specs.List.{IsDistinct}
@@ -83,12 +83,8 @@ module _ (facts : Facts) (rows : List Account) (t : Transfer) (places : Places) 
     pub at-pushed : (account_entries : List (ℕ × Account)) (entries : List (ℕ × Row)) → IsPushed facts rows t places account_entries entries → slice_get entries pending ≡ Some (named.id, row_in facts named)
     at-pushed account_entries entries is = at-place facts (t ∷ []) entries (pushed-rows entries is.transfers_are)
 
-    append-none : {X : Type 0} (xs : List X) → xs ≡ xs ++ []
-    append-none [] = refl
-    append-none (x ∷ xs) = ap (λ ys. x ∷ ys) (append-none xs)
-
     pub at-popped : (account_entries : List (ℕ × Account)) (entries : List (ℕ × Row)) → IsPopped facts rows t places account_entries entries → slice_get entries pending ≡ Some (named.id, row_in (add_transfer facts t) named)
-    at-popped account_entries entries is = at-place (add_transfer facts t) [] entries (is.transfers_are ∙ ap (transfer_rows (add_transfer facts t)) (append-none facts.transfers))
+    at-popped account_entries entries is = at-place (add_transfer facts t) [] entries (is.transfers_are ∙ ap (transfer_rows (add_transfer facts t)) (sym (append-nil facts.transfers)))
 
     others : (y : Transfer) → (y.id == named.id) ≡ false → row_in (add_transfer facts t) y ≡ row_in facts y
     others y apart =
@@ -182,10 +178,6 @@ module _ (facts : Facts) (rows : List Account) (t : Transfer) (places : Places) 
 
     pub add-sums : account_rows (sums_of (add_transfer facts t)) rows ≡ account_rows (with_amount (is_pending t) t.debit_account_id t.credit_account_id t.amount (sums_of facts)) rows
     add-sums = rows-same _ _ rows (sums-add facts t added allow.grounded allow.not_expired)
-
-    both-fit : (pending : Bool) (a b n : ℕ) → a + b + n < 2 ^ 128 → (if pending then a else b) + n < 2 ^ 128
-    both-fit true a b n h = omega arith
-    both-fit false a b n h = omega arith
 
     pub can_add : (entries : List (ℕ × Account)) → entries ≡ account_rows (sums_of facts) rows → CanAdd entries places (is_pending t) t.amount
     can_add entries is = by (is_pending t)

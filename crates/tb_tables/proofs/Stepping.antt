@@ -1,7 +1,8 @@
 -- A transfer stored in the tables, and taken back.
-use Rattle.std.proofs.Common.{refl, sym, ap, ◌∙◌, ◌≡◌, ℕ, Bool, true, false, not, List, [], ◌∷◌, ◌++◌, length, slice_get}
+use Rattle.std.proofs.Common.{arith, refl, sym, ap, ◌∙◌, ◌≡◌, ℕ, Bool, true, false, not, List, [], ◌∷◌, ◌++◌, length, slice_get}
 use Rattle.std.specs.Prelude.{if◌then◌else◌, ◌==◌, ◌&&◌, ◌||◌, Option, Some, None}
 use Rattle.std.proofs.lemmas.Bool.{eqb-true}
+use Rattle.std.proofs.lemmas.Bool.Decides.{nat_tests}
 use Rattle.tb_layout.specs.declared.transfer.Transfer.{Transfer as TransferRecord}
 use Rattle.tb_layout.specs.Transfer.{is_pending, is_post}
 use Rattle.tb_tables.specs.Facts.{Facts, transfer_with, is_expired, add_transfer}
@@ -37,8 +38,7 @@ pub record Stores (facts : Facts) (t : TransferRecord) (changes : List (Change P
       ≡ ((is_timed t && same_pair (expires_at t) (length facts.transfers) moment place) || expects facts changes moment place)
 
 not-marked : (b : Bool) → has_expired (if b then Some Pending else None) ≡ false
-not-marked true = refl
-not-marked false = refl
+not-marked b = grind arith
 
 added-stores : (facts : Facts) (t : TransferRecord) (changes : List (Change Places)) (places : Places) → IsLawful facts → AreGrounded facts → is_expired facts t.id ≡ false → places.pending ≡ None → MayAdd facts t → Stores facts t changes places
 added-stores facts t changes places lawful grounded not_expired none may = record {
@@ -52,9 +52,7 @@ added-stores facts t changes places lawful grounded not_expired none may = recor
 }
 
 settled-unmarked : (b p : Bool) → has_expired (if b then Some (status_after p) else None) ≡ has_expired (if b then Some Pending else None)
-settled-unmarked true true = refl
-settled-unmarked true false = refl
-settled-unmarked false p = refl
+settled-unmarked b p = grind arith
 
 resolved-marks : (facts : Facts) (t : TransferRecord) → MayResolve facts t → MarksSame facts (add_transfer facts t)
 resolved-marks facts t may y = by (t.pending_id == y.id) refl
@@ -105,17 +103,11 @@ allows lists t places lawful grounded are_at may = record {
 -- behind the last transfer the index has no pair
 pub none-at-end : (facts : Facts) (t : TransferRecord) (changes : List (Change Places)) (m p : ℕ) → (is_timed t && same_pair (expires_at t) (length facts.transfers) m p) ≡ true → expects facts changes m p ≡ false
 none-at-end facts t changes m p pair =
-    let here : length facts.transfers ≡ p = eqb-true (length facts.transfers) p (last (is_timed t) (expires_at t == m) (length facts.transfers == p) pair) in
+    let here : length facts.transfers ≡ p = grind (arith, nat_tests, pair) in
     ap (expects_of facts changes m p) (ap (slice_get facts.transfers) (sym here) ∙ slice_get-end facts.transfers)
-  where
-    last : (a b c : Bool) → (a && (b && c)) ≡ true → c ≡ true
-    last true true c h = h
-    last true false c h = cc
-    last false b c h = cc
 
 forgotten : (pair had : Bool) → (pair ≡ true → had ≡ false) → (not pair && (pair || had)) ≡ had
-forgotten true had none = sym (none refl)
-forgotten false had none = refl
+forgotten pair had none = grind (arith, none)
 
 -- ---- one more
 
