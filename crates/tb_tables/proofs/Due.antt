@@ -1,6 +1,6 @@
 -- All that is due expires.
-use Rattle.std.proofs.Common.{refl, sym, ap, subst, ◌∙◌, arith, ◌≡◌, ℕ, ◌<◌, ◌≤◌, Bool, true, false, not, List, [], ◌∷◌, map, set, nat_le, nat_eq, slice_get, zero, suc, true≢false}
-use Rattle.std.specs.Prelude.{if◌then◌else◌, ◌==◌, ◌&&◌, ◌||◌, Option, Some, None}
+use Rattle.std.proofs.Common.{refl, sym, ap, subst, ◌∙◌, arith, ◌≡◌, ℕ, ◌<◌, ◌≤◌, Bool, true, false, not, List, [], ◌∷◌, map, set, nat_eq, slice_get, zero, suc, true≢false}
+use Rattle.std.specs.Prelude.{◌==◌, ◌&&◌, ◌||◌, Option, Some, None}
 use Rattle.std.specs.Option.{option_map}
 use Rattle.std.specs.List.{IsDistinct}
 use Rattle.std.specs.Map.{keys_of}
@@ -10,9 +10,8 @@ use Rattle.std.proofs.lemmas.Option.{slice_get-map}
 use Rattle.indexmap.specs.IndexMap.{set_value_at}
 use Rattle.tb_layout.specs.declared.account.Account.{Account}
 use Rattle.tb_layout.specs.declared.transfer.Transfer.{Transfer}
-use Rattle.tb_layout.specs.Transfer.{is_pending}
-use Rattle.tb_tables.specs.Facts.{Facts, is_expired}
-use Rattle.tb_tables.specs.Status.{expire_due, is_posted, is_voided, is_resolved, is_reserving, is_due, status_in, expires_at}
+use Rattle.tb_tables.specs.Facts.{Facts}
+use Rattle.tb_tables.specs.Status.{expire_due, is_reserving, is_due, status_in, expires_at}
 use Rattle.tb_tables.specs.Changes.{Lists, facts_of, transfers_in, expired_in, past_of, history_of}
 use Rattle.tb_tables.specs.Lawful.{IsLawful, AreLawful}
 use Rattle.tb_tables.specs.Expiries.{same_pair}
@@ -22,7 +21,7 @@ use Rattle.tb_tables.specs.Kept.{Stored, account_made, lists_of, row_of, row_in,
 use Rattle.tb_tables.specs.Storing.{CanExpire, HasExpired}
 use Rattle.tb_tables.specs.declared.change.Change.{Change}
 use Rattle.tb_tables.specs.declared.places.Places.{Places}
-use Rattle.tb_tables.specs.declared.status.Status.TheVariants.{Pending, Posted, Voided, Expired}
+use Rattle.tb_tables.specs.declared.status.Status.TheVariants.{Expired}
 use Rattle.tb_tables.proofs.Laws.{resolved_either}
 use Rattle.tb_tables.proofs.Keeping.{made-rows, marked, rows-marked}
 use Rattle.tb_tables.proofs.Added.{rows-same}

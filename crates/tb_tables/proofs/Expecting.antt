@@ -1,11 +1,10 @@
 -- Which pairs the index of expiries has after a change.
-use Rattle.std.proofs.Common.{refl, sym, ap, ◌∙◌, arith, ◌≡◌, ℕ, Bool, true, false, not, List, [], ◌∷◌, ◌++◌, length, slice_get, zero, suc}
+use Rattle.std.proofs.Common.{refl, sym, ap, ◌∙◌, arith, ◌≡◌, ℕ, Bool, true, false, List, [], ◌∷◌, ◌++◌, length, slice_get, zero, suc}
 use Rattle.std.specs.Prelude.{if◌then◌else◌, ◌==◌, ◌&&◌, ◌||◌, Option, Some, None}
 use Rattle.std.proofs.lemmas.Bool.{eqb-true}
 use Rattle.std.proofs.lemmas.Bool.Decides.{nat_tests}
 use Rattle.std.proofs.lemmas.List.Folds.{list_any-append}
 use Rattle.tb_layout.specs.declared.transfer.Transfer.{Transfer}
-use Rattle.tb_layout.specs.Transfer.{is_pending}
 use Rattle.tb_tables.specs.Facts.{Facts, is_expired, add_transfer}
 use Rattle.tb_tables.specs.Status.{is_reserving, expires_at}
 use Rattle.tb_tables.specs.Conditions.{MayAdd}
@@ -15,7 +14,6 @@ use Rattle.tb_tables.specs.Kept.{AreGrounded, MayPost, is_timed, names_place, re
 use Rattle.tb_tables.specs.declared.change.Change.{Change}
 use Rattle.tb_tables.specs.declared.change.Change.TheVariants.{Transfer as WasTransfer}
 use Rattle.tb_tables.specs.declared.places.Places.{Places}
-use Rattle.tb_tables.proofs.Sums.{not_and-left, not_and-right}
 use Rattle.tb_tables.proofs.Laws.{==_swap, or_false, reserving, reserving-same, reserving-other}
 use Rattle.tb_tables.proofs.Added.{reserves-new}
 use Rattle.tb_tables.proofs.Finding.{found-id}

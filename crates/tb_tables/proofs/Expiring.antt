@@ -2,7 +2,6 @@
 use Rattle.std.proofs.Common.{refl, sym, ap, subst, ◌∙◌, arith, ◌≡◌, ℕ, ◌≤◌, Bool, true, false, not, cond, List, [], ◌∷◌, map, filter}
 use Rattle.std.specs.Prelude.{if◌then◌else◌, ◌==◌, ◌&&◌, ◌||◌}
 use Rattle.std.specs.List.{list_any, AllByRecursion}
-use Rattle.std.proofs.lemmas.Bool.{eq-eqb}
 use Rattle.std.proofs.lemmas.Bool.Decides.{nat_tests}
 use Rattle.tb_layout.specs.declared.transfer.Transfer.{Transfer}
 use Rattle.tb_layout.specs.Transfer.{is_pending}
@@ -10,9 +9,9 @@ use Rattle.tb_tables.specs.Facts.{Facts, is_expired}
 use Rattle.tb_tables.specs.Status.{is_resolved, is_reserving, is_due, expire_due}
 use Rattle.tb_tables.specs.Lawful.{IsLawful, AreLawful, has_id, ids_distinct}
 use Rattle.tb_tables.specs.Changes.{Lists, facts_of, transfers_in, expired_in, past_of, history_of}
-use Rattle.tb_tables.specs.Expiring.{expires_among, with_expiry, with_expiries}
+use Rattle.tb_tables.specs.Expiring.{with_expiries}
 use Rattle.tb_tables.specs.declared.change.Change.{Change}
-use Rattle.tb_tables.proofs.Sums.{amount_if, amounts-most, or-left, or-right, not_and-left, not_and-right}
+use Rattle.tb_tables.proofs.Sums.{amount_if, amounts-most, or-right, not_and-left, not_and-right}
 use Rattle.tb_tables.proofs.Laws.{reserves, total}
 
 -- ---- a row's mark tells whether its transfer expired

@@ -1,5 +1,5 @@
 -- What a look-up by id finds.
-use Rattle.std.proofs.Common.{arith, refl, sym, ap, ◌∙◌, ◌≡◌, ℕ, Bool, true, false, cond, List, [], ◌∷◌}
+use Rattle.std.proofs.Common.{arith, ◌≡◌, ℕ, List, [], ◌∷◌}
 use Rattle.std.specs.Prelude.{◌==◌, Some, find}
 use Rattle.std.proofs.lemmas.Bool.Decides.{nat_tests}
 

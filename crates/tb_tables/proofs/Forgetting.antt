@@ -1,5 +1,5 @@
 -- The pairs of resolved transfers leave the index.
-use Rattle.std.proofs.Common.{refl, sym, ap, subst, ◌∙◌, arith, ◌≡◌, ℕ, ◌+◌, ◌<◌, ◌≤◌, ◌^◌, Bool, true, false, not, List, [], ◌∷◌, ◌-◌, map, take, length, get_or, slice_get, zero, suc, true≢false}
+use Rattle.std.proofs.Common.{refl, sym, ap, subst, ◌∙◌, arith, ◌≡◌, ℕ, ◌+◌, ◌<◌, ◌≤◌, ◌^◌, Bool, true, false, not, List, [], ◌∷◌, ◌-◌, take, length, get_or, slice_get, zero, suc, true≢false}
 use Rattle.std.specs.Prelude.{◌==◌, ◌&&◌, ◌||◌, Option, Some, None}
 use Rattle.std.specs.Option.{option_map}
 use Rattle.std.specs.List.{list_any, AllByRecursion}
@@ -10,7 +10,7 @@ use Rattle.std.proofs.lemmas.Option.{slice_get-map}
 use Rattle.std.proofs.Math.Seq.{take-suc}
 use Rattle.tb_layout.specs.declared.transfer.Transfer.{Transfer}
 use Rattle.tb_layout.specs.Transfer.{is_pending, is_resolving}
-use Rattle.tb_tables.specs.Facts.{Facts, is_expired}
+use Rattle.tb_tables.specs.Facts.{Facts}
 use Rattle.tb_tables.specs.Status.{is_resolved, is_reserving, expires_at}
 use Rattle.tb_tables.specs.Changes.{Lists, facts_of, transfers_in, before, oldest}
 use Rattle.tb_tables.specs.Expiries.{same_pair}

@@ -5,7 +5,6 @@ use Rattle.std.specs.List.{list_any, AllByRecursion}
 use Rattle.std.proofs.lemmas.List.Folds.{list_any-append}
 use Rattle.tb_layout.specs.declared.account.Account.{Account}
 use Rattle.tb_layout.specs.declared.transfer.Transfer.{Transfer}
-use Rattle.tb_layout.specs.Transfer.{is_post, is_void}
 use Rattle.tb_tables.specs.Facts.{Facts, add_account, add_transfer}
 use Rattle.tb_tables.specs.Conditions.{MayAdd, MayResolve}
 use Rattle.tb_tables.specs.Kept.{has_account, IsGrounded, AreGrounded}

@@ -1,13 +1,9 @@
 -- Pairs of the index of expiries.
-use Rattle.std.proofs.Common.{arith, ap, ◌≡◌, ℕ, ◌≤◌, Bool, true, false, not, cond, nat_cmp, is_eq, is_gt}
-use Rattle.std.specs.Prelude.{◌==◌, ◌&&◌, ◌||◌}
-use Rattle.std.specs.Ordering.{ordering_then, is_le}
+use Rattle.std.proofs.Common.{arith, ap, ◌≡◌, ℕ, ◌≤◌, Bool, true, false, not, cond, is_eq, is_gt}
+use Rattle.std.specs.Prelude.{◌&&◌, ◌||◌}
 use Rattle.std.specs.BTreeSet.{BTreeSet}
 use Rattle.std.specs.List.{list_any}
 use Rattle.std.proofs.lemmas.Bool.Decides.{nat_tests}
-use Rattle.std.specs.declared.cmp.Ordering.{Ordering}
-use Rattle.std.specs.declared.cmp.Ordering.TheVariants.{Less, Equal, Greater}
-use Rattle.std.proofs.lemmas.Map.Keys.{le_from_is_le}
 use Rattle.tb_tables.specs.Expiries.{pair_cmp, is_indexed, same_pair}
 
 pair-eq : (moment place m p : ℕ) → is_eq (pair_cmp (moment, place) (m, p)) ≡ same_pair moment place m p

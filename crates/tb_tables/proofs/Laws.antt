@@ -1,8 +1,7 @@
 -- The facts stay lawful with each change.
-use Rattle.std.proofs.Common.{refl, ap, subst, ◌∙◌, arith, ◌≡◌, ℕ, ◌+◌, ◌<◌, ◌≤◌, ◌^◌, Bool, true, false, not, cond, List, [], ◌∷◌, ◌++◌}
-use Rattle.std.specs.Prelude.{if◌then◌else◌, ◌==◌, ◌&&◌, ◌||◌, Some, None, find}
+use Rattle.std.proofs.Common.{refl, ap, ◌∙◌, arith, ◌≡◌, ℕ, ◌+◌, ◌<◌, ◌≤◌, ◌^◌, Bool, true, false, not, List, [], ◌∷◌, ◌++◌}
+use Rattle.std.specs.Prelude.{if◌then◌else◌, ◌==◌, ◌&&◌, ◌||◌, None, find}
 use Rattle.std.specs.List.{list_any}
-use Rattle.std.proofs.lemmas.Bool.{eqb-true}
 use Rattle.std.proofs.lemmas.Bool.Decides.{nat_tests}
 use Rattle.std.proofs.lemmas.List.Folds.{list_any-append}
 use Rattle.tb_layout.specs.declared.transfer.Transfer.{Transfer}
@@ -14,7 +13,7 @@ use Rattle.tb_tables.specs.Balances.{is_posting}
 use Rattle.tb_tables.specs.Conditions.{MayAdd, MayResolve}
 use Rattle.tb_tables.specs.Lawful.{IsLawful, has_id, ids_distinct}
 use Rattle.tb_tables.proofs.Finding.{found-id}
-use Rattle.tb_tables.proofs.Sums.{amount_if, amounts, amounts-push, but_for, but_for-found, or-left, or-right, not_and-left, not_and-right}
+use Rattle.tb_tables.proofs.Sums.{amount_if, amounts, amounts-push, but_for, but_for-found}
 
 -- which transfers reserve, or have posted, an amount at an account; `side` is the account that is debited, or credited
 abbrev pub reserves : (Transfer → ℕ) → Facts → ℕ → Transfer → Bool

@@ -1,6 +1,6 @@
 -- Look-ups in the maps.
 use Rattle.std.proofs.Common.{refl, sym, ap, subst, ◌∙◌, ◌≡◌, ℕ, Bool, true, false, cond, List, [], ◌∷◌, map, nat_eq, slice_get, length, zero, suc, arith, ◌+◌, ◌<◌, lt-ltb, le-ltb, not}
-use Rattle.std.specs.Prelude.{◌==◌, ◌||◌, Option, Some, None, IsSome, find, nat_lt}
+use Rattle.std.specs.Prelude.{◌==◌, Option, Some, None, IsSome, find, nat_lt}
 use Rattle.std.specs.List.{position, position_or_len}
 use Rattle.std.specs.Option.{option_map}
 use Rattle.std.specs.Map.{keys_of, lookup}
@@ -9,16 +9,15 @@ use Rattle.std.proofs.lemmas.List.{length-map}
 use Rattle.tb_layout.specs.declared.account.Account.{Account}
 use Rattle.tb_layout.specs.declared.transfer.Transfer.{Transfer}
 use Rattle.tb_tables.specs.Facts.{Facts, account_with, IsPlaceOf, transfer_with}
-use Rattle.tb_tables.specs.Status.{status_if_pending, status_with}
+use Rattle.tb_tables.specs.Status.{status_with}
 use Rattle.tb_tables.specs.Conditions.{MayResolve}
-use Rattle.tb_tables.specs.Lawful.{has_id, ids_distinct}
+use Rattle.tb_tables.specs.Lawful.{ids_distinct}
 use Rattle.tb_tables.specs.Changes.{facts_of}
 use Rattle.tb_tables.specs.Sums.{sums_of, with_sums, AreAt}
 use Rattle.tb_tables.specs.Kept.{Stored, lists_of, row_in, MayPost, IsKept}
 use Rattle.tb_tables.specs.declared.places.Places.{Places}
 use Rattle.tb_tables.specs.declared.row.Row.{Row}
 use Rattle.tb_tables.specs.declared.status.Status.{Status}
-use Rattle.tb_tables.proofs.Sums.{not_and-left, not_and-right}
 use Rattle.tb_tables.proofs.Laws.{==_swap}
 use Rattle.tb_tables.proofs.Stored.{lookup-rows, made-at}
 use Rattle.tb_tables.proofs.Grounding.{all-found}

@@ -1,5 +1,5 @@
 -- A transfer expires: sums, statuses, and the index of expiries.
-use Rattle.std.proofs.Common.{refl, sym, ap, subst, ◌∙◌, arith, ◌≡◌, ℕ, ◌+◌, Bool, true, false, not, cond, List, [], ◌∷◌, map, set, nat_eq, slice_get, zero, suc}
+use Rattle.std.proofs.Common.{refl, sym, ap, ◌∙◌, arith, ◌≡◌, ℕ, ◌+◌, Bool, true, false, not, List, [], ◌∷◌, map, set, nat_eq, slice_get, zero, suc}
 use Rattle.std.specs.Prelude.{if◌then◌else◌, ◌==◌, ◌&&◌, ◌||◌, Option, Some, None, find}
 use Rattle.std.specs.List.{list_any, IsDistinct}
 use Rattle.std.specs.Map.{keys_of}
@@ -7,18 +7,17 @@ use Rattle.std.proofs.lemmas.Bool.{eqb-true}
 use Rattle.std.proofs.lemmas.Bool.Decides.{nat_tests}
 use Rattle.indexmap.specs.IndexMap.{set_value_at}
 use Rattle.tb_layout.specs.declared.transfer.Transfer.{Transfer}
-use Rattle.tb_layout.specs.Transfer.{is_pending}
 use Rattle.tb_tables.specs.Facts.{Facts, is_expired}
-use Rattle.tb_tables.specs.Status.{is_posted, is_voided, is_resolved, is_reserving, status_of, expires_at}
-use Rattle.tb_tables.specs.Lawful.{IsLawful, has_id, ids_distinct}
+use Rattle.tb_tables.specs.Status.{is_reserving, expires_at}
+use Rattle.tb_tables.specs.Lawful.{IsLawful, ids_distinct}
 use Rattle.tb_tables.specs.Changes.{transfers_in, expired_in}
 use Rattle.tb_tables.specs.Expiries.{same_pair}
 use Rattle.tb_tables.specs.Sums.{sums_of, with_amount}
 use Rattle.tb_tables.specs.Kept.{row_in, transfer_rows, is_timed, expects_of, expects}
 use Rattle.tb_tables.specs.declared.row.Row.{Row}
-use Rattle.tb_tables.specs.declared.status.Status.TheVariants.{Pending, Posted, Voided, Expired}
-use Rattle.tb_tables.proofs.Sums.{amount_if, amounts, amounts-each, sum_by-same, but_for, but_for-found, or-left, or-right, not_and-left, not_and-right}
-use Rattle.tb_tables.proofs.Laws.{==_swap, or_false, reserves, resolved_either}
+use Rattle.tb_tables.specs.declared.status.Status.TheVariants.{Expired}
+use Rattle.tb_tables.proofs.Sums.{amount_if, amounts, amounts-each, sum_by-same, but_for, but_for-found}
+use Rattle.tb_tables.proofs.Laws.{==_swap, reserves, resolved_either}
 use Rattle.tb_tables.proofs.Stored.{rows-set}
 use Rattle.tb_tables.proofs.Expecting.{has_id-at, one-place}
 use Rattle.tb_tables.proofs.Added.{AreSame}

@@ -1,5 +1,5 @@
 -- Rows that stand in a map under their keys, in order.
-use Rattle.std.proofs.Common.{refl, sym, ap, subst, ◌∙◌, arith, ◌≡◌, ℕ, ◌<◌, Bool, true, false, cond, List, [], ◌∷◌, map, nat_eq, slice_get, get_or, position, length, zero, suc}
+use Rattle.std.proofs.Common.{refl, sym, ap, subst, ◌∙◌, arith, ◌≡◌, ℕ, false, List, [], ◌∷◌, map, nat_eq, slice_get, get_or, position, zero, suc}
 use Rattle.std.specs.Prelude.{Some, find, ◌==◌}
 use Rattle.std.specs.Option.{option_map}
 use Rattle.std.specs.List.{list_any, AllByRecursion, IsDistinct}
