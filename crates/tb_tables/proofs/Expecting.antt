@@ -1,22 +1,14 @@
--- Which pairs the index of expiries has after a change.
+-- Which pairs are those of a transfer, and which the index has to have, after one transfer more.
 use Rattle.std.proofs.Common.{refl, sym, ap, ◌∙◌, arith, ◌≡◌, ℕ, Bool, true, false, List, [], ◌∷◌, ◌++◌, length, slice_get, zero, suc}
 use Rattle.std.specs.Prelude.{if◌then◌else◌, ◌==◌, ◌&&◌, ◌||◌, Option, Some, None}
 use Rattle.std.proofs.lemmas.Bool.{eqb-true}
 use Rattle.std.proofs.lemmas.Bool.Decides.{nat_tests}
-use Rattle.std.proofs.lemmas.List.Folds.{list_any-append}
 use Rattle.tb_layout.specs.declared.transfer.Transfer.{Transfer}
-use Rattle.tb_tables.specs.Facts.{Facts, is_expired, add_transfer}
+use Rattle.tb_tables.specs.Facts.{Facts, add_transfer}
 use Rattle.tb_tables.specs.Status.{is_reserving, expires_at}
-use Rattle.tb_tables.specs.Conditions.{MayAdd}
-use Rattle.tb_tables.specs.Lawful.{IsLawful, has_id, ids_distinct}
+use Rattle.tb_tables.specs.Lawful.{has_id, ids_distinct}
 use Rattle.tb_tables.specs.Expiries.{same_pair}
-use Rattle.tb_tables.specs.Kept.{AreGrounded, MayPost, is_timed, names_place, resolves_at, is_resolved_at, expects_of, expects}
-use Rattle.tb_tables.specs.declared.change.Change.{Change}
-use Rattle.tb_tables.specs.declared.change.Change.TheVariants.{Transfer as WasTransfer}
-use Rattle.tb_tables.specs.declared.places.Places.{Places}
-use Rattle.tb_tables.proofs.Laws.{==_swap, or_false, reserving, reserving-same, reserving-other}
-use Rattle.tb_tables.proofs.Added.{reserves-new}
-use Rattle.tb_tables.proofs.Finding.{found-id}
+use Rattle.tb_tables.specs.Kept.{is_timed, is_pair_of, is_pair, reserves_at, expects}
 
 pub slice_get-push : {X : Type 0} (xs : List X) (x : X) (place : ℕ) → slice_get (xs ++ x ∷ []) place ≡ (if place == length xs then Some x else slice_get xs place)
 slice_get-push [] x zero = refl
@@ -24,7 +16,7 @@ slice_get-push [] x (suc place) = grind (arith, nat_tests)
 slice_get-push (y ∷ xs) x zero = grind (arith, nat_tests)
 slice_get-push (y ∷ xs) x (suc place) = grind (arith, nat_tests, slice_get-push xs x place)
 
-pub slice_get-end : {X : Type 0} (xs : List X) → slice_get xs (length xs) ≡ None
+slice_get-end : {X : Type 0} (xs : List X) → slice_get xs (length xs) ≡ None
 slice_get-end [] = refl
 slice_get-end (x ∷ xs) = slice_get-end xs
 
@@ -41,65 +33,29 @@ one-place (z ∷ xs) zero (suc j) x y distinct at at' same = grind (arith, nat_t
 one-place (z ∷ xs) (suc i) zero x y distinct at at' same = grind (arith, nat_tests, has_id-at z.id xs i x at)
 one-place (z ∷ xs) (suc i) (suc j) x y distinct at at' same = grind (arith, nat_tests, one-place xs i j x y)
 
-pub resolved-push : (place : ℕ) (changes : List (Change Places)) (change : Change Places) → is_resolved_at place (changes ++ change ∷ []) ≡ (is_resolved_at place changes || resolves_at place change)
-resolved-push place changes change = list_any-append (resolves_at place) changes (change ∷ []) ∙ ap (λ b. is_resolved_at place changes || b) (or_false (resolves_at place change))
+-- and so it is of one transfer
+pub one-transfer : (xs : List Transfer) (i j : ℕ) (x y : Transfer) → ids_distinct xs ≡ true → slice_get xs i ≡ Some x → slice_get xs j ≡ Some y → (x.id == y.id) ≡ true → x ≡ y
+one-transfer xs i j x y distinct at at' same = cc (at, at', ap (slice_get xs) (eqb-true i j (one-place xs i j x y distinct at at' same)))
 
--- where the same reserve their amounts, and the same were resolved
-pub expects-same : (facts new : Facts) (changes more : List (Change Places)) (moment place : ℕ) (o : Option Transfer) →
-    ((y : Transfer) → is_reserving new y ≡ is_reserving facts y) → is_resolved_at place more ≡ is_resolved_at place changes →
-    expects_of new more moment place o ≡ expects_of facts changes moment place o
-expects-same facts new changes more moment place None reserve same = refl
-expects-same facts new changes more moment place (Some y) reserve same = cc (reserve y, same)
+module _ (facts : Facts) (t : Transfer) where
+  abbrev its-pair : ℕ → ℕ → Bool
+  its-pair moment place = is_timed t && same_pair (expires_at t) (length facts.transfers) moment place
 
--- ---- one plain or pending transfer more
-
-module _ (facts : Facts) (t : Transfer) (may : MayAdd facts t) (grounded : AreGrounded facts) (not_expired : is_expired facts t.id ≡ false) (changes : List (Change Places)) (places : Places) (none : places.pending ≡ None) where
-  no_more : (place : ℕ) → is_resolved_at place (changes ++ WasTransfer places ∷ []) ≡ is_resolved_at place changes
-  no_more place = resolved-push place changes (WasTransfer places) ∙ ap (λ o. is_resolved_at place changes || names_place place o) none ∙ or_false (is_resolved_at place changes)
-
-  pub expects-add : (moment place : ℕ) → expects (add_transfer facts t) (changes ++ WasTransfer places ∷ []) moment place
-      ≡ ((is_timed t && same_pair (expires_at t) (length facts.transfers) moment place) || expects facts changes moment place)
-  expects-add moment place =
-      ap (expects_of (add_transfer facts t) (changes ++ WasTransfer places ∷ []) moment place) (slice_get-push facts.transfers t place)
-      ∙ by (place == length facts.transfers) refl
+  pub pairs-push : (moment place : ℕ) → is_pair (add_transfer facts t) moment place ≡ (its-pair moment place || is_pair facts moment place)
+  pairs-push moment place = ap (is_pair_of moment) (slice_get-push facts.transfers t place) ∙ by (place == length facts.transfers) refl
     where
-      by : (b : Bool) → (place == length facts.transfers) ≡ b → expects_of (add_transfer facts t) (changes ++ WasTransfer places ∷ []) moment place (if b then Some t else slice_get facts.transfers place)
-          ≡ ((is_timed t && ((expires_at t == moment) && (length facts.transfers == place))) || expects facts changes moment place)
+      by : (b : Bool) → (place == length facts.transfers) ≡ b → is_pair_of moment (if b then Some t else slice_get facts.transfers place) ≡ (its-pair moment place || is_pair facts moment place)
       by true is =
-          let here : place ≡ length facts.transfers = eqb-true place (length facts.transfers) is in
-          let empty : expects facts changes moment place ≡ false = ap (expects_of facts changes moment place) (ap (slice_get facts.transfers) here ∙ slice_get-end facts.transfers) in
-          grind (arith, empty, reserves-new facts t may grounded not_expired, ==_swap (length facts.transfers) place, is)
-      by false is =
-          grind (arith, expects-same facts (add_transfer facts t) changes (changes ++ WasTransfer places ∷ []) moment place (slice_get facts.transfers place) (reserving-same facts t may) (no_more place), ==_swap (length facts.transfers) place, is)
+          let none : slice_get facts.transfers place ≡ None = ap (slice_get facts.transfers) (eqb-true place (length facts.transfers) is) ∙ slice_get-end facts.transfers in
+          grind (arith, nat_tests, none, is)
+      by false is = grind (arith, nat_tests, is)
 
--- ---- one post or void more: the pair of what it names stays until `keep`
-
-module _ (facts : Facts) (lawful : IsLawful facts) (t : Transfer) (pending : ℕ) (posted : MayPost facts t pending) (changes : List (Change Places)) (places : Places) (some : places.pending ≡ Some pending) where
-  one_more : (place : ℕ) → is_resolved_at place (changes ++ WasTransfer places ∷ []) ≡ (is_resolved_at place changes || (pending == place))
-  one_more place = resolved-push place changes (WasTransfer places) ∙ ap (λ o. is_resolved_at place changes || names_place place o) some
-
-  at-place : (moment place : ℕ) (o : Option Transfer) → slice_get facts.transfers place ≡ o → expects_of (add_transfer facts t) (changes ++ WasTransfer places ∷ []) moment place o ≡ expects_of facts changes moment place o
-  at-place moment place None at = refl
-  at-place moment place (Some y) at = grind (arith, reserving-other facts t posted.may y, one_more place, same, apart)
+  -- where none reserves its amount that didn't before
+  pub expects-push : ((y : Transfer) → is_reserving (add_transfer facts t) y ≡ true → is_reserving facts y ≡ true) → (moment place : ℕ) → expects (add_transfer facts t) moment place ≡ true → (its-pair moment place || expects facts moment place) ≡ true
+  expects-push less moment place has = by (place == length facts.transfers) refl (slice_get facts.transfers place) refl (sym (ap (λ o. is_pair_of moment o && reserves_at (add_transfer facts t) o) (slice_get-push facts.transfers t place)) ∙ has)
     where
-      same : (pending == place) ≡ true → is_reserving facts y ≡ true
-      same is =
-          let here : Some y ≡ Some posted.may.pending = sym at ∙ ap (slice_get facts.transfers) (sym (eqb-true pending place is)) ∙ posted.pending_at in
-          let e : y ≡ posted.may.pending = cc in
-          ap (is_reserving facts) e ∙ reserving facts t posted.may
-
-      apart : (pending == place) ≡ false → (t.pending_id == y.id) ≡ false
-      apart differs =
-          let id = found-id (λ (x : Transfer). x.id) t.pending_id facts.transfers posted.may.pending posted.may.named in
-          grind (arith, nat_tests, id, one-place facts.transfers pending place posted.may.pending y lawful.distinct posted.pending_at at)
-
-  pub expects-resolve : (moment place : ℕ) → expects (add_transfer facts t) (changes ++ WasTransfer places ∷ []) moment place ≡ expects facts changes moment place
-  expects-resolve moment place =
-      ap (expects_of (add_transfer facts t) (changes ++ WasTransfer places ∷ []) moment place) (slice_get-push facts.transfers t place) ∙ by (place == length facts.transfers) refl
-    where
-      by : (b : Bool) → (place == length facts.transfers) ≡ b → expects_of (add_transfer facts t) (changes ++ WasTransfer places ∷ []) moment place (if b then Some t else slice_get facts.transfers place) ≡ expects facts changes moment place
-      by true is =
-          let here : place ≡ length facts.transfers = eqb-true place (length facts.transfers) is in
-          let empty : expects facts changes moment place ≡ false = ap (expects_of facts changes moment place) (ap (slice_get facts.transfers) here ∙ slice_get-end facts.transfers) in
-          grind (arith, empty, posted.may.not_pending)
-      by false is = at-place moment place (slice_get facts.transfers place) refl
+      by : (b : Bool) → (place == length facts.transfers) ≡ b → (o : Option Transfer) → slice_get facts.transfers place ≡ o →
+          (is_pair_of moment (if b then Some t else o) && reserves_at (add_transfer facts t) (if b then Some t else o)) ≡ true → (its-pair moment place || expects facts moment place) ≡ true
+      by true is o at h = grind (arith, nat_tests, is)
+      by false is None at h = grind arith
+      by false is (Some y) at h = grind (arith, at, less y)

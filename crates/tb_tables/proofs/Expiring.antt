@@ -8,7 +8,7 @@ use Rattle.tb_layout.specs.Transfer.{is_pending}
 use Rattle.tb_tables.specs.Facts.{Facts, is_expired}
 use Rattle.tb_tables.specs.Status.{is_resolved, is_reserving, is_due, expire_due}
 use Rattle.tb_tables.specs.Lawful.{IsLawful, AreLawful, has_id, ids_distinct}
-use Rattle.tb_tables.specs.Changes.{Lists, facts_of, transfers_in, expired_in, past_of, history_of}
+use Rattle.tb_tables.specs.Plain.{Lists, facts_of, transfers_in, expired_in, plain_history}
 use Rattle.tb_tables.specs.Expiring.{with_expiries}
 use Rattle.tb_tables.specs.declared.change.Change.{Change}
 use Rattle.tb_tables.proofs.Sums.{amount_if, amounts-most, or-right, not_and-left, not_and-right}
@@ -109,14 +109,14 @@ expire_due_lawful clock facts lawful = record {
 
 -- ---- the history then
 
-expired_history : (clock : ℕ) {T : Type 0} (changes : List (Change T)) (lists : Lists) (rows : List (Transfer × Bool)) → past_of changes lists ≡ [] → rows ≡ with_expiries clock (transfers_in lists.rows) lists.rows → IsLawful (facts_of lists) →
-    history_of changes (record lists { rows = rows }) ≡ record { now = expire_due clock (facts_of lists); past = [] }
+expired_history : (clock : ℕ) {T : Type 0} (changes : List (Change T)) (lists : Lists) (rows : List (Transfer × Bool)) → (plain_history changes lists).past ≡ [] → rows ≡ with_expiries clock (transfers_in lists.rows) lists.rows → IsLawful (facts_of lists) →
+    plain_history changes (record lists { rows = rows }) ≡ record { now = expire_due clock (facts_of lists); past = [] }
 expired_history clock [] lists rows none is lawful =
     ap (λ (facts : Facts). record { now = facts; past = [] }) (ap (λ rs. facts_of (record lists { rows = rs })) is ∙ facts_of-expired clock lists lawful)
 expired_history clock (change ∷ changes) lists rows none is lawful = cc
 
-pub history_expired : (clock : ℕ) {T : Type 0} (changes : List (Change T)) (lists : Lists) (rows : List (Transfer × Bool)) → past_of changes lists ≡ [] → rows ≡ with_expiries clock (transfers_in lists.rows) lists.rows → AreLawful (history_of changes lists) →
-    (history_of changes (record lists { rows = rows }) ≡ record { now = expire_due clock (facts_of lists); past = [] }) × AreLawful (history_of changes (record lists { rows = rows }))
+pub history_expired : (clock : ℕ) {T : Type 0} (changes : List (Change T)) (lists : Lists) (rows : List (Transfer × Bool)) → (plain_history changes lists).past ≡ [] → rows ≡ with_expiries clock (transfers_in lists.rows) lists.rows → AreLawful (plain_history changes lists) →
+    (plain_history changes (record lists { rows = rows }) ≡ record { now = expire_due clock (facts_of lists); past = [] }) × AreLawful (plain_history changes (record lists { rows = rows }))
 history_expired clock changes lists rows none is all =
     let e = expired_history clock changes lists rows none is all.now in
     (e, subst AreLawful (sym e) (record { now = expire_due_lawful clock (facts_of lists) all.now; past = tt }))

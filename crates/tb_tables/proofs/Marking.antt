@@ -1,7 +1,7 @@
 -- Rows marked one by one, from the first.
 use Rattle.std.proofs.Common.{refl, sym, ap, ◌∙◌, arith, ◌≡◌, ℕ, suc, zero, ◌+◌, ◌<◌, ◌≤◌, Bool, true, false, List, [], ◌∷◌, length, get_or, set}
 use Rattle.tb_layout.specs.declared.transfer.Transfer.{Transfer}
-use Rattle.tb_tables.specs.Changes.{transfers_in}
+use Rattle.tb_tables.specs.Plain.{transfers_in}
 use Rattle.tb_tables.specs.Expiring.{expires_among, with_expiry, with_expiries}
 
 -- the first so many are marked where they expire

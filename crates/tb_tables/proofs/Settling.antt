@@ -15,8 +15,8 @@ use Rattle.tb_tables.specs.Facts.{Facts, add_transfer}
 use Rattle.tb_tables.specs.Status.{status_of, expires_at}
 use Rattle.tb_tables.specs.Conditions.{MayAdd}
 use Rattle.tb_tables.specs.Sums.{sums_of, with_amount, posted_if, account_rows, CanAdd, CanTake}
-use Rattle.tb_tables.specs.Kept.{row_in, transfer_rows, MayPost, MayStore}
-use Rattle.tb_tables.specs.Storing.{Allow, new_row, status_after, IsPushed, IsPopped}
+use Rattle.tb_tables.specs.Kept.{Allow, row_in, transfer_rows, MayPost, MayStore}
+use Rattle.tb_tables.specs.Storing.{new_row, status_after, IsPushed, IsPopped}
 use Rattle.tb_tables.specs.declared.places.Places.{Places}
 use Rattle.tb_tables.specs.declared.row.Row.{Row}
 use Rattle.tb_tables.specs.declared.status.Status.TheVariants.{Pending}
@@ -34,7 +34,7 @@ slice_get-append (z ∷ xs) ys (suc place) x at = slice_get-append xs ys place x
 here : (n m : ℕ) → (if n == n then m else 0) ≡ m
 here n m = ap (λ b. if b then m else 0) (eq-eqb n n refl)
 
-module _ (facts : Facts) (rows : List Account) (t : Transfer) (places : Places) (allow : Allow facts t places rows) where
+module _ (facts : Facts) (t : Transfer) (places : Places) (allow : Allow facts t places) where
   last-row : (entries : List (ℕ × Row)) → entries ≡ transfer_rows (add_transfer facts t) (facts.transfers ++ t ∷ []) → entries ≡ transfer_rows (add_transfer facts t) facts.transfers ++ (t.id, row_in (add_transfer facts t) t) ∷ []
   last-row entries is = is ∙ map-append (λ (x : Transfer). (x.id, row_in (add_transfer facts t) x)) facts.transfers (t ∷ [])
 
@@ -80,10 +80,10 @@ module _ (facts : Facts) (rows : List Account) (t : Transfer) (places : Places) 
         ap (λ es. slice_get es pending) is ∙ slice_get-map (λ (x : Transfer). (x.id, row_in fs x)) (facts.transfers ++ more) pending
         ∙ ap (option_map (λ (x : Transfer). (x.id, row_in fs x))) (slice_get-append facts.transfers more pending named posted.pending_at)
 
-    pub at-pushed : (account_entries : List (ℕ × Account)) (entries : List (ℕ × Row)) → IsPushed facts rows t places account_entries entries → slice_get entries pending ≡ Some (named.id, row_in facts named)
+    pub at-pushed : (account_entries : List (ℕ × Account)) (entries : List (ℕ × Row)) → IsPushed facts t places account_entries entries → slice_get entries pending ≡ Some (named.id, row_in facts named)
     at-pushed account_entries entries is = at-place facts (t ∷ []) entries (pushed-rows entries is.transfers_are)
 
-    pub at-popped : (account_entries : List (ℕ × Account)) (entries : List (ℕ × Row)) → IsPopped facts rows t places account_entries entries → slice_get entries pending ≡ Some (named.id, row_in (add_transfer facts t) named)
+    pub at-popped : (account_entries : List (ℕ × Account)) (entries : List (ℕ × Row)) → IsPopped facts t places account_entries entries → slice_get entries pending ≡ Some (named.id, row_in (add_transfer facts t) named)
     at-popped account_entries entries is = at-place (add_transfer facts t) [] entries (is.transfers_are ∙ ap (transfer_rows (add_transfer facts t)) (sym (append-nil facts.transfers)))
 
     others : (y : Transfer) → (y.id == named.id) ≡ false → row_in (add_transfer facts t) y ≡ row_in facts y
@@ -102,7 +102,7 @@ module _ (facts : Facts) (rows : List Account) (t : Transfer) (places : Places) 
         ∙ ap (λ b. record { transfer = named; status = if b then Some (status_of facts named.id) else None }) (sym posted.may.is_pending_one)
 
     -- the status of what it names, set
-    pub rows-settled : (account_entries : List (ℕ × Account)) (entries : List (ℕ × Row)) → IsPushed facts rows t places account_entries entries → IsDistinct nat_eq (keys_of entries) →
+    pub rows-settled : (account_entries : List (ℕ × Account)) (entries : List (ℕ × Row)) → IsPushed facts t places account_entries entries → IsDistinct nat_eq (keys_of entries) →
         set_value_at entries pending (record (row_in facts named) { status = Some (status_after (is_post t)) }) ≡ transfer_rows (add_transfer facts t) (facts.transfers ++ t ∷ [])
     rows-settled account_entries entries pushed apart =
         let is = pushed-rows entries pushed.transfers_are in
@@ -111,7 +111,7 @@ module _ (facts : Facts) (rows : List Account) (t : Transfer) (places : Places) 
         ∙ rows-set (λ (x : Transfer). x.id) (row_in facts) (row_in (add_transfer facts t)) (facts.transfers ++ t ∷ []) pending named (slice_get-append facts.transfers (t ∷ []) pending named posted.pending_at) (rw is at apart) others
 
     -- and set back
-    pub rows-open : (account_entries : List (ℕ × Account)) (entries : List (ℕ × Row)) → IsPopped facts rows t places account_entries entries → IsDistinct nat_eq (keys_of entries) →
+    pub rows-open : (account_entries : List (ℕ × Account)) (entries : List (ℕ × Row)) → IsPopped facts t places account_entries entries → IsDistinct nat_eq (keys_of entries) →
         set_value_at entries pending (record (row_in (add_transfer facts t) named) { status = Some Pending }) ≡ transfer_rows facts facts.transfers
     rows-open account_entries entries popped apart =
         let is = popped.transfers_are in
@@ -120,11 +120,11 @@ module _ (facts : Facts) (rows : List Account) (t : Transfer) (places : Places) 
         ∙ rows-set (λ (x : Transfer). x.id) (row_in (add_transfer facts t)) (row_in facts) facts.transfers pending named posted.pending_at (rw is at apart) (λ y apart. sym (others y apart))
 
     -- what was reserved is among the balances, and so there is room to post it or a part of it
-    pub release-sums : account_rows (sums_of facts) rows ≡ account_rows (with_amount true t.debit_account_id t.credit_account_id named.amount (left facts t posted.may)) rows
-    release-sums = rows-same _ _ rows (sums-release facts t posted.may allow.lawful)
+    pub release-sums : account_rows (sums_of facts) facts.accounts ≡ account_rows (with_amount true t.debit_account_id t.credit_account_id named.amount (left facts t posted.may)) facts.accounts
+    release-sums = rows-same _ _ facts.accounts (sums-release facts t posted.may allow.lawful)
 
-    pub post-sums : account_rows (sums_of (add_transfer facts t)) rows ≡ account_rows (posted_if (is_post t) t.debit_account_id t.credit_account_id t.amount (left facts t posted.may)) rows
-    post-sums = rows-same _ _ rows (sums-post facts t posted.may)
+    pub post-sums : account_rows (sums_of (add_transfer facts t)) facts.accounts ≡ account_rows (posted_if (is_post t) t.debit_account_id t.credit_account_id t.amount (left facts t posted.may)) facts.accounts
+    post-sums = rows-same _ _ facts.accounts (sums-post facts t posted.may)
 
     debits_reserved : (sums_of facts).debits_pending t.debit_account_id ≡ (sums_of (add_transfer facts t)).debits_pending t.debit_account_id + named.amount
     debits_reserved = reserved-resolve facts t posted.may allow.lawful (λ x. x.debit_account_id) posted.may.same_debit t.debit_account_id ∙ ap (λ n. (sums_of (add_transfer facts t)).debits_pending t.debit_account_id + n) (here t.debit_account_id named.amount)
@@ -132,14 +132,14 @@ module _ (facts : Facts) (rows : List Account) (t : Transfer) (places : Places) 
     credits_reserved : (sums_of facts).credits_pending t.credit_account_id ≡ (sums_of (add_transfer facts t)).credits_pending t.credit_account_id + named.amount
     credits_reserved = reserved-resolve facts t posted.may allow.lawful (λ x. x.credit_account_id) posted.may.same_credit t.credit_account_id ∙ ap (λ n. (sums_of (add_transfer facts t)).credits_pending t.credit_account_id + n) (here t.credit_account_id named.amount)
 
-    pub can_release : (entries : List (ℕ × Account)) (amount : ℕ) → entries ≡ account_rows (sums_of facts) rows → amount ≡ named.amount → CanTake entries places true amount
+    pub can_release : (entries : List (ℕ × Account)) (amount : ℕ) → entries ≡ account_rows (sums_of facts) facts.accounts → amount ≡ named.amount → CanTake entries places true amount
     can_release entries amount is same =
-        rw same (record { sums = left facts t posted.may; accounts = rows; debit = t.debit_account_id; credit = t.credit_account_id; are_at = allow.are_at; are = is ∙ release-sums })
+        rw same (record { sums = left facts t posted.may; accounts = facts.accounts; debit = t.debit_account_id; credit = t.credit_account_id; are_at = allow.are_at; are = is ∙ release-sums })
 
-    pub can_post : (entries : List (ℕ × Account)) → entries ≡ account_rows (left facts t posted.may) rows → CanAdd entries places false t.amount
+    pub can_post : (entries : List (ℕ × Account)) → entries ≡ account_rows (left facts t posted.may) facts.accounts → CanAdd entries places false t.amount
     can_post entries is = record {
       sums = left facts t posted.may;
-      accounts = rows;
+      accounts = facts.accounts;
       debit = t.debit_account_id;
       credit = t.credit_account_id;
       are_at = allow.are_at;
@@ -148,20 +148,20 @@ module _ (facts : Facts) (rows : List Account) (t : Transfer) (places : Places) 
       credit_fits = subst (λ id. (sums_of facts).credits_posted id + t.amount < 2 ^ 128) (sym allow.are_at.credit_is) (omega (arith, allow.lawful.credits_fit t.credit_account_id, credits_reserved, posted.may.at_most));
     }
 
-    pub can_unpost : (entries : List (ℕ × Account)) → entries ≡ account_rows (sums_of (add_transfer facts t)) rows → is_post t ≡ true → CanTake entries places false t.amount
+    pub can_unpost : (entries : List (ℕ × Account)) → entries ≡ account_rows (sums_of (add_transfer facts t)) facts.accounts → is_post t ≡ true → CanTake entries places false t.amount
     can_unpost entries is post = record {
       sums = left facts t posted.may;
-      accounts = rows;
+      accounts = facts.accounts;
       debit = t.debit_account_id;
       credit = t.credit_account_id;
       are_at = allow.are_at;
-      are = is ∙ post-sums ∙ ap (λ b. account_rows (posted_if b t.debit_account_id t.credit_account_id t.amount (left facts t posted.may)) rows) post;
+      are = is ∙ post-sums ∙ ap (λ b. account_rows (posted_if b t.debit_account_id t.credit_account_id t.amount (left facts t posted.may)) facts.accounts) post;
     }
 
-    pub can_reserve : (entries : List (ℕ × Account)) (amount : ℕ) → entries ≡ account_rows (left facts t posted.may) rows → amount ≡ named.amount → CanAdd entries places true amount
+    pub can_reserve : (entries : List (ℕ × Account)) (amount : ℕ) → entries ≡ account_rows (left facts t posted.may) facts.accounts → amount ≡ named.amount → CanAdd entries places true amount
     can_reserve entries amount is same = rw same (record {
       sums = left facts t posted.may;
-      accounts = rows;
+      accounts = facts.accounts;
       debit = t.debit_account_id;
       credit = t.credit_account_id;
       are_at = allow.are_at;
@@ -176,16 +176,16 @@ module _ (facts : Facts) (rows : List Account) (t : Transfer) (places : Places) 
     pub added : MayAdd facts t
     added = subst (MayStore facts t) none allow.may
 
-    pub add-sums : account_rows (sums_of (add_transfer facts t)) rows ≡ account_rows (with_amount (is_pending t) t.debit_account_id t.credit_account_id t.amount (sums_of facts)) rows
-    add-sums = rows-same _ _ rows (sums-add facts t added allow.grounded allow.not_expired)
+    pub add-sums : account_rows (sums_of (add_transfer facts t)) facts.accounts ≡ account_rows (with_amount (is_pending t) t.debit_account_id t.credit_account_id t.amount (sums_of facts)) facts.accounts
+    add-sums = rows-same _ _ facts.accounts (sums-add facts t added allow.grounded allow.not_expired)
 
-    pub can_add : (entries : List (ℕ × Account)) → entries ≡ account_rows (sums_of facts) rows → CanAdd entries places (is_pending t) t.amount
+    pub can_add : (entries : List (ℕ × Account)) → entries ≡ account_rows (sums_of facts) facts.accounts → CanAdd entries places (is_pending t) t.amount
     can_add entries is = by (is_pending t)
       where
         by : (pending : Bool) → CanAdd entries places pending t.amount
         by true = record {
           sums = sums_of facts;
-          accounts = rows;
+          accounts = facts.accounts;
           debit = t.debit_account_id;
           credit = t.credit_account_id;
           are_at = allow.are_at;
@@ -195,7 +195,7 @@ module _ (facts : Facts) (rows : List Account) (t : Transfer) (places : Places) 
         }
         by false = record {
           sums = sums_of facts;
-          accounts = rows;
+          accounts = facts.accounts;
           debit = t.debit_account_id;
           credit = t.credit_account_id;
           are_at = allow.are_at;
@@ -204,8 +204,8 @@ module _ (facts : Facts) (rows : List Account) (t : Transfer) (places : Places) 
           credit_fits = subst (λ id. (sums_of facts).credits_posted id + t.amount < 2 ^ 128) (sym allow.are_at.credit_is) (omega (arith, added.credits_fit));
         }
 
-    pub can_take : (entries : List (ℕ × Account)) → entries ≡ account_rows (sums_of (add_transfer facts t)) rows → CanTake entries places (is_pending t) t.amount
-    can_take entries is = record { sums = sums_of facts; accounts = rows; debit = t.debit_account_id; credit = t.credit_account_id; are_at = allow.are_at; are = is ∙ add-sums }
+    pub can_take : (entries : List (ℕ × Account)) → entries ≡ account_rows (sums_of (add_transfer facts t)) facts.accounts → CanTake entries places (is_pending t) t.amount
+    can_take entries is = record { sums = sums_of facts; accounts = facts.accounts; debit = t.debit_account_id; credit = t.credit_account_id; are_at = allow.are_at; are = is ∙ add-sums }
 
     row-added : (y : Transfer) → row_in (add_transfer facts t) y ≡ row_in facts y
     row-added y = ap (λ s. record { transfer = y; status = s }) (status_in-add facts t added y)

@@ -1,7 +1,7 @@
 use Rattle.std.proofs.Common.{◌≡◌, ◌∙◌, ap, refl, ◌++◌, ◌∷◌, []}
 use Rattle.tb_tables.specs.Expiries.{is_indexed}
-use Rattle.tb_tables.specs.Changes.{facts_of, before}
-use Rattle.tb_tables.specs.Kept.{lists_of}
+use Rattle.tb_tables.specs.Changes.{before}
+use Rattle.tb_tables.specs.Kept.{facts_of}
 use Rattle.tb_tables.specs.Held.{stored_in}
 use Rattle.tb_tables.specs.declared.change.Change.TheVariants.{Account, Transfer, Failed}
 use Rattle.tb_tables.proofs.Opening.{kept-unaccount, kept-unfailed}
@@ -47,7 +47,7 @@ take_back-requires c =
     let changes = c.pop.new.self.items in
     let places = c.in-Some-Transfer.places in
     let popped : o.changes.items ≡ changes ++ Transfer places ∷ [] = c.in-Some-Transfer.ensures.items ∙ ap (λ change. changes ++ change ∷ []) c.in-Some-Transfer.field-0-is in
-    (facts_of (before (Transfer places) (lists_of old)), (lists_of old).accounts, (stepping.was old c.self.invariant changes places popped).transfer, stepping.was-stored old c.self.invariant changes places popped)
+    (before (Transfer places) (facts_of old), (stepping.was old c.self.invariant changes places popped).transfer, stepping.was-stored old c.self.invariant changes places popped)
 
 pub invariant_of-self-in-Some-Transfer : goal.invariant_of-self-in-Some-Transfer
 invariant_of-self-in-Some-Transfer c =
@@ -60,7 +60,7 @@ invariant_of-self-in-Some-Transfer c =
     let stored = stepping.was-stored old c.self.invariant changes places popped in
     (stepping.taken old c.self.invariant changes places popped
     (record { accounts = n.accounts.entries; transfers = n.transfers.entries; failed = o.failed.keys; changes = changes; is_indexed = is_indexed n.expiries }) refl refl
-    (c.take_back.ensures.maps _ _ _ stored) (c.take_back.ensures.index _ _ _ stored)).0
+    (c.take_back.ensures.maps _ _ stored) (c.take_back.ensures.index _ _ stored)).0
 
 pub returns-in-Some-Transfer : goal.returns-in-Some-Transfer
 returns-in-Some-Transfer c =
@@ -74,4 +74,4 @@ returns-in-Some-Transfer c =
     rw (← c.self.view_is)
     (stepping.taken old c.self.invariant changes places popped
     (record { accounts = n.accounts.entries; transfers = n.transfers.entries; failed = o.failed.keys; changes = changes; is_indexed = is_indexed n.expiries }) refl refl
-    (c.take_back.ensures.maps _ _ _ stored) (c.take_back.ensures.index _ _ _ stored)).1
+    (c.take_back.ensures.maps _ _ stored) (c.take_back.ensures.index _ _ stored)).1
