@@ -14,7 +14,7 @@ use Rattle.tb_layout.specs.Transfer.{is_pending, is_post}
 use Rattle.tb_tables.specs.Facts.{Facts, add_transfer}
 use Rattle.tb_tables.specs.Status.{status_of, expires_at}
 use Rattle.tb_tables.specs.Conditions.{MayAdd}
-use Rattle.tb_tables.specs.Sums.{sums_of, with_amount, posted_if, account_rows, CanAdd, CanTake}
+use Rattle.tb_tables.specs.Sums.{Sums, sums_of, with_amount, posted_if, account_rows, CanAdd, CanTake}
 use Rattle.tb_tables.specs.Kept.{Allow, row_in, transfer_rows, MayPost, MayStore}
 use Rattle.tb_tables.specs.Storing.{new_row, status_after, IsPushed, IsPopped}
 use Rattle.tb_tables.specs.declared.places.Places.{Places}
@@ -52,6 +52,24 @@ module _ (facts : Facts) (t : Transfer) (places : Places) (allow : Allow facts t
       by : (o : Option ℕ) → MayStore facts t o → expires_at t < 2 ^ 64
       by None may = may.expiry_fits
       by (Some place) may = absurd (true≢false (sym pending ∙ may.may.not_pending))
+
+  -- an amount can be added where both balances have room for it, and taken out of sums that it was added to
+  adds : (sums : Sums) (entries : List (ℕ × Account)) (kind : Bool) (amount : ℕ) → entries ≡ account_rows sums facts.accounts →
+      (if kind then sums.debits_pending t.debit_account_id else sums.debits_posted t.debit_account_id) + amount < 2 ^ 128 →
+      (if kind then sums.credits_pending t.credit_account_id else sums.credits_posted t.credit_account_id) + amount < 2 ^ 128 → CanAdd entries places kind amount
+  adds sums entries kind amount is debit credit = record {
+    sums = sums;
+    accounts = facts.accounts;
+    debit = t.debit_account_id;
+    credit = t.credit_account_id;
+    are_at = allow.are_at;
+    are = is;
+    debit_fits = grind (arith, allow.are_at.debit_is, debit);
+    credit_fits = grind (arith, allow.are_at.credit_is, credit);
+  }
+
+  takes : (sums : Sums) (entries : List (ℕ × Account)) (kind : Bool) (amount : ℕ) → entries ≡ account_rows (with_amount kind t.debit_account_id t.credit_account_id amount sums) facts.accounts → CanTake entries places kind amount
+  takes sums entries kind amount is = record { sums = sums; accounts = facts.accounts; debit = t.debit_account_id; credit = t.credit_account_id; are_at = allow.are_at; are = is }
 
   -- ---- a post or a void
 
@@ -133,42 +151,24 @@ module _ (facts : Facts) (t : Transfer) (places : Places) (allow : Allow facts t
     credits_reserved = reserved-resolve facts t posted.may allow.lawful (λ x. x.credit_account_id) posted.may.same_credit t.credit_account_id ∙ ap (λ n. (sums_of (add_transfer facts t)).credits_pending t.credit_account_id + n) (here t.credit_account_id named.amount)
 
     pub can_release : (entries : List (ℕ × Account)) (amount : ℕ) → entries ≡ account_rows (sums_of facts) facts.accounts → amount ≡ named.amount → CanTake entries places true amount
-    can_release entries amount is same =
-        rw same (record { sums = left facts t posted.may; accounts = facts.accounts; debit = t.debit_account_id; credit = t.credit_account_id; are_at = allow.are_at; are = is ∙ release-sums })
+    can_release entries amount is same = rw same (takes (left facts t posted.may) entries true named.amount (is ∙ release-sums))
 
     pub can_post : (entries : List (ℕ × Account)) → entries ≡ account_rows (left facts t posted.may) facts.accounts → CanAdd entries places false t.amount
-    can_post entries is = record {
-      sums = left facts t posted.may;
-      accounts = facts.accounts;
-      debit = t.debit_account_id;
-      credit = t.credit_account_id;
-      are_at = allow.are_at;
-      are = is;
-      debit_fits = subst (λ id. (sums_of facts).debits_posted id + t.amount < 2 ^ 128) (sym allow.are_at.debit_is) (omega (arith, allow.lawful.debits_fit t.debit_account_id, debits_reserved, posted.may.at_most));
-      credit_fits = subst (λ id. (sums_of facts).credits_posted id + t.amount < 2 ^ 128) (sym allow.are_at.credit_is) (omega (arith, allow.lawful.credits_fit t.credit_account_id, credits_reserved, posted.may.at_most));
-    }
+    can_post entries is =
+        let debit = allow.lawful.debits_fit t.debit_account_id in
+        let credit = allow.lawful.credits_fit t.credit_account_id in
+        adds (left facts t posted.may) entries false t.amount is (omega (arith, debits_reserved, posted.may.at_most)) (omega (arith, credits_reserved, posted.may.at_most))
 
     pub can_unpost : (entries : List (ℕ × Account)) → entries ≡ account_rows (sums_of (add_transfer facts t)) facts.accounts → is_post t ≡ true → CanTake entries places false t.amount
-    can_unpost entries is post = record {
-      sums = left facts t posted.may;
-      accounts = facts.accounts;
-      debit = t.debit_account_id;
-      credit = t.credit_account_id;
-      are_at = allow.are_at;
-      are = is ∙ post-sums ∙ ap (λ b. account_rows (posted_if b t.debit_account_id t.credit_account_id t.amount (left facts t posted.may)) facts.accounts) post;
-    }
+    can_unpost entries is post =
+        takes (left facts t posted.may) entries false t.amount
+        (is ∙ post-sums ∙ ap (λ b. account_rows (posted_if b t.debit_account_id t.credit_account_id t.amount (left facts t posted.may)) facts.accounts) post)
 
     pub can_reserve : (entries : List (ℕ × Account)) (amount : ℕ) → entries ≡ account_rows (left facts t posted.may) facts.accounts → amount ≡ named.amount → CanAdd entries places true amount
-    can_reserve entries amount is same = rw same (record {
-      sums = left facts t posted.may;
-      accounts = facts.accounts;
-      debit = t.debit_account_id;
-      credit = t.credit_account_id;
-      are_at = allow.are_at;
-      are = is;
-      debit_fits = subst (λ id. (sums_of (add_transfer facts t)).debits_pending id + named.amount < 2 ^ 128) (sym allow.are_at.debit_is) (omega (arith, allow.lawful.debits_fit t.debit_account_id, debits_reserved));
-      credit_fits = subst (λ id. (sums_of (add_transfer facts t)).credits_pending id + named.amount < 2 ^ 128) (sym allow.are_at.credit_is) (omega (arith, allow.lawful.credits_fit t.credit_account_id, credits_reserved));
-    })
+    can_reserve entries amount is same =
+        let debit = allow.lawful.debits_fit t.debit_account_id in
+        let credit = allow.lawful.credits_fit t.credit_account_id in
+        rw same (adds (left facts t posted.may) entries true named.amount is (omega (arith, debits_reserved)) (omega (arith, credits_reserved)))
 
   -- ---- a plain or pending transfer
 
@@ -180,32 +180,10 @@ module _ (facts : Facts) (t : Transfer) (places : Places) (allow : Allow facts t
     add-sums = rows-same _ _ facts.accounts (sums-add facts t added allow.grounded allow.not_expired)
 
     pub can_add : (entries : List (ℕ × Account)) → entries ≡ account_rows (sums_of facts) facts.accounts → CanAdd entries places (is_pending t) t.amount
-    can_add entries is = by (is_pending t)
-      where
-        by : (pending : Bool) → CanAdd entries places pending t.amount
-        by true = record {
-          sums = sums_of facts;
-          accounts = facts.accounts;
-          debit = t.debit_account_id;
-          credit = t.credit_account_id;
-          are_at = allow.are_at;
-          are = is;
-          debit_fits = subst (λ id. (sums_of facts).debits_pending id + t.amount < 2 ^ 128) (sym allow.are_at.debit_is) (omega (arith, added.debits_fit));
-          credit_fits = subst (λ id. (sums_of facts).credits_pending id + t.amount < 2 ^ 128) (sym allow.are_at.credit_is) (omega (arith, added.credits_fit));
-        }
-        by false = record {
-          sums = sums_of facts;
-          accounts = facts.accounts;
-          debit = t.debit_account_id;
-          credit = t.credit_account_id;
-          are_at = allow.are_at;
-          are = is;
-          debit_fits = subst (λ id. (sums_of facts).debits_posted id + t.amount < 2 ^ 128) (sym allow.are_at.debit_is) (omega (arith, added.debits_fit));
-          credit_fits = subst (λ id. (sums_of facts).credits_posted id + t.amount < 2 ^ 128) (sym allow.are_at.credit_is) (omega (arith, added.credits_fit));
-        }
+    can_add entries is = adds (sums_of facts) entries (is_pending t) t.amount is (grind (arith, added.debits_fit)) (grind (arith, added.credits_fit))
 
     pub can_take : (entries : List (ℕ × Account)) → entries ≡ account_rows (sums_of (add_transfer facts t)) facts.accounts → CanTake entries places (is_pending t) t.amount
-    can_take entries is = record { sums = sums_of facts; accounts = facts.accounts; debit = t.debit_account_id; credit = t.credit_account_id; are_at = allow.are_at; are = is ∙ add-sums }
+    can_take entries is = takes (sums_of facts) entries (is_pending t) t.amount (is ∙ add-sums)
 
     row-added : (y : Transfer) → row_in (add_transfer facts t) y ≡ row_in facts y
     row-added y = ap (λ s. record { transfer = y; status = s }) (status_in-add facts t added y)
