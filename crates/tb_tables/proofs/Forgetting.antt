@@ -1,5 +1,5 @@
 -- The pairs of resolved transfers leave the index.
-use Rattle.std.proofs.Common.{refl, sym, ap, subst, ◌∙◌, arith, ◌≡◌, ℕ, ◌+◌, ◌<◌, ◌≤◌, Bool, true, false, not, List, [], ◌∷◌, ◌++◌, ◌-◌, take, length, get_or, slice_get, zero, suc, true≢false}
+use Rattle.std.proofs.Common.{refl, sym, ap, subst, ◌∙◌, arith, ◌≡◌, ℕ, ◌+◌, ◌<◌, ◌≤◌, ◌^◌, Bool, true, false, not, List, [], ◌∷◌, ◌++◌, ◌-◌, take, length, get_or, slice_get, zero, suc, true≢false}
 use Rattle.std.specs.Prelude.{◌==◌, ◌&&◌, ◌||◌, Option, Some, None}
 use Rattle.std.specs.Option.{option_map}
 use Rattle.std.specs.List.{AllByRecursion}
@@ -29,11 +29,17 @@ module _ (facts : Facts) (t : Transfer) (entries : List (ℕ × Row)) (place : �
       ap (λ es. slice_get es place) can.transfers_are ∙ slice_get-map (λ (x : Transfer). (x.id, row_in facts x)) facts.transfers place
       ∙ ap (option_map (λ (x : Transfer). (x.id, row_in facts x))) can.at
 
-  -- its pair leaves, where its status isn't pending
-  pub spent-gone : is_open_status (row_in facts t).status ≡ false → (m p : ℕ) → (is_timed t && same_pair (expires_at t) place m p) ≡ ((place == p) && is_spent facts m p)
-  spent-gone closed m p = grind (arith, nat_tests, can.at, closed, resolved_either t.id facts.transfers)
+  pub fits : is_timed t ≡ true → expires_at t < 2 ^ 64
+  fits timed = can.expiry_fits (grind (arith, timed))
 
-  -- and else stays, since it isn't spent
+  -- its pair leaves, where it has one and its status isn't pending
+  pub spent-gone : is_timed t ≡ true → is_open_status (row_in facts t).status ≡ false → (m p : ℕ) → same_pair (expires_at t) place m p ≡ ((place == p) && is_spent facts m p)
+  spent-gone timed closed m p = grind (arith, nat_tests, can.at, timed, closed, resolved_either t.id facts.transfers)
+
+  -- and else none does
+  pub untimed-stays : is_timed t ≡ false → (m p : ℕ) → ((place == p) && is_spent facts m p) ≡ false
+  untimed-stays untimed m p = grind (arith, nat_tests, can.at, untimed)
+
   pub open-stays : is_open_status (row_in facts t).status ≡ true → (m p : ℕ) → ((place == p) && is_spent facts m p) ≡ false
   open-stays open_one m p = grind (arith, nat_tests, can.at, open_one, resolved_either t.id facts.transfers)
 

@@ -156,8 +156,9 @@ fn forget_at(expiries: &mut BTreeSet<(u64, usize)>, transfers: &ById<Row>, place
     ensures { (facts : Facts) (transfer : TransferRecord) → IsForgettable facts transfer transfers.now.entries place → (m p : ℕ)
         → is_indexed expiries.new m p ≡ (not ((place == p) && is_spent facts m p) && is_indexed expiries.old m p) }
 {
-    if !is_open(transfers, place) {
-        forget(expiries, &transfer_at(transfers, place), place);
+    let transfer = transfer_at(transfers, place);
+    if is_timed(&transfer) && !is_open(transfers, place) {
+        take_out(expiries, expires_at(&transfer), place);
     }
 }
 
