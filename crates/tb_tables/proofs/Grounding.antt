@@ -7,11 +7,8 @@ use Rattle.tb_layout.specs.declared.account.Account.{Account}
 use Rattle.tb_layout.specs.declared.transfer.Transfer.{Transfer}
 use Rattle.tb_tables.specs.Facts.{Facts, add_account, add_transfer}
 use Rattle.tb_tables.specs.Conditions.{MayAdd, MayResolve}
+use Rattle.tb_tables.proofs.Histories.{all_push}
 use Rattle.tb_tables.specs.Kept.{has_account, IsGrounded, AreGrounded}
-
-pub all_push : {X : Type 0} (P : X → Type 0) (xs : List X) (x : X) → AllByRecursion P xs → P x → AllByRecursion P (xs ++ x ∷ [])
-all_push P [] x all p = (p, tt)
-all_push P (y ∷ xs) x all p = (all.0, all_push P xs x all.1 p)
 
 any-more : {X : Type 0} (test : X → Bool) (xs ys : List X) → list_any test xs ≡ true → list_any test (xs ++ ys) ≡ true
 any-more test xs ys h = list_any-append test xs ys ∙ ap (λ b. b || list_any test ys) h

@@ -18,10 +18,10 @@ use Rattle.tb_tables.specs.declared.places.Places.{Places}
 use Rattle.tb_tables.specs.declared.change.Change.{Change}
 use Rattle.tb_tables.specs.declared.change.Change.TheVariants.{Account, Failed}
 use Rattle.tb_tables.proofs.Sums.{amounts}
-use Rattle.tb_tables.proofs.Grounding.{all_push, grounded_account}
+use Rattle.tb_tables.proofs.Grounding.{grounded_account}
 use Rattle.tb_tables.specs.declared.row.Row.{Row}
 use Rattle.tb_tables.proofs.Keeping.{keeps, undoable-push, undoable-pop}
-use Rattle.tb_tables.proofs.Histories.{history_of-push, history_of-pop, without_last-push}
+use Rattle.tb_tables.proofs.Histories.{all_push, history_of-push, history_of-pop, without_last-push}
 
 -- ---- an account that is new has no balances
 
