@@ -1,21 +1,21 @@
 -- What one plain or pending transfer more changes of sums and statuses.
-use Rattle.std.proofs.Common.{refl, sym, ap, ◌∙◌, arith, ◌≡◌, ℕ, ◌+◌, Bool, true, false, not, List, [], ◌∷◌, true≢false}
-use Rattle.std.specs.Prelude.{if◌then◌else◌, ◌==◌, ◌&&◌, ◌||◌, Some, None}
+use Rattle.std.proofs.Common.{refl, ap, arith, ◌≡◌, ℕ, ◌+◌, Bool, true, false, not, List, [], ◌∷◌}
+use Rattle.std.specs.Prelude.{if◌then◌else◌, ◌==◌, ◌&&◌, Some, None}
 use Rattle.std.specs.List.{list_any, AllByRecursion}
-use Rattle.std.proofs.lemmas.Bool.{eqb-true}
+use Rattle.std.proofs.lemmas.Bool.Decides.{nat_tests}
 use Rattle.tb_layout.specs.declared.account.Account.{Account}
 use Rattle.tb_layout.specs.declared.transfer.Transfer.{Transfer}
 use Rattle.tb_layout.specs.Transfer.{is_pending, is_post, is_void, is_resolving}
 use Rattle.tb_tables.specs.Facts.{Facts, is_expired, add_transfer}
-use Rattle.tb_tables.specs.Status.{is_posted, is_voided, is_resolved, is_reserving, status_of, status_in}
+use Rattle.tb_tables.specs.Status.{is_resolved, is_reserving, status_of, status_in}
 use Rattle.tb_tables.specs.Conditions.{MayAdd}
 use Rattle.tb_tables.specs.Lawful.{has_id}
 use Rattle.tb_tables.specs.Sums.{Sums, sums_of, with_sums, with_amount, account_rows}
 use Rattle.tb_tables.specs.Kept.{IsGrounded, AreGrounded}
-use Rattle.tb_tables.specs.declared.status.Status.TheVariants.{Pending, Posted, Voided, Expired}
+use Rattle.tb_tables.specs.declared.status.Status.TheVariants.{Pending}
 use Rattle.tb_tables.proofs.Stored.{map-same}
-use Rattle.tb_tables.proofs.Sums.{amounts, amounts-push, or-left, or-right}
-use Rattle.tb_tables.proofs.Laws.{find-none, reserves, posts, any-push, or_false, resolved_either, resolves_nothing, reserves-same}
+use Rattle.tb_tables.proofs.Sums.{amounts, amounts-push}
+use Rattle.tb_tables.proofs.Laws.{find-none, reserves, posts, any-push, resolved_either, reserving-same, reserves-same}
 
 -- the same four sums
 pub record AreSame (sums others : Sums) : Type 0 where
@@ -37,12 +37,7 @@ More amount here new old at = (id : ℕ) → new id ≡ old id + (if here && (at
 
 module _ (facts : Facts) (grounded : AreGrounded facts) (id : ℕ) (fresh : has_id id facts.transfers ≡ false) where
   names_other : (t : Transfer) → IsGrounded facts.accounts facts.transfers t → (is_resolving t && (t.pending_id == id)) ≡ false
-  names_other t ground = by (is_resolving t) (t.pending_id == id) refl ground.named
-    where
-      by : (r e : Bool) → (t.pending_id == id) ≡ e → (r ≡ true → has_id t.pending_id facts.transfers ≡ true) → (r && e) ≡ false
-      by false e is named = refl
-      by true false is named = refl
-      by true true is named = absurd (true≢false (sym (named refl) ∙ ap (λ k. has_id k facts.transfers) (eqb-true t.pending_id id is) ∙ fresh))
+  names_other t ground = grind (arith, nat_tests, ground.named, fresh)
 
   none-names : (xs : List Transfer) → AllByRecursion (IsGrounded facts.accounts facts.transfers) xs → list_any (λ x. is_resolving x && (x.pending_id == id)) xs ≡ false
   none-names [] all = refl
@@ -52,55 +47,30 @@ module _ (facts : Facts) (grounded : AreGrounded facts) (id : ℕ) (fresh : has_
   unresolved = none-names facts.transfers grounded
 
   pub status-fresh : is_expired facts id ≡ false → status_of facts id ≡ Pending
-  status-fresh not_expired =
-      let both : (is_posted facts id || is_voided facts id) ≡ false = sym (resolved_either id facts.transfers) ∙ unresolved in
-      cc (or-left (is_posted facts id) (is_voided facts id) both, or-right (is_posted facts id) (is_voided facts id) both, not_expired)
+  status-fresh not_expired = grind (arith, resolved_either id facts.transfers, unresolved, not_expired)
 
 -- ---- one plain or pending transfer more
-
-and_false : (a b : Bool) → a ≡ false → (a && b) ≡ false
-and_false true b h = cc
-and_false false b h = refl
 
 module _ (facts : Facts) (t : Transfer) (may : MayAdd facts t) where
   pub status-add : (id : ℕ) → status_of (add_transfer facts t) id ≡ status_of facts id
   status-add id =
-      let posted : is_posted (add_transfer facts t) id ≡ is_posted facts id =
-      any-push (λ other. is_post other && (other.pending_id == id)) facts.transfers t ∙ ap (λ b. is_posted facts id || b) (and_false (is_post t) (t.pending_id == id) may.not_post) ∙ or_false (is_posted facts id) in
-      let voided : is_voided (add_transfer facts t) id ≡ is_voided facts id =
-      any-push (λ other. is_void other && (other.pending_id == id)) facts.transfers t ∙ ap (λ b. is_voided facts id || b) (and_false (is_void t) (t.pending_id == id) may.not_void) ∙ or_false (is_voided facts id) in
-      λ i. if posted i then Posted else if voided i then Voided else if is_expired facts id then Expired else Pending
+      let posted = any-push (λ other. is_post other && (other.pending_id == id)) facts.transfers t in
+      let voided = any-push (λ other. is_void other && (other.pending_id == id)) facts.transfers t in
+      grind (arith, posted, voided, may.not_post, may.not_void)
 
   pub status_in-add : (y : Transfer) → status_in (add_transfer facts t) y ≡ status_in facts y
   status_in-add y = ap (λ s. if is_pending y then Some s else None) (status-add y.id)
 
   module _ (grounded : AreGrounded facts) (not_expired : is_expired facts t.id ≡ false) where
     pub reserves-new : is_reserving (add_transfer facts t) t ≡ is_pending t
-    reserves-new =
-        let e : is_resolved (add_transfer facts t) t.id ≡ false =
-        any-push (λ other. is_resolving other && (other.pending_id == t.id)) facts.transfers t
-        ∙ ap (λ b. is_resolved facts t.id || b) (resolves_nothing facts t may t.id) ∙ or_false (is_resolved facts t.id)
-        ∙ unresolved facts grounded t.id (find-none t.id facts.transfers may.new) in
-        ap (λ b. is_pending t && not b && not (is_expired facts t.id)) e ∙ ap (λ b. is_pending t && not false && not b) not_expired ∙ by (is_pending t)
-      where
-        by : (b : Bool) → (b && not false && not false) ≡ b
-        by true = refl
-        by false = refl
+    reserves-new = grind (arith, reserving-same facts t may t, unresolved facts grounded t.id (find-none t.id facts.transfers may.new), not_expired)
 
     pub reserved-add : (side : Transfer → ℕ) (id : ℕ) → amounts (reserves side (add_transfer facts t) id) (add_transfer facts t).transfers ≡ amounts (reserves side facts id) facts.transfers + (if is_pending t && (side t == id) then t.amount else 0)
     reserved-add side id =
-        amounts-push (reserves side facts id) (reserves side (add_transfer facts t) id) facts.transfers t (reserves-same facts t may side id)
-        ∙ ap (λ b. amounts (reserves side facts id) facts.transfers + (if b && (side t == id) then t.amount else 0)) reserves-new
-
-    posts-as : (p v s : Bool) (n : ℕ) → v ≡ false → (if (not p && not v) && s then n else 0) ≡ (if not p && s then n else 0)
-    posts-as p true s n h = cc
-    posts-as true false s n h = refl
-    posts-as false false s n h = refl
+        grind (arith, amounts-push (reserves side facts id) (reserves side (add_transfer facts t) id) facts.transfers t (reserves-same facts t may side id), reserves-new)
 
     pub posted-add : (side : Transfer → ℕ) (id : ℕ) → amounts (posts side id) (add_transfer facts t).transfers ≡ amounts (posts side id) facts.transfers + (if not (is_pending t) && (side t == id) then t.amount else 0)
-    posted-add side id =
-        amounts-push (posts side id) (posts side id) facts.transfers t (λ y. refl)
-        ∙ ap (λ n. amounts (posts side id) facts.transfers + n) (posts-as (is_pending t) (is_void t) (side t == id) t.amount may.not_void)
+    posted-add side id = grind (arith, amounts-push (posts side id) (posts side id) facts.transfers t (λ y. refl), may.not_void)
 
     pub sums-add : AreSame (sums_of (add_transfer facts t)) (with_amount (is_pending t) t.debit_account_id t.credit_account_id t.amount (sums_of facts))
     sums-add = by (is_pending t) (reserved-add (λ x. x.debit_account_id)) (posted-add (λ x. x.debit_account_id)) (reserved-add (λ x. x.credit_account_id)) (posted-add (λ x. x.credit_account_id))

@@ -1,171 +1,61 @@
--- Which pairs the index of expiries has after a change.
-use Rattle.std.proofs.Common.{refl, sym, ap, ◌∙◌, arith, ◌≡◌, ℕ, Bool, true, false, not, List, [], ◌∷◌, ◌++◌, length, slice_get, zero, suc}
+-- Which pairs are those of a transfer, and which the index has to have, after one transfer more.
+use Rattle.std.proofs.Common.{refl, sym, ap, ◌∙◌, arith, ◌≡◌, ℕ, Bool, true, false, List, [], ◌∷◌, ◌++◌, length, slice_get, zero, suc}
 use Rattle.std.specs.Prelude.{if◌then◌else◌, ◌==◌, ◌&&◌, ◌||◌, Option, Some, None}
 use Rattle.std.proofs.lemmas.Bool.{eqb-true}
 use Rattle.std.proofs.lemmas.Bool.Decides.{nat_tests}
-use Rattle.std.proofs.lemmas.List.Folds.{list_any-append}
 use Rattle.tb_layout.specs.declared.transfer.Transfer.{Transfer}
-use Rattle.tb_layout.specs.Transfer.{is_pending}
-use Rattle.tb_tables.specs.Facts.{Facts, is_expired, add_transfer}
+use Rattle.tb_tables.specs.Facts.{Facts, add_transfer}
 use Rattle.tb_tables.specs.Status.{is_reserving, expires_at}
-use Rattle.tb_tables.specs.Conditions.{MayAdd}
-use Rattle.tb_tables.specs.Lawful.{IsLawful, has_id, ids_distinct}
+use Rattle.tb_tables.specs.Lawful.{has_id, ids_distinct}
 use Rattle.tb_tables.specs.Expiries.{same_pair}
-use Rattle.tb_tables.specs.Kept.{AreGrounded, MayPost, is_timed, names_place, resolves_at, is_resolved_at, expects_of, expects}
-use Rattle.tb_tables.specs.declared.change.Change.{Change}
-use Rattle.tb_tables.specs.declared.change.Change.TheVariants.{Transfer as WasTransfer}
-use Rattle.tb_tables.specs.declared.places.Places.{Places}
-use Rattle.tb_tables.proofs.Sums.{not_and-left, not_and-right}
-use Rattle.tb_tables.proofs.Laws.{==_swap, or_false, reserving, reserving-same, reserving-other}
-use Rattle.tb_tables.proofs.Added.{reserves-new}
-use Rattle.tb_tables.proofs.Finding.{found-id}
-
-==_suc : (i j : ℕ) → (suc i == suc j) ≡ (i == j)
-==_suc i j = grind (arith, nat_tests)
-
-suc_not_0 : (i : ℕ) → (suc i == 0) ≡ false
-suc_not_0 i = grind (arith, nat_tests)
-
-0_not_suc : (i : ℕ) → (0 == suc i) ≡ false
-0_not_suc i = grind (arith, nat_tests)
+use Rattle.tb_tables.specs.Kept.{is_timed, is_pair_of, is_pair, reserves_at, expects}
 
 pub slice_get-push : {X : Type 0} (xs : List X) (x : X) (place : ℕ) → slice_get (xs ++ x ∷ []) place ≡ (if place == length xs then Some x else slice_get xs place)
 slice_get-push [] x zero = refl
-slice_get-push [] x (suc place) = ap (λ b. if b then Some x else None) (sym (suc_not_0 place))
-slice_get-push (y ∷ xs) x zero = ap (λ b. if b then Some x else Some y) (sym (0_not_suc (length xs)))
-slice_get-push (y ∷ xs) x (suc place) = slice_get-push xs x place ∙ ap (λ b. if b then Some x else slice_get xs place) (sym (==_suc place (length xs)))
+slice_get-push [] x (suc place) = grind (arith, nat_tests)
+slice_get-push (y ∷ xs) x zero = grind (arith, nat_tests)
+slice_get-push (y ∷ xs) x (suc place) = grind (arith, nat_tests, slice_get-push xs x place)
 
-pub slice_get-end : {X : Type 0} (xs : List X) → slice_get xs (length xs) ≡ None
+slice_get-end : {X : Type 0} (xs : List X) → slice_get xs (length xs) ≡ None
 slice_get-end [] = refl
 slice_get-end (x ∷ xs) = slice_get-end xs
 
 -- an id stands at one place
 pub has_id-at : (id : ℕ) (xs : List Transfer) (place : ℕ) (x : Transfer) → slice_get xs place ≡ Some x → (x.id == id) ≡ true → has_id id xs ≡ true
 has_id-at id [] place x at is = cc
-has_id-at id (y ∷ xs) zero x at is = let same : y ≡ x = cc in ap (λ (z : Transfer). (z.id == id) || has_id id xs) same ∙ ap (λ b. b || has_id id xs) is
-has_id-at id (y ∷ xs) (suc place) x at is = by (y.id == id) (has_id-at id xs place x at is)
-  where
-    by : (b : Bool) → has_id id xs ≡ true → (b || has_id id xs) ≡ true
-    by true h = refl
-    by false h = h
+has_id-at id (y ∷ xs) zero x at is = grind arith
+has_id-at id (y ∷ xs) (suc place) x at is = grind (arith, has_id-at id xs place x at is)
 
 pub one-place : (xs : List Transfer) (i j : ℕ) (x y : Transfer) → ids_distinct xs ≡ true → slice_get xs i ≡ Some x → slice_get xs j ≡ Some y → (x.id == y.id) ≡ true → (i == j) ≡ true
 one-place [] i j x y distinct at at' same = cc
 one-place (z ∷ xs) zero zero x y distinct at at' same = refl
-one-place (z ∷ xs) zero (suc j) x y distinct at at' same =
-    let first : z ≡ x = cc in
-    let there = has_id-at z.id xs j y at' (==_swap y.id z.id ∙ ap (λ (w : Transfer). w.id == y.id) first ∙ same) in
-    let no = not_and-left (has_id z.id xs) (ids_distinct xs) distinct in
-    let e : true ≡ false = sym there ∙ no in cc
-one-place (z ∷ xs) (suc i) zero x y distinct at at' same =
-    let first : z ≡ y = cc in
-    let there = has_id-at z.id xs i x at (ap (λ (w : Transfer). x.id == w.id) first ∙ same) in
-    let no = not_and-left (has_id z.id xs) (ids_distinct xs) distinct in
-    let e : true ≡ false = sym there ∙ no in cc
-one-place (z ∷ xs) (suc i) (suc j) x y distinct at at' same = ==_suc i j ∙ one-place xs i j x y (not_and-right (has_id z.id xs) (ids_distinct xs) distinct) at at' same
+one-place (z ∷ xs) zero (suc j) x y distinct at at' same = grind (arith, nat_tests, has_id-at z.id xs j y at')
+one-place (z ∷ xs) (suc i) zero x y distinct at at' same = grind (arith, nat_tests, has_id-at z.id xs i x at)
+one-place (z ∷ xs) (suc i) (suc j) x y distinct at at' same = grind (arith, nat_tests, one-place xs i j x y)
 
-pub resolved-push : (place : ℕ) (changes : List (Change Places)) (change : Change Places) → is_resolved_at place (changes ++ change ∷ []) ≡ (is_resolved_at place changes || resolves_at place change)
-resolved-push place changes change = list_any-append (resolves_at place) changes (change ∷ []) ∙ ap (λ b. is_resolved_at place changes || b) (or_false (resolves_at place change))
+-- and so it is of one transfer
+pub one-transfer : (xs : List Transfer) (i j : ℕ) (x y : Transfer) → ids_distinct xs ≡ true → slice_get xs i ≡ Some x → slice_get xs j ≡ Some y → (x.id == y.id) ≡ true → x ≡ y
+one-transfer xs i j x y distinct at at' same = cc (at, at', ap (slice_get xs) (eqb-true i j (one-place xs i j x y distinct at at' same)))
 
--- where the same reserve their amounts, and the same were resolved
-pub expects-same : (facts new : Facts) (changes more : List (Change Places)) (moment place : ℕ) (o : Option Transfer) →
-    ((y : Transfer) → is_reserving new y ≡ is_reserving facts y) → is_resolved_at place more ≡ is_resolved_at place changes →
-    expects_of new more moment place o ≡ expects_of facts changes moment place o
-expects-same facts new changes more moment place None reserve same = refl
-expects-same facts new changes more moment place (Some y) reserve same =
-    ap (λ b. (is_timed y && (expires_at y == moment)) && (b || is_resolved_at place more)) (reserve y)
-    ∙ ap (λ b. (is_timed y && (expires_at y == moment)) && (is_reserving facts y || b)) same
+module _ (facts : Facts) (t : Transfer) where
+  abbrev its-pair : ℕ → ℕ → Bool
+  its-pair moment place = is_timed t && same_pair (expires_at t) (length facts.transfers) moment place
 
--- ---- one plain or pending transfer more
-
-module _ (facts : Facts) (t : Transfer) (may : MayAdd facts t) (grounded : AreGrounded facts) (not_expired : is_expired facts t.id ≡ false) (changes : List (Change Places)) (places : Places) (none : places.pending ≡ None) where
-  no_more : (place : ℕ) → is_resolved_at place (changes ++ WasTransfer places ∷ []) ≡ is_resolved_at place changes
-  no_more place = resolved-push place changes (WasTransfer places) ∙ ap (λ o. is_resolved_at place changes || names_place place o) none ∙ or_false (is_resolved_at place changes)
-
-  new-pair : (p z e r s : Bool) → (((p && z) && e) && (p || r)) ≡ (((p && z) && (e && true)) || false)
-  new-pair true true true r s = refl
-  new-pair true true false r s = refl
-  new-pair true false e r s = refl
-  new-pair false z e r s = refl
-
-  old-pair : (a e b : Bool) → b ≡ ((a && (e && false)) || b)
-  old-pair true true b = refl
-  old-pair true false b = refl
-  old-pair false e b = refl
-
-  pub expects-add : (moment place : ℕ) → expects (add_transfer facts t) (changes ++ WasTransfer places ∷ []) moment place
-      ≡ ((is_timed t && same_pair (expires_at t) (length facts.transfers) moment place) || expects facts changes moment place)
-  expects-add moment place =
-      ap (expects_of (add_transfer facts t) (changes ++ WasTransfer places ∷ []) moment place) (slice_get-push facts.transfers t place)
-      ∙ by (place == length facts.transfers) refl
+  pub pairs-push : (moment place : ℕ) → is_pair (add_transfer facts t) moment place ≡ (its-pair moment place || is_pair facts moment place)
+  pairs-push moment place = ap (is_pair_of moment) (slice_get-push facts.transfers t place) ∙ by (place == length facts.transfers) refl
     where
-      by : (b : Bool) → (place == length facts.transfers) ≡ b → expects_of (add_transfer facts t) (changes ++ WasTransfer places ∷ []) moment place (if b then Some t else slice_get facts.transfers place)
-          ≡ ((is_timed t && ((expires_at t == moment) && (length facts.transfers == place))) || expects facts changes moment place)
+      by : (b : Bool) → (place == length facts.transfers) ≡ b → is_pair_of moment (if b then Some t else slice_get facts.transfers place) ≡ (its-pair moment place || is_pair facts moment place)
       by true is =
-          let here : place ≡ length facts.transfers = eqb-true place (length facts.transfers) is in
-          let empty : expects facts changes moment place ≡ false = ap (expects_of facts changes moment place) (ap (slice_get facts.transfers) here ∙ slice_get-end facts.transfers) in
-          ap (λ b. (is_timed t && (expires_at t == moment)) && (b || is_resolved_at place (changes ++ WasTransfer places ∷ []))) (reserves-new facts t may grounded not_expired)
-          ∙ new-pair (is_pending t) (not (t.timeout == 0)) (expires_at t == moment) (is_resolved_at place (changes ++ WasTransfer places ∷ [])) true
-          ∙ ap (λ b. (is_timed t && ((expires_at t == moment) && b)) || false) (sym (==_swap (length facts.transfers) place ∙ is))
-          ∙ ap (λ b. (is_timed t && ((expires_at t == moment) && (length facts.transfers == place))) || b) (sym empty)
-      by false is =
-          expects-same facts (add_transfer facts t) changes (changes ++ WasTransfer places ∷ []) moment place (slice_get facts.transfers place) (reserving-same facts t may) (no_more place)
-          ∙ old-pair (is_timed t) (expires_at t == moment) (expects facts changes moment place)
-          ∙ ap (λ b. (is_timed t && ((expires_at t == moment) && b)) || expects facts changes moment place) (sym (==_swap (length facts.transfers) place ∙ is))
+          let none : slice_get facts.transfers place ≡ None = ap (slice_get facts.transfers) (eqb-true place (length facts.transfers) is) ∙ slice_get-end facts.transfers in
+          grind (arith, nat_tests, none, is)
+      by false is = grind (arith, nat_tests, is)
 
--- ---- one post or void more: the pair of what it names stays until `keep`
-
-module _ (facts : Facts) (lawful : IsLawful facts) (t : Transfer) (pending : ℕ) (posted : MayPost facts t pending) (changes : List (Change Places)) (places : Places) (some : places.pending ≡ Some pending) where
-  one_more : (place : ℕ) → is_resolved_at place (changes ++ WasTransfer places ∷ []) ≡ (is_resolved_at place changes || (pending == place))
-  one_more place = resolved-push place changes (WasTransfer places) ∙ ap (λ o. is_resolved_at place changes || names_place place o) some
-
-  not-timed : (p z e r : Bool) → p ≡ false → (((p && z) && e) && r) ≡ false
-  not-timed true z e r h = cc
-  not-timed false z e r h = refl
-
-  -- `r` reserves, `n` is named, `a` was resolved before, `h` is at the place
-  pair-bits : (u r n a h : Bool) → (h ≡ true → r ≡ true) → (h ≡ false → n ≡ false) → (u && ((r && not n) || (a || h))) ≡ (u && (r || a))
-  pair-bits false r n a h k l = refl
-  pair-bits true false n a true k l = let e = k refl in cc
-  pair-bits true false true a false k l = let e = l refl in cc
-  pair-bits true false false true false k l = refl
-  pair-bits true false false false false k l = refl
-  pair-bits true true true true h k l = refl
-  pair-bits true true true false true k l = refl
-  pair-bits true true true false false k l = let e = l refl in cc
-  pair-bits true true false a h k l = refl
-
-  at-place : (moment place : ℕ) (o : Option Transfer) → slice_get facts.transfers place ≡ o → expects_of (add_transfer facts t) (changes ++ WasTransfer places ∷ []) moment place o ≡ expects_of facts changes moment place o
-  at-place moment place None at = refl
-  at-place moment place (Some y) at =
-      let may = posted.may in
-      ap (λ b. (is_timed y && (expires_at y == moment)) && (b || is_resolved_at place (changes ++ WasTransfer places ∷ []))) (reserving-other facts t may y)
-      ∙ ap (λ b. (is_timed y && (expires_at y == moment)) && ((is_reserving facts y && not (t.pending_id == y.id)) || b)) (one_more place)
-      ∙ pair-bits (is_timed y && (expires_at y == moment)) (is_reserving facts y) (t.pending_id == y.id) (is_resolved_at place changes) (pending == place) same apart
+  -- where none reserves its amount that didn't before
+  pub expects-push : ((y : Transfer) → is_reserving (add_transfer facts t) y ≡ true → is_reserving facts y ≡ true) → (moment place : ℕ) → expects (add_transfer facts t) moment place ≡ true → (its-pair moment place || expects facts moment place) ≡ true
+  expects-push less moment place has = by (place == length facts.transfers) refl (slice_get facts.transfers place) refl (sym (ap (λ o. is_pair_of moment o && reserves_at (add_transfer facts t) o) (slice_get-push facts.transfers t place)) ∙ has)
     where
-      same : (pending == place) ≡ true → is_reserving facts y ≡ true
-      same is =
-          let here : Some y ≡ Some posted.may.pending = sym at ∙ ap (slice_get facts.transfers) (sym (eqb-true pending place is)) ∙ posted.pending_at in
-          let e : y ≡ posted.may.pending = cc in
-          ap (is_reserving facts) e ∙ reserving facts t posted.may
-
-      apart : (pending == place) ≡ false → (t.pending_id == y.id) ≡ false
-      apart differs = by (t.pending_id == y.id) refl
-        where
-          by : (b : Bool) → (t.pending_id == y.id) ≡ b → b ≡ false
-          by false e = refl
-          by true e =
-              let id = found-id (λ (x : Transfer). x.id) t.pending_id facts.transfers posted.may.pending posted.may.named in
-              let h = one-place facts.transfers pending place posted.may.pending y lawful.distinct posted.pending_at at (ap (λ k. k == y.id) id ∙ e) in
-              let no : true ≡ false = sym h ∙ differs in cc
-
-  pub expects-resolve : (moment place : ℕ) → expects (add_transfer facts t) (changes ++ WasTransfer places ∷ []) moment place ≡ expects facts changes moment place
-  expects-resolve moment place =
-      ap (expects_of (add_transfer facts t) (changes ++ WasTransfer places ∷ []) moment place) (slice_get-push facts.transfers t place) ∙ by (place == length facts.transfers) refl
-    where
-      by : (b : Bool) → (place == length facts.transfers) ≡ b → expects_of (add_transfer facts t) (changes ++ WasTransfer places ∷ []) moment place (if b then Some t else slice_get facts.transfers place) ≡ expects facts changes moment place
-      by true is =
-          let here : place ≡ length facts.transfers = eqb-true place (length facts.transfers) is in
-          let empty : expects facts changes moment place ≡ false = ap (expects_of facts changes moment place) (ap (slice_get facts.transfers) here ∙ slice_get-end facts.transfers) in
-          not-timed (is_pending t) (not (t.timeout == 0)) (expires_at t == moment) _ posted.may.not_pending ∙ sym empty
-      by false is = at-place moment place (slice_get facts.transfers place) refl
+      by : (b : Bool) → (place == length facts.transfers) ≡ b → (o : Option Transfer) → slice_get facts.transfers place ≡ o →
+          (is_pair_of moment (if b then Some t else o) && reserves_at (add_transfer facts t) (if b then Some t else o)) ≡ true → (its-pair moment place || expects facts moment place) ≡ true
+      by true is o at h = grind (arith, nat_tests, is)
+      by false is None at h = grind arith
+      by false is (Some y) at h = grind (arith, at, less y)

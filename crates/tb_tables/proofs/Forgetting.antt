@@ -1,65 +1,57 @@
 -- The pairs of resolved transfers leave the index.
-use Rattle.std.proofs.Common.{refl, sym, ap, subst, ◌∙◌, arith, ◌≡◌, ℕ, ◌+◌, ◌<◌, ◌≤◌, ◌^◌, Bool, true, false, not, List, [], ◌∷◌, ◌-◌, map, take, length, get_or, slice_get, zero, suc, true≢false}
+use Rattle.std.proofs.Common.{refl, sym, ap, subst, ◌∙◌, arith, ◌≡◌, ℕ, ◌+◌, ◌<◌, ◌≤◌, ◌^◌, Bool, true, false, not, List, [], ◌∷◌, ◌++◌, ◌-◌, take, length, get_or, slice_get, zero, suc, true≢false}
 use Rattle.std.specs.Prelude.{◌==◌, ◌&&◌, ◌||◌, Option, Some, None}
 use Rattle.std.specs.Option.{option_map}
-use Rattle.std.specs.List.{list_any, AllByRecursion}
-use Rattle.std.proofs.lemmas.Bool.{eqb-true, eq-eqb}
+use Rattle.std.specs.List.{AllByRecursion}
+use Rattle.std.proofs.lemmas.Bool.{eqb-true}
+use Rattle.std.proofs.lemmas.Bool.Decides.{nat_tests}
+use Rattle.std.proofs.lemmas.List.Folds.{list_any-append}
 use Rattle.std.proofs.lemmas.Option.{slice_get-map}
 use Rattle.std.proofs.Math.Seq.{take-suc}
 use Rattle.tb_layout.specs.declared.transfer.Transfer.{Transfer}
-use Rattle.tb_layout.specs.Transfer.{is_pending, is_resolving}
-use Rattle.tb_tables.specs.Facts.{Facts, is_expired}
-use Rattle.tb_tables.specs.Status.{is_resolved, is_reserving, expires_at}
-use Rattle.tb_tables.specs.Changes.{Lists, facts_of, transfers_in, before, oldest}
+use Rattle.tb_tables.specs.Facts.{Facts}
+use Rattle.tb_tables.specs.Status.{expires_at}
+use Rattle.tb_tables.specs.Changes.{before, oldest}
 use Rattle.tb_tables.specs.Expiries.{same_pair}
-use Rattle.tb_tables.specs.Kept.{Stored, lists_of, row_in, is_timed, names_place, expects_of, IsGrounded, MayStore, IsUndoable, AreUndoable, IsKept, resolves_at, is_resolved_at, is_pair_of, is_pair}
-use Rattle.tb_tables.specs.Storing.{CanForget}
+use Rattle.tb_tables.specs.Kept.{Stored, facts_of, row_in, is_timed, names_place, is_spent, IsGrounded, MayStore, WasMade, AreUndoable, IsKept, resolves_at, is_resolved_at}
+use Rattle.tb_tables.specs.Storing.{is_open_status, IsForgettable, CanForget}
 use Rattle.tb_tables.specs.declared.places.Places.{Places}
 use Rattle.tb_tables.specs.declared.row.Row.{Row}
 use Rattle.tb_tables.specs.declared.change.Change.{Change}
 use Rattle.tb_tables.specs.declared.change.Change.TheVariants.{Account, Failed, Transfer as WasTransfer}
-use Rattle.tb_tables.proofs.Finding.{found-id}
-use Rattle.tb_tables.proofs.Rows.{facts_of-push}
-use Rattle.tb_tables.proofs.Laws.{any-push, resolves}
-use Rattle.tb_tables.proofs.Settling.{slice_get-append}
-use Rattle.tb_tables.proofs.Expecting.{resolved-push}
+use Rattle.tb_tables.proofs.Laws.{resolved_either}
 
-module _ (facts : Facts) (change : Change Places) (entries : List (ℕ × Row)) (can : CanForget facts change entries) (place : ℕ) (resolves : resolves_at place change ≡ true) where
-  pub there : (transfer : Transfer) × (slice_get facts.transfers place ≡ Some transfer) × (is_pending transfer ≡ true → expires_at transfer < 2 ^ 64)
-  there = can.there place resolves
+-- ---- one transfer
 
-  pub row-there : slice_get entries place ≡ Some (there.0.id, row_in facts there.0)
+module _ (facts : Facts) (t : Transfer) (entries : List (ℕ × Row)) (place : ℕ) (can : IsForgettable facts t entries place) where
+  pub row-there : slice_get entries place ≡ Some (t.id, row_in facts t)
   row-there =
-      ap (λ es. slice_get es place) can.transfers_are ∙ slice_get-map (λ (t : Transfer). (t.id, row_in facts t)) facts.transfers place
-      ∙ ap (option_map (λ (t : Transfer). (t.id, row_in facts t))) there.1
+      ap (λ es. slice_get es place) can.transfers_are ∙ slice_get-map (λ (x : Transfer). (x.id, row_in facts x)) facts.transfers place
+      ∙ ap (option_map (λ (x : Transfer). (x.id, row_in facts x))) can.at
 
-  -- its pair is the one that the change names
-  pub pair-is : (m p : ℕ) → (is_timed there.0 && same_pair (expires_at there.0) place m p) ≡ ((place == p) && is_pair facts m p)
-  pair-is m p = by (place == p) refl
-    where
-      apart : (a b : Bool) → (a && (b && false)) ≡ false
-      apart true true = refl
-      apart true false = refl
-      apart false b = refl
+  pub fits : is_timed t ≡ true → expires_at t < 2 ^ 64
+  fits timed = can.expiry_fits (grind (arith, timed))
 
-      here : (a b : Bool) → (a && (b && true)) ≡ (a && b)
-      here true true = refl
-      here true false = refl
-      here false b = refl
+  -- its pair leaves, where it has one and its status isn't pending
+  pub spent-gone : is_timed t ≡ true → is_open_status (row_in facts t).status ≡ false → (m p : ℕ) → same_pair (expires_at t) place m p ≡ ((place == p) && is_spent facts m p)
+  spent-gone timed closed m p = grind (arith, nat_tests, can.at, timed, closed, resolved_either t.id facts.transfers)
 
-      by : (b : Bool) → (place == p) ≡ b → (is_timed there.0 && ((expires_at there.0 == m) && b)) ≡ (b && is_pair facts m p)
-      by false is = apart (is_timed there.0) (expires_at there.0 == m)
-      by true is =
-          here (is_timed there.0) (expires_at there.0 == m)
-          ∙ ap (is_pair_of m) (sym (ap (slice_get facts.transfers) (sym (eqb-true place p is)) ∙ there.1))
+  -- and else none does
+  pub untimed-stays : is_timed t ≡ false → (m p : ℕ) → ((place == p) && is_spent facts m p) ≡ false
+  untimed-stays untimed m p = grind (arith, nat_tests, can.at, untimed)
+
+  pub open-stays : is_open_status (row_in facts t).status ≡ true → (m p : ℕ) → ((place == p) && is_spent facts m p) ≡ false
+  open-stays open_one m p = grind (arith, nat_tests, can.at, open_one, resolved_either t.id facts.transfers)
+
+-- ---- all that some changes resolved
 
 pub all-at : {X : Type 0} (P : X → Type 0) (xs : List X) (k : ℕ) (d : X) → AllByRecursion P xs → k < length xs → P (get_or xs k d)
-all-at P [] k d all h = absurd (below-zero h)
-  where
-    below-zero : k < 0 → ⊥
-    below-zero h = omega arith
+all-at P [] k d all h = absurd (omega arith)
 all-at P (x ∷ xs) zero d all h = all.0
 all-at P (x ∷ xs) (suc k) d all h = all-at P xs k d all.1 (omega arith)
+
+resolved-push : (place : ℕ) (changes : List (Change Places)) (change : Change Places) → is_resolved_at place (changes ++ change ∷ []) ≡ (is_resolved_at place changes || resolves_at place change)
+resolved-push place changes change = grind (arith, list_any-append (resolves_at place) changes (change ∷ []))
 
 -- after one change more
 pub forgotten-more : (changes : List (Change Places)) (k : ℕ) (d : Change Places) (p : ℕ) (pair had now next : Bool) → k < length changes →
@@ -68,39 +60,18 @@ forgotten-more changes k d p pair had now next h was is =
     let e : k + 1 ≡ suc k = omega arith in
     let more : is_resolved_at p (take (k + 1) changes) ≡ (is_resolved_at p (take k changes) || resolves_at p (get_or changes k d)) =
     ap (λ n. is_resolved_at p (take n changes)) e ∙ ap (is_resolved_at p) (take-suc changes k d h) ∙ resolved-push p (take k changes) (get_or changes k d) in
-    is ∙ ap (λ b. not (resolves_at p (get_or changes k d) && pair) && b) was
-    ∙ bits (is_resolved_at p (take k changes)) (resolves_at p (get_or changes k d)) pair had
-    ∙ ap (λ b. not (b && pair) && had) (sym more)
+    is ∙ bits (is_resolved_at p (take k changes)) (resolves_at p (get_or changes k d)) now was ∙ ap (λ b. not (b && pair) && had) (sym more)
   where
-    bits : (a r q h : Bool) → (not (r && q) && (not (a && q) && h)) ≡ (not ((a || r) && q) && h)
-    bits true true true h = refl
-    bits true true false h = refl
-    bits true false true h = refl
-    bits true false false h = refl
-    bits false true true h = refl
-    bits false true false h = refl
-    bits false false true h = refl
-    bits false false false h = refl
+    bits : (a r now : Bool) → now ≡ (not (a && pair) && had) → (not (r && pair) && now) ≡ (not ((a || r) && pair) && had)
+    bits a r now was = grind arith
 
 pub taken-all : {X : Type 0} (xs : List X) (k : ℕ) → length xs ≤ k → take k xs ≡ xs
 taken-all [] zero h = refl
 taken-all [] (suc k) h = refl
-taken-all (x ∷ xs) zero h = absurd (below-zero h)
-  where
-    below-zero : suc (length xs) ≤ 0 → ⊥
-    below-zero h = omega arith
+taken-all (x ∷ xs) zero h = absurd (omega arith)
 taken-all (x ∷ xs) (suc k) h = ap (λ ys. x ∷ ys) (taken-all xs k (omega arith))
 
--- ---- at `keep`
-
-prefix-any : {X : Type 0} (test : X → Bool) (n : ℕ) (xs : List X) → list_any test (take n xs) ≡ true → list_any test xs ≡ true
-prefix-any test zero xs h = absurd (true≢false (sym h))
-prefix-any test (suc n) [] h = h
-prefix-any {X} test (suc n) (x ∷ xs) h = by (test x) (prefix-any test n xs) h
-  where
-    by : (b : Bool) → (list_any test (take n xs) ≡ true → list_any test xs ≡ true) → (b || list_any test (take n xs)) ≡ true → (b || list_any test xs) ≡ true
-    by true rest h = refl
-    by false rest h = rest h
+-- ---- what a change resolved is there still
 
 prefix-at : {X : Type 0} (n : ℕ) (xs : List X) (place : ℕ) (x : X) → slice_get (take n xs) place ≡ Some x → slice_get xs place ≡ Some x
 prefix-at zero xs place x at = cc
@@ -108,128 +79,56 @@ prefix-at (suc n) [] place x at = at
 prefix-at (suc n) (y ∷ xs) zero x at = at
 prefix-at (suc n) (y ∷ xs) (suc place) x at = prefix-at n xs place x at
 
-map-take : {X Y : Type 0} (f : X → Y) (n : ℕ) (xs : List X) → map f (take n xs) ≡ take n (map f xs)
-map-take f zero xs = refl
-map-take f (suc n) [] = refl
-map-take f (suc n) (x ∷ xs) = ap (λ ys. f x ∷ ys) (map-take f n xs)
+there-after : (change : Change Places) (facts : Facts) (place : ℕ) (t : Transfer) → slice_get (before change facts).transfers place ≡ Some t → slice_get facts.transfers place ≡ Some t
+there-after Account facts place t at = at
+there-after (WasTransfer places) facts place t at = prefix-at (length facts.transfers - 1) facts.transfers place t at
+there-after Failed facts place t at = at
 
--- a transfer that is resolved stays so, and stays at its place, with each change
-record Settled (lists : Lists) (place : ℕ) : Type 0 where
-  pub transfer : Transfer
-  pub at : slice_get (transfers_in lists.rows) place ≡ Some transfer
-  pub resolved : is_resolved (facts_of lists) transfer.id ≡ true
+there-now : (changes : List (Change Places)) (facts : Facts) (place : ℕ) (t : Transfer) → slice_get (oldest before changes facts).transfers place ≡ Some t → slice_get facts.transfers place ≡ Some t
+there-now [] facts place t at = at
+there-now (change ∷ changes) facts place t at = there-now changes facts place t (there-after change (oldest before changes facts) place t at)
 
-settled-before : (change : Change Places) (lists : Lists) (place : ℕ) → Settled (before change lists) place → Settled lists place
-settled-before Account lists place s = record { transfer = s.transfer; at = s.at; resolved = s.resolved }
-settled-before Failed lists place s = record { transfer = s.transfer; at = s.at; resolved = s.resolved }
-settled-before (WasTransfer places) lists place s =
-    let cut = map-take (λ (row : Transfer × Bool). row.0) (length lists.rows - 1) lists.rows in
-    record {
-      transfer = s.transfer;
-      at = prefix-at (length lists.rows - 1) (transfers_in lists.rows) place s.transfer (ap (λ ts. slice_get ts place) (sym cut) ∙ s.at);
-      resolved = prefix-any (λ other. is_resolving other && (other.pending_id == s.transfer.id)) (length lists.rows - 1) (transfers_in lists.rows)
-          (ap (list_any (λ other. is_resolving other && (other.pending_id == s.transfer.id))) (sym cut) ∙ s.resolved);
-    }
-
-settled-oldest : (changes : List (Change Places)) (lists : Lists) (place : ℕ) → Settled (oldest changes lists) place → Settled lists place
-settled-oldest [] lists place s = s
-settled-oldest (change ∷ changes) lists place s = settled-oldest changes lists place (settled-before change (oldest changes lists) place s)
-
--- what a change resolved is resolved behind it
-settled-by : (change : Change Places) (lists : Lists) (place : ℕ) → IsUndoable change lists → resolves_at place change ≡ true → Settled lists place
-settled-by Account lists place one is = absurd (true≢false (sym is))
-settled-by Failed lists place one is = absurd (true≢false (sym is))
-settled-by (WasTransfer places) lists place one is = by places.pending one.1.may is
+named-there : (change : Change Places) (old new : Facts) → WasMade change old new → (place : ℕ) → resolves_at place change ≡ true → (t : Transfer) × (slice_get old.transfers place ≡ Some t)
+named-there Account old new made place is = absurd (true≢false (sym is))
+named-there Failed old new made place is = absurd (true≢false (sym is))
+named-there (WasTransfer places) old new made place is = by places.pending made.allow.may is
   where
-    by : (o : Option ℕ) → MayStore (facts_of (before (WasTransfer places) lists)) one.1.transfer o → names_place place o ≡ true → Settled lists place
+    by : (o : Option ℕ) → MayStore old made.transfer o → names_place place o ≡ true → (t : Transfer) × (slice_get old.transfers place ≡ Some t)
     by None may h = absurd (true≢false (sym h))
-    by (Some pending) posted h =
-        let facts = facts_of (before (WasTransfer places) lists) in
-        let t = one.1.transfer in
-        let after = ap facts_of one.1.stored ∙ facts_of-push (before (WasTransfer places) lists) t in
-        let here = eqb-true pending place h in
-        let id = found-id (λ (x : Transfer). x.id) t.pending_id facts.transfers posted.may.pending posted.may.named in
-        record {
-          transfer = posted.may.pending;
-          at = ap (λ (fs : Facts). slice_get fs.transfers place) after ∙ slice_get-append facts.transfers (t ∷ []) place posted.may.pending (ap (slice_get facts.transfers) (sym here) ∙ posted.pending_at);
-          resolved = ap (λ fs. is_resolved fs posted.may.pending.id) after ∙ any-push (λ other. is_resolving other && (other.pending_id == posted.may.pending.id)) facts.transfers t
-              ∙ ap (λ b. is_resolved facts posted.may.pending.id || (b && (t.pending_id == posted.may.pending.id))) (resolves facts t posted.may)
-              ∙ ap (λ b. is_resolved facts posted.may.pending.id || b) (eq-eqb t.pending_id posted.may.pending.id (sym id)) ∙ or_true (is_resolved facts posted.may.pending.id);
-        }
-      where
-        or_true : (b : Bool) → (b || true) ≡ true
-        or_true true = refl
-        or_true false = refl
-
-settled-all : (changes : List (Change Places)) (lists : Lists) (place : ℕ) → AreUndoable changes lists → is_resolved_at place changes ≡ true → Settled lists place
-settled-all [] lists place all is = absurd (true≢false (sym is))
-settled-all (change ∷ changes) lists place all is = by (resolves_at place change) refl is (settled-all changes lists place all.1)
-  where
-    by : (b : Bool) → resolves_at place change ≡ b → (b || is_resolved_at place changes) ≡ true → (is_resolved_at place changes ≡ true → Settled lists place) → Settled lists place
-    by true e h rest = settled-oldest changes lists place (settled-by change (oldest changes lists) place all.0 e)
-    by false e h rest = rest h
-
-not-reserving : (facts : Facts) (t : Transfer) → is_resolved facts t.id ≡ true → is_reserving facts t ≡ false
-not-reserving facts t resolved = ap (λ b. is_pending t && not b && not (is_expired facts t.id)) resolved ∙ by (is_pending t)
-  where
-    by : (b : Bool) → (b && not true && not (is_expired facts t.id)) ≡ false
-    by true = refl
-    by false = refl
+    by (Some pending) posted h = (posted.may.pending, ap (slice_get old.transfers) (sym (eqb-true pending place h)) ∙ posted.pending_at)
 
 pub all-there : {X : Type 0} (P : X → Type 0) (xs : List X) (place : ℕ) (x : X) → AllByRecursion P xs → slice_get xs place ≡ Some x → P x
 all-there P [] place x all at = cc
 all-there P (y ∷ xs) zero x all at = let same : y ≡ x = cc in subst P same all.0
 all-there P (y ∷ xs) (suc place) x all at = all-there P xs place x all.1 at
 
+-- ---- at `keep`
+
 module _ (old : Stored) (kept : IsKept old) where
-  can-all : (changes : List (Change Places)) → ((p : ℕ) → is_resolved_at p changes ≡ true → Settled (lists_of old) p) → AllByRecursion (λ change. CanForget (facts_of (lists_of old)) change old.transfers) changes
+  abbrev facts : Facts
+  facts = facts_of old
+
+  can-all : (changes : List (Change Places)) → AreUndoable old.is_indexed changes facts → AllByRecursion (λ change. CanForget facts change old.transfers) changes
   can-all [] all = tt
-  can-all (change ∷ changes) all = (
-    record {
-      transfers_are = kept.transfers;
-      there = λ place is.
-          let s = all place (ap (λ b. b || is_resolved_at place changes) is) in
-          (s.transfer, s.at, (all-there (IsGrounded (lists_of old).accounts (transfers_in (lists_of old).rows)) (transfers_in (lists_of old).rows) place s.transfer kept.grounded s.at).expiry_fits);
-    },
-    can-all changes (λ p is. all p (or_is (resolves_at p change) (is_resolved_at p changes) is)),
-  )
+  can-all (change ∷ changes) all = (can, can-all changes all.1)
     where
-      or_is : (a b : Bool) → b ≡ true → (a || b) ≡ true
-      or_is true b h = refl
-      or_is false b h = h
+      can : CanForget facts change old.transfers
+      can place is =
+          let named = named-there change (before change (oldest before changes facts)) (oldest before changes facts) all.0.1 place is in
+          let at = there-now (change ∷ changes) facts place named.0 named.1 in
+          (named.0, record { transfers_are = kept.held.hold.transfers_are; at = at; expiry_fits = (all-there (IsGrounded facts.accounts facts.transfers) facts.transfers place named.0 kept.held.sound.grounded at).expiry_fits })
 
-  pub can-forget : AllByRecursion (λ change. CanForget (facts_of (lists_of old)) change old.transfers) old.changes
-  can-forget = can-all old.changes (λ p is. settled-all old.changes (lists_of old) p kept.undoable is)
+  pub can-forget : AllByRecursion (λ change. CanForget facts change old.transfers) old.changes
+  can-forget = can-all old.changes kept.undoable
 
-  bits : (r q n : Bool) → (r ≡ true → n ≡ false) → (not (r && q) && (q && (n || r))) ≡ (q && (n || false))
-  bits true true n h = ap (λ b. b || false) (sym (h refl))
-  bits true false n h = refl
-  bits false true n h = refl
-  bits false false n h = refl
-
-  pub kept-now : (indexed : ℕ → ℕ → Bool) → ((m p : ℕ) → indexed m p ≡ (not (is_resolved_at p old.changes && is_pair (facts_of (lists_of old)) m p) && old.is_indexed m p)) →
-      IsKept (record old { changes = []; is_indexed = indexed })
-  kept-now indexed is = record {
-    accounts = kept.accounts;
-    transfers = kept.transfers;
-    indexed = λ m p.
-        is m p ∙ ap (λ b. not (is_resolved_at p old.changes && is_pair (facts_of (lists_of old)) m p) && b) (kept.indexed m p)
-        ∙ by m p (slice_get (facts_of (lists_of old)).transfers p) refl;
-    grounded = kept.grounded;
-    undoable = tt;
-    lawful = record { now = kept.lawful.now; past = tt };
-  }
-    where
-      by : (m p : ℕ) (o : Option Transfer) → slice_get (facts_of (lists_of old)).transfers p ≡ o →
-          (not (is_resolved_at p old.changes && is_pair_of m o) && expects_of (facts_of (lists_of old)) old.changes m p o) ≡ expects_of (facts_of (lists_of old)) [] m p o
-      by m p None at = none (is_resolved_at p old.changes)
-        where
-          none : (b : Bool) → (not (b && false) && false) ≡ false
-          none true = refl
-          none false = refl
-      by m p (Some t) at =
-          bits (is_resolved_at p old.changes) (is_timed t && (expires_at t == m)) (is_reserving (facts_of (lists_of old)) t)
-          (λ resolved.
-          let s = settled-all old.changes (lists_of old) p kept.undoable resolved in
-          let same : s.transfer ≡ t = cc (s.at, at) in
-          not-reserving (facts_of (lists_of old)) t (ap (λ (x : Transfer). is_resolved (facts_of (lists_of old)) x.id) (sym same) ∙ s.resolved))
+  pub kept-now : (indexed : ℕ → ℕ → Bool) → ((m p : ℕ) → indexed m p ≡ (not (is_resolved_at p old.changes && is_spent facts m p) && old.is_indexed m p)) → IsKept (record old { changes = []; is_indexed = indexed })
+  kept-now indexed is =
+      let s = kept.held.sound in
+      record {
+        held = record {
+          hold = kept.held.hold;
+          timed = λ m p has. grind (arith, is m p, has, kept.held.timed m p);
+          sound = record { lawful = s.lawful; grounded = s.grounded; made = s.made; expiries = s.expiries; paired = λ m p has. grind (arith, is m p, has, s.paired m p) };
+        };
+        undoable = tt;
+      }

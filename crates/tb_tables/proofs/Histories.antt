@@ -6,7 +6,7 @@ use Rattle.std.proofs.lemmas.List.{take-append-le, get_or_past}
 use Rattle.tb_tables.specs.Facts.{Facts}
 use Rattle.tb_tables.specs.History.{History, with_change, mark_of, back_to, Extends}
 use Rattle.tb_tables.specs.Lawful.{IsLawful, AreLawful}
-use Rattle.tb_tables.specs.Changes.{Lists, facts_of, without_last, before, oldest, past_of, history_of}
+use Rattle.tb_tables.specs.Changes.{without_last, oldest, past_of, history_of}
 use Rattle.tb_tables.specs.declared.change.Change.{Change}
 
 pub without_last-push : {X : Type 0} (xs : List X) (x : X) → without_last (xs ++ x ∷ []) ≡ xs
@@ -14,26 +14,32 @@ without_last-push xs x =
     let e : length (xs ++ x ∷ []) - 1 ≡ length xs = omega (arith, length-append xs (x ∷ [])) in
     ap (λ n. take n (xs ++ x ∷ [])) e ∙ take-append_seam xs (x ∷ [])
 
-pub oldest-push : {T : Type 0} (changes : List (Change T)) (change : Change T) (lists : Lists) → oldest (changes ++ change ∷ []) lists ≡ oldest changes (before change lists)
-oldest-push [] change lists = refl
-oldest-push (first ∷ changes) change lists = ap (before first) (oldest-push changes change lists)
+-- `undo` takes a change back, and `seen` tells what stands as facts
+module _ {T X : Type 0} (undo : Change T → X → X) (seen : X → Facts) where
+  pub oldest-push : (changes : List (Change T)) (change : Change T) (now : X) → oldest undo (changes ++ change ∷ []) now ≡ oldest undo changes (undo change now)
+  oldest-push [] change now = refl
+  oldest-push (first ∷ changes) change now = ap (undo first) (oldest-push changes change now)
 
-past_of-push : {T : Type 0} (changes : List (Change T)) (change : Change T) (lists : Lists) → past_of (changes ++ change ∷ []) lists ≡ past_of changes (before change lists) ++ facts_of (before change lists) ∷ []
-past_of-push [] change lists = refl
-past_of-push (first ∷ changes) change lists = cc (oldest-push changes change lists, past_of-push changes change lists)
+  past_of-push : (changes : List (Change T)) (change : Change T) (now : X) → past_of undo seen (changes ++ change ∷ []) now ≡ past_of undo seen changes (undo change now) ++ seen (undo change now) ∷ []
+  past_of-push [] change now = refl
+  past_of-push (first ∷ changes) change now = cc (oldest-push changes change now, past_of-push changes change now)
 
-pub length-past_of : {T : Type 0} (changes : List (Change T)) (lists : Lists) → length (past_of changes lists) ≡ length changes
-length-past_of [] lists = refl
-length-past_of (first ∷ changes) lists = ap suc (length-past_of changes lists)
+  pub length-past_of : (changes : List (Change T)) (now : X) → length (past_of undo seen changes now) ≡ length changes
+  length-past_of [] now = refl
+  length-past_of (first ∷ changes) now = ap suc (length-past_of changes now)
 
--- one entry more is one change more
-pub history_of-push : {T : Type 0} (changes : List (Change T)) (change : Change T) (old new : Lists) → before change new ≡ old → history_of (changes ++ change ∷ []) new ≡ with_change (history_of changes old) (facts_of new)
-history_of-push changes change old new e =
-    ap (λ past. record { now = facts_of new; past = past }) (past_of-push changes change new ∙ ap (λ lists. past_of changes lists ++ facts_of lists ∷ []) e)
+  pub no-changes : (changes : List (Change T)) (now : X) → past_of undo seen changes now ≡ [] → changes ≡ []
+  no-changes [] now none = refl
+  no-changes (change ∷ changes) now none = cc
 
--- the history with the last change on it again
-pub history_of-pop : {T : Type 0} (changes : List (Change T)) (change : Change T) (lists : Lists) → with_change (history_of changes (before change lists)) (facts_of lists) ≡ history_of (changes ++ change ∷ []) lists
-history_of-pop changes change lists = sym (history_of-push changes change (before change lists) lists refl)
+  -- one entry more is one change more
+  pub history_of-push : (changes : List (Change T)) (change : Change T) (old new : X) → undo change new ≡ old → history_of undo seen (changes ++ change ∷ []) new ≡ with_change (history_of undo seen changes old) (seen new)
+  history_of-push changes change old new e =
+      ap (λ past. record { now = seen new; past = past }) (past_of-push changes change new ∙ ap (λ x. past_of undo seen changes x ++ seen x ∷ []) e)
+
+  -- the history with the last change on it again
+  pub history_of-pop : (changes : List (Change T)) (change : Change T) (now : X) → with_change (history_of undo seen changes (undo change now)) (seen now) ≡ history_of undo seen (changes ++ change ∷ []) now
+  history_of-pop changes change now = sym (history_of-push changes change (undo change now) now refl)
 
 get_or-push : {X : Type 0} (xs : List X) (place : ℕ) (x d : X) → place ≤ length xs → get_or (xs ++ x ∷ []) place d ≡ get_or xs place x
 get_or-push [] zero x d h = refl
@@ -76,7 +82,7 @@ undone-extended old new extended = extended.same (mark_of old) (omega arith) ∙
 
 -- ---- the facts of each moment stay lawful
 
-all_push : {X : Type 0} (P : X → Type 0) (xs : List X) (x : X) → AllByRecursion P xs → P x → AllByRecursion P (xs ++ x ∷ [])
+pub all_push : {X : Type 0} (P : X → Type 0) (xs : List X) (x : X) → AllByRecursion P xs → P x → AllByRecursion P (xs ++ x ∷ [])
 all_push P [] x all p = (p, tt)
 all_push P (y ∷ xs) x all p = (all.0, all_push P xs x all.1 p)
 
@@ -95,8 +101,9 @@ lawful_before history facts all =
     record { now = past.1; past = past.0 }
 
 -- one entry more, where the facts with it are lawful
-pub lawful_push : {T : Type 0} (changes : List (Change T)) (change : Change T) (old new : Lists) → before change new ≡ old → IsLawful (facts_of new) → AreLawful (history_of changes old) → AreLawful (history_of (changes ++ change ∷ []) new)
-lawful_push changes change old new e lawful all = subst AreLawful (sym (history_of-push changes change old new e)) (lawful_changed (history_of changes old) (facts_of new) all lawful)
+module _ {T X : Type 0} (undo : Change T → X → X) (seen : X → Facts) where
+  pub lawful_push : (changes : List (Change T)) (change : Change T) (old new : X) → undo change new ≡ old → IsLawful (seen new) → AreLawful (history_of undo seen changes old) → AreLawful (history_of undo seen (changes ++ change ∷ []) new)
+  lawful_push changes change old new e lawful all = subst AreLawful (sym (history_of-push undo seen changes change old new e)) (lawful_changed (history_of undo seen changes old) (seen new) all lawful)
 
-pub lawful_pop : {T : Type 0} (changes : List (Change T)) (change : Change T) (lists : Lists) → AreLawful (history_of (changes ++ change ∷ []) lists) → AreLawful (history_of changes (before change lists))
-lawful_pop changes change lists all = lawful_before (history_of changes (before change lists)) (facts_of lists) (subst AreLawful (sym (history_of-pop changes change lists)) all)
+  pub lawful_pop : (changes : List (Change T)) (change : Change T) (now : X) → AreLawful (history_of undo seen (changes ++ change ∷ []) now) → AreLawful (history_of undo seen changes (undo change now))
+  lawful_pop changes change now all = lawful_before (history_of undo seen changes (undo change now)) (seen now) (subst AreLawful (sym (history_of-pop undo seen changes change now)) all)

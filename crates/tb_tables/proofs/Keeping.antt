@@ -1,141 +1,103 @@
--- The maps keep what they say of the facts.
-use Rattle.std.proofs.Common.{refl, sym, ap, subst, ◌∙◌, ◌≡◌, ℕ, Bool, false, List, [], ◌∷◌, ◌++◌, map}
-use Rattle.std.proofs.lemmas.List.{map-append}
+-- What the maps hold is what is seen, and what can be undone stays so.
+use Rattle.std.proofs.Common.{refl, sym, ap, subst, arith, ◌∙◌, ◌≡◌, ℕ, ◌<◌, ◌≤◌, ◌-◌, Bool, true, List, [], ◌∷◌, ◌++◌, map, filter, take, length, slice_get, zero, suc, true≢false}
+use Rattle.std.specs.Prelude.{◌&&◌, Option, Some, None}
+use Rattle.std.specs.List.{AllByRecursion}
+use Rattle.std.proofs.lemmas.Option.{slice_get_within}
 use Rattle.tb_layout.specs.declared.account.Account.{Account as AccountRecord}
 use Rattle.tb_layout.specs.declared.transfer.Transfer.{Transfer as TransferRecord}
-use Rattle.tb_tables.specs.Facts.{Facts, add_transfer}
+use Rattle.tb_tables.specs.Facts.{Facts, is_expired}
 use Rattle.tb_tables.specs.Status.{status_in}
-use Rattle.tb_tables.specs.History.{with_change}
-use Rattle.tb_tables.specs.Lawful.{IsLawful, AreLawful}
-use Rattle.tb_tables.specs.Changes.{Lists, facts_of, without_last, before, oldest, history_of}
-use Rattle.tb_tables.specs.Sums.{Sums, sums_of, account_rows, AreAt}
-use Rattle.tb_tables.specs.Kept.{Stored, account_made, row_of, has_expired, lists_of, transfer_rows, expects, AreGrounded, MayStore, WasStored, IsUndoable, AreUndoable, AreKept, IsKept}
+use Rattle.tb_tables.specs.Changes.{before, oldest}
+use Rattle.tb_tables.specs.Conditions.{HasNoBalances}
+use Rattle.tb_tables.specs.Sums.{Sums, sums_of, with_sums, account_rows}
+use Rattle.tb_tables.specs.Kept.{Stored, account_made, has_expired, facts_of, history_in, transfer_rows, is_pair_of, reserves_at, IsSound, AreHeld, WasMade, IsUndoable, AreUndoable, AreKept, IsKept}
 use Rattle.tb_tables.specs.declared.places.Places.{Places}
+use Rattle.tb_tables.specs.declared.row.Row.{Row}
 use Rattle.tb_tables.specs.declared.change.Change.{Change}
-use Rattle.tb_tables.specs.declared.change.Change.TheVariants.{Transfer}
-use Rattle.tb_tables.proofs.Stored.{map-same}
-use Rattle.tb_tables.proofs.Rows.{facts_of-push}
-use Rattle.tb_tables.proofs.Histories.{history_of-push, history_of-pop, lawful_push, lawful_pop, without_last-push, oldest-push}
+use Rattle.tb_tables.specs.declared.change.Change.TheVariants.{Account, Transfer, Failed}
+use Rattle.tb_tables.proofs.Laws.{resolved_either}
+use Rattle.tb_tables.proofs.Histories.{oldest-push}
+
+-- ---- facts that the maps hold are those that they are seen as
+
+accounts-seen : (sums : Sums) (accounts : List AccountRecord) → AllByRecursion HasNoBalances accounts → map account_made (account_rows sums accounts) ≡ accounts
+accounts-seen sums [] all = refl
+accounts-seen sums (account ∷ accounts) all = cc (made, accounts-seen sums accounts all.1)
+  where
+    made : account_made (account.id, with_sums sums account) ≡ account
+    made = λ i. record account { debits_pending = sym all.0.debits_pending i; debits_posted = sym all.0.debits_posted i; credits_pending = sym all.0.credits_pending i; credits_posted = sym all.0.credits_posted i }
+
+transfers-seen : (facts : Facts) (transfers : List TransferRecord) → map (λ (entry : ℕ × Row). entry.1.transfer) (transfer_rows facts transfers) ≡ transfers
+transfers-seen facts [] = refl
+transfers-seen facts (t ∷ transfers) = ap (λ ts. t ∷ ts) (transfers-seen facts transfers)
+
+expired-seen : (facts : Facts) (transfers : List TransferRecord) → ((place : ℕ) (t : TransferRecord) → slice_get transfers place ≡ Some t → has_expired (status_in facts t) ≡ is_expired facts t.id) →
+    map (λ (entry : ℕ × Row). entry.1.transfer.id) (filter (λ (entry : ℕ × Row). has_expired entry.1.status) (transfer_rows facts transfers)) ≡ map (λ (t : TransferRecord). t.id) (filter (λ t. is_expired facts t.id) transfers)
+expired-seen facts [] same = refl
+expired-seen facts (t ∷ transfers) same = grind (arith, same 0 t refl, expired-seen facts transfers (λ place. same (suc place)))
+
+pub seen : (new : Stored) (facts : Facts) → new.failed ≡ facts.failed → AreHeld new.accounts new.transfers new.is_indexed facts → facts_of new ≡ facts
+seen new facts failed held =
+    let accounts = ap (map account_made) held.hold.accounts_are ∙ accounts-seen (sums_of facts) facts.accounts held.sound.made in
+    let rows = held.hold.transfers_are in
+    let transfers = ap (map (λ (entry : ℕ × Row). entry.1.transfer)) rows ∙ transfers-seen facts facts.transfers in
+    let expired = ap (λ (entries : List (ℕ × Row)). map (λ (entry : ℕ × Row). entry.1.transfer.id) (filter (λ (entry : ℕ × Row). has_expired entry.1.status) entries)) rows ∙ expired-seen facts facts.transfers each ∙ sym held.sound.expiries.ordered in
+    λ i. record { accounts = accounts i; transfers = transfers i; expired = expired i; failed = failed i }
+  where
+    each : (place : ℕ) (t : TransferRecord) → slice_get facts.transfers place ≡ Some t → has_expired (status_in facts t) ≡ is_expired facts t.id
+    each place t at = grind (arith, held.sound.expiries.open_ones place t at, resolved_either t.id facts.transfers)
+
+pub keeps : (new : Stored) (facts : Facts) → new.failed ≡ facts.failed → AreHeld new.accounts new.transfers new.is_indexed facts → AreUndoable new.is_indexed new.changes facts →
+    IsKept new × (history_in new.changes (facts_of new) ≡ history_in new.changes facts)
+keeps new facts failed held undoable =
+    let is = seen new facts failed held in
+    (subst (AreKept new) (sym is) (record { held = held; undoable = undoable }), ap (history_in new.changes) is)
 
 -- ---- one change more, or one taken back, in the list of those that can be undone
 
-pub undoable-push : (changes : List (Change Places)) (change : Change Places) (old new : Lists) → before change new ≡ old → IsUndoable change new → AreUndoable changes old → AreUndoable (changes ++ change ∷ []) new
-undoable-push [] change old new e one all = (one, tt)
-undoable-push (first ∷ changes) change old new e one all =
-    (subst (IsUndoable first) (sym (oldest-push changes change new ∙ ap (oldest changes) e)) all.0, undoable-push changes change old new e one all.1)
+pub undoable-push : (indexed : ℕ → ℕ → Bool) (changes : List (Change Places)) (change : Change Places) (old new : Facts) → before change new ≡ old → IsSound indexed old → WasMade change old new → AreUndoable indexed changes old →
+    AreUndoable indexed (changes ++ change ∷ []) new
+undoable-push indexed [] change old new e sound made all = (subst (λ facts. IsSound indexed facts × WasMade change facts new) (sym e) (sound, made), tt)
+undoable-push indexed (first ∷ changes) change old new e sound made all =
+    (subst (IsUndoable indexed first) (sym (oldest-push before (λ (facts : Facts). facts) changes change new ∙ ap (oldest before changes) e)) all.0, undoable-push indexed changes change old new e sound made all.1)
 
-pub undoable-pop : (changes : List (Change Places)) (change : Change Places) (lists : Lists) → AreUndoable (changes ++ change ∷ []) lists → AreUndoable changes (before change lists) × IsUndoable change lists
-undoable-pop [] change lists all = (tt, all.0)
-undoable-pop (first ∷ changes) change lists all =
-    let rest = undoable-pop changes change lists all.1 in
-    ((subst (IsUndoable first) (oldest-push changes change lists) all.0, rest.0), rest.1)
+pub undoable-pop : (indexed : ℕ → ℕ → Bool) (changes : List (Change Places)) (change : Change Places) (facts : Facts) → AreUndoable indexed (changes ++ change ∷ []) facts → AreUndoable indexed changes (before change facts) × IsUndoable indexed change facts
+undoable-pop indexed [] change facts all = (tt, all.0)
+undoable-pop indexed (first ∷ changes) change facts all =
+    let rest = undoable-pop indexed changes change facts all.1 in
+    ((subst (IsUndoable indexed first) (oldest-push before (λ (facts : Facts). facts) changes change facts) all.0, rest.0), rest.1)
 
--- ---- what the maps stand for
+-- ---- the same with another index, which has the same pairs of the places that there are
 
-pub made-rows : (sums : Sums) (entries : List (ℕ × AccountRecord)) → map account_made (account_rows sums (map account_made entries)) ≡ map account_made entries
-made-rows sums [] = refl
-made-rows sums (entry ∷ entries) = ap (λ xs. account_made entry ∷ xs) (made-rows sums entries)
+module _ (indexed other : ℕ → ℕ → Bool) (count : ℕ) (same : (moment place : ℕ) → place < count → indexed moment place ≡ true → other moment place ≡ true) where
+  pub sound-indexed : (facts : Facts) → length facts.transfers ≤ count → IsSound indexed facts → IsSound other facts
+  sound-indexed facts short sound = record {
+    lawful = sound.lawful;
+    grounded = sound.grounded;
+    made = sound.made;
+    expiries = sound.expiries;
+    paired = λ moment place has. same moment place (within moment place (slice_get facts.transfers place) refl has) (sound.paired moment place has);
+  }
+    where
+      within : (moment place : ℕ) (o : Option TransferRecord) → slice_get facts.transfers place ≡ o → (is_pair_of moment o && reserves_at facts o) ≡ true → place < count
+      within moment place None at has = absurd (true≢false (sym has))
+      within moment place (Some t) at has = omega (arith, slice_get_within facts.transfers place t at)
 
--- beside each transfer, whether it expired
-abbrev pub marked : Facts → TransferRecord → TransferRecord × Bool
-marked facts t = (t, has_expired (status_in facts t))
+  cut : {X : Type 0} (n : ℕ) (xs : List X) → length (take n xs) ≤ length xs
+  cut zero xs = omega arith
+  cut (suc n) [] = omega arith
+  cut (suc n) (x ∷ xs) = omega (arith, cut n xs)
 
-pub rows-marked : (facts : Facts) (transfers : List TransferRecord) → map row_of (transfer_rows facts transfers) ≡ map (marked facts) transfers
-rows-marked facts [] = refl
-rows-marked facts (t ∷ transfers) = ap (λ xs. marked facts t ∷ xs) (rows-marked facts transfers)
+  no-longer : (change : Change Places) (facts : Facts) → length (before change facts).transfers ≤ length facts.transfers
+  no-longer Account facts = omega arith
+  no-longer (Transfer places) facts = cut (length facts.transfers - 1) facts.transfers
+  no-longer Failed facts = omega arith
 
-abbrev pub MarksSame : Facts → Facts → Type 0
-MarksSame facts new = (t : TransferRecord) → has_expired (status_in new t) ≡ has_expired (status_in facts t)
+  oldest-short : (changes : List (Change Places)) (facts : Facts) → length facts.transfers ≤ count → length (oldest before changes facts).transfers ≤ count
+  oldest-short [] facts short = short
+  oldest-short (change ∷ changes) facts short = omega (arith, no-longer change (oldest before changes facts), oldest-short changes facts short)
 
--- ---- one transfer more
-
-module _ (old : Stored) (kept : IsKept old) (t : TransferRecord) (places : Places) where
-  abbrev pub facts : Facts
-  facts = facts_of (lists_of old)
-
-  abbrev pub with_row : Lists
-  with_row = record (lists_of old) { rows = (lists_of old).rows ++ (t, false) ∷ [] }
-
-  back : before (Transfer places) with_row ≡ lists_of old
-  back = ap (λ rows. record (lists_of old) { rows = rows }) (without_last-push (lists_of old).rows (t, false))
-
-  pub kept-transfer : (new : Stored) → new.failed ≡ old.failed → new.changes ≡ old.changes ++ Transfer places ∷ [] →
-      new.accounts ≡ account_rows (sums_of (add_transfer facts t)) (lists_of old).accounts →
-      new.transfers ≡ transfer_rows (add_transfer facts t) (add_transfer facts t).transfers →
-      ((moment place : ℕ) → new.is_indexed moment place ≡ expects (add_transfer facts t) (old.changes ++ Transfer places ∷ []) moment place) →
-      MarksSame facts (add_transfer facts t) → has_expired (status_in (add_transfer facts t) t) ≡ false →
-      IsLawful (add_transfer facts t) → AreGrounded (add_transfer facts t) → AreAt (lists_of old).accounts places t.debit_account_id t.credit_account_id → MayStore facts t places.pending →
-      IsKept new × (history_of new.changes (lists_of new) ≡ with_change (history_of old.changes (lists_of old)) (add_transfer facts t))
-  kept-transfer new failed changes accounts transfers indexed marks unmarked lawful grounded are_at may =
-      let after = facts_of-push (lists_of old) t in
-      let rows : (lists_of new).rows ≡ with_row.rows =
-      ap (map row_of) transfers ∙ rows-marked (add_transfer facts t) (facts.transfers ++ t ∷ [])
-      ∙ map-append (marked (add_transfer facts t)) facts.transfers (t ∷ [])
-      ∙ ap (λ xs. xs ++ marked (add_transfer facts t) t ∷ []) (map-same (marked (add_transfer facts t)) (marked facts) facts.transfers (λ y. ap (λ b. (y, b)) (marks y)) ∙ sym (rows-marked facts facts.transfers) ∙ sym (ap (map row_of) kept.transfers))
-      ∙ ap (λ b. (lists_of old).rows ++ (t, b) ∷ []) unmarked in
-      let stands : lists_of new ≡ with_row =
-      λ i. record { accounts = (ap (map account_made) accounts ∙ made-rows (sums_of (add_transfer facts t)) old.accounts) i; rows = rows i; failed = failed i } in
-      let before_grounded = subst (λ ls. AreGrounded (facts_of ls)) (sym back) kept.grounded in
-      let stored : WasStored places (before (Transfer places) with_row) with_row = subst (λ ls. WasStored places ls with_row) (sym back) (record { transfer = t; stored = refl; are_at = are_at; may = may }) in
-      let as_lists : AreKept new with_row = record {
-        accounts = accounts ∙ ap (λ fs. account_rows (sums_of fs) (lists_of old).accounts) (sym after);
-        transfers = transfers ∙ ap (λ (fs : Facts). transfer_rows fs fs.transfers) (sym after);
-        indexed = λ moment place. indexed moment place ∙ ap (λ fs. expects fs (old.changes ++ Transfer places ∷ []) moment place) (sym after) ∙ ap (λ cs. expects (facts_of with_row) cs moment place) (sym changes);
-        grounded = subst AreGrounded (sym after) grounded;
-        undoable = subst (λ cs. AreUndoable cs with_row) (sym changes) (undoable-push old.changes (Transfer places) (lists_of old) with_row back (before_grounded, stored) kept.undoable);
-        lawful = subst (λ cs. AreLawful (history_of cs with_row)) (sym changes) (lawful_push old.changes (Transfer places) (lists_of old) with_row back (subst IsLawful (sym after) lawful) kept.lawful);
-      } in (
-        subst (AreKept new) (sym stands) as_lists,
-        ap (history_of new.changes) stands ∙ ap (λ cs. history_of cs with_row) changes ∙ history_of-push old.changes (Transfer places) (lists_of old) with_row back ∙ ap (with_change (history_of old.changes (lists_of old))) after,
-      )
-
--- ---- the last transfer taken back
-
-without-marked : (old new : Facts) (transfers : List TransferRecord) (t : TransferRecord) → MarksSame old new → without_last (map (marked new) (transfers ++ t ∷ [])) ≡ map (marked old) transfers
-without-marked old new transfers t marks =
-    ap without_last (map-append (marked new) transfers (t ∷ [])) ∙ without_last-push (map (marked new) transfers) (marked new t)
-    ∙ map-same (marked new) (marked old) transfers (λ y. ap (λ b. (y, b)) (marks y))
-
-module _ (old : Stored) (kept : IsKept old) (changes : List (Change Places)) (places : Places) (popped : old.changes ≡ changes ++ Transfer places ∷ []) where
-  abbrev pub lists : Lists
-  lists = before (Transfer places) (lists_of old)
-
-  pub was_stored : WasStored places lists (lists_of old)
-  was_stored = (undoable-pop changes (Transfer places) (lists_of old) (subst (λ cs. AreUndoable cs (lists_of old)) popped kept.undoable)).1.1
-
-  pub was_grounded : AreGrounded (facts_of lists)
-  was_grounded = (undoable-pop changes (Transfer places) (lists_of old) (subst (λ cs. AreUndoable cs (lists_of old)) popped kept.undoable)).1.0
-
-  pub was_lawful : AreLawful (history_of changes lists)
-  was_lawful = lawful_pop changes (Transfer places) (lists_of old) (subst (λ cs. AreLawful (history_of cs (lists_of old))) popped kept.lawful)
-
-  pub facts-now : facts_of (lists_of old) ≡ add_transfer (facts_of lists) was_stored.transfer
-  facts-now = ap facts_of was_stored.stored ∙ facts_of-push lists was_stored.transfer
-
-  pub kept-undo : (new : Stored) → new.failed ≡ old.failed → new.changes ≡ changes →
-      new.accounts ≡ account_rows (sums_of (facts_of lists)) (lists_of old).accounts →
-      new.transfers ≡ transfer_rows (facts_of lists) (facts_of lists).transfers →
-      ((moment place : ℕ) → new.is_indexed moment place ≡ expects (facts_of lists) changes moment place) →
-      MarksSame (facts_of lists) (facts_of (lists_of old)) →
-      IsKept new × (with_change (history_of new.changes (lists_of new)) (facts_of (lists_of old)) ≡ history_of old.changes (lists_of old))
-  kept-undo new failed changes_are accounts transfers indexed marks =
-      let rows : (lists_of new).rows ≡ lists.rows =
-      ap (map row_of) transfers ∙ rows-marked (facts_of lists) (facts_of lists).transfers
-      ∙ sym (without-marked (facts_of lists) (facts_of (lists_of old)) (facts_of lists).transfers was_stored.transfer marks)
-      ∙ ap (λ ts. without_last (map (marked (facts_of (lists_of old))) ts)) (sym (ap (λ (fs : Facts). fs.transfers) facts-now))
-      ∙ ap without_last (sym (rows-marked (facts_of (lists_of old)) (facts_of (lists_of old)).transfers) ∙ sym (ap (map row_of) kept.transfers)) in
-      let stands : lists_of new ≡ lists =
-      λ i. record { accounts = (ap (map account_made) accounts ∙ made-rows (sums_of (facts_of lists)) old.accounts) i; rows = rows i; failed = failed i } in
-      let undoable = (undoable-pop changes (Transfer places) (lists_of old) (subst (λ cs. AreUndoable cs (lists_of old)) popped kept.undoable)).0 in
-      let as_lists : AreKept new lists = record {
-        accounts = accounts;
-        transfers = transfers;
-        indexed = λ moment place. indexed moment place ∙ ap (λ cs. expects (facts_of lists) cs moment place) (sym changes_are);
-        grounded = was_grounded;
-        undoable = subst (λ cs. AreUndoable cs lists) (sym changes_are) undoable;
-        lawful = subst (λ cs. AreLawful (history_of cs lists)) (sym changes_are) was_lawful;
-      } in (
-        subst (AreKept new) (sym stands) as_lists,
-        ap (λ h. with_change h (facts_of (lists_of old))) (ap (history_of new.changes) stands ∙ ap (λ cs. history_of cs lists) changes_are)
-            ∙ history_of-pop changes (Transfer places) (lists_of old) ∙ ap (λ cs. history_of cs (lists_of old)) (sym popped),
-      )
+  pub undoable-indexed : (changes : List (Change Places)) (facts : Facts) → length facts.transfers ≤ count → AreUndoable indexed changes facts → AreUndoable other changes facts
+  undoable-indexed [] facts short all = tt
+  undoable-indexed (change ∷ changes) facts short all =
+      ((sound-indexed (oldest before (change ∷ changes) facts) (oldest-short (change ∷ changes) facts short) all.0.0, all.0.1), undoable-indexed changes facts short all.1)

@@ -1,8 +1,7 @@
 -- The facts stay lawful with each change.
-use Rattle.std.proofs.Common.{refl, ap, subst, ◌∙◌, arith, ◌≡◌, ℕ, ◌+◌, ◌<◌, ◌≤◌, ◌^◌, Bool, true, false, not, cond, List, [], ◌∷◌, ◌++◌}
-use Rattle.std.specs.Prelude.{if◌then◌else◌, ◌==◌, ◌&&◌, ◌||◌, Some, None, find}
+use Rattle.std.proofs.Common.{refl, ap, ◌∙◌, arith, ◌≡◌, ℕ, ◌+◌, ◌<◌, ◌≤◌, ◌^◌, Bool, true, false, not, List, [], ◌∷◌, ◌++◌}
+use Rattle.std.specs.Prelude.{if◌then◌else◌, ◌==◌, ◌&&◌, ◌||◌, None, find}
 use Rattle.std.specs.List.{list_any}
-use Rattle.std.proofs.lemmas.Bool.{eqb-true}
 use Rattle.std.proofs.lemmas.Bool.Decides.{nat_tests}
 use Rattle.std.proofs.lemmas.List.Folds.{list_any-append}
 use Rattle.tb_layout.specs.declared.transfer.Transfer.{Transfer}
@@ -14,7 +13,7 @@ use Rattle.tb_tables.specs.Balances.{is_posting}
 use Rattle.tb_tables.specs.Conditions.{MayAdd, MayResolve}
 use Rattle.tb_tables.specs.Lawful.{IsLawful, has_id, ids_distinct}
 use Rattle.tb_tables.proofs.Finding.{found-id}
-use Rattle.tb_tables.proofs.Sums.{amount_if, amounts, amounts-push, but_for, but_for-found, or-left, or-right, not_and-left, not_and-right}
+use Rattle.tb_tables.proofs.Sums.{amount_if, amounts, amounts-push, but_for, but_for-found}
 
 -- which transfers reserve, or have posted, an amount at an account; `side` is the account that is debited, or credited
 abbrev pub reserves : (Transfer → ℕ) → Facts → ℕ → Transfer → Bool
@@ -38,21 +37,12 @@ or_false false = refl
 
 pub find-none : (id : ℕ) (xs : List Transfer) → find (λ (x : Transfer). x.id == id) xs ≡ None → has_id id xs ≡ false
 find-none id [] e = refl
-find-none id (x ∷ xs) e = by (x.id == id) (find-none id xs) e
-  where
-    by : (b : Bool) → (find (λ (y : Transfer). y.id == id) xs ≡ None → has_id id xs ≡ false) → cond b (Some x) (find (λ (y : Transfer). y.id == id) xs) ≡ None → (b || has_id id xs) ≡ false
-    by true rest e = cc
-    by false rest e = rest e
+find-none id (x ∷ xs) e = grind (arith, find-none id xs)
 
 pub distinct-push : (xs : List Transfer) (t : Transfer) → has_id t.id xs ≡ false → ids_distinct xs ≡ true → ids_distinct (xs ++ t ∷ []) ≡ true
 distinct-push [] t fresh distinct = refl
 distinct-push (x ∷ xs) t fresh distinct =
-    let rest = distinct-push xs t (or-right (x.id == t.id) (has_id t.id xs) fresh) (not_and-right (has_id x.id xs) (ids_distinct xs) distinct) in
-    let first : has_id x.id (xs ++ t ∷ []) ≡ false =
-    list_any-append (λ (y : Transfer). y.id == x.id) xs (t ∷ [])
-    ∙ ap (λ b. b || ((t.id == x.id) || false)) (not_and-left (has_id x.id xs) (ids_distinct xs) distinct)
-    ∙ or_false (t.id == x.id) ∙ ==_swap t.id x.id ∙ or-left (x.id == t.id) (has_id t.id xs) fresh in
-    ap (λ b. not b && ids_distinct (xs ++ t ∷ [])) first ∙ rest
+    grind (arith, nat_tests, list_any-append (λ (y : Transfer). y.id == x.id) xs (t ∷ []), distinct-push xs t)
 
 -- ---- one plain or pending transfer more
 
@@ -61,32 +51,17 @@ any-push test xs x = list_any-append test xs (x ∷ []) ∙ ap (λ b. list_any t
 
 module _ (facts : Facts) (t : Transfer) (may : MayAdd facts t) where
   pub resolves_nothing : (id : ℕ) → (is_resolving t && (t.pending_id == id)) ≡ false
-  resolves_nothing id = by (is_post t) (is_void t) may.not_post may.not_void
-    where
-      by : (a b : Bool) → a ≡ false → b ≡ false → ((a || b) && (t.pending_id == id)) ≡ false
-      by true b h k = cc
-      by false true h k = cc
-      by false false h k = refl
+  resolves_nothing id = grind (arith, may.not_post, may.not_void)
 
   pub reserving-same : (y : Transfer) → is_reserving (add_transfer facts t) y ≡ is_reserving facts y
-  reserving-same y =
-      let resolved : is_resolved (add_transfer facts t) y.id ≡ is_resolved facts y.id =
-      any-push (λ other. is_resolving other && (other.pending_id == y.id)) facts.transfers t
-      ∙ ap (λ b. is_resolved facts y.id || b) (resolves_nothing y.id) ∙ or_false (is_resolved facts y.id) in
-      ap (λ b. is_pending y && not b && not (is_expired facts y.id)) resolved
+  reserving-same y = grind (arith, any-push (λ other. is_resolving other && (other.pending_id == y.id)) facts.transfers t, resolves_nothing y.id)
 
   pub reserves-same : (side : Transfer → ℕ) (id : ℕ) (y : Transfer) → reserves side (add_transfer facts t) id y ≡ reserves side facts id y
   reserves-same side id y = ap (λ b. b && (side y == id)) (reserving-same y)
 
   -- either it reserves its amount, or it has posted it
   once : (p r e v s : Bool) (n : ℕ) → (if (p && not r && not e) && s then n else 0) + (if (not p && not v) && s then n else 0) ≤ (if s then n else 0)
-  once true true e v s n = omega arith
-  once true false true v s n = omega arith
-  once true false false v true n = omega arith
-  once true false false v false n = omega arith
-  once false r e true s n = omega arith
-  once false r e false true n = omega arith
-  once false r e false false n = omega arith
+  once p r e v s n = grind arith
 
   total-push : (side : Transfer → ℕ) (id : ℕ) → total side (add_transfer facts t) id ≤ total side facts id + (if side t == id then t.amount else 0)
   total-push side id =
@@ -95,13 +70,7 @@ module _ (facts : Facts) (t : Transfer) (may : MayAdd facts t) where
       omega (arith, once (is_pending t) (is_resolved (add_transfer facts t) t.id) (is_expired facts t.id) (is_void t) (side t == id) t.amount)
 
   total-fits : (side : Transfer → ℕ) → total side facts (side t) + t.amount < 2 ^ 128 → (id : ℕ) → total side facts id < 2 ^ 128 → total side (add_transfer facts t) id < 2 ^ 128
-  total-fits side more id fits = by (side t == id) refl (total-push side id)
-    where
-      by : (b : Bool) → (side t == id) ≡ b → total side (add_transfer facts t) id ≤ total side facts id + (if b then t.amount else 0) → total side (add_transfer facts t) id < 2 ^ 128
-      by true is most =
-          let here = subst (λ k. total side facts k + t.amount < 2 ^ 128) (eqb-true (side t) id is) more in
-          omega arith
-      by false is most = omega arith
+  total-fits side more id fits = grind (arith, nat_tests, total-push side id)
 
   pub add_transfer_lawful : IsLawful facts → IsLawful (add_transfer facts t)
   add_transfer_lawful lawful = record {
@@ -112,34 +81,17 @@ module _ (facts : Facts) (t : Transfer) (may : MayAdd facts t) where
 
 -- ---- one post or void more
 
-or-and : (a b c r s : Bool) → (((a || b) && c) || (r || s)) ≡ (((a && c) || r) || ((b && c) || s))
-or-and true true true r s = refl
-or-and true true false r s = refl
-or-and true false true r s = refl
-or-and true false false r s = refl
-or-and false true true true s = refl
-or-and false true true false s = refl
-or-and false true false r s = refl
-or-and false false c r s = refl
-
 pub resolved_either : (id : ℕ) (xs : List Transfer) →
     list_any (λ x. is_resolving x && (x.pending_id == id)) xs ≡ (list_any (λ x. is_post x && (x.pending_id == id)) xs || list_any (λ x. is_void x && (x.pending_id == id)) xs)
 resolved_either id [] = refl
-resolved_either id (x ∷ xs) = ap (λ b. (is_resolving x && (x.pending_id == id)) || b) (resolved_either id xs) ∙ or-and (is_post x) (is_void x) (x.pending_id == id) _ _
+resolved_either id (x ∷ xs) = grind (arith, resolved_either id xs)
 
 pub pending_is : (a b e : Bool) → (if a then Posted else if b then Voided else if e then Expired else Pending) ≡ Pending → ((a || b) ≡ false) × (e ≡ false)
-pending_is true b e h = cc
-pending_is false true e h = cc
-pending_is false false true h = cc
-pending_is false false false h = (refl, refl)
+pending_is a b e h = grind arith
 
 module _ (facts : Facts) (t : Transfer) (may : MayResolve facts t) where
   pub resolves : is_resolving t ≡ true
-  resolves = by (is_post t) (is_void t) may.post_or_void
-    where
-      by : (a b : Bool) → b ≡ not a → (a || b) ≡ true
-      by true b h = refl
-      by false b h = h
+  resolves = grind (arith, may.post_or_void)
 
   -- the transfer that it names reserves its amount
   pub reserving : is_reserving facts may.pending ≡ true
@@ -149,44 +101,18 @@ module _ (facts : Facts) (t : Transfer) (may : MayResolve facts t) where
       ap (λ id. is_pending may.pending && not (is_resolved facts id) && not (is_expired facts id)) (found-id (λ (x : Transfer). x.id) t.pending_id facts.transfers may.pending may.named)
       ∙ cc (may.is_pending_one, open_one, s.1)
 
-  names : (a b r e x : Bool) → r ≡ true → (a && not (b || (r && e)) && not x) ≡ ((a && not b && not x) && not e)
-  names false b r e x h = refl
-  names true true r e x h = refl
-  names true false true true true h = refl
-  names true false true true false h = refl
-  names true false true false true h = refl
-  names true false true false false h = refl
-  names true false false e x h = cc
-
-  and-swap : (a b c : Bool) → ((a && b) && c) ≡ ((a && c) && b)
-  and-swap true true true = refl
-  and-swap true true false = refl
-  and-swap true false true = refl
-  and-swap true false false = refl
-  and-swap false b c = refl
-
   pub reserving-other : (y : Transfer) → is_reserving (add_transfer facts t) y ≡ (is_reserving facts y && not (t.pending_id == y.id))
-  reserving-other y =
-      ap (λ b. is_pending y && not b && not (is_expired facts y.id)) (any-push (λ other. is_resolving other && (other.pending_id == y.id)) facts.transfers t)
-      ∙ names (is_pending y) (is_resolved facts y.id) (is_resolving t) (t.pending_id == y.id) (is_expired facts y.id) resolves
+  reserving-other y = grind (arith, any-push (λ other. is_resolving other && (other.pending_id == y.id)) facts.transfers t, resolves)
 
   -- it takes the amount of the one that it names from what is reserved, and nothing else
   pub reserves-but_for : (side : Transfer → ℕ) (id : ℕ) (y : Transfer) → reserves side (add_transfer facts t) id y ≡ but_for t.pending_id (reserves side facts id) y
-  reserves-but_for side id y =
-      ap (λ b. b && (side y == id)) (reserving-other y)
-      ∙ and-swap (is_reserving facts y) (not (t.pending_id == y.id)) (side y == id)
-      ∙ ap (λ b. reserves side facts id y && not b) (==_swap t.pending_id y.id)
+  reserves-but_for side id y = grind (arith, reserving-other y, ==_swap t.pending_id y.id)
 
   pub reserves_nothing : (p r e s : Bool) (n : ℕ) → p ≡ false → (if (p && r && e) && s then n else 0) ≡ 0
-  reserves_nothing true r e s n h = cc
-  reserves_nothing false r e s n h = refl
+  reserves_nothing p r e s n h = grind arith
 
   at_most_it : (p v s r : Bool) (n m : ℕ) → n ≤ m → r ≡ true → (if (p && v) && s then n else 0) ≤ (if r && s then m else 0)
-  at_most_it p v s false n m h k = cc
-  at_most_it true true true true n m h k = h
-  at_most_it true true false true n m h k = omega arith
-  at_most_it true false s true n m h k = omega arith
-  at_most_it false v s true n m h k = omega arith
+  at_most_it p v s r n m h k = grind arith
 
   total-resolve : (side : Transfer → ℕ) → side t ≡ side may.pending → IsLawful facts → (id : ℕ) → total side (add_transfer facts t) id ≤ total side facts id
   total-resolve side same lawful id =

@@ -1,33 +1,27 @@
 -- Look-ups in the maps.
 use Rattle.std.proofs.Common.{refl, sym, ap, subst, ◌∙◌, ◌≡◌, ℕ, Bool, true, false, cond, List, [], ◌∷◌, map, nat_eq, slice_get, length, zero, suc, arith, ◌+◌, ◌<◌, lt-ltb, le-ltb, not}
-use Rattle.std.specs.Prelude.{◌==◌, ◌||◌, Option, Some, None, IsSome, find, nat_lt}
+use Rattle.std.specs.Prelude.{◌==◌, Option, Some, None, IsSome, find, nat_lt}
 use Rattle.std.specs.List.{position, position_or_len}
 use Rattle.std.specs.Option.{option_map}
 use Rattle.std.specs.Map.{keys_of, lookup}
-use Rattle.std.proofs.lemmas.Bool.{eqb-true, eq-eqb}
+use Rattle.std.proofs.lemmas.Bool.Decides.{nat_tests}
 use Rattle.std.proofs.lemmas.List.{length-map}
 use Rattle.tb_layout.specs.declared.account.Account.{Account}
 use Rattle.tb_layout.specs.declared.transfer.Transfer.{Transfer}
 use Rattle.tb_tables.specs.Facts.{Facts, account_with, IsPlaceOf, transfer_with}
-use Rattle.tb_tables.specs.Status.{status_if_pending, status_with}
+use Rattle.tb_tables.specs.Status.{status_with}
 use Rattle.tb_tables.specs.Conditions.{MayResolve}
-use Rattle.tb_tables.specs.Lawful.{has_id, ids_distinct}
-use Rattle.tb_tables.specs.Changes.{facts_of}
+use Rattle.tb_tables.specs.Lawful.{IsLawful, ids_distinct}
 use Rattle.tb_tables.specs.Sums.{sums_of, with_sums, AreAt}
-use Rattle.tb_tables.specs.Kept.{Stored, lists_of, row_in, MayPost, IsKept}
+use Rattle.tb_tables.specs.Kept.{Hold, AreGrounded, row_in, MayPost}
 use Rattle.tb_tables.specs.declared.places.Places.{Places}
 use Rattle.tb_tables.specs.declared.row.Row.{Row}
 use Rattle.tb_tables.specs.declared.status.Status.{Status}
-use Rattle.tb_tables.proofs.Sums.{not_and-left, not_and-right}
 use Rattle.tb_tables.proofs.Laws.{==_swap}
 use Rattle.tb_tables.proofs.Stored.{lookup-rows, made-at}
 use Rattle.tb_tables.proofs.Grounding.{all-found}
 use Rattle.tb_tables.specs.Kept.{has_account, IsGrounded}
 use Rattle.tb_tables.proofs.Expecting.{has_id-at}
-
-some-mapped : {X Y : Type 0} (f : X → Y) (o : Option X) → IsSome o → IsSome (option_map f o)
-some-mapped f None h = h
-some-mapped f (Some x) h = refl
 
 keys-map : {X V : Type 0} (key : X → ℕ) (made : X → V) (xs : List X) → keys_of (map (λ x. (key x, made x)) xs) ≡ map key xs
 keys-map key made [] = refl
@@ -36,17 +30,8 @@ keys-map key made (x ∷ xs) = ap (λ ks. key x ∷ ks) (keys-map key made xs)
 -- the transfer at a place is the one that its id finds
 found-at : (id : ℕ) (xs : List Transfer) (place : ℕ) (x p : Transfer) → ids_distinct xs ≡ true → slice_get xs place ≡ Some x → x.id ≡ id → find (λ (t : Transfer). t.id == id) xs ≡ Some p → x ≡ p
 found-at id [] place x p distinct at is found = cc
-found-at id (y ∷ xs) zero x p distinct at is found =
-    let first : y ≡ x = cc in
-    let passes : (y.id == id) ≡ true = eq-eqb y.id id (ap (λ (t : Transfer). t.id) first ∙ is) in
-    let e : Some y ≡ Some p = ap (λ b. cond b (Some y) (find (λ (t : Transfer). t.id == id) xs)) (sym passes) ∙ found in cc
-found-at id (y ∷ xs) (suc place) x p distinct at is found = by (y.id == id) refl (λ f. found-at id xs place x p (not_and-right (has_id y.id xs) (ids_distinct xs) distinct) at is f) found
-  where
-    by : (b : Bool) → (y.id == id) ≡ b → (find (λ (t : Transfer). t.id == id) xs ≡ Some p → x ≡ p) → cond b (Some y) (find (λ (t : Transfer). t.id == id) xs) ≡ Some p → x ≡ p
-    by true e rest f =
-        let there = has_id-at y.id xs place x at (eq-eqb x.id y.id (is ∙ sym (eqb-true y.id id e))) in
-        let no : true ≡ false = sym there ∙ not_and-left (has_id y.id xs) (ids_distinct xs) distinct in cc
-    by false e rest f = rest f
+found-at id (y ∷ xs) zero x p distinct at is found = grind (arith, nat_tests)
+found-at id (y ∷ xs) (suc place) x p distinct at is found = grind (arith, nat_tests, has_id-at y.id xs place x at, found-at id xs place x p)
 
 -- so many accounts stand in front of the one that is found, or all
 abbrev AtPlace : Option Account → List Account → ℕ → Type 0
@@ -76,81 +61,65 @@ abbrev pub row_status : Option Row → Option Status
 row_status None = None
 row_status (Some row) = row.status
 
-module _ (old : Stored) (kept : IsKept old) where
-  abbrev facts : Facts
-  facts = facts_of (lists_of old)
+module _ (facts : Facts) (accounts : List (ℕ × Account)) (transfers : List (ℕ × Row)) (hold : Hold facts accounts transfers) where
+  pub account-found : (id : ℕ) → lookup (nat_eq id) accounts ≡ option_map (with_sums (sums_of facts)) (account_with facts id)
+  account-found id = ap (lookup (nat_eq id)) hold.accounts_are ∙ lookup-rows (λ (a : Account). a.id) (with_sums (sums_of facts)) id facts.accounts
 
-  pub account-found : (id : ℕ) → lookup (nat_eq id) old.accounts ≡ option_map (with_sums (sums_of facts)) (account_with facts id)
-  account-found id = ap (lookup (nat_eq id)) kept.accounts ∙ lookup-rows (λ (a : Account). a.id) (with_sums (sums_of facts)) id (lists_of old).accounts
-
-  pub account-placed : (id : ℕ) (place : Option ℕ) → place ≡ position (nat_eq id) (keys_of old.accounts) → IsPlaceOf facts id place
+  pub account-placed : (id : ℕ) (place : Option ℕ) → place ≡ position (nat_eq id) (keys_of accounts) → IsPlaceOf facts id place
   account-placed id place is =
-      let keys = ap keys_of kept.accounts ∙ keys-map (λ (a : Account). a.id) (with_sums (sums_of facts)) (lists_of old).accounts in
-      let accounts = (lists_of old).accounts in
+      let keys = ap keys_of hold.accounts_are ∙ keys-map (λ (a : Account). a.id) (with_sums (sums_of facts)) facts.accounts in
       subst (IsPlaceOf facts id) (sym (is ∙ ap (position (nat_eq id)) keys))
-      (place-told facts id (in-front id accounts) (length (map (λ (a : Account). a.id) accounts)) (account_with facts id) (length-map accounts (λ (a : Account). a.id)) refl (at-place id accounts))
+      (place-told facts id (in-front id facts.accounts) (length (map (λ (a : Account). a.id) facts.accounts)) (account_with facts id) (length-map facts.accounts (λ (a : Account). a.id)) refl (at-place id facts.accounts))
 
-  pub row-found : (id : ℕ) → lookup (nat_eq id) old.transfers ≡ option_map (row_in facts) (transfer_with facts id)
-  row-found id = ap (lookup (nat_eq id)) kept.transfers ∙ lookup-rows (λ (t : Transfer). t.id) (row_in facts) id facts.transfers
+  pub row-found : (id : ℕ) → lookup (nat_eq id) transfers ≡ option_map (row_in facts) (transfer_with facts id)
+  row-found id = ap (lookup (nat_eq id)) hold.transfers_are ∙ lookup-rows (λ (t : Transfer). t.id) (row_in facts) id facts.transfers
 
-  pub transfers-length : length old.transfers ≡ length facts.transfers
-  transfers-length = ap length kept.transfers ∙ length-map facts.transfers (λ (t : Transfer). (t.id, row_in facts t))
+  pub transfers-length : length transfers ≡ length facts.transfers
+  transfers-length = ap length hold.transfers_are ∙ length-map facts.transfers (λ (t : Transfer). (t.id, row_in facts t))
 
-  pub transfer-found : (id : ℕ) → transfer_with facts id ≡ option_map (λ (row : Row). row.transfer) (lookup (nat_eq id) old.transfers)
-  transfer-found id = by (transfer_with facts id) ∙ ap (option_map (λ (row : Row). row.transfer)) (sym (row-found id))
-    where
-      by : (o : Option Transfer) → o ≡ option_map (λ (row : Row). row.transfer) (option_map (row_in facts) o)
-      by None = refl
-      by (Some t) = refl
+  pub transfer-found : (id : ℕ) → transfer_with facts id ≡ option_map (λ (row : Row). row.transfer) (lookup (nat_eq id) transfers)
+  transfer-found id = grind (arith, row-found id)
 
-  pub status-found : (id : ℕ) → status_with facts id ≡ row_status (lookup (nat_eq id) old.transfers)
-  status-found id = by (transfer_with facts id) ∙ ap row_status (sym (row-found id))
-    where
-      by : (o : Option Transfer) → status_if_pending facts o ≡ row_status (option_map (row_in facts) o)
-      by None = refl
-      by (Some t) = refl
+  pub status-found : (id : ℕ) → status_with facts id ≡ row_status (lookup (nat_eq id) transfers)
+  status-found id = grind (arith, row-found id)
 
-  pub account-there : (id : ℕ) → IsSome (account_with facts id) → IsSome (lookup (nat_eq id) old.accounts)
-  account-there id there = subst IsSome (sym (account-found id)) (some-mapped (with_sums (sums_of facts)) (account_with facts id) there)
+  pub account-there : (id : ℕ) → IsSome (account_with facts id) → IsSome (lookup (nat_eq id) accounts)
+  account-there id there = grind (arith, account-found id, there)
 
-  account-place : (place id : ℕ) → slice_get (keys_of old.accounts) place ≡ Some id → (a : Account) × (slice_get (lists_of old).accounts place ≡ Some a) × (a.id ≡ id)
-  account-place place id at = made-at (λ (a : Account). a.id) (lists_of old).accounts place id
-      (sym (ap (λ ks. slice_get ks place) (ap keys_of kept.accounts ∙ keys-map (λ (a : Account). a.id) (with_sums (sums_of facts)) (lists_of old).accounts)) ∙ at)
+  account-place : (place id : ℕ) → slice_get (keys_of accounts) place ≡ Some id → (a : Account) × (slice_get facts.accounts place ≡ Some a) × (a.id ≡ id)
+  account-place place id at = made-at (λ (a : Account). a.id) facts.accounts place id
+      (sym (ap (λ ks. slice_get ks place) (ap keys_of hold.accounts_are ∙ keys-map (λ (a : Account). a.id) (with_sums (sums_of facts)) facts.accounts)) ∙ at)
 
-  pub are-at : (t : Transfer) (places : Places) → slice_get (keys_of old.accounts) places.debit ≡ Some t.debit_account_id → slice_get (keys_of old.accounts) places.credit ≡ Some t.credit_account_id →
-      AreAt (lists_of old).accounts places t.debit_account_id t.credit_account_id
+  pub are-at : (t : Transfer) (places : Places) → slice_get (keys_of accounts) places.debit ≡ Some t.debit_account_id → slice_get (keys_of accounts) places.credit ≡ Some t.credit_account_id →
+      AreAt facts.accounts places t.debit_account_id t.credit_account_id
   are-at t places debit credit =
       let d = account-place places.debit t.debit_account_id debit in
       let c = account-place places.credit t.credit_account_id credit in
       record { debit_account = d.0; credit_account = c.0; debit_at = d.1; credit_at = c.1; debit_is = d.2; credit_is = c.2 }
 
-  pub transfer-there : (id : ℕ) (t : Transfer) → transfer_with facts id ≡ Some t → IsSome (lookup (nat_eq id) old.transfers)
+  pub transfer-there : (id : ℕ) (t : Transfer) → transfer_with facts id ≡ Some t → IsSome (lookup (nat_eq id) transfers)
   transfer-there id t named = subst IsSome (sym (row-found id ∙ ap (option_map (row_in facts)) named)) refl
 
-  pub may-post : (t : Transfer) (place : ℕ) → MayResolve facts t → slice_get (keys_of old.transfers) place ≡ Some t.pending_id → MayPost facts t place
-  may-post t place may at =
-      let keys = ap keys_of kept.transfers ∙ keys-map (λ (x : Transfer). x.id) (row_in facts) facts.transfers in
+  pub may-post : IsLawful facts → (t : Transfer) (place : ℕ) → MayResolve facts t → slice_get (keys_of transfers) place ≡ Some t.pending_id → MayPost facts t place
+  may-post lawful t place may at =
+      let keys = ap keys_of hold.transfers_are ∙ keys-map (λ (x : Transfer). x.id) (row_in facts) facts.transfers in
       let p = made-at (λ (x : Transfer). x.id) facts.transfers place t.pending_id (sym (ap (λ ks. slice_get ks place) keys) ∙ at) in
-      record { may = may; pending_at = p.1 ∙ ap Some (found-at t.pending_id facts.transfers place p.0 may.pending kept.lawful.now.distinct p.1 p.2 may.named) }
+      record { may = may; pending_at = p.1 ∙ ap Some (found-at t.pending_id facts.transfers place p.0 may.pending lawful.distinct p.1 p.2 may.named) }
 
   -- the accounts of the transfer that a post or a void names are there
   there : (id : ℕ) (xs : List Account) → has_account id xs ≡ true → IsSome (find (λ (a : Account). a.id == id) xs)
   there id [] h = h
-  there id (x ∷ xs) h = by (x.id == id) (there id xs) h
-    where
-      by : (b : Bool) → (has_account id xs ≡ true → IsSome (find (λ (a : Account). a.id == id) xs)) → (b || has_account id xs) ≡ true → IsSome (cond b (Some x) (find (λ (a : Account). a.id == id) xs))
-      by true rest h = refl
-      by false rest h = rest h
+  there id (x ∷ xs) h = grind (arith, there id xs)
 
-  pub has-account : (id : ℕ) → has_account id (lists_of old).accounts ≡ true → IsSome (lookup (nat_eq id) old.accounts)
-  has-account id has = account-there id (there id (lists_of old).accounts has)
+  pub has-account : (id : ℕ) → has_account id facts.accounts ≡ true → IsSome (lookup (nat_eq id) accounts)
+  has-account id has = account-there id (there id facts.accounts has)
 
-  module _ (t : Transfer) (may : MayResolve facts t) where
+  module _ (grounded : AreGrounded facts) (t : Transfer) (may : MayResolve facts t) where
     ground : IsGrounded facts.accounts facts.transfers may.pending
-    ground = all-found (IsGrounded facts.accounts facts.transfers) (λ (x : Transfer). x.id == t.pending_id) facts.transfers may.pending kept.grounded may.named
+    ground = all-found (IsGrounded facts.accounts facts.transfers) (λ (x : Transfer). x.id == t.pending_id) facts.transfers may.pending grounded may.named
 
-    pub debit-there : IsSome (lookup (nat_eq t.debit_account_id) old.accounts)
+    pub debit-there : IsSome (lookup (nat_eq t.debit_account_id) accounts)
     debit-there = has-account t.debit_account_id (ap (λ id. has_account id facts.accounts) may.same_debit ∙ ground.debit)
 
-    pub credit-there : IsSome (lookup (nat_eq t.credit_account_id) old.accounts)
+    pub credit-there : IsSome (lookup (nat_eq t.credit_account_id) accounts)
     credit-there = has-account t.credit_account_id (ap (λ id. has_account id facts.accounts) may.same_credit ∙ ground.credit)

@@ -1,8 +1,7 @@
 -- Rows marked one by one, from the first.
 use Rattle.std.proofs.Common.{refl, sym, ap, ◌∙◌, arith, ◌≡◌, ℕ, suc, zero, ◌+◌, ◌<◌, ◌≤◌, Bool, true, false, List, [], ◌∷◌, length, get_or, set}
-use Rattle.std.specs.Prelude.{◌||◌}
 use Rattle.tb_layout.specs.declared.transfer.Transfer.{Transfer}
-use Rattle.tb_tables.specs.Changes.{transfers_in}
+use Rattle.tb_tables.specs.Plain.{transfers_in}
 use Rattle.tb_tables.specs.Expiring.{expires_among, with_expiry, with_expiries}
 
 -- the first so many are marked where they expire
@@ -32,21 +31,13 @@ marked_next : (end clock : ℕ) (transfers : List Transfer) (rows : List (Transf
     let row = get_or (marked_below end clock transfers rows) end d in
     expires_among clock transfers row.0 ≡ true → set (marked_below end clock transfers rows) end ((row.0, true)) ≡ marked_below (suc end) clock transfers rows
 marked_next end clock transfers [] d h is = absurd (omega arith)
-marked_next zero clock transfers (row ∷ rows) d h is = ap (λ b. (row.0, b) ∷ rows) (sym (ap (λ b. row.1 || b) is ∙ or_true row.1))
-  where
-    or_true : (b : Bool) → (b || true) ≡ true
-    or_true true = refl
-    or_true false = refl
+marked_next zero clock transfers (row ∷ rows) d h is = grind (arith, is)
 marked_next (suc end) clock transfers (row ∷ rows) d h is = ap (λ rs. with_expiry clock transfers row ∷ rs) (marked_next end clock transfers rows d (omega arith) is)
 
 unmarked_next : (end clock : ℕ) (transfers : List Transfer) (rows : List (Transfer × Bool)) (d : Transfer × Bool) → end < length rows →
     expires_among clock transfers (get_or (marked_below end clock transfers rows) end d).0 ≡ false → marked_below end clock transfers rows ≡ marked_below (suc end) clock transfers rows
 unmarked_next end clock transfers [] d h is = absurd (omega arith)
-unmarked_next zero clock transfers (row ∷ rows) d h is = ap (λ b. (row.0, b) ∷ rows) (sym (ap (λ b. row.1 || b) is ∙ or_false row.1))
-  where
-    or_false : (b : Bool) → (b || false) ≡ b
-    or_false true = refl
-    or_false false = refl
+unmarked_next zero clock transfers (row ∷ rows) d h is = grind (arith, is)
 unmarked_next (suc end) clock transfers (row ∷ rows) d h is = ap (λ rs. with_expiry clock transfers row ∷ rs) (unmarked_next end clock transfers rows d (omega arith) is)
 
 -- the same for rows that have a name

@@ -1,82 +1,41 @@
 -- A transfer expires: sums, statuses, and the index of expiries.
-use Rattle.std.proofs.Common.{refl, sym, ap, subst, ◌∙◌, arith, ◌≡◌, ℕ, ◌+◌, Bool, true, false, not, cond, List, [], ◌∷◌, map, set, nat_eq, slice_get, zero, suc}
+use Rattle.std.proofs.Common.{refl, sym, ap, ◌∙◌, arith, ◌≡◌, ℕ, ◌+◌, Bool, true, false, not, List, [], ◌∷◌, map, filter, subst, nat_eq, slice_get, zero, suc}
 use Rattle.std.specs.Prelude.{if◌then◌else◌, ◌==◌, ◌&&◌, ◌||◌, Option, Some, None, find}
-use Rattle.std.specs.List.{list_any, IsDistinct}
+use Rattle.std.specs.List.{IsDistinct}
 use Rattle.std.specs.Map.{keys_of}
-use Rattle.std.proofs.lemmas.Bool.{eqb-true, eq-eqb}
+use Rattle.std.proofs.lemmas.Bool.{eqb-true}
+use Rattle.std.proofs.lemmas.Bool.Decides.{nat_tests}
 use Rattle.indexmap.specs.IndexMap.{set_value_at}
 use Rattle.tb_layout.specs.declared.transfer.Transfer.{Transfer}
-use Rattle.tb_layout.specs.Transfer.{is_pending}
 use Rattle.tb_tables.specs.Facts.{Facts, is_expired}
-use Rattle.tb_tables.specs.Status.{is_posted, is_voided, is_resolved, is_reserving, status_of, expires_at}
-use Rattle.tb_tables.specs.Lawful.{IsLawful, has_id, ids_distinct}
-use Rattle.tb_tables.specs.Changes.{transfers_in, expired_in}
+use Rattle.tb_tables.specs.Status.{is_due, expire_due, is_resolved, is_reserving, expires_at}
+use Rattle.tb_layout.specs.Transfer.{is_pending}
+use Rattle.tb_tables.specs.Lawful.{IsLawful, ids_distinct}
+use Rattle.tb_tables.specs.Storing.{expire_one}
+use Rattle.std.proofs.lemmas.List.Elements.{filter_agree}
 use Rattle.tb_tables.specs.Expiries.{same_pair}
 use Rattle.tb_tables.specs.Sums.{sums_of, with_amount}
-use Rattle.tb_tables.specs.Kept.{row_in, transfer_rows, is_timed, expects_of, expects}
+use Rattle.tb_tables.specs.Kept.{row_in, transfer_rows, is_pair_of, reserves_at, expects, IsSound}
 use Rattle.tb_tables.specs.declared.row.Row.{Row}
-use Rattle.tb_tables.specs.declared.status.Status.TheVariants.{Pending, Posted, Voided, Expired}
-use Rattle.tb_tables.proofs.Sums.{amount_if, amounts, amounts-each, sum_by-same, but_for, but_for-found, or-left, or-right, not_and-left, not_and-right}
-use Rattle.tb_tables.proofs.Laws.{==_swap, or_false, reserves, resolved_either}
+use Rattle.tb_tables.specs.declared.status.Status.TheVariants.{Expired}
+use Rattle.tb_tables.proofs.Sums.{amount_if, amounts, amounts-each, sum_by-same, but_for, but_for-found}
+use Rattle.tb_tables.proofs.Laws.{==_swap, reserves, resolved_either}
 use Rattle.tb_tables.proofs.Stored.{rows-set}
-use Rattle.tb_tables.proofs.Expecting.{has_id-at, one-place}
+use Rattle.tb_tables.proofs.Expecting.{has_id-at, one-transfer}
+use Rattle.tb_tables.proofs.Stepping.{ids-found, expired-is}
 use Rattle.tb_tables.proofs.Added.{AreSame}
-
--- ---- the marks of the rows
-
-mark-first : (id : ℕ) (rows : List (Transfer × Bool)) (x : Transfer) (b : Bool) → list_any (λ e. e == id) (expired_in ((x, true) ∷ rows)) ≡ (list_any (λ e. e == id) (expired_in ((x, b) ∷ rows)) || (x.id == id))
-mark-first id rows x true = same (x.id == id) (list_any (λ e. e == id) (expired_in rows))
-  where
-    same : (e a : Bool) → (e || a) ≡ ((e || a) || e)
-    same true a = refl
-    same false true = refl
-    same false false = refl
-mark-first id rows x false = swap (x.id == id) (list_any (λ e. e == id) (expired_in rows))
-  where
-    swap : (e a : Bool) → (e || a) ≡ (a || e)
-    swap true true = refl
-    swap true false = refl
-    swap false true = refl
-    swap false false = refl
-
-pub expired-set : (id : ℕ) (rows : List (Transfer × Bool)) (place : ℕ) (x : Transfer) (b : Bool) → slice_get rows place ≡ Some (x, b) →
-    list_any (λ e. e == id) (expired_in (set rows place (x, true))) ≡ (list_any (λ e. e == id) (expired_in rows) || (x.id == id))
-expired-set id [] place x b at = cc
-expired-set id (row ∷ rows) zero x b at =
-    let first : row ≡ (x, b) = cc in
-    mark-first id rows x b ∙ ap (λ (r : Transfer × Bool). list_any (λ e. e == id) (expired_in (r ∷ rows)) || (x.id == id)) (sym first)
-expired-set id (row ∷ rows) (suc place) x b at = by row.1 (expired-set id rows place x b at)
-  where
-    by : (c : Bool) → list_any (λ e. e == id) (expired_in (set rows place (x, true))) ≡ (list_any (λ e. e == id) (expired_in rows) || (x.id == id)) →
-        list_any (λ e. e == id) (expired_in ((row.0, c) ∷ set rows place (x, true))) ≡ (list_any (λ e. e == id) (expired_in ((row.0, c) ∷ rows)) || (x.id == id))
-    by true h = ap (λ a. (row.0.id == id) || a) h ∙ assoc (row.0.id == id) (list_any (λ e. e == id) (expired_in rows)) (x.id == id)
-      where
-        assoc : (a b c : Bool) → (a || (b || c)) ≡ ((a || b) || c)
-        assoc true b c = refl
-        assoc false b c = refl
-    by false h = h
-
-pub transfers-set : (rows : List (Transfer × Bool)) (place : ℕ) (x : Transfer) (b : Bool) → slice_get rows place ≡ Some (x, b) → transfers_in (set rows place (x, true)) ≡ transfers_in rows
-transfers-set [] place x b at = refl
-transfers-set (row ∷ rows) zero x b at = let first : row ≡ (x, b) = cc in ap (λ (r : Transfer × Bool). r.0 ∷ transfers_in rows) (sym first)
-transfers-set (row ∷ rows) (suc place) x b at = ap (λ ts. row.0 ∷ ts) (transfers-set rows place x b at)
-
-pub map-set : {X Y : Type 0} (f : ℕ × X → Y) (es : List (ℕ × X)) (place : ℕ) (k : ℕ) (v w : X) → slice_get es place ≡ Some (k, v) → map f (set_value_at es place w) ≡ set (map f es) place (f (k, w))
-map-set f [] place k v w at = refl
-map-set f (e ∷ es) zero k v w at = let first : e ≡ (k, v) = cc in ap (λ (p : ℕ × _). f (p.0, w) ∷ map f es) first
-map-set f (e ∷ es) (suc place) k v w at = ap (λ ys. f e ∷ ys) (map-set f es place k v w at)
 
 find-at : (xs : List Transfer) (place : ℕ) (x : Transfer) → ids_distinct xs ≡ true → slice_get xs place ≡ Some x → find (λ (t : Transfer). t.id == x.id) xs ≡ Some x
 find-at [] place x distinct at = cc
-find-at (y ∷ xs) zero x distinct at = let first : y ≡ x = cc in ap (λ b. cond b (Some y) (find (λ (t : Transfer). t.id == x.id) xs)) (eq-eqb y.id x.id (ap (λ (t : Transfer). t.id) first)) ∙ ap Some first
-find-at (y ∷ xs) (suc place) x distinct at =
-    by (y.id == x.id) refl (find-at xs place x (not_and-right (has_id y.id xs) (ids_distinct xs) distinct) at)
-  where
-    by : (b : Bool) → (y.id == x.id) ≡ b → find (λ (t : Transfer). t.id == x.id) xs ≡ Some x → cond b (Some y) (find (λ (t : Transfer). t.id == x.id) xs) ≡ Some x
-    by false e rest = rest
-    by true e rest =
-        let there = has_id-at y.id xs place x at (==_swap x.id y.id ∙ e) in
-        let no : true ≡ false = sym there ∙ not_and-left (has_id y.id xs) (ids_distinct xs) distinct in cc
+find-at (y ∷ xs) zero x distinct at = grind (arith, nat_tests)
+find-at (y ∷ xs) (suc place) x distinct at = grind (arith, nat_tests, has_id-at y.id xs place x at, find-at xs place x)
+
+pub filter-at : (f g : Transfer → Bool) (xs : List Transfer) → ((place : ℕ) (x : Transfer) → slice_get xs place ≡ Some x → f x ≡ g x) → filter f xs ≡ filter g xs
+filter-at f g [] same = refl
+filter-at f g (x ∷ xs) same = grind (arith, same 0 x refl, filter-at f g xs (λ place. same (suc place)))
+
+abbrev pub expires : ℕ → Facts → Transfer → Bool
+expires clock facts transfer = is_expired facts transfer.id || (is_reserving facts transfer && is_due clock transfer)
 
 -- ---- one transfer more has expired
 
@@ -84,28 +43,18 @@ amounts-same : (test other : Transfer → Bool) (xs : List Transfer) → ((y : T
 amounts-same test other xs same = amounts-each test xs ∙ sum_by-same (amount_if test) (amount_if other) xs (λ y. ap (λ b. if b then y.amount else 0) (same y)) ∙ sym (amounts-each other xs)
 
 module _ (facts : Facts) (x : Transfer) (place : ℕ) (at : slice_get facts.transfers place ≡ Some x) (lawful : IsLawful facts) (reserving : is_reserving facts x ≡ true)
-    (expired : List ℕ) (more : (id : ℕ) → list_any (λ e. e == id) expired ≡ (is_expired facts id || (x.id == id))) where
+    (ordered : facts.expired ≡ map (λ (t : Transfer). t.id) (filter (λ t. is_expired facts t.id) facts.transfers)) where
   abbrev pub after : Facts
-  after = record facts { expired = expired }
+  after = expire_one x.id facts
+
+  pub more : (id : ℕ) → is_expired after id ≡ (is_expired facts id || (x.id == id))
+  more id = grind (arith, nat_tests, ids-found (λ k. is_expired facts k || (x.id == k)) id facts.transfers, expired-is facts ordered id, has_id-at id facts.transfers place x at)
 
   reserving-after : (y : Transfer) → is_reserving after y ≡ (is_reserving facts y && not (x.id == y.id))
-  reserving-after y = ap (λ b. is_pending y && not (is_resolved facts y.id) && not b) (more y.id) ∙ bits (is_pending y) (is_resolved facts y.id) (is_expired facts y.id) (x.id == y.id)
-    where
-      bits : (p r e n : Bool) → (p && not r && not (e || n)) ≡ ((p && not r && not e) && not n)
-      bits true true e n = refl
-      bits true false true n = refl
-      bits true false false n = refl
-      bits false r e n = refl
+  reserving-after y = grind (arith, more y.id)
 
   reserves-after : (side : Transfer → ℕ) (id : ℕ) (y : Transfer) → reserves side after id y ≡ but_for x.id (reserves side facts id) y
-  reserves-after side id y = ap (λ b. b && (side y == id)) (reserving-after y) ∙ swap (is_reserving facts y) (x.id == y.id) (side y == id) ∙ ap (λ b. reserves side facts id y && not b) (==_swap x.id y.id)
-    where
-      swap : (a n s : Bool) → ((a && not n) && s) ≡ ((a && s) && not n)
-      swap true true true = refl
-      swap true true false = refl
-      swap true false true = refl
-      swap true false false = refl
-      swap false n s = refl
+  reserves-after side id y = grind (arith, reserving-after y, ==_swap x.id y.id)
 
   reserved-after : (side : Transfer → ℕ) (id : ℕ) → amounts (reserves side facts id) facts.transfers ≡ amounts (reserves side after id) facts.transfers + (if side x == id then x.amount else 0)
   reserved-after side id =
@@ -129,67 +78,60 @@ module _ (facts : Facts) (x : Transfer) (place : ℕ) (at : slice_get facts.tran
   }
 
   row-other : (y : Transfer) → (y.id == x.id) ≡ false → row_in after y ≡ row_in facts y
-  row-other y apart =
-      let e : list_any (λ k. k == y.id) expired ≡ is_expired facts y.id = more y.id ∙ ap (λ b. is_expired facts y.id || b) (==_swap x.id y.id ∙ apart) ∙ or_false (is_expired facts y.id) in
-      λ i. record { transfer = y; status = if is_pending y then Some (if is_posted facts y.id then Posted else if is_voided facts y.id then Voided else if e i then Expired else Pending) else None }
-
-  open-one : (p r e : Bool) → (p && not r && not e) ≡ true → (p ≡ true) × (r ≡ false)
-  open-one true false e h = (refl, refl)
-  open-one true true e h = cc
-  open-one false r e h = cc
+  row-other y apart = grind (arith, more y.id, ==_swap x.id y.id)
 
   row-expired : record (row_in facts x) { status = Some Expired } ≡ row_in after x
-  row-expired =
-      let o = open-one (is_pending x) (is_resolved facts x.id) (is_expired facts x.id) reserving in
-      let both : (is_posted facts x.id || is_voided facts x.id) ≡ false = sym (resolved_either x.id facts.transfers) ∙ o.1 in
-      let status : status_of after x.id ≡ Expired = cc (or-left (is_posted facts x.id) (is_voided facts x.id) both, or-right (is_posted facts x.id) (is_voided facts x.id) both, more x.id, eq-eqb x.id x.id refl, or_true (is_expired facts x.id)) in
-      ap (λ s. record { transfer = x; status = Some s }) (sym status) ∙ ap (λ b. record { transfer = x; status = if b then Some (status_of after x.id) else None }) (sym o.0)
-    where
-      or_true : (b : Bool) → (b || true) ≡ true
-      or_true true = refl
-      or_true false = refl
+  row-expired = grind (arith, nat_tests, reserving, resolved_either x.id facts.transfers, more x.id)
 
   pub rows-after : (entries : List (ℕ × Row)) → entries ≡ transfer_rows facts facts.transfers → IsDistinct nat_eq (keys_of entries) → set_value_at entries place (record (row_in facts x) { status = Some Expired }) ≡ transfer_rows after facts.transfers
   rows-after entries is apart =
       ap (λ es. set_value_at es place (record (row_in facts x) { status = Some Expired })) is ∙ ap (set_value_at (transfer_rows facts facts.transfers) place) row-expired
       ∙ rows-set (λ (t : Transfer). t.id) (row_in facts) (row_in after) facts.transfers place x at (rw is at apart) row-other
 
-  pub expects-after : (m p : ℕ) → (not (same_pair (expires_at x) place m p) && expects facts [] m p) ≡ expects after [] m p
-  expects-after m p = by (slice_get facts.transfers p) refl
+  -- ---- what it does to sound facts and to the index
+
+  same : (p : ℕ) (y : Transfer) → slice_get facts.transfers p ≡ Some y → (x.id == y.id) ≡ true → x ≡ y
+  same p y at' is = one-transfer facts.transfers place p x y lawful.distinct at at' is
+
+  expects-after : (m p : ℕ) → expects after m p ≡ true → (expects facts m p ≡ true) × ((place == p) ≡ false)
+  expects-after m p has = by (slice_get facts.transfers p) refl has
     where
-      none : (b : Bool) → (not b && false) ≡ false
-      none true = refl
-      none false = refl
-
-      at-it : (t e r : Bool) → (not (e && true) && ((t && e) && (r || false))) ≡ ((t && e) && ((r && not true) || false))
-      at-it true true true = refl
-      at-it true true false = refl
-      at-it true false r = refl
-      at-it false true r = refl
-      at-it false false r = refl
-
-      elsewhere : (e q r : Bool) → (not (e && false) && (q && (r || false))) ≡ (q && ((r && not false) || false))
-      elsewhere true true true = refl
-      elsewhere true true false = refl
-      elsewhere true false r = refl
-      elsewhere false true true = refl
-      elsewhere false true false = refl
-      elsewhere false false r = refl
-
-      here : (y : Transfer) (b : Bool) → slice_get facts.transfers p ≡ Some y → (place == p) ≡ b →
-          (not ((expires_at x == m) && b) && ((is_timed y && (expires_at y == m)) && (is_reserving facts y || false))) ≡ ((is_timed y && (expires_at y == m)) && ((is_reserving facts y && not (x.id == y.id)) || false))
-      here y true at' is =
-          let same : x ≡ y = cc (at, ap (slice_get facts.transfers) (eqb-true place p is), at') in
-          subst (λ z. (not ((expires_at x == m) && true) && ((is_timed z && (expires_at z == m)) && (is_reserving facts z || false))) ≡ ((is_timed z && (expires_at z == m)) && ((is_reserving facts z && not (x.id == z.id)) || false))) same
-          (at-it (is_timed x) (expires_at x == m) (is_reserving facts x) ∙ ap (λ b. (is_timed x && (expires_at x == m)) && ((is_reserving facts x && not b) || false)) (sym (eq-eqb x.id x.id refl)))
-      here y false at' is =
-          let differ = apart y at' (x.id == y.id) refl is in
-          elsewhere (expires_at x == m) (is_timed y && (expires_at y == m)) (is_reserving facts y) ∙ ap (λ b. (is_timed y && (expires_at y == m)) && ((is_reserving facts y && not b) || false)) (sym differ)
+      by : (o : Option Transfer) → slice_get facts.transfers p ≡ o → (is_pair_of m o && reserves_at after o) ≡ true → ((is_pair_of m o && reserves_at facts o) ≡ true) × ((place == p) ≡ false)
+      by None at' h = grind arith
+      by (Some y) at' h = (grind (arith, reserving-after y), elsewhere (place == p) refl)
         where
-          apart : (y : Transfer) → slice_get facts.transfers p ≡ Some y → (b : Bool) → (x.id == y.id) ≡ b → (place == p) ≡ false → (x.id == y.id) ≡ false
-          apart y at' false e is = e
-          apart y at' true e is = let no : true ≡ false = sym (one-place facts.transfers place p x y lawful.distinct at at' e) ∙ is in cc
+          elsewhere : (b : Bool) → (place == p) ≡ b → b ≡ false
+          elsewhere false is = refl
+          elsewhere true is =
+              let here : x ≡ y = cc (at, at', ap (slice_get facts.transfers) (eqb-true place p is)) in
+              grind (arith, nat_tests, reserving-after y, here)
 
-      by : (o : Option Transfer) → slice_get facts.transfers p ≡ o → (not (same_pair (expires_at x) place m p) && expects_of facts [] m p o) ≡ expects_of after [] m p o
-      by None at' = none (same_pair (expires_at x) place m p)
-      by (Some y) at' = here y (place == p) at' refl ∙ ap (λ b. (is_timed y && (expires_at y == m)) && (b || false)) (sym (reserving-after y))
+  pub sound-after : (indexed next : ℕ → ℕ → Bool) → ((m p : ℕ) → next m p ≡ (not (same_pair (expires_at x) place m p) && indexed m p)) → IsSound indexed facts → IsSound next after
+  sound-after indexed next is sound = record {
+    lawful = lawful-after;
+    grounded = sound.grounded;
+    made = sound.made;
+    expiries = record {
+      ordered = ap (map (λ (t : Transfer). t.id)) (filter_agree (λ (t : Transfer). is_expired facts t.id || (x.id == t.id)) (λ (t : Transfer). is_expired after t.id) (λ t. sym (more t.id)) facts.transfers);
+      open_ones = λ p y at' expired. by (x.id == y.id) p refl y at' (sym (more y.id) ∙ expired) (sound.expiries.open_ones p y at') (same p y at');
+    };
+    paired = λ m p has. grind (arith, is m p, expects-after m p has, sound.paired m p);
+  }
+    where
+      by : (b : Bool) (p : ℕ) {c : Bool} → c ≡ b → (y : Transfer) → slice_get facts.transfers p ≡ Some y → (is_expired facts y.id || c) ≡ true →
+          (is_expired facts y.id ≡ true → (is_pending y ≡ true) × (is_resolved facts y.id ≡ false)) → (c ≡ true → x ≡ y) → (is_pending y ≡ true) × (is_resolved facts y.id ≡ false)
+      by true p e y at' h old one = subst (λ z. (is_pending z ≡ true) × (is_resolved facts z.id ≡ false)) (one e) (grind (arith, reserving))
+      by false p e y at' h old one = old (grind (arith, h, e))
+
+  -- ---- and to what is due
+
+  pub due-after : (clock : ℕ) → is_due clock x ≡ true → expire_due clock after ≡ expire_due clock facts
+  due-after clock due =
+      λ i. record facts { expired = map (λ (t : Transfer). t.id) (filter-at (expires clock after) (expires clock facts) facts.transfers each i) }
+    where
+      each : (p : ℕ) (y : Transfer) → slice_get facts.transfers p ≡ Some y → expires clock after y ≡ expires clock facts y
+      each p y at' = by (x.id == y.id) refl
+        where
+          by : (b : Bool) → (x.id == y.id) ≡ b → expires clock after y ≡ expires clock facts y
+          by true is = let one = same p y at' is in grind (arith, more y.id, reserving-after y, reserving, due, one)
+          by false is = grind (arith, more y.id, reserving-after y, is)

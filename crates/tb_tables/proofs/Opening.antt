@@ -1,9 +1,9 @@
 -- Accounts and failed ids, added and taken back.
-use Rattle.std.proofs.Common.{refl, sym, ap, subst, ◌∙◌, ◌≡◌, ℕ, ◌-◌, Bool, true, false, cond, List, [], ◌∷◌, ◌++◌, map, take, length, filter, sum_by, slice_get, zero, suc}
-use Rattle.std.specs.Prelude.{if◌then◌else◌, ◌==◌, ◌&&◌, ◌||◌, Some, None, find}
+use Rattle.std.proofs.Common.{arith, refl, sym, ap, subst, ◌∙◌, ◌≡◌, ℕ, ◌-◌, Bool, true, false, List, [], ◌∷◌, ◌++◌, map, take, length}
+use Rattle.std.specs.Prelude.{◌==◌, ◌&&◌, None, find}
 use Rattle.std.specs.List.{AllByRecursion}
-use Rattle.std.proofs.lemmas.Bool.{eqb-true}
-use Rattle.std.proofs.lemmas.List.{map-append, length-map}
+use Rattle.std.proofs.lemmas.Bool.Decides.{nat_tests}
+use Rattle.std.proofs.lemmas.List.{map-append, length-map, take-map}
 use Rattle.tb_layout.specs.declared.account.Account.{Account as AccountRecord}
 use Rattle.tb_layout.specs.declared.transfer.Transfer.{Transfer as TransferRecord}
 use Rattle.tb_tables.specs.Facts.{Facts, account_with, add_account, add_failed}
@@ -11,47 +11,31 @@ use Rattle.tb_tables.specs.Status.{is_reserving}
 use Rattle.tb_tables.specs.Balances.{is_posting}
 use Rattle.tb_tables.specs.Conditions.{HasNoBalances}
 use Rattle.tb_tables.specs.History.{with_change}
-use Rattle.tb_tables.specs.Lawful.{AreLawful}
-use Rattle.tb_tables.specs.Changes.{Lists, facts_of, without_last, before, history_of}
+use Rattle.tb_tables.specs.Changes.{without_last, before}
 use Rattle.tb_tables.specs.Sums.{sums_of, with_sums, account_rows}
-use Rattle.tb_tables.specs.Kept.{Stored, account_made, lists_of, resolves_at, is_resolved_at, expects_of, expects, has_account, IsGrounded, AreGrounded, AreUndoable, AreKept, IsKept}
+use Rattle.tb_tables.specs.Kept.{Stored, facts_of, history_in, has_account, IsGrounded, AreGrounded, AreHeld, AreUndoable, IsKept}
 use Rattle.tb_tables.specs.declared.places.Places.{Places}
 use Rattle.tb_tables.specs.declared.change.Change.{Change}
 use Rattle.tb_tables.specs.declared.change.Change.TheVariants.{Account, Failed}
 use Rattle.tb_tables.proofs.Sums.{amounts}
-use Rattle.tb_tables.proofs.Laws.{or_false}
 use Rattle.tb_tables.proofs.Grounding.{grounded_account}
-use Rattle.tb_tables.proofs.Expecting.{resolved-push, expects-same}
-use Rattle.tb_tables.proofs.Keeping.{undoable-push, undoable-pop}
-use Rattle.tb_tables.proofs.Histories.{history_of-push, history_of-pop, lawful_push, lawful_pop, without_last-push}
+use Rattle.tb_tables.specs.declared.row.Row.{Row}
+use Rattle.tb_tables.proofs.Keeping.{keeps, undoable-push, undoable-pop}
+use Rattle.tb_tables.proofs.Histories.{all_push, history_of-push, history_of-pop, without_last-push}
 
 -- ---- an account that is new has no balances
 
 amounts-none : (test : TransferRecord → Bool) (side : TransferRecord → ℕ) (id : ℕ) (xs : List TransferRecord) → AllByRecursion (λ x. (side x == id) ≡ false) xs → amounts (λ x. test x && (side x == id)) xs ≡ 0
 amounts-none test side id [] all = refl
-amounts-none test side id (x ∷ xs) all =
-    ap (λ b. sum_by (λ (t : TransferRecord). t.amount) (if (test x && b) then x ∷ filter (λ y. test y && (side y == id)) xs else filter (λ y. test y && (side y == id)) xs)) all.0
-    ∙ by (test x) (amounts-none test side id xs all.1)
-  where
-    by : (b : Bool) → amounts (λ y. test y && (side y == id)) xs ≡ 0 → sum_by (λ (t : TransferRecord). t.amount) (if (b && false) then x ∷ filter (λ y. test y && (side y == id)) xs else filter (λ y. test y && (side y == id)) xs) ≡ 0
-    by true h = h
-    by false h = h
+amounts-none test side id (x ∷ xs) all = grind (arith, all.0, amounts-none test side id xs all.1)
 
 none-there : (id : ℕ) (accounts : List AccountRecord) → find (λ (a : AccountRecord). a.id == id) accounts ≡ None → has_account id accounts ≡ false
 none-there id [] e = refl
-none-there id (x ∷ xs) e = by (x.id == id) (none-there id xs) e
-  where
-    by : (b : Bool) → (find (λ (a : AccountRecord). a.id == id) xs ≡ None → has_account id xs ≡ false) → cond b (Some x) (find (λ (a : AccountRecord). a.id == id) xs) ≡ None → (b || has_account id xs) ≡ false
-    by true rest e = cc
-    by false rest e = rest e
+none-there id (x ∷ xs) e = grind (arith, none-there id xs)
 
 module _ (facts : Facts) (grounded : AreGrounded facts) (account : AccountRecord) (fresh : account_with facts account.id ≡ None) (none : HasNoBalances account) where
   differs : (side : TransferRecord → ℕ) (x : TransferRecord) → has_account (side x) facts.accounts ≡ true → (side x == account.id) ≡ false
-  differs side x there = by (side x == account.id) refl
-    where
-      by : (b : Bool) → (side x == account.id) ≡ b → b ≡ false
-      by false e = refl
-      by true e = let no : true ≡ false = sym there ∙ ap (λ id. has_account id facts.accounts) (eqb-true (side x) account.id e) ∙ none-there account.id facts.accounts fresh in cc
+  differs side x there = grind (arith, nat_tests, none-there account.id facts.accounts fresh)
 
   debits-differ : (xs : List TransferRecord) → AllByRecursion (IsGrounded facts.accounts facts.transfers) xs → AllByRecursion (λ x. (x.debit_account_id == account.id) ≡ false) xs
   debits-differ [] all = tt
@@ -72,55 +56,60 @@ module _ (facts : Facts) (grounded : AreGrounded facts) (account : AccountRecord
       let cpo = none.credits_posted ∙ sym (amounts-none is_posting (λ x. x.credit_account_id) account.id facts.transfers credits) in
       λ i. record account { debits_pending = dp i; debits_posted = dpo i; credits_pending = cp i; credits_posted = cpo i }
 
-  made-new : account_made (account.id, account) ≡ account
-  made-new = λ i. record account { debits_pending = sym none.debits_pending i; debits_posted = sym none.debits_posted i; credits_pending = sym none.credits_pending i; credits_posted = sym none.credits_posted i }
-
--- a change that names no transfer leaves what the index has
-expects-kept : (facts new : Facts) (changes : List (Change Places)) (change : Change Places) → new.transfers ≡ facts.transfers → ((y : TransferRecord) → is_reserving new y ≡ is_reserving facts y) →
-    ((place : ℕ) → resolves_at place change ≡ false) → (moment place : ℕ) → expects new (changes ++ change ∷ []) moment place ≡ expects facts changes moment place
-expects-kept facts new changes change same reserve none moment place =
-    ap (λ ts. expects_of new (changes ++ change ∷ []) moment place (slice_get ts place)) same
-    ∙ expects-same facts new changes (changes ++ change ∷ []) moment place (slice_get facts.transfers place) reserve
-    (resolved-push place changes change ∙ ap (λ b. is_resolved_at place changes || b) (none place) ∙ or_false (is_resolved_at place changes))
+-- the failed ids are nothing to what the maps hold
+held-failed : {accounts : List (ℕ × AccountRecord)} {transfers : List (ℕ × Row)} {indexed : ℕ → ℕ → Bool} (facts : Facts) (failed : List ℕ) → AreHeld accounts transfers indexed facts → AreHeld accounts transfers indexed (record facts { failed = failed })
+held-failed facts failed held =
+    let s = held.sound in
+    record {
+      hold = record { accounts_are = held.hold.accounts_are; transfers_are = held.hold.transfers_are };
+      timed = held.timed;
+      sound = record {
+        lawful = record { distinct = s.lawful.distinct; debits_fit = s.lawful.debits_fit; credits_fit = s.lawful.credits_fit };
+        grounded = s.grounded;
+        made = s.made;
+        expiries = record { ordered = s.expiries.ordered; open_ones = s.expiries.open_ones };
+        paired = s.paired;
+      };
+    }
 
 module _ (old : Stored) (kept : IsKept old) where
-  facts : Facts
-  facts = facts_of (lists_of old)
-
   -- ---- one account more
 
-  module _ (account : AccountRecord) (fresh : account_with (facts_of (lists_of old)) account.id ≡ None) (none : HasNoBalances account) where
+  module _ (account : AccountRecord) (fresh : account_with (facts_of old) account.id ≡ None) (none : HasNoBalances account) where
     abbrev pub with_account : Stored
     with_account = record old { accounts = old.accounts ++ (account.id, account) ∷ []; changes = old.changes ++ Account ∷ [] }
 
-    abbrev lists_with : Lists
-    lists_with = record (lists_of old) { accounts = (lists_of old).accounts ++ account ∷ [] }
+    abbrev facts_with : Facts
+    facts_with = add_account (facts_of old) account
 
-    lists-are : lists_of with_account ≡ lists_with
-    lists-are = ap (λ accounts. record (lists_of old) { accounts = accounts })
-        (map-append account_made old.accounts ((account.id, account) ∷ []) ∙ ap (λ a. map account_made old.accounts ++ a ∷ []) (made-new (facts_of (lists_of old)) kept.grounded account fresh none))
+    back : before {T = Places} Account facts_with ≡ facts_of old
+    back = ap (λ accounts. record (facts_of old) { accounts = accounts }) (without_last-push (facts_of old).accounts account)
 
-    back : before {T = Places} Account lists_with ≡ lists_of old
-    back = ap (λ accounts. record (lists_of old) { accounts = accounts }) (without_last-push (lists_of old).accounts account)
-
-    rows-are : with_account.accounts ≡ account_rows (sums_of (facts_of (lists_of old))) ((lists_of old).accounts ++ account ∷ [])
+    rows-are : with_account.accounts ≡ account_rows (sums_of (facts_of old)) facts_with.accounts
     rows-are =
-        ap (λ es. es ++ (account.id, account) ∷ []) kept.accounts
-        ∙ ap (λ a. account_rows (sums_of (facts_of (lists_of old))) (lists_of old).accounts ++ (account.id, a) ∷ []) (new-account (facts_of (lists_of old)) kept.grounded account fresh none)
-        ∙ sym (map-append (λ (a : AccountRecord). (a.id, with_sums (sums_of (facts_of (lists_of old))) a)) (lists_of old).accounts (account ∷ []))
+        ap (λ es. es ++ (account.id, account) ∷ []) kept.held.hold.accounts_are
+        ∙ ap (λ a. account_rows (sums_of (facts_of old)) (facts_of old).accounts ++ (account.id, a) ∷ []) (new-account (facts_of old) kept.held.sound.grounded account fresh none)
+        ∙ sym (map-append (λ (a : AccountRecord). (a.id, with_sums (sums_of (facts_of old)) a)) (facts_of old).accounts (account ∷ []))
 
-    pub kept-account : IsKept with_account × (history_of with_account.changes (lists_of with_account) ≡ with_change (history_of old.changes (lists_of old)) (add_account (facts_of (lists_of old)) account))
+    held : AreHeld with_account.accounts old.transfers old.is_indexed facts_with
+    held =
+        let s = kept.held.sound in
+        record {
+          hold = record { accounts_are = rows-are; transfers_are = kept.held.hold.transfers_are };
+          timed = kept.held.timed;
+          sound = record {
+            lawful = record { distinct = s.lawful.distinct; debits_fit = s.lawful.debits_fit; credits_fit = s.lawful.credits_fit };
+            grounded = grounded_account (facts_of old) account s.grounded;
+            made = all_push HasNoBalances (facts_of old).accounts account s.made none;
+            expiries = record { ordered = s.expiries.ordered; open_ones = s.expiries.open_ones };
+            paired = s.paired;
+          };
+        }
+
+    pub kept-account : IsKept with_account × (history_in with_account.changes (facts_of with_account) ≡ with_change (history_in old.changes (facts_of old)) (add_account (facts_of old) account))
     kept-account =
-        let lawful = kept.lawful.now in
-        let as_lists : AreKept with_account lists_with = record {
-          accounts = rows-are;
-          transfers = kept.transfers;
-          indexed = λ moment place. kept.indexed moment place ∙ sym (expects-kept (facts_of (lists_of old)) (facts_of lists_with) old.changes Account refl (λ y. refl) (λ p. refl) moment place);
-          grounded = grounded_account (facts_of (lists_of old)) account kept.grounded;
-          undoable = undoable-push old.changes Account (lists_of old) lists_with back (subst (λ ls. AreGrounded (facts_of ls)) (sym back) kept.grounded) kept.undoable;
-          lawful = lawful_push old.changes Account (lists_of old) lists_with back (record { distinct = lawful.distinct; debits_fit = lawful.debits_fit; credits_fit = lawful.credits_fit }) kept.lawful;
-        } in
-        (subst (AreKept with_account) (sym lists-are) as_lists, ap (history_of with_account.changes) lists-are ∙ history_of-push old.changes Account (lists_of old) lists_with back)
+        let k = keeps with_account facts_with refl held (undoable-push old.is_indexed old.changes Account (facts_of old) facts_with back kept.held.sound tt kept.undoable) in
+        (k.0, k.1 ∙ history_of-push before (λ (now : Facts). now) old.changes Account (facts_of old) facts_with back)
 
   -- ---- one failed id more
 
@@ -128,67 +117,42 @@ module _ (old : Stored) (kept : IsKept old) where
     abbrev pub with_failed : Stored
     with_failed = record old { failed = old.failed ++ id ∷ []; changes = old.changes ++ Failed ∷ [] }
 
-    back-failed : before {T = Places} Failed (lists_of with_failed) ≡ lists_of old
-    back-failed = ap (λ failed. record (lists_of old) { failed = failed }) (without_last-push old.failed id)
+    back-failed : before {T = Places} Failed (facts_of with_failed) ≡ facts_of old
+    back-failed = ap (λ failed. record (facts_of old) { failed = failed }) (without_last-push old.failed id)
 
-    pub kept-failed : IsKept with_failed × (history_of with_failed.changes (lists_of with_failed) ≡ with_change (history_of old.changes (lists_of old)) (add_failed (facts_of (lists_of old)) id))
-    kept-failed =
-        let lawful = kept.lawful.now in (
-          record {
-            accounts = kept.accounts;
-            transfers = kept.transfers;
-            indexed = λ moment place. kept.indexed moment place ∙ sym (expects-kept (facts_of (lists_of old)) (facts_of (lists_of with_failed)) old.changes Failed refl (λ y. refl) (λ p. refl) moment place);
-            grounded = kept.grounded;
-            undoable = undoable-push old.changes Failed (lists_of old) (lists_of with_failed) back-failed (subst (λ ls. AreGrounded (facts_of ls)) (sym back-failed) kept.grounded) kept.undoable;
-            lawful = lawful_push old.changes Failed (lists_of old) (lists_of with_failed) back-failed (record { distinct = lawful.distinct; debits_fit = lawful.debits_fit; credits_fit = lawful.credits_fit }) kept.lawful;
-          },
-          history_of-push old.changes Failed (lists_of old) (lists_of with_failed) back-failed,
-        )
+    pub kept-failed : IsKept with_failed × (history_in with_failed.changes (facts_of with_failed) ≡ with_change (history_in old.changes (facts_of old)) (add_failed (facts_of old) id))
+    kept-failed = (
+      record {
+        held = held-failed (facts_of old) (add_failed (facts_of old) id).failed kept.held;
+        undoable = undoable-push old.is_indexed old.changes Failed (facts_of old) (facts_of with_failed) back-failed kept.held.sound tt kept.undoable;
+      },
+      history_of-push before (λ (now : Facts). now) old.changes Failed (facts_of old) (facts_of with_failed) back-failed,
+    )
 
   -- ---- taken back
 
   map-without_last : {X Y : Type 0} (f : X → Y) (xs : List X) → map f (without_last xs) ≡ without_last (map f xs)
-  map-without_last {X} {Y} f xs = map-take (length xs - 1) xs ∙ ap (λ n. take (n - 1) (map f xs)) (sym (length-map xs f))
-    where
-      map-take : (n : ℕ) (ys : List X) → map f (take n ys) ≡ take n (map f ys)
-      map-take zero ys = refl
-      map-take (suc n) [] = refl
-      map-take (suc n) (y ∷ ys) = ap (λ zs. f y ∷ zs) (map-take n ys)
+  map-without_last f xs = sym (take-map f (length xs - 1) xs) ∙ ap (λ n. take (n - 1) (map f xs)) (sym (length-map xs f))
 
   module _ (changes : List (Change Places)) where
     abbrev pub without_account : Stored
     without_account = record old { accounts = without_last old.accounts; changes = changes }
 
-    pub kept-unaccount : old.changes ≡ changes ++ Account ∷ [] → IsKept without_account × (with_change (history_of changes (lists_of without_account)) (facts_of (lists_of old)) ≡ history_of old.changes (lists_of old))
+    pub kept-unaccount : old.changes ≡ changes ++ Account ∷ [] → IsKept without_account × (with_change (history_in changes (facts_of without_account)) (facts_of old) ≡ history_in old.changes (facts_of old))
     kept-unaccount popped =
-        let lists = before {T = Places} Account (lists_of old) in
-        let stands : lists_of without_account ≡ lists = ap (λ accounts. record (lists_of old) { accounts = accounts }) (map-without_last account_made old.accounts) in
-        let undoable = undoable-pop changes Account (lists_of old) (subst (λ cs. AreUndoable cs (lists_of old)) popped kept.undoable) in
-        let as_lists : AreKept without_account lists = record {
-          accounts = ap without_last kept.accounts ∙ sym (map-without_last (λ (a : AccountRecord). (a.id, with_sums (sums_of (facts_of (lists_of old))) a)) (lists_of old).accounts);
-          transfers = kept.transfers;
-          indexed = λ moment place. kept.indexed moment place ∙ ap (λ cs. expects (facts_of (lists_of old)) cs moment place) popped ∙ expects-kept (facts_of lists) (facts_of (lists_of old)) changes Account refl (λ y. refl) (λ p. refl) moment place;
-          grounded = undoable.1;
-          undoable = undoable.0;
-          lawful = lawful_pop changes Account (lists_of old) (subst (λ cs. AreLawful (history_of cs (lists_of old))) popped kept.lawful);
-        } in (
-          subst (AreKept without_account) (sym stands) as_lists,
-          ap (λ ls. with_change (history_of changes ls) (facts_of (lists_of old))) stands ∙ history_of-pop changes Account (lists_of old) ∙ ap (λ cs. history_of cs (lists_of old)) (sym popped),
-        )
+        let now = before {T = Places} Account (facts_of old) in
+        let undoable = undoable-pop old.is_indexed changes Account (facts_of old) (subst (λ cs. AreUndoable old.is_indexed cs (facts_of old)) popped kept.undoable) in
+        let accounts = ap without_last kept.held.hold.accounts_are ∙ sym (map-without_last (λ (a : AccountRecord). (a.id, with_sums (sums_of (facts_of old)) a)) (facts_of old).accounts) in
+        let held : AreHeld without_account.accounts old.transfers old.is_indexed now = record { hold = record { accounts_are = accounts; transfers_are = kept.held.hold.transfers_are }; timed = kept.held.timed; sound = undoable.1.0 } in
+        let k = keeps without_account now refl held undoable.0 in
+        (k.0, ap (λ h. with_change h (facts_of old)) k.1 ∙ history_of-pop before (λ (now : Facts). now) changes Account (facts_of old) ∙ ap (λ cs. history_in cs (facts_of old)) (sym popped))
 
     abbrev pub without_failed : Stored
     without_failed = record old { failed = without_last old.failed; changes = changes }
 
-    pub kept-unfailed : old.changes ≡ changes ++ Failed ∷ [] → IsKept without_failed × (with_change (history_of changes (lists_of without_failed)) (facts_of (lists_of old)) ≡ history_of old.changes (lists_of old))
+    pub kept-unfailed : old.changes ≡ changes ++ Failed ∷ [] → IsKept without_failed × (with_change (history_in changes (facts_of without_failed)) (facts_of old) ≡ history_in old.changes (facts_of old))
     kept-unfailed popped =
-        let undoable = undoable-pop changes Failed (lists_of old) (subst (λ cs. AreUndoable cs (lists_of old)) popped kept.undoable) in (
-          record {
-            accounts = kept.accounts;
-            transfers = kept.transfers;
-            indexed = λ moment place. kept.indexed moment place ∙ ap (λ cs. expects (facts_of (lists_of old)) cs moment place) popped ∙ expects-kept (facts_of (lists_of without_failed)) (facts_of (lists_of old)) changes Failed refl (λ y. refl) (λ p. refl) moment place;
-            grounded = undoable.1;
-            undoable = undoable.0;
-            lawful = lawful_pop changes Failed (lists_of old) (subst (λ cs. AreLawful (history_of cs (lists_of old))) popped kept.lawful);
-          },
-          history_of-pop changes Failed (lists_of old) ∙ ap (λ cs. history_of cs (lists_of old)) (sym popped),
+        let undoable = undoable-pop old.is_indexed changes Failed (facts_of old) (subst (λ cs. AreUndoable old.is_indexed cs (facts_of old)) popped kept.undoable) in (
+          record { held = held-failed (facts_of old) (without_last old.failed) kept.held; undoable = undoable.0 },
+          history_of-pop before (λ (now : Facts). now) changes Failed (facts_of old) ∙ ap (λ cs. history_in cs (facts_of old)) (sym popped),
         )

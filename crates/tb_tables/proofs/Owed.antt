@@ -1,5 +1,5 @@
 -- What look-ups tell of what a caller owes.
-use Rattle.std.proofs.Common.{refl, sym, ap, ◌∙◌, ◌≡◌, ◌+◌, ◌≤◌, ℕ, Bool, true, false, not, Option, Some, None}
+use Rattle.std.proofs.Common.{arith, refl, sym, ap, ◌∙◌, ◌≡◌, ◌+◌, ◌≤◌, ℕ, Bool, true, false, not, Option, Some, None}
 use mathlib.Core.Bool.{beq}
 use Rattle.std.specs.Prelude.{if◌then◌else◌}
 use Rattle.std.specs.Option.{option_map}
@@ -32,14 +32,10 @@ has_sums facts id account is = by (account_with facts id) refl is
         }
 
 pub apart : (a b : Bool) → beq a b ≡ false → a ≡ not b
-apart true true h = cc
-apart true false h = refl
-apart false true h = refl
-apart false false h = cc
+apart a b h = grind arith
 
 still_pending : (facts : Facts) (pending : Transfer) (b : Bool) → b ≡ true → (if b then Some (status_of facts pending.id) else None) ≡ Some Pending → status_of facts pending.id ≡ Pending
-still_pending facts pending true is status = cc
-still_pending facts pending false is status = cc
+still_pending facts pending b is status = grind arith
 
 -- a post or a void of a transfer that is pending still
 pub may_resolve : (facts : Facts) (transfer pending : Transfer) → transfer_with facts transfer.id ≡ None → is_void transfer ≡ not (is_post transfer) → is_pending transfer ≡ false →

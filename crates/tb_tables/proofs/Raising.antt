@@ -1,46 +1,25 @@
 -- A balance of one account raised or lowered among the accounts' rows.
-use Rattle.std.proofs.Common.{refl, sym, ap, ◌∙◌, arith, ◌≡◌, ℕ, ◌+◌, ◌-◌, ◌<◌, ◌≤◌, ◌^◌, Bool, true, false, List, nat_eq, slice_get, Some}
-use Rattle.std.specs.Prelude.{◌==◌, if◌then◌else◌}
+use Rattle.std.proofs.Common.{sym, ap, ◌∙◌, arith, ◌≡◌, ℕ, ◌+◌, ◌<◌, ◌≤◌, ◌^◌, Bool, false, List, nat_eq, slice_get, Some}
+use Rattle.std.specs.Prelude.{◌==◌}
 use Rattle.std.specs.Option.{option_map}
 use Rattle.std.specs.List.{IsDistinct}
 use Rattle.std.specs.Map.{keys_of}
-use Rattle.std.proofs.lemmas.Bool.{eq-eqb}
+use Rattle.std.proofs.lemmas.Bool.Decides.{nat_tests}
 use Rattle.indexmap.specs.IndexMap.{set_value_at}
 use Rattle.tb_layout.specs.declared.account.Account.{Account}
-use Rattle.tb_tables.specs.Sums.{Sums, HasRoom, HasAmount, debits_in, credits_in, balance_of, more_at, with_more, raise_balance, lower_balance, with_sums, account_rows}
+use Rattle.tb_tables.specs.Sums.{Sums, HasRoom, HasAmount, debits_in, credits_in, balance_of, with_more, raise_balance, lower_balance, with_sums, account_rows}
 use Rattle.tb_tables.specs.declared.balance.Balance.{Balance}
-use Rattle.tb_tables.specs.declared.balance.Balance.TheVariants.{DebitsPending, DebitsPosted, CreditsPending, CreditsPosted}
-use Rattle.tb_tables.proofs.Laws.{==_swap}
-use Rattle.tb_tables.proofs.Stored.{made-at, rows-set, slice_get-map}
-
-more_here : (id amount : ℕ) (sum : ℕ → ℕ) → more_at id amount sum id ≡ sum id + amount
-more_here id amount sum = ap (λ b. sum id + (if b then amount else 0)) (eq-eqb id id refl)
-
-more_elsewhere : (id amount : ℕ) (sum : ℕ → ℕ) (other : ℕ) → (other == id) ≡ false → more_at id amount sum other ≡ sum other
-more_elsewhere id amount sum other apart =
-    let e : (if id == other then amount else 0) ≡ 0 = ap (λ b. if b then amount else 0) (==_swap id other ∙ apart) in
-    omega arith
+use Rattle.std.proofs.lemmas.Option.{slice_get-map}
+use Rattle.tb_tables.proofs.Stored.{made-at, rows-set}
 
 raised-here : (balance : Balance) (amount : ℕ) (sums : Sums) (account : Account) → with_sums (with_more balance account.id amount sums) account ≡ raise_balance balance amount (with_sums sums account)
-raised-here DebitsPending amount sums account = ap (λ n. record (with_sums sums account) { debits_pending = n }) (more_here account.id amount sums.debits_pending)
-raised-here DebitsPosted amount sums account = ap (λ n. record (with_sums sums account) { debits_posted = n }) (more_here account.id amount sums.debits_posted)
-raised-here CreditsPending amount sums account = ap (λ n. record (with_sums sums account) { credits_pending = n }) (more_here account.id amount sums.credits_pending)
-raised-here CreditsPosted amount sums account = ap (λ n. record (with_sums sums account) { credits_posted = n }) (more_here account.id amount sums.credits_posted)
+raised-here balance amount sums account = grind (arith, nat_tests)
 
 raised-elsewhere : (balance : Balance) (id amount : ℕ) (sums : Sums) (account : Account) → (account.id == id) ≡ false → with_sums (with_more balance id amount sums) account ≡ with_sums sums account
-raised-elsewhere DebitsPending id amount sums account apart = ap (λ n. record (with_sums sums account) { debits_pending = n }) (more_elsewhere id amount sums.debits_pending account.id apart)
-raised-elsewhere DebitsPosted id amount sums account apart = ap (λ n. record (with_sums sums account) { debits_posted = n }) (more_elsewhere id amount sums.debits_posted account.id apart)
-raised-elsewhere CreditsPending id amount sums account apart = ap (λ n. record (with_sums sums account) { credits_pending = n }) (more_elsewhere id amount sums.credits_pending account.id apart)
-raised-elsewhere CreditsPosted id amount sums account apart = ap (λ n. record (with_sums sums account) { credits_posted = n }) (more_elsewhere id amount sums.credits_posted account.id apart)
-
-plus_minus : (m n : ℕ) → m + n - n ≡ m
-plus_minus m n = omega arith
+raised-elsewhere balance id amount sums account apart = grind (arith, nat_tests, apart)
 
 lowered-raised : (balance : Balance) (amount : ℕ) (account : Account) → lower_balance balance amount (raise_balance balance amount account) ≡ account
-lowered-raised DebitsPending amount account = ap (λ n. record account { debits_pending = n }) (plus_minus account.debits_pending amount)
-lowered-raised DebitsPosted amount account = ap (λ n. record account { debits_posted = n }) (plus_minus account.debits_posted amount)
-lowered-raised CreditsPending amount account = ap (λ n. record account { credits_pending = n }) (plus_minus account.credits_pending amount)
-lowered-raised CreditsPosted amount account = ap (λ n. record account { credits_posted = n }) (plus_minus account.credits_posted amount)
+lowered-raised balance amount account = grind arith
 
 pub row-is : (sums : Sums) (accounts : List Account) (place : ℕ) (account : Account) (row : ℕ × Account) → slice_get accounts place ≡ Some account → slice_get (account_rows sums accounts) place ≡ Some row → row.1 ≡ with_sums sums account
 row-is sums accounts place account row at there =
@@ -77,10 +56,7 @@ has_room sums accounts place account balance amount entries at is fits =
 
 -- a raised balance contains what it was raised by
 contains : (balance : Balance) (amount : ℕ) (sums : Sums) (account : Account) → amount ≤ balance_of balance (with_sums (with_more balance account.id amount sums) account)
-contains DebitsPending amount sums account = omega (arith, more_here account.id amount sums.debits_pending)
-contains DebitsPosted amount sums account = omega (arith, more_here account.id amount sums.debits_posted)
-contains CreditsPending amount sums account = omega (arith, more_here account.id amount sums.credits_pending)
-contains CreditsPosted amount sums account = omega (arith, more_here account.id amount sums.credits_posted)
+contains balance amount sums account = grind (arith, nat_tests)
 
 pub has_amount : (sums : Sums) (accounts : List Account) (place : ℕ) (account : Account) (balance : Balance) (amount : ℕ) (entries : List (ℕ × Account)) → slice_get accounts place ≡ Some account →
     entries ≡ account_rows (with_more balance account.id amount sums) accounts → HasAmount entries place balance amount
@@ -89,5 +65,4 @@ has_amount sums accounts place account balance amount entries at is =
 
 -- a raised debit leaves the credits
 pub credits-kept : (pending : Bool) (id amount : ℕ) (sums : Sums) (account : Account) → balance_of (credits_in pending) (with_sums (with_more (debits_in pending) id amount sums) account) ≡ balance_of (credits_in pending) (with_sums sums account)
-credits-kept true id amount sums account = refl
-credits-kept false id amount sums account = refl
+credits-kept pending id amount sums account = grind arith

@@ -4,7 +4,7 @@ use Rattle.std.proofs.lemmas.List.{map-append}
 use Rattle.std.proofs.lemmas.List.Elements.{filter-append}
 use Rattle.tb_layout.specs.declared.transfer.Transfer.{Transfer}
 use Rattle.tb_tables.specs.Facts.{add_transfer}
-use Rattle.tb_tables.specs.Changes.{Lists, facts_of, expired_in}
+use Rattle.tb_tables.specs.Plain.{Lists, facts_of, expired_in}
 
 -- a new row, which isn't marked, is one transfer more
 pub facts_of-push : (lists : Lists) (transfer : Transfer) → facts_of (record lists { rows = lists.rows ++ (transfer, false) ∷ [] }) ≡ add_transfer (facts_of lists) transfer

@@ -1,5 +1,5 @@
 -- A transfer stored and taken back: balances, and the status of what it names.
-use Rattle.std.proofs.Common.{refl, sym, ap, subst, ◌∙◌, arith, ◌≡◌, ℕ, ◌+◌, ◌<◌, ◌^◌, Bool, true, false, List, [], ◌∷◌, ◌++◌, nat_eq, slice_get, length, length-append, true≢false, zero, suc}
+use Rattle.std.proofs.Common.{refl, sym, ap, subst, ◌∙◌, arith, ◌≡◌, ℕ, ◌+◌, ◌<◌, ◌^◌, Bool, true, false, List, [], ◌∷◌, ◌++◌, nat_eq, slice_get, length, length-append, append-nil, true≢false, zero, suc}
 use Rattle.std.specs.Prelude.{if◌then◌else◌, ◌==◌, Option, Some, None}
 use Rattle.std.specs.Option.{option_map}
 use Rattle.std.specs.List.{IsDistinct}
@@ -14,9 +14,9 @@ use Rattle.tb_layout.specs.Transfer.{is_pending, is_post}
 use Rattle.tb_tables.specs.Facts.{Facts, add_transfer}
 use Rattle.tb_tables.specs.Status.{status_of, expires_at}
 use Rattle.tb_tables.specs.Conditions.{MayAdd}
-use Rattle.tb_tables.specs.Sums.{sums_of, with_amount, posted_if, account_rows, CanAdd, CanTake}
-use Rattle.tb_tables.specs.Kept.{row_in, transfer_rows, MayPost, MayStore}
-use Rattle.tb_tables.specs.Storing.{Allow, new_row, status_after, IsPushed, IsPopped}
+use Rattle.tb_tables.specs.Sums.{Sums, sums_of, with_amount, posted_if, account_rows, CanAdd, CanTake}
+use Rattle.tb_tables.specs.Kept.{Allow, row_in, transfer_rows, MayPost, MayStore}
+use Rattle.tb_tables.specs.Storing.{new_row, status_after, IsPushed, IsPopped}
 use Rattle.tb_tables.specs.declared.places.Places.{Places}
 use Rattle.tb_tables.specs.declared.row.Row.{Row}
 use Rattle.tb_tables.specs.declared.status.Status.TheVariants.{Pending}
@@ -34,7 +34,7 @@ slice_get-append (z ∷ xs) ys (suc place) x at = slice_get-append xs ys place x
 here : (n m : ℕ) → (if n == n then m else 0) ≡ m
 here n m = ap (λ b. if b then m else 0) (eq-eqb n n refl)
 
-module _ (facts : Facts) (rows : List Account) (t : Transfer) (places : Places) (allow : Allow facts t places rows) where
+module _ (facts : Facts) (t : Transfer) (places : Places) (allow : Allow facts t places) where
   last-row : (entries : List (ℕ × Row)) → entries ≡ transfer_rows (add_transfer facts t) (facts.transfers ++ t ∷ []) → entries ≡ transfer_rows (add_transfer facts t) facts.transfers ++ (t.id, row_in (add_transfer facts t) t) ∷ []
   last-row entries is = is ∙ map-append (λ (x : Transfer). (x.id, row_in (add_transfer facts t) x)) facts.transfers (t ∷ [])
 
@@ -53,126 +53,23 @@ module _ (facts : Facts) (rows : List Account) (t : Transfer) (places : Places) 
       by None may = may.expiry_fits
       by (Some place) may = absurd (true≢false (sym pending ∙ may.may.not_pending))
 
-  -- ---- a post or a void
+  -- an amount can be added where both balances have room for it, and taken out of sums that it was added to
+  adds : (sums : Sums) (entries : List (ℕ × Account)) (kind : Bool) (amount : ℕ) → entries ≡ account_rows sums facts.accounts →
+      (if kind then sums.debits_pending t.debit_account_id else sums.debits_posted t.debit_account_id) + amount < 2 ^ 128 →
+      (if kind then sums.credits_pending t.credit_account_id else sums.credits_posted t.credit_account_id) + amount < 2 ^ 128 → CanAdd entries places kind amount
+  adds sums entries kind amount is debit credit = record {
+    sums = sums;
+    accounts = facts.accounts;
+    debit = t.debit_account_id;
+    credit = t.credit_account_id;
+    are_at = allow.are_at;
+    are = is;
+    debit_fits = grind (arith, allow.are_at.debit_is, debit);
+    credit_fits = grind (arith, allow.are_at.credit_is, credit);
+  }
 
-  module _ (pending : ℕ) (names : places.pending ≡ Some pending) where
-    pub posted : MayPost facts t pending
-    posted = subst (MayStore facts t) names allow.may
-
-    abbrev pub named : Transfer
-    named = posted.may.pending
-
-    named-id : named.id ≡ t.pending_id
-    named-id = found-id (λ (x : Transfer). x.id) t.pending_id facts.transfers named posted.may.named
-
-    new-row : new_row t ≡ row_in facts t
-    new-row =
-        ap (λ b. record { transfer = t; status = if b then Some Pending else None }) posted.may.not_pending
-        ∙ sym (ap (λ b. record { transfer = t; status = if b then Some (status_of facts t.id) else None }) posted.may.not_pending)
-
-    pushed-rows : (entries : List (ℕ × Row)) → entries ≡ transfer_rows facts facts.transfers ++ (t.id, new_row t) ∷ [] → entries ≡ transfer_rows facts (facts.transfers ++ t ∷ [])
-    pushed-rows entries is =
-        is ∙ ap (λ row. transfer_rows facts facts.transfers ++ (t.id, row) ∷ []) new-row
-        ∙ sym (map-append (λ (x : Transfer). (x.id, row_in facts x)) facts.transfers (t ∷ []))
-
-    pub at-place : (fs : Facts) (more : List Transfer) (entries : List (ℕ × Row)) → entries ≡ transfer_rows fs (facts.transfers ++ more) → slice_get entries pending ≡ Some (named.id, row_in fs named)
-    at-place fs more entries is =
-        ap (λ es. slice_get es pending) is ∙ slice_get-map (λ (x : Transfer). (x.id, row_in fs x)) (facts.transfers ++ more) pending
-        ∙ ap (option_map (λ (x : Transfer). (x.id, row_in fs x))) (slice_get-append facts.transfers more pending named posted.pending_at)
-
-    pub at-pushed : (account_entries : List (ℕ × Account)) (entries : List (ℕ × Row)) → IsPushed facts rows t places account_entries entries → slice_get entries pending ≡ Some (named.id, row_in facts named)
-    at-pushed account_entries entries is = at-place facts (t ∷ []) entries (pushed-rows entries is.transfers_are)
-
-    append-none : {X : Type 0} (xs : List X) → xs ≡ xs ++ []
-    append-none [] = refl
-    append-none (x ∷ xs) = ap (λ ys. x ∷ ys) (append-none xs)
-
-    pub at-popped : (account_entries : List (ℕ × Account)) (entries : List (ℕ × Row)) → IsPopped facts rows t places account_entries entries → slice_get entries pending ≡ Some (named.id, row_in (add_transfer facts t) named)
-    at-popped account_entries entries is = at-place (add_transfer facts t) [] entries (is.transfers_are ∙ ap (transfer_rows (add_transfer facts t)) (append-none facts.transfers))
-
-    others : (y : Transfer) → (y.id == named.id) ≡ false → row_in (add_transfer facts t) y ≡ row_in facts y
-    others y apart =
-        let differs : (t.pending_id == y.id) ≡ false = ==_swap t.pending_id y.id ∙ ap (λ k. y.id == k) (sym named-id) ∙ apart in
-        ap (λ s. record { transfer = y; status = if is_pending y then Some s else None }) (status-other facts t posted.may y.id differs)
-
-    row-settled : record (row_in facts named) { status = Some (status_after (is_post t)) } ≡ row_in (add_transfer facts t) named
-    row-settled =
-        ap (λ s. record { transfer = named; status = Some s }) (sym (status-named facts t posted.may) ∙ ap (status_of (add_transfer facts t)) (sym named-id))
-        ∙ ap (λ b. record { transfer = named; status = if b then Some (status_of (add_transfer facts t) named.id) else None }) (sym posted.may.is_pending_one)
-
-    row-open : record (row_in (add_transfer facts t) named) { status = Some Pending } ≡ row_in facts named
-    row-open =
-        ap (λ s. record { transfer = named; status = Some s }) (sym posted.may.unresolved ∙ ap (status_of facts) (sym named-id))
-        ∙ ap (λ b. record { transfer = named; status = if b then Some (status_of facts named.id) else None }) (sym posted.may.is_pending_one)
-
-    -- the status of what it names, set
-    pub rows-settled : (account_entries : List (ℕ × Account)) (entries : List (ℕ × Row)) → IsPushed facts rows t places account_entries entries → IsDistinct nat_eq (keys_of entries) →
-        set_value_at entries pending (record (row_in facts named) { status = Some (status_after (is_post t)) }) ≡ transfer_rows (add_transfer facts t) (facts.transfers ++ t ∷ [])
-    rows-settled account_entries entries pushed apart =
-        let is = pushed-rows entries pushed.transfers_are in
-        ap (λ es. set_value_at es pending (record (row_in facts named) { status = Some (status_after (is_post t)) })) is
-        ∙ ap (set_value_at (transfer_rows facts (facts.transfers ++ t ∷ [])) pending) row-settled
-        ∙ rows-set (λ (x : Transfer). x.id) (row_in facts) (row_in (add_transfer facts t)) (facts.transfers ++ t ∷ []) pending named (slice_get-append facts.transfers (t ∷ []) pending named posted.pending_at) (rw is at apart) others
-
-    -- and set back
-    pub rows-open : (account_entries : List (ℕ × Account)) (entries : List (ℕ × Row)) → IsPopped facts rows t places account_entries entries → IsDistinct nat_eq (keys_of entries) →
-        set_value_at entries pending (record (row_in (add_transfer facts t) named) { status = Some Pending }) ≡ transfer_rows facts facts.transfers
-    rows-open account_entries entries popped apart =
-        let is = popped.transfers_are in
-        ap (λ es. set_value_at es pending (record (row_in (add_transfer facts t) named) { status = Some Pending })) is
-        ∙ ap (set_value_at (transfer_rows (add_transfer facts t) facts.transfers) pending) row-open
-        ∙ rows-set (λ (x : Transfer). x.id) (row_in (add_transfer facts t)) (row_in facts) facts.transfers pending named posted.pending_at (rw is at apart) (λ y apart. sym (others y apart))
-
-    -- what was reserved is among the balances, and so there is room to post it or a part of it
-    pub release-sums : account_rows (sums_of facts) rows ≡ account_rows (with_amount true t.debit_account_id t.credit_account_id named.amount (left facts t posted.may)) rows
-    release-sums = rows-same _ _ rows (sums-release facts t posted.may allow.lawful)
-
-    pub post-sums : account_rows (sums_of (add_transfer facts t)) rows ≡ account_rows (posted_if (is_post t) t.debit_account_id t.credit_account_id t.amount (left facts t posted.may)) rows
-    post-sums = rows-same _ _ rows (sums-post facts t posted.may)
-
-    debits_reserved : (sums_of facts).debits_pending t.debit_account_id ≡ (sums_of (add_transfer facts t)).debits_pending t.debit_account_id + named.amount
-    debits_reserved = reserved-resolve facts t posted.may allow.lawful (λ x. x.debit_account_id) posted.may.same_debit t.debit_account_id ∙ ap (λ n. (sums_of (add_transfer facts t)).debits_pending t.debit_account_id + n) (here t.debit_account_id named.amount)
-
-    credits_reserved : (sums_of facts).credits_pending t.credit_account_id ≡ (sums_of (add_transfer facts t)).credits_pending t.credit_account_id + named.amount
-    credits_reserved = reserved-resolve facts t posted.may allow.lawful (λ x. x.credit_account_id) posted.may.same_credit t.credit_account_id ∙ ap (λ n. (sums_of (add_transfer facts t)).credits_pending t.credit_account_id + n) (here t.credit_account_id named.amount)
-
-    pub can_release : (entries : List (ℕ × Account)) (amount : ℕ) → entries ≡ account_rows (sums_of facts) rows → amount ≡ named.amount → CanTake entries places true amount
-    can_release entries amount is same =
-        rw same (record { sums = left facts t posted.may; accounts = rows; debit = t.debit_account_id; credit = t.credit_account_id; are_at = allow.are_at; are = is ∙ release-sums })
-
-    pub can_post : (entries : List (ℕ × Account)) → entries ≡ account_rows (left facts t posted.may) rows → CanAdd entries places false t.amount
-    can_post entries is = record {
-      sums = left facts t posted.may;
-      accounts = rows;
-      debit = t.debit_account_id;
-      credit = t.credit_account_id;
-      are_at = allow.are_at;
-      are = is;
-      debit_fits = subst (λ id. (sums_of facts).debits_posted id + t.amount < 2 ^ 128) (sym allow.are_at.debit_is) (omega (arith, allow.lawful.debits_fit t.debit_account_id, debits_reserved, posted.may.at_most));
-      credit_fits = subst (λ id. (sums_of facts).credits_posted id + t.amount < 2 ^ 128) (sym allow.are_at.credit_is) (omega (arith, allow.lawful.credits_fit t.credit_account_id, credits_reserved, posted.may.at_most));
-    }
-
-    pub can_unpost : (entries : List (ℕ × Account)) → entries ≡ account_rows (sums_of (add_transfer facts t)) rows → is_post t ≡ true → CanTake entries places false t.amount
-    can_unpost entries is post = record {
-      sums = left facts t posted.may;
-      accounts = rows;
-      debit = t.debit_account_id;
-      credit = t.credit_account_id;
-      are_at = allow.are_at;
-      are = is ∙ post-sums ∙ ap (λ b. account_rows (posted_if b t.debit_account_id t.credit_account_id t.amount (left facts t posted.may)) rows) post;
-    }
-
-    pub can_reserve : (entries : List (ℕ × Account)) (amount : ℕ) → entries ≡ account_rows (left facts t posted.may) rows → amount ≡ named.amount → CanAdd entries places true amount
-    can_reserve entries amount is same = rw same (record {
-      sums = left facts t posted.may;
-      accounts = rows;
-      debit = t.debit_account_id;
-      credit = t.credit_account_id;
-      are_at = allow.are_at;
-      are = is;
-      debit_fits = subst (λ id. (sums_of (add_transfer facts t)).debits_pending id + named.amount < 2 ^ 128) (sym allow.are_at.debit_is) (omega (arith, allow.lawful.debits_fit t.debit_account_id, debits_reserved));
-      credit_fits = subst (λ id. (sums_of (add_transfer facts t)).credits_pending id + named.amount < 2 ^ 128) (sym allow.are_at.credit_is) (omega (arith, allow.lawful.credits_fit t.credit_account_id, credits_reserved));
-    })
+  takes : (sums : Sums) (entries : List (ℕ × Account)) (kind : Bool) (amount : ℕ) → entries ≡ account_rows (with_amount kind t.debit_account_id t.credit_account_id amount sums) facts.accounts → CanTake entries places kind amount
+  takes sums entries kind amount is = record { sums = sums; accounts = facts.accounts; debit = t.debit_account_id; credit = t.credit_account_id; are_at = allow.are_at; are = is }
 
   -- ---- a plain or pending transfer
 
@@ -180,40 +77,14 @@ module _ (facts : Facts) (rows : List Account) (t : Transfer) (places : Places) 
     pub added : MayAdd facts t
     added = subst (MayStore facts t) none allow.may
 
-    pub add-sums : account_rows (sums_of (add_transfer facts t)) rows ≡ account_rows (with_amount (is_pending t) t.debit_account_id t.credit_account_id t.amount (sums_of facts)) rows
-    add-sums = rows-same _ _ rows (sums-add facts t added allow.grounded allow.not_expired)
+    pub add-sums : account_rows (sums_of (add_transfer facts t)) facts.accounts ≡ account_rows (with_amount (is_pending t) t.debit_account_id t.credit_account_id t.amount (sums_of facts)) facts.accounts
+    add-sums = rows-same _ _ facts.accounts (sums-add facts t added allow.grounded allow.not_expired)
 
-    both-fit : (pending : Bool) (a b n : ℕ) → a + b + n < 2 ^ 128 → (if pending then a else b) + n < 2 ^ 128
-    both-fit true a b n h = omega arith
-    both-fit false a b n h = omega arith
+    pub can_add : (entries : List (ℕ × Account)) → entries ≡ account_rows (sums_of facts) facts.accounts → CanAdd entries places (is_pending t) t.amount
+    can_add entries is = adds (sums_of facts) entries (is_pending t) t.amount is (grind (arith, added.debits_fit)) (grind (arith, added.credits_fit))
 
-    pub can_add : (entries : List (ℕ × Account)) → entries ≡ account_rows (sums_of facts) rows → CanAdd entries places (is_pending t) t.amount
-    can_add entries is = by (is_pending t)
-      where
-        by : (pending : Bool) → CanAdd entries places pending t.amount
-        by true = record {
-          sums = sums_of facts;
-          accounts = rows;
-          debit = t.debit_account_id;
-          credit = t.credit_account_id;
-          are_at = allow.are_at;
-          are = is;
-          debit_fits = subst (λ id. (sums_of facts).debits_pending id + t.amount < 2 ^ 128) (sym allow.are_at.debit_is) (omega (arith, added.debits_fit));
-          credit_fits = subst (λ id. (sums_of facts).credits_pending id + t.amount < 2 ^ 128) (sym allow.are_at.credit_is) (omega (arith, added.credits_fit));
-        }
-        by false = record {
-          sums = sums_of facts;
-          accounts = rows;
-          debit = t.debit_account_id;
-          credit = t.credit_account_id;
-          are_at = allow.are_at;
-          are = is;
-          debit_fits = subst (λ id. (sums_of facts).debits_posted id + t.amount < 2 ^ 128) (sym allow.are_at.debit_is) (omega (arith, added.debits_fit));
-          credit_fits = subst (λ id. (sums_of facts).credits_posted id + t.amount < 2 ^ 128) (sym allow.are_at.credit_is) (omega (arith, added.credits_fit));
-        }
-
-    pub can_take : (entries : List (ℕ × Account)) → entries ≡ account_rows (sums_of (add_transfer facts t)) rows → CanTake entries places (is_pending t) t.amount
-    can_take entries is = record { sums = sums_of facts; accounts = rows; debit = t.debit_account_id; credit = t.credit_account_id; are_at = allow.are_at; are = is ∙ add-sums }
+    pub can_take : (entries : List (ℕ × Account)) → entries ≡ account_rows (sums_of (add_transfer facts t)) facts.accounts → CanTake entries places (is_pending t) t.amount
+    can_take entries is = takes (sums_of facts) entries (is_pending t) t.amount (is ∙ add-sums)
 
     row-added : (y : Transfer) → row_in (add_transfer facts t) y ≡ row_in facts y
     row-added y = ap (λ s. record { transfer = y; status = s }) (status_in-add facts t added y)
@@ -231,3 +102,111 @@ module _ (facts : Facts) (rows : List Account) (t : Transfer) (places : Places) 
 
     pub rows-taken : transfer_rows (add_transfer facts t) facts.transfers ≡ transfer_rows facts facts.transfers
     rows-taken = map-same (λ (x : Transfer). (x.id, row_in (add_transfer facts t) x)) (λ (x : Transfer). (x.id, row_in facts x)) facts.transfers (λ y. ap (λ r. (y.id, r)) (row-added y))
+
+-- ---- a post or a void
+
+-- what one settles: the facts that allow it, and where what it names stands
+pub record Settlement : Type 0 where
+  pub facts : Facts
+  pub transfer : Transfer
+  pub places : Places
+  pub allow : Allow facts transfer places
+  pub pending : ℕ
+  pub names : places.pending ≡ Some pending
+
+module _ (s : Settlement) where
+  pub posted : MayPost s.facts s.transfer s.pending
+  posted = subst (MayStore s.facts s.transfer) s.names s.allow.may
+
+  abbrev pub named : Transfer
+  named = posted.may.pending
+
+  named-id : named.id ≡ s.transfer.pending_id
+  named-id = found-id (λ (x : Transfer). x.id) s.transfer.pending_id s.facts.transfers named posted.may.named
+
+  new-row : new_row s.transfer ≡ row_in s.facts s.transfer
+  new-row =
+      ap (λ b. record { transfer = s.transfer; status = if b then Some Pending else None }) posted.may.not_pending
+      ∙ sym (ap (λ b. record { transfer = s.transfer; status = if b then Some (status_of s.facts s.transfer.id) else None }) posted.may.not_pending)
+
+  pushed-rows : (entries : List (ℕ × Row)) → entries ≡ transfer_rows s.facts s.facts.transfers ++ (s.transfer.id, new_row s.transfer) ∷ [] → entries ≡ transfer_rows s.facts (s.facts.transfers ++ s.transfer ∷ [])
+  pushed-rows entries is =
+      is ∙ ap (λ row. transfer_rows s.facts s.facts.transfers ++ (s.transfer.id, row) ∷ []) new-row
+      ∙ sym (map-append (λ (x : Transfer). (x.id, row_in s.facts x)) s.facts.transfers (s.transfer ∷ []))
+
+  pub at-place : (fs : Facts) (more : List Transfer) (entries : List (ℕ × Row)) → entries ≡ transfer_rows fs (s.facts.transfers ++ more) → slice_get entries s.pending ≡ Some (named.id, row_in fs named)
+  at-place fs more entries is =
+      ap (λ es. slice_get es s.pending) is ∙ slice_get-map (λ (x : Transfer). (x.id, row_in fs x)) (s.facts.transfers ++ more) s.pending
+      ∙ ap (option_map (λ (x : Transfer). (x.id, row_in fs x))) (slice_get-append s.facts.transfers more s.pending named posted.pending_at)
+
+  pub at-pushed : (account_entries : List (ℕ × Account)) (entries : List (ℕ × Row)) → IsPushed s.facts s.transfer s.places account_entries entries → slice_get entries s.pending ≡ Some (named.id, row_in s.facts named)
+  at-pushed account_entries entries is = at-place s.facts (s.transfer ∷ []) entries (pushed-rows entries is.transfers_are)
+
+  pub at-popped : (account_entries : List (ℕ × Account)) (entries : List (ℕ × Row)) → IsPopped s.facts s.transfer s.places account_entries entries → slice_get entries s.pending ≡ Some (named.id, row_in (add_transfer s.facts s.transfer) named)
+  at-popped account_entries entries is = at-place (add_transfer s.facts s.transfer) [] entries (is.transfers_are ∙ ap (transfer_rows (add_transfer s.facts s.transfer)) (sym (append-nil s.facts.transfers)))
+
+  others : (y : Transfer) → (y.id == named.id) ≡ false → row_in (add_transfer s.facts s.transfer) y ≡ row_in s.facts y
+  others y apart =
+      let differs : (s.transfer.pending_id == y.id) ≡ false = ==_swap s.transfer.pending_id y.id ∙ ap (λ k. y.id == k) (sym named-id) ∙ apart in
+      ap (λ status. record { transfer = y; status = if is_pending y then Some status else None }) (status-other s.facts s.transfer posted.may y.id differs)
+
+  row-settled : record (row_in s.facts named) { status = Some (status_after (is_post s.transfer)) } ≡ row_in (add_transfer s.facts s.transfer) named
+  row-settled =
+      ap (λ status. record { transfer = named; status = Some status }) (sym (status-named s.facts s.transfer posted.may) ∙ ap (status_of (add_transfer s.facts s.transfer)) (sym named-id))
+      ∙ ap (λ b. record { transfer = named; status = if b then Some (status_of (add_transfer s.facts s.transfer) named.id) else None }) (sym posted.may.is_pending_one)
+
+  row-open : record (row_in (add_transfer s.facts s.transfer) named) { status = Some Pending } ≡ row_in s.facts named
+  row-open =
+      ap (λ status. record { transfer = named; status = Some status }) (sym posted.may.unresolved ∙ ap (status_of s.facts) (sym named-id))
+      ∙ ap (λ b. record { transfer = named; status = if b then Some (status_of s.facts named.id) else None }) (sym posted.may.is_pending_one)
+
+  -- the status of what it names, set
+  pub rows-settled : (account_entries : List (ℕ × Account)) (entries : List (ℕ × Row)) → IsPushed s.facts s.transfer s.places account_entries entries → IsDistinct nat_eq (keys_of entries) →
+      set_value_at entries s.pending (record (row_in s.facts named) { status = Some (status_after (is_post s.transfer)) }) ≡ transfer_rows (add_transfer s.facts s.transfer) (s.facts.transfers ++ s.transfer ∷ [])
+  rows-settled account_entries entries pushed apart =
+      let is = pushed-rows entries pushed.transfers_are in
+      ap (λ es. set_value_at es s.pending (record (row_in s.facts named) { status = Some (status_after (is_post s.transfer)) })) is
+      ∙ ap (set_value_at (transfer_rows s.facts (s.facts.transfers ++ s.transfer ∷ [])) s.pending) row-settled
+      ∙ rows-set (λ (x : Transfer). x.id) (row_in s.facts) (row_in (add_transfer s.facts s.transfer)) (s.facts.transfers ++ s.transfer ∷ []) s.pending named (slice_get-append s.facts.transfers (s.transfer ∷ []) s.pending named posted.pending_at) (rw is at apart) others
+
+  -- and set back
+  pub rows-open : (account_entries : List (ℕ × Account)) (entries : List (ℕ × Row)) → IsPopped s.facts s.transfer s.places account_entries entries → IsDistinct nat_eq (keys_of entries) →
+      set_value_at entries s.pending (record (row_in (add_transfer s.facts s.transfer) named) { status = Some Pending }) ≡ transfer_rows s.facts s.facts.transfers
+  rows-open account_entries entries popped apart =
+      let is = popped.transfers_are in
+      ap (λ es. set_value_at es s.pending (record (row_in (add_transfer s.facts s.transfer) named) { status = Some Pending })) is
+      ∙ ap (set_value_at (transfer_rows (add_transfer s.facts s.transfer) s.facts.transfers) s.pending) row-open
+      ∙ rows-set (λ (x : Transfer). x.id) (row_in (add_transfer s.facts s.transfer)) (row_in s.facts) s.facts.transfers s.pending named posted.pending_at (rw is at apart) (λ y apart. sym (others y apart))
+
+  -- what was reserved is among the balances, and so there is room to post it or a part of it
+  pub release-sums : account_rows (sums_of s.facts) s.facts.accounts ≡ account_rows (with_amount true s.transfer.debit_account_id s.transfer.credit_account_id named.amount (left s.facts s.transfer posted.may)) s.facts.accounts
+  release-sums = rows-same _ _ s.facts.accounts (sums-release s.facts s.transfer posted.may s.allow.lawful)
+
+  pub post-sums : account_rows (sums_of (add_transfer s.facts s.transfer)) s.facts.accounts ≡ account_rows (posted_if (is_post s.transfer) s.transfer.debit_account_id s.transfer.credit_account_id s.transfer.amount (left s.facts s.transfer posted.may)) s.facts.accounts
+  post-sums = rows-same _ _ s.facts.accounts (sums-post s.facts s.transfer posted.may)
+
+  debits_reserved : (sums_of s.facts).debits_pending s.transfer.debit_account_id ≡ (sums_of (add_transfer s.facts s.transfer)).debits_pending s.transfer.debit_account_id + named.amount
+  debits_reserved = reserved-resolve s.facts s.transfer posted.may s.allow.lawful (λ x. x.debit_account_id) posted.may.same_debit s.transfer.debit_account_id ∙ ap (λ n. (sums_of (add_transfer s.facts s.transfer)).debits_pending s.transfer.debit_account_id + n) (here s.transfer.debit_account_id named.amount)
+
+  credits_reserved : (sums_of s.facts).credits_pending s.transfer.credit_account_id ≡ (sums_of (add_transfer s.facts s.transfer)).credits_pending s.transfer.credit_account_id + named.amount
+  credits_reserved = reserved-resolve s.facts s.transfer posted.may s.allow.lawful (λ x. x.credit_account_id) posted.may.same_credit s.transfer.credit_account_id ∙ ap (λ n. (sums_of (add_transfer s.facts s.transfer)).credits_pending s.transfer.credit_account_id + n) (here s.transfer.credit_account_id named.amount)
+
+  pub can_release : (entries : List (ℕ × Account)) (amount : ℕ) → entries ≡ account_rows (sums_of s.facts) s.facts.accounts → amount ≡ named.amount → CanTake entries s.places true amount
+  can_release entries amount is same = rw same (takes s.facts s.transfer s.places s.allow (left s.facts s.transfer posted.may) entries true named.amount (is ∙ release-sums))
+
+  pub can_post : (entries : List (ℕ × Account)) → entries ≡ account_rows (left s.facts s.transfer posted.may) s.facts.accounts → CanAdd entries s.places false s.transfer.amount
+  can_post entries is =
+      let debit = s.allow.lawful.debits_fit s.transfer.debit_account_id in
+      let credit = s.allow.lawful.credits_fit s.transfer.credit_account_id in
+      adds s.facts s.transfer s.places s.allow (left s.facts s.transfer posted.may) entries false s.transfer.amount is (omega (arith, debits_reserved, posted.may.at_most)) (omega (arith, credits_reserved, posted.may.at_most))
+
+  pub can_unpost : (entries : List (ℕ × Account)) → entries ≡ account_rows (sums_of (add_transfer s.facts s.transfer)) s.facts.accounts → is_post s.transfer ≡ true → CanTake entries s.places false s.transfer.amount
+  can_unpost entries is post =
+      takes s.facts s.transfer s.places s.allow (left s.facts s.transfer posted.may) entries false s.transfer.amount
+      (is ∙ post-sums ∙ ap (λ b. account_rows (posted_if b s.transfer.debit_account_id s.transfer.credit_account_id s.transfer.amount (left s.facts s.transfer posted.may)) s.facts.accounts) post)
+
+  pub can_reserve : (entries : List (ℕ × Account)) (amount : ℕ) → entries ≡ account_rows (left s.facts s.transfer posted.may) s.facts.accounts → amount ≡ named.amount → CanAdd entries s.places true amount
+  can_reserve entries amount is same =
+      let debit = s.allow.lawful.debits_fit s.transfer.debit_account_id in
+      let credit = s.allow.lawful.credits_fit s.transfer.credit_account_id in
+      rw same (adds s.facts s.transfer s.places s.allow (left s.facts s.transfer posted.may) entries true named.amount is (omega (arith, debits_reserved)) (omega (arith, credits_reserved)))

@@ -1,178 +1,206 @@
 -- A transfer stored in the tables, and taken back.
-use Rattle.std.proofs.Common.{refl, sym, ap, ◌∙◌, ◌≡◌, ℕ, Bool, true, false, not, List, [], ◌∷◌, ◌++◌, length, slice_get}
+use Rattle.std.proofs.Common.{refl, sym, ap, subst, arith, ◌∙◌, ◌≡◌, ℕ, ◌<◌, Bool, true, false, not, List, [], ◌∷◌, ◌++◌, map, filter, length, append-nil}
 use Rattle.std.specs.Prelude.{if◌then◌else◌, ◌==◌, ◌&&◌, ◌||◌, Option, Some, None}
-use Rattle.std.proofs.lemmas.Bool.{eqb-true}
+use Rattle.std.specs.List.{list_any}
+use Rattle.std.proofs.lemmas.Bool.Decides.{nat_tests}
+use Rattle.std.proofs.lemmas.List.Elements.{filter-append}
+use Rattle.tb_layout.specs.declared.account.Account.{Account}
 use Rattle.tb_layout.specs.declared.transfer.Transfer.{Transfer as TransferRecord}
-use Rattle.tb_layout.specs.Transfer.{is_pending, is_post}
+use Rattle.tb_layout.specs.Transfer.{is_pending, is_resolving}
 use Rattle.tb_tables.specs.Facts.{Facts, transfer_with, is_expired, add_transfer}
-use Rattle.tb_tables.specs.Status.{status_in, status_of, expires_at}
-use Rattle.tb_tables.specs.Conditions.{MayAdd, MayResolve}
+use Rattle.tb_tables.specs.Status.{is_resolved, is_reserving, expires_at}
 use Rattle.tb_tables.specs.History.{with_change}
 use Rattle.tb_tables.specs.Lawful.{IsLawful, has_id}
-use Rattle.tb_tables.specs.Changes.{Lists, facts_of, before, history_of}
+use Rattle.tb_tables.specs.Changes.{before}
 use Rattle.tb_tables.specs.Expiries.{same_pair}
-use Rattle.tb_tables.specs.Sums.{sums_of, account_rows, AreAt}
-use Rattle.tb_tables.specs.Kept.{Stored, has_expired, lists_of, transfer_rows, is_timed, expects_of, expects, AreGrounded, MayPost, MayStore, WasStored, IsKept}
-use Rattle.tb_tables.specs.Storing.{Allow, new_row, status_after, IsPushed, IsStored, Hold}
+use Rattle.tb_tables.specs.Sums.{AreAt}
+use Rattle.tb_tables.specs.Kept.{Stored, AreGrounded, facts_of, history_in, is_timed, is_pair, AreExpiries, IsSound, AreHeld, Allow, MayStore, WasStored, AreUndoable, AreKept, IsKept, Hold}
+use Rattle.tb_tables.specs.Storing.{new_row, IsPushed, IsStored}
 use Rattle.tb_tables.specs.declared.places.Places.{Places}
 use Rattle.tb_tables.specs.declared.row.Row.{Row}
-use Rattle.tb_tables.specs.declared.status.Status.TheVariants.{Pending}
 use Rattle.tb_tables.specs.declared.change.Change.{Change}
 use Rattle.tb_tables.specs.declared.change.Change.TheVariants.{Transfer}
-use Rattle.tb_tables.proofs.Laws.{find-none, add_transfer_lawful, resolve_lawful}
-use Rattle.tb_tables.proofs.Expiring.{marked_id-absent}
-use Rattle.tb_tables.proofs.Added.{status_in-add, status-add, status-fresh}
-use Rattle.tb_tables.proofs.Resolving.{status-other, status-named}
+use Rattle.tb_tables.proofs.Sums.{not_and-left, not_and-right}
+use Rattle.tb_tables.proofs.Laws.{find-none, any-push, reserving-same, reserving-other, resolves_nothing, add_transfer_lawful, resolve_lawful}
 use Rattle.tb_tables.proofs.Grounding.{grounded_added, grounded_resolved}
-use Rattle.tb_tables.proofs.Expecting.{slice_get-end, expects-add, expects-resolve}
-use Rattle.tb_tables.proofs.Keeping.{MarksSame, kept-transfer, was_stored, was_grounded, was_lawful, facts-now, kept-undo}
+use Rattle.tb_tables.proofs.Expecting.{slice_get-push, pairs-push, expects-push}
+use Rattle.tb_tables.proofs.Keeping.{keeps, undoable-push, undoable-pop, sound-indexed, undoable-indexed}
+use Rattle.tb_tables.proofs.Histories.{history_of-push, history_of-pop, without_last-push}
 
--- what holds once a transfer is stored
-pub record Stores (facts : Facts) (t : TransferRecord) (changes : List (Change Places)) (places : Places) : Type 0 where
-  pub lawful : IsLawful (add_transfer facts t)
-  pub grounded : AreGrounded (add_transfer facts t)
-  pub marks : MarksSame facts (add_transfer facts t)
-  pub unmarked : has_expired (status_in (add_transfer facts t) t) ≡ false
-  pub indexed : (moment place : ℕ) → expects (add_transfer facts t) (changes ++ Transfer places ∷ []) moment place
-      ≡ ((is_timed t && same_pair (expires_at t) (length facts.transfers) moment place) || expects facts changes moment place)
+-- the ids of those whose id passes a test
+pub ids-found : (test : ℕ → Bool) (id : ℕ) (xs : List TransferRecord) → list_any (λ other. other == id) (map (λ (t : TransferRecord). t.id) (filter (λ t. test t.id) xs)) ≡ (test id && has_id id xs)
+ids-found test id [] = grind arith
+ids-found test id (x ∷ xs) = grind (arith, nat_tests, ids-found test id xs)
 
-not-marked : (b : Bool) → has_expired (if b then Some Pending else None) ≡ false
-not-marked true = refl
-not-marked false = refl
-
-added-stores : (facts : Facts) (t : TransferRecord) (changes : List (Change Places)) (places : Places) → IsLawful facts → AreGrounded facts → is_expired facts t.id ≡ false → places.pending ≡ None → MayAdd facts t → Stores facts t changes places
-added-stores facts t changes places lawful grounded not_expired none may = record {
-  lawful = add_transfer_lawful facts t may lawful;
-  grounded = grounded_added facts t may grounded;
-  marks = λ y. ap has_expired (status_in-add facts t may y);
-  unmarked =
-      ap (λ s. has_expired (if is_pending t then Some s else None)) (status-add facts t may t.id ∙ status-fresh facts grounded t.id (find-none t.id facts.transfers may.new) not_expired)
-      ∙ not-marked (is_pending t);
-  indexed = expects-add facts t may grounded not_expired changes places none;
-}
-
-settled-unmarked : (b p : Bool) → has_expired (if b then Some (status_after p) else None) ≡ has_expired (if b then Some Pending else None)
-settled-unmarked true true = refl
-settled-unmarked true false = refl
-settled-unmarked false p = refl
-
-resolved-marks : (facts : Facts) (t : TransferRecord) → MayResolve facts t → MarksSame facts (add_transfer facts t)
-resolved-marks facts t may y = by (t.pending_id == y.id) refl
-  where
-    by : (b : Bool) → (t.pending_id == y.id) ≡ b → has_expired (status_in (add_transfer facts t) y) ≡ has_expired (status_in facts y)
-    by false apart = ap (λ s. has_expired (if is_pending y then Some s else None)) (status-other facts t may y.id apart)
-    by true is =
-        let same : t.pending_id ≡ y.id = eqb-true t.pending_id y.id is in
-        let new : status_of (add_transfer facts t) y.id ≡ status_after (is_post t) = ap (status_of (add_transfer facts t)) (sym same) ∙ status-named facts t may in
-        let old : status_of facts y.id ≡ Pending = ap (status_of facts) (sym same) ∙ may.unresolved in
-        ap (λ s. has_expired (if is_pending y then Some s else None)) new ∙ settled-unmarked (is_pending y) (is_post t) ∙ ap (λ s. has_expired (if is_pending y then Some s else None)) (sym old)
-
-resolved-stores : (facts : Facts) (t : TransferRecord) (changes : List (Change Places)) (places : Places) (pending : ℕ) → IsLawful facts → AreGrounded facts → places.pending ≡ Some pending → MayPost facts t pending → Stores facts t changes places
-resolved-stores facts t changes places pending lawful grounded some posted = record {
-  lawful = resolve_lawful facts t posted.may lawful;
-  grounded = grounded_resolved facts t posted.may grounded;
-  marks = resolved-marks facts t posted.may;
-  unmarked = ap (λ b. has_expired (if b then Some (status_of (add_transfer facts t) t.id) else None)) posted.may.not_pending;
-  indexed = λ moment place.
-      expects-resolve facts lawful t pending posted changes places some moment place
-      ∙ sym (ap (λ b. (b && not (t.timeout == 0) && same_pair (expires_at t) (length facts.transfers) moment place) || expects facts changes moment place) posted.may.not_pending);
-}
-
-pub stores : (facts : Facts) (t : TransferRecord) (changes : List (Change Places)) (places : Places) → IsLawful facts → AreGrounded facts → is_expired facts t.id ≡ false → MayStore facts t places.pending → Stores facts t changes places
-stores facts t changes places lawful grounded not_expired may = by places.pending refl may
-  where
-    by : (o : Option ℕ) → places.pending ≡ o → MayStore facts t o → Stores facts t changes places
-    by None none may = added-stores facts t changes places lawful grounded not_expired none may
-    by (Some pending) some may = resolved-stores facts t changes places pending lawful grounded some may
+pub expired-is : (facts : Facts) → facts.expired ≡ map (λ (t : TransferRecord). t.id) (filter (λ t. is_expired facts t.id) facts.transfers) → (id : ℕ) → is_expired facts id ≡ (is_expired facts id && has_id id facts.transfers)
+expired-is facts ordered id = ap (list_any (λ other. other == id)) ordered ∙ ids-found (is_expired facts) id facts.transfers
 
 pub no-other : (facts : Facts) (t : TransferRecord) (pending : Option ℕ) → MayStore facts t pending → transfer_with facts t.id ≡ None
 no-other facts t None may = may.new
 no-other facts t (Some place) may = may.may.new
 
-pub is-fresh : (facts : Facts) (t : TransferRecord) (pending : Option ℕ) → MayStore facts t pending → has_id t.id facts.transfers ≡ false
-is-fresh facts t pending may = find-none t.id facts.transfers (no-other facts t pending may)
-
-pub allows : (lists : Lists) (t : TransferRecord) (places : Places) → IsLawful (facts_of lists) → AreGrounded (facts_of lists) → AreAt lists.accounts places t.debit_account_id t.credit_account_id → MayStore (facts_of lists) t places.pending →
-    Allow (facts_of lists) t places lists.accounts
-allows lists t places lawful grounded are_at may = record {
-  lawful = lawful;
-  grounded = grounded;
-  not_expired = marked_id-absent t.id lists.rows (is-fresh (facts_of lists) t places.pending may);
+pub allows : (indexed : ℕ → ℕ → Bool) (facts : Facts) (t : TransferRecord) (places : Places) → IsSound indexed facts → AreAt facts.accounts places t.debit_account_id t.credit_account_id → MayStore facts t places.pending → Allow facts t places
+allows indexed facts t places sound are_at may = record {
+  lawful = sound.lawful;
+  grounded = sound.grounded;
+  not_expired = grind (arith, expired-is facts sound.expiries.ordered t.id, find-none t.id facts.transfers (no-other facts t places.pending may));
   are_at = are_at;
   may = may;
 }
 
--- behind the last transfer the index has no pair
-pub none-at-end : (facts : Facts) (t : TransferRecord) (changes : List (Change Places)) (m p : ℕ) → (is_timed t && same_pair (expires_at t) (length facts.transfers) m p) ≡ true → expects facts changes m p ≡ false
-none-at-end facts t changes m p pair =
-    let here : length facts.transfers ≡ p = eqb-true (length facts.transfers) p (last (is_timed t) (expires_at t == m) (length facts.transfers == p) pair) in
-    ap (expects_of facts changes m p) (ap (slice_get facts.transfers) (sym here) ∙ slice_get-end facts.transfers)
-  where
-    last : (a b c : Bool) → (a && (b && c)) ≡ true → c ≡ true
-    last true true c h = h
-    last true false c h = cc
-    last false b c h = cc
+-- ---- the facts stay sound
 
-forgotten : (pair had : Bool) → (pair ≡ true → had ≡ false) → (not pair && (pair || had)) ≡ had
-forgotten true had none = sym (none refl)
-forgotten false had none = refl
+module _ (facts : Facts) (t : TransferRecord) where
+  abbrev its-pair : ℕ → ℕ → Bool
+  its-pair moment place = is_timed t && same_pair (expires_at t) (length facts.transfers) moment place
 
--- ---- one more
+  -- none that expired is resolved, and none reserves its amount that didn't
+  record Leaves : Type 0 where
+    pub open_ones : (y : TransferRecord) → is_expired facts y.id ≡ true → is_resolved facts y.id ≡ false → is_resolved (add_transfer facts t) y.id ≡ false
+    pub less : (y : TransferRecord) → is_reserving (add_transfer facts t) y ≡ true → is_reserving facts y ≡ true
 
-module _ (old : Stored) (kept : IsKept old) (t : TransferRecord) (places : Places) (are_at : AreAt (lists_of old).accounts places t.debit_account_id t.credit_account_id) (may : MayStore (facts_of (lists_of old)) t places.pending) where
-  pub pushed : (entries : List (ℕ × Row)) → entries ≡ old.transfers ++ (t.id, new_row t) ∷ [] → IsPushed (facts_of (lists_of old)) (lists_of old).accounts t places old.accounts entries
-  pushed entries is = record {
-    allow = allows (lists_of old) t places kept.lawful.now kept.grounded are_at may;
-    accounts_are = kept.accounts;
-    transfers_are = is ∙ ap (λ es. es ++ (t.id, new_row t) ∷ []) kept.transfers;
+  leaves : (places : Places) → Allow facts t places → Leaves
+  leaves places allow = by places.pending allow.may
+    where
+      by : (o : Option ℕ) → MayStore facts t o → Leaves
+      by None may = record {
+        open_ones = λ y expired open_one. grind (arith, any-push (λ other. is_resolving other && (other.pending_id == y.id)) facts.transfers t, resolves_nothing facts t may y.id, open_one);
+        less = λ y reserves. sym (reserving-same facts t may y) ∙ reserves;
+      }
+      by (Some place) posted = record {
+        open_ones = λ y expired open_one. resolved-open y expired open_one;
+        less = λ y reserves. grind (arith, reserving-other facts t posted.may y, reserves);
+      }
+        where
+          resolved-open : (y : TransferRecord) → is_expired facts y.id ≡ true → is_resolved facts y.id ≡ false → is_resolved (add_transfer facts t) y.id ≡ false
+          resolved-open y expired open_one = grind (arith, nat_tests, any-push (λ other. is_resolving other && (other.pending_id == y.id)) facts.transfers t, posted.may.unresolved)
+
+  expiries-push : Leaves → is_expired facts t.id ≡ false → AreExpiries facts → AreExpiries (add_transfer facts t)
+  expiries-push l fresh old = record {
+    ordered =
+        let last : filter (λ (y : TransferRecord). is_expired facts y.id) (t ∷ []) ≡ [] = grind (arith, fresh) in
+        old.ordered ∙ ap (map (λ (y : TransferRecord). y.id)) (sym (filter-append (λ (y : TransferRecord). is_expired facts y.id) facts.transfers (t ∷ []) ∙ ap (λ ys. filter (λ (y : TransferRecord). is_expired facts y.id) facts.transfers ++ ys) last ∙ append-nil _));
+    open_ones = λ place y at expired. by (place == length facts.transfers) y (sym (slice_get-push facts.transfers t place) ∙ at) expired (old.open_ones place y);
+  }
+    where
+      by : (b : Bool) (y : TransferRecord) {o : Option TransferRecord} → (if b then Some t else o) ≡ Some y → is_expired facts y.id ≡ true → (o ≡ Some y → is_expired facts y.id ≡ true → (is_pending y ≡ true) × (is_resolved facts y.id ≡ false)) →
+          (is_pending y ≡ true) × (is_resolved (add_transfer facts t) y.id ≡ false)
+      by true y at expired was = let same : t ≡ y = cc in let no : true ≡ false = sym expired ∙ ap (λ (x : TransferRecord). is_expired facts x.id) (sym same) ∙ fresh in cc
+      by false y at expired was = ((was at expired).0, l.open_ones y expired (was at expired).1)
+
+  pub sound-push : (indexed next : ℕ → ℕ → Bool) (places : Places) → Allow facts t places → IsSound indexed facts → ((m p : ℕ) → next m p ≡ (its-pair m p || indexed m p)) → IsSound next (add_transfer facts t)
+  sound-push indexed next places allow sound put =
+      let l = leaves places allow in
+      record {
+        lawful = lawful places.pending allow.may;
+        grounded = grounded places.pending allow.may;
+        made = sound.made;
+        expiries = expiries-push l allow.not_expired sound.expiries;
+        paired = λ m p has. grind (arith, put m p, expects-push facts t l.less m p has, sound.paired m p);
+      }
+    where
+      lawful : (o : Option ℕ) → MayStore facts t o → IsLawful (add_transfer facts t)
+      lawful None may = add_transfer_lawful facts t may allow.lawful
+      lawful (Some place) posted = resolve_lawful facts t posted.may allow.lawful
+
+      grounded : (o : Option ℕ) → MayStore facts t o → AreGrounded (add_transfer facts t)
+      grounded None may = grounded_added facts t may allow.grounded
+      grounded (Some place) posted = grounded_resolved facts t posted.may allow.grounded
+
+  -- ---- one more
+
+  pub held-push : (accounts : List _) (transfers : List (ℕ × Row)) (indexed next : ℕ → ℕ → Bool) (places : Places) → AreHeld accounts transfers indexed facts → (accounts' : List _) (transfers' : List (ℕ × Row)) → IsStored facts t places accounts' transfers' →
+      ((m p : ℕ) → next m p ≡ (its-pair m p || indexed m p)) → AreHeld accounts' transfers' next (add_transfer facts t)
+  held-push accounts transfers indexed next places held accounts' transfers' is put = record {
+    hold = is.hold;
+    timed = λ m p has. grind (arith, pairs-push facts t m p, put m p, held.timed m p);
+    sound = sound-push indexed next places is.allow held.sound put;
   }
 
-  pub stored : (new : Stored) → new.failed ≡ old.failed → new.changes ≡ old.changes ++ Transfer places ∷ [] → IsStored (facts_of (lists_of old)) (lists_of old).accounts t places new.accounts new.transfers →
-      ((m p : ℕ) → new.is_indexed m p ≡ ((is_timed t && same_pair (expires_at t) (length (facts_of (lists_of old)).transfers) m p) || old.is_indexed m p)) →
-      IsKept new × (history_of new.changes (lists_of new) ≡ with_change (history_of old.changes (lists_of old)) (add_transfer (facts_of (lists_of old)) t))
-  stored new failed changes is indexed =
-      let facts = facts_of (lists_of old) in
-      let s = stores facts t old.changes places kept.lawful.now kept.grounded is.allow.not_expired may in
-      kept-transfer old kept t places new failed changes is.accounts_are is.transfers_are
-      (λ m p. indexed m p ∙ ap (λ b. (is_timed t && same_pair (expires_at t) (length facts.transfers) m p) || b) (kept.indexed m p) ∙ sym (s.indexed m p))
-      s.marks s.unmarked s.lawful s.grounded are_at may
+back : (facts : Facts) (t : TransferRecord) (places : Places) → before (Transfer places) (add_transfer facts t) ≡ facts
+back facts t places = ap (λ ts. record facts { transfers = ts }) (without_last-push facts.transfers t)
+
+-- where the index has the same pairs
+pub same-held : {accounts : List (ℕ × Account)} {transfers : List (ℕ × Row)} {indexed other : ℕ → ℕ → Bool} {facts : Facts} → ((m p : ℕ) → other m p ≡ indexed m p) → AreHeld accounts transfers indexed facts → AreHeld accounts transfers other facts
+same-held {accounts} {transfers} {indexed} {other} {facts} same held = subst (λ ix. AreHeld accounts transfers ix facts) (λ i. λ m p. sym (same m p) i) held
+
+pub same-index : (old : Stored) → IsKept old → (indexed : ℕ → ℕ → Bool) → ((m p : ℕ) → indexed m p ≡ old.is_indexed m p) → AreKept (record old { is_indexed = indexed }) (facts_of old)
+same-index old kept indexed same = subst (λ ix. AreKept (record old { is_indexed = ix }) (facts_of old)) (λ i. λ m p. sym (same m p) i) kept
+
+module _ (old : Stored) (kept : IsKept old) (t : TransferRecord) (places : Places) (are_at : AreAt (facts_of old).accounts places t.debit_account_id t.credit_account_id) (may : MayStore (facts_of old) t places.pending) where
+  pub pushed : (entries : List (ℕ × Row)) → entries ≡ old.transfers ++ (t.id, new_row t) ∷ [] → IsPushed (facts_of old) t places old.accounts entries
+  pushed entries is = record {
+    allow = allows old.is_indexed (facts_of old) t places kept.held.sound are_at may;
+    accounts_are = kept.held.hold.accounts_are;
+    transfers_are = is ∙ ap (λ es. es ++ (t.id, new_row t) ∷ []) kept.held.hold.transfers_are;
+  }
+
+  pub stored : (new : Stored) → new.failed ≡ old.failed → new.changes ≡ old.changes ++ Transfer places ∷ [] → IsStored (facts_of old) t places new.accounts new.transfers →
+      ((m p : ℕ) → new.is_indexed m p ≡ (its-pair (facts_of old) t m p || old.is_indexed m p)) →
+      IsKept new × (history_in new.changes (facts_of new) ≡ with_change (history_in old.changes (facts_of old)) (add_transfer (facts_of old) t))
+  stored new failed changes is put =
+      let facts = facts_of old in
+      let more : (m p : ℕ) → p < length facts.transfers → old.is_indexed m p ≡ true → new.is_indexed m p ≡ true = λ m p within has. grind (arith, put m p, has) in
+      let sound = sound-indexed old.is_indexed new.is_indexed (length facts.transfers) more facts (omega arith) kept.held.sound in
+      let undoable = undoable-indexed old.is_indexed new.is_indexed (length facts.transfers) more old.changes facts (omega arith) kept.undoable in
+      let made : WasStored places facts (add_transfer facts t) = record { transfer = t; stored = refl; allow = is.allow } in
+      let all = undoable-push new.is_indexed old.changes (Transfer places) facts (add_transfer facts t) (back facts t places) sound made undoable in
+      let k = keeps new (add_transfer facts t) failed (held-push facts t old.accounts old.transfers old.is_indexed new.is_indexed places kept.held new.accounts new.transfers is put)
+      (subst (λ cs. AreUndoable new.is_indexed cs (add_transfer facts t)) (sym changes) all) in
+      (k.0, k.1 ∙ ap (λ cs. history_in cs (add_transfer facts t)) changes ∙ history_of-push before (λ (now : Facts). now) old.changes (Transfer places) facts (add_transfer facts t) (back facts t places))
 
   -- put into the index and taken out again
-  pub refused : (indexed : ℕ → ℕ → Bool) → ((m p : ℕ) → indexed m p ≡ (not (is_timed t && same_pair (expires_at t) (length (facts_of (lists_of old)).transfers) m p) && ((is_timed t && same_pair (expires_at t) (length (facts_of (lists_of old)).transfers) m p) || old.is_indexed m p))) →
-      (m p : ℕ) → indexed m p ≡ old.is_indexed m p
-  refused indexed is m p =
-      is m p ∙ forgotten (is_timed t && same_pair (expires_at t) (length (facts_of (lists_of old)).transfers) m p) (old.is_indexed m p) (λ pair. kept.indexed m p ∙ none-at-end (facts_of (lists_of old)) t old.changes m p pair)
+  pub refused : (indexed : ℕ → ℕ → Bool) → ((m p : ℕ) → indexed m p ≡ (not (its-pair (facts_of old) t m p) && (its-pair (facts_of old) t m p || old.is_indexed m p))) → AreKept (record old { is_indexed = indexed }) (facts_of old)
+  refused indexed is =
+      let facts = facts_of old in
+      let same : (m p : ℕ) → p < length facts.transfers → old.is_indexed m p ≡ true → indexed m p ≡ true = λ m p within has. kept-in m p within has in
+      record {
+        held = record {
+          hold = kept.held.hold;
+          timed = λ m p has. grind (arith, is m p, has, kept.held.timed m p);
+          sound = sound-indexed old.is_indexed indexed (length facts.transfers) same facts (omega arith) kept.held.sound;
+        };
+        undoable = undoable-indexed old.is_indexed indexed (length facts.transfers) same old.changes facts (omega arith) kept.undoable;
+      }
+    where
+      kept-in : (m p : ℕ) → p < length (facts_of old).transfers → old.is_indexed m p ≡ true → indexed m p ≡ true
+      kept-in m p within has = grind (arith, nat_tests, is m p, has)
 
 -- ---- the last taken back
 
 module _ (old : Stored) (kept : IsKept old) (changes : List (Change Places)) (places : Places) (popped : old.changes ≡ changes ++ Transfer places ∷ []) where
-  abbrev pub lists : Lists
-  lists = before (Transfer places) (lists_of old)
+  abbrev pub facts : Facts
+  facts = before (Transfer places) (facts_of old)
 
-  abbrev pub was : WasStored places lists (lists_of old)
-  was = was_stored old kept changes places popped
+  undone : AreUndoable old.is_indexed changes facts × (IsSound old.is_indexed facts × WasStored places facts (facts_of old))
+  undone = undoable-pop old.is_indexed changes (Transfer places) (facts_of old) (subst (λ cs. AreUndoable old.is_indexed cs (facts_of old)) popped kept.undoable)
 
-  pub allow : Allow (facts_of lists) was.transfer places lists.accounts
-  allow = allows lists was.transfer places (was_lawful old kept changes places popped).now (was_grounded old kept changes places popped) was.are_at was.may
+  pub was : WasStored places facts (facts_of old)
+  was = undone.1.1
 
-  pub was-stored : IsStored (facts_of lists) lists.accounts was.transfer places old.accounts old.transfers
-  was-stored = record {
-    allow = allow;
-    accounts_are = kept.accounts ∙ ap (λ fs. account_rows (sums_of fs) lists.accounts) (facts-now old kept changes places popped);
-    transfers_are = kept.transfers ∙ ap (λ (fs : Facts). transfer_rows fs fs.transfers) (facts-now old kept changes places popped);
-  }
+  pub was-stored : IsStored facts was.transfer places old.accounts old.transfers
+  was-stored = record { allow = was.allow; hold = subst (λ now. Hold now old.accounts old.transfers) was.stored kept.held.hold }
 
-  pub taken : (new : Stored) → new.failed ≡ old.failed → new.changes ≡ changes → Hold (facts_of lists) lists.accounts new.accounts new.transfers →
-      ((m p : ℕ) → new.is_indexed m p ≡ (not (is_timed was.transfer && same_pair (expires_at was.transfer) (length (facts_of lists).transfers) m p) && old.is_indexed m p)) →
-      IsKept new × (with_change (history_of new.changes (lists_of new)) (facts_of (lists_of old)) ≡ history_of old.changes (lists_of old))
-  taken new failed changes_are hold indexed =
-      let t = was.transfer in
-      let facts = facts_of lists in
-      let now = facts-now old kept changes places popped in
-      let s = stores facts t changes places allow.lawful allow.grounded allow.not_expired was.may in
-      let had : (m p : ℕ) → old.is_indexed m p ≡ ((is_timed t && same_pair (expires_at t) (length facts.transfers) m p) || expects facts changes m p) =
-      λ m p. kept.indexed m p ∙ ap (λ fs. expects fs old.changes m p) now ∙ ap (λ cs. expects (add_transfer facts t) cs m p) popped ∙ s.indexed m p in
-      kept-undo old kept changes places popped new failed changes_are hold.accounts_are hold.transfers_are
-      (λ m p. indexed m p ∙ ap (λ b. not (is_timed t && same_pair (expires_at t) (length facts.transfers) m p) && b) (had m p)
-      ∙ forgotten (is_timed t && same_pair (expires_at t) (length facts.transfers) m p) (expects facts changes m p) (none-at-end facts t changes m p))
-      (λ y. ap (λ fs. has_expired (status_in fs y)) now ∙ s.marks y)
+  pub taken : (new : Stored) → new.failed ≡ old.failed → new.changes ≡ changes → Hold facts new.accounts new.transfers →
+      ((m p : ℕ) → new.is_indexed m p ≡ (not (its-pair facts was.transfer m p) && old.is_indexed m p)) →
+      IsKept new × (with_change (history_in new.changes (facts_of new)) (facts_of old) ≡ history_in old.changes (facts_of old))
+  taken new failed changes_are hold took =
+      let same : (m p : ℕ) → p < length facts.transfers → old.is_indexed m p ≡ true → new.is_indexed m p ≡ true = kept-in in
+      let held : AreHeld new.accounts new.transfers new.is_indexed facts = record {
+        hold = hold;
+        timed = λ m p has. still m p has (kept.held.timed m p);
+        sound = sound-indexed old.is_indexed new.is_indexed (length facts.transfers) same facts (omega arith) undone.1.0;
+      } in
+      let all = undoable-indexed old.is_indexed new.is_indexed (length facts.transfers) same changes facts (omega arith) undone.0 in
+      let k = keeps new facts failed held (subst (λ cs. AreUndoable new.is_indexed cs facts) (sym changes_are) all) in
+      (k.0, ap (λ h. with_change h (facts_of old)) (k.1 ∙ ap (λ cs. history_in cs facts) changes_are) ∙ history_of-pop before (λ (now : Facts). now) changes (Transfer places) (facts_of old) ∙ ap (λ cs. history_in cs (facts_of old)) (sym popped))
+    where
+      kept-in : (m p : ℕ) → p < length facts.transfers → old.is_indexed m p ≡ true → new.is_indexed m p ≡ true
+      kept-in m p within has = grind (arith, nat_tests, took m p, has)
+
+      still : (m p : ℕ) → new.is_indexed m p ≡ true → (old.is_indexed m p ≡ true → is_pair (facts_of old) m p ≡ true) → is_pair facts m p ≡ true
+      still m p has timed =
+          let both = sym (took m p) ∙ has in
+          let on = timed (not_and-right (its-pair facts was.transfer m p) (old.is_indexed m p) both) in
+          sym (ap (λ b. b || is_pair facts m p) (not_and-left (its-pair facts was.transfer m p) (old.is_indexed m p) both)) ∙ sym (pairs-push facts was.transfer m p)
+          ∙ sym (ap (λ now. is_pair now m p) was.stored) ∙ on

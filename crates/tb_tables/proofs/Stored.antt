@@ -1,10 +1,11 @@
 -- Rows that stand in a map under their keys, in order.
-use Rattle.std.proofs.Common.{refl, sym, ap, subst, ◌∙◌, arith, ◌≡◌, ℕ, ◌<◌, Bool, true, false, cond, List, [], ◌∷◌, map, nat_eq, slice_get, position, length, zero, suc}
+use Rattle.std.proofs.Common.{refl, sym, ap, subst, ◌∙◌, arith, ◌≡◌, ℕ, false, List, [], ◌∷◌, map, nat_eq, slice_get, get_or, position, zero, suc}
 use Rattle.std.specs.Prelude.{Some, find, ◌==◌}
 use Rattle.std.specs.Option.{option_map}
 use Rattle.std.specs.List.{list_any, AllByRecursion, IsDistinct}
 use Rattle.std.specs.Map.{keys_of, lookup, lookup_key}
-use Rattle.std.proofs.lemmas.Bool.{eqb-true}
+use Rattle.std.proofs.lemmas.Bool.Decides.{nat_tests}
+use Rattle.std.proofs.lemmas.Option.{slice_get-get_or}
 use Rattle.std.proofs.lemmas.List.{length-map}
 use Rattle.std.proofs.lemmas.Map.Keys.{IsDistinct-head, IsDistinct-tail}
 use Rattle.indexmap.specs.IndexMap.{set_value_at}
@@ -19,19 +20,6 @@ pub map-same : {X Y : Type 0} (f g : X → Y) (xs : List X) → ((x : X) → f x
 map-same f g [] same = refl
 map-same f g (x ∷ xs) same = cc (same x, map-same f g xs same)
 
-pub map-map : {X Y Z : Type 0} (f : X → Y) (g : Y → Z) (xs : List X) → map g (map f xs) ≡ map (λ x. g (f x)) xs
-map-map f g [] = refl
-map-map f g (x ∷ xs) = ap (λ ys. g (f x) ∷ ys) (map-map f g xs)
-
-pub map-itself : {X : Type 0} (f : X → X) (xs : List X) → ((x : X) → f x ≡ x) → map f xs ≡ xs
-map-itself f [] same = refl
-map-itself f (x ∷ xs) same = cc (same x, map-itself f xs same)
-
-pub slice_get-map : {X Y : Type 0} (f : X → Y) (xs : List X) (place : ℕ) → slice_get (map f xs) place ≡ option_map f (slice_get xs place)
-slice_get-map f [] place = refl
-slice_get-map f (x ∷ xs) zero = refl
-slice_get-map f (x ∷ xs) (suc place) = slice_get-map f xs place
-
 -- what a row at a place was made of
 pub made-at : {X Y : Type 0} (f : X → Y) (xs : List X) (place : ℕ) (y : Y) → slice_get (map f xs) place ≡ Some y → (x : X) × (slice_get xs place ≡ Some x) × (f x ≡ y)
 made-at f [] place y at = cc
@@ -41,12 +29,7 @@ made-at f (x ∷ xs) (suc place) y at = made-at f xs place y at
 -- a look-up by key finds the first of that key
 pub lookup-rows : {X V : Type 0} (key : X → ℕ) (made : X → V) (id : ℕ) (xs : List X) → lookup (nat_eq id) (rows key made xs) ≡ option_map made (find (λ x. key x == id) xs)
 lookup-rows key made id [] = refl
-lookup-rows {X} {V} key made id (x ∷ xs) = ap (λ b. cond b (Some (made x)) (lookup (nat_eq id) (rows key made xs))) (==_swap id (key x)) ∙ by (key x == id) (lookup-rows key made id xs)
-  where
-    by : (b : Bool) → lookup (nat_eq id) (rows key made xs) ≡ option_map made (find (λ (y : X). key y == id) xs) →
-        cond b (Some (made x)) (lookup (nat_eq id) (rows key made xs)) ≡ option_map made (cond b (Some x) (find (λ (y : X). key y == id) xs))
-    by true rest = refl
-    by false rest = rest
+lookup-rows key made id (x ∷ xs) = grind (arith, ==_swap id (key x), lookup-rows key made id xs)
 
 -- a key that stands further back differs from the first
 key-apart : {X V : Type 0} (key : X → ℕ) (made : X → V) (k : ℕ) (xs : List X) (place : ℕ) (x : X) → AllByRecursion (λ y. nat_eq k y ≡ false) (keys_of (rows key made xs)) → slice_get xs place ≡ Some x → (k == key x) ≡ false
@@ -79,22 +62,10 @@ any-swap id (x ∷ ids) = cc (==_swap id x, any-swap id ids)
 
 key-found : {X : Type 0} (id : ℕ) (es : List (ℕ × X)) (k : ℕ) → lookup_key (nat_eq id) es ≡ Some k → k ≡ id
 key-found id [] k e = cc
-key-found id (x ∷ es) k e = by (nat_eq id x.0) refl (key-found id es k) e
-  where
-    by : (b : Bool) → nat_eq id x.0 ≡ b → (lookup_key (nat_eq id) es ≡ Some k → k ≡ id) → cond b (Some x.0) (lookup_key (nat_eq id) es) ≡ Some k → k ≡ id
-    by true h rest e = let same : x.0 ≡ k = cc in sym (eqb-true id x.0 h ∙ same)
-    by false h rest e = rest e
-
-some-within : (xs : List ℕ) (i : ℕ) → i < length xs → (x : ℕ) × (slice_get xs i ≡ Some x)
-some-within [] i h = absurd (below-zero h)
-  where
-    below-zero : i < 0 → ⊥
-    below-zero h = omega arith
-some-within (x ∷ xs) zero h = (x, refl)
-some-within (x ∷ xs) (suc i) h = some-within xs i (omega arith)
+key-found id (x ∷ es) k e = grind (arith, nat_tests, key-found id es k)
 
 pub key-of-position : {X : Type 0} (id : ℕ) (es : List (ℕ × X)) (i : ℕ) → position (nat_eq id) (keys_of es) ≡ Some i → slice_get (keys_of es) i ≡ Some id
 key-of-position id es i p =
     let f = Found-position (nat_eq id) es i p in
-    let k = some-within (keys_of es) i (omega (arith, f.within, length-map es (λ e. e.0))) in
-    k.1 ∙ ap Some (key-found id es k.0 (f.key ∙ k.1))
+    let at = slice_get-get_or (keys_of es) i 0 (omega (arith, f.within, length-map es (λ e. e.0))) in
+    at ∙ ap Some (key-found id es (get_or (keys_of es) i 0) (f.key ∙ at))

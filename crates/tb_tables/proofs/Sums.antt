@@ -1,9 +1,8 @@
 -- How the sums of an account change with the facts.
 use Rattle.std.proofs.Common.{refl, sym, ap, ◌∙◌, arith, ◌≡◌, ℕ, ◌+◌, ◌≤◌, Bool, true, false, not, List, [], ◌∷◌, ◌++◌, sum_by, filter}
 use Rattle.std.specs.Prelude.{if◌then◌else◌, ◌==◌, ◌&&◌, ◌||◌, Some, find}
-use Rattle.std.proofs.Common.{cond}
 use Rattle.std.specs.List.{AllByRecursion}
-use Rattle.std.proofs.lemmas.Bool.{eqb-true}
+use Rattle.std.proofs.lemmas.Bool.Decides.{nat_tests}
 use Rattle.std.proofs.lemmas.List.Sums.{sum_by-cons, sum_by_push}
 use Rattle.tb_layout.specs.declared.transfer.Transfer.{Transfer}
 use Rattle.tb_tables.specs.Lawful.{has_id, ids_distinct}
@@ -45,20 +44,16 @@ amounts-push old new xs x same =
 -- ---- one transfer taken out of a sum, by its id
 
 pub or-left : (a b : Bool) → (a || b) ≡ false → a ≡ false
-or-left true b h = h
-or-left false b h = refl
+or-left a b h = grind arith
 
 pub or-right : (a b : Bool) → (a || b) ≡ false → b ≡ false
-or-right true b h = cc
-or-right false b h = h
+or-right a b h = grind arith
 
 pub not_and-left : (a b : Bool) → (not a && b) ≡ true → a ≡ false
-not_and-left true b h = cc
-not_and-left false b h = refl
+not_and-left a b h = grind arith
 
 pub not_and-right : (a b : Bool) → (not a && b) ≡ true → b ≡ true
-not_and-right true b h = cc
-not_and-right false b h = h
+not_and-right a b h = grind arith
 
 amounts-cons : (test : Transfer → Bool) (x : Transfer) (xs : List Transfer) → amounts test (x ∷ xs) ≡ amount_if test x + amounts test xs
 amounts-cons test x xs = amounts-step (test x) x (filter test xs)
@@ -67,43 +62,13 @@ amounts-cons test x xs = amounts-step (test x) x (filter test xs)
 abbrev pub but_for : ℕ → (Transfer → Bool) → Transfer → Bool
 but_for id test transfer = test transfer && not (transfer.id == id)
 
-stays : (t e : Bool) (n : ℕ) → e ≡ false → (if t && not e then n else 0) ≡ (if t then n else 0)
-stays true e n h = rw h refl
-stays false e n h = refl
-
-leaves : (t e : Bool) (n : ℕ) → e ≡ true → (if t && not e then n else 0) ≡ 0
-leaves true e n h = rw h refl
-leaves false e n h = refl
-
 -- where no transfer has the id, none is taken out
 but_for-absent : (test : Transfer → Bool) (id : ℕ) (xs : List Transfer) → has_id id xs ≡ false → amounts (but_for id test) xs ≡ amounts test xs
 but_for-absent test id [] h = refl
-but_for-absent test id (x ∷ xs) h =
-    amounts-cons (but_for id test) x xs
-    ∙ ap (λ n. n + amounts (but_for id test) xs) (stays (test x) (x.id == id) x.amount (or-left (x.id == id) (has_id id xs) h))
-    ∙ ap (λ n. amount_if test x + n) (but_for-absent test id xs (or-right (x.id == id) (has_id id xs) h))
-    ∙ sym (amounts-cons test x xs)
+but_for-absent test id (x ∷ xs) h = grind (arith, amounts-cons (but_for id test) x xs, amounts-cons test x xs, but_for-absent test id xs)
 
 pub but_for-found : (test : Transfer → Bool) (id : ℕ) (xs : List Transfer) (p : Transfer) → ids_distinct xs ≡ true → find (λ (x : Transfer). x.id == id) xs ≡ Some p →
     amounts test xs ≡ amounts (but_for id test) xs + amount_if test p
 but_for-found test id [] p distinct found = cc
 but_for-found test id (x ∷ xs) p distinct found =
-    let e = by (x.id == id) refl (but_for-found test id xs p (not_and-right (has_id x.id xs) (ids_distinct xs) distinct)) found in
-    let f = amounts-cons test x xs in
-    let g = amounts-cons (but_for id test) x xs in
-    omega arith
-  where
-    by : (b : Bool) → (x.id == id) ≡ b → (find (λ (y : Transfer). y.id == id) xs ≡ Some p → amounts test xs ≡ amounts (but_for id test) xs + amount_if test p) →
-        cond b (Some x) (find (λ (y : Transfer). y.id == id) xs) ≡ Some p →
-        amount_if test x + amounts test xs ≡ amount_if (but_for id test) x + amounts (but_for id test) xs + amount_if test p
-    by true is rest first =
-        let same : x ≡ p = cc in
-        let absent : has_id id xs ≡ false = ap (λ k. has_id k xs) (sym (eqb-true x.id id is)) ∙ not_and-left (has_id x.id xs) (ids_distinct xs) distinct in
-        let e = but_for-absent test id xs absent in
-        let f = leaves (test x) (x.id == id) x.amount is in
-        let g = ap (amount_if test) same in
-        omega arith
-    by false is rest later =
-        let e = rest later in
-        let f = stays (test x) (x.id == id) x.amount is in
-        omega arith
+    grind (arith, nat_tests, amounts-cons test x xs, amounts-cons (but_for id test) x xs, but_for-found test id xs p, but_for-absent test id xs)

@@ -1,14 +1,15 @@
 -- What stands in the maps, and what it says of the facts.
-use Rattle.std.specs.Prelude.{◌≡◌, ℕ, ◌<◌, ◌^◌, Bool, true, false, ◌&&◌, ◌||◌, ◌==◌, not, List, [], ◌∷◌, ◌++◌, map, slice_get, Option, Some, None}
+use Rattle.std.specs.Prelude.{◌≡◌, ℕ, ◌<◌, ◌^◌, Bool, true, false, ◌&&◌, ◌==◌, not, List, [], ◌∷◌, map, filter, slice_get, Option, Some, None}
 use Rattle.std.specs.List.{list_any, AllByRecursion}
 use Rattle.tb_layout.specs.declared.account.Account.{Account as AccountRecord}
 use Rattle.tb_layout.specs.declared.transfer.Transfer.{Transfer as TransferRecord}
 use Rattle.tb_layout.specs.Transfer.{is_pending, is_resolving}
-use Rattle.tb_tables.specs.Facts.{Facts}
-use Rattle.tb_tables.specs.Status.{status_in, is_reserving, expires_at}
-use Rattle.tb_tables.specs.Changes.{Lists, facts_of, before, oldest, history_of}
-use Rattle.tb_tables.specs.Conditions.{MayAdd, MayResolve}
-use Rattle.tb_tables.specs.Lawful.{AreLawful, has_id}
+use Rattle.tb_tables.specs.Facts.{Facts, is_expired, add_transfer}
+use Rattle.tb_tables.specs.History.{History}
+use Rattle.tb_tables.specs.Status.{status_in, is_resolved, is_reserving, expires_at}
+use Rattle.tb_tables.specs.Changes.{before, oldest, history_of}
+use Rattle.tb_tables.specs.Conditions.{HasNoBalances, MayAdd, MayResolve}
+use Rattle.tb_tables.specs.Lawful.{IsLawful, has_id}
 use Rattle.tb_tables.specs.Sums.{sums_of, account_rows, AreAt}
 use Rattle.tb_tables.specs.declared.places.Places.{Places}
 use Rattle.tb_tables.specs.declared.row.Row.{Row}
@@ -36,15 +37,20 @@ has_expired (Some Posted) = false
 has_expired (Some Voided) = false
 has_expired None = false
 
-abbrev pub row_of : ℕ × Row → TransferRecord × Bool
-row_of entry = (entry.1.transfer, has_expired entry.1.status)
+-- the facts that they are seen as
+abbrev pub facts_of : Stored → Facts
+facts_of stored =
+    record {
+      accounts = map account_made stored.accounts;
+      transfers = map (λ entry. entry.1.transfer) stored.transfers;
+      expired = map (λ entry. entry.1.transfer.id) (filter (λ entry. has_expired entry.1.status) stored.transfers);
+      failed = stored.failed;
+    }
 
--- the plain lists that they stand for, and their history
-abbrev pub lists_in : List (ℕ × AccountRecord) → List (ℕ × Row) → List ℕ → Lists
-lists_in accounts transfers failed = record { accounts = map account_made accounts; rows = map row_of transfers; failed = failed }
+abbrev pub history_in : List (Change Places) → Facts → History
+history_in changes facts = history_of before (λ (now : Facts). now) changes facts
 
-abbrev pub lists_of : Stored → Lists
-lists_of stored = lists_in stored.accounts stored.transfers stored.failed
+-- ---- the maps
 
 abbrev pub row_in : Facts → TransferRecord → Row
 row_in facts transfer = record { transfer = transfer; status = status_in facts transfer }
@@ -53,9 +59,93 @@ row_in facts transfer = record { transfer = transfer; status = status_in facts t
 abbrev pub transfer_rows : Facts → List TransferRecord → List (ℕ × Row)
 transfer_rows facts transfers = map (λ transfer. (transfer.id, row_in facts transfer)) transfers
 
+-- the maps hold the facts
+pub record Hold (facts : Facts) (account_entries : List (ℕ × AccountRecord)) (transfer_entries : List (ℕ × Row)) : Type 0 where
+  pub accounts_are : account_entries ≡ account_rows (sums_of facts) facts.accounts
+  pub transfers_are : transfer_entries ≡ transfer_rows facts facts.transfers
+
+-- ---- the index
+
 -- whether a transfer has a moment at which it expires
 abbrev pub is_timed : TransferRecord → Bool
 is_timed transfer = is_pending transfer && not (transfer.timeout == 0)
+
+-- whether a pair is that of a transfer
+abbrev pub is_pair_of : ℕ → Option TransferRecord → Bool
+is_pair_of moment None = false
+is_pair_of moment (Some transfer) = is_timed transfer && (expires_at transfer == moment)
+
+abbrev pub is_pair : Facts → ℕ → ℕ → Bool
+is_pair facts moment place = is_pair_of moment (slice_get facts.transfers place)
+
+-- whether it is that of a transfer that reserves its amount, or reserves nothing
+abbrev pub reserves_at : Facts → Option TransferRecord → Bool
+reserves_at facts None = false
+reserves_at facts (Some transfer) = is_reserving facts transfer
+
+abbrev pub expects : Facts → ℕ → ℕ → Bool
+expects facts moment place = is_pair facts moment place && reserves_at facts (slice_get facts.transfers place)
+
+abbrev pub is_spent : Facts → ℕ → ℕ → Bool
+is_spent facts moment place = is_pair facts moment place && not (reserves_at facts (slice_get facts.transfers place))
+
+-- ---- what is true of the facts now, and at each mark
+
+-- whether the id is that of one of the accounts
+abbrev pub has_account : ℕ → List AccountRecord → Bool
+has_account id accounts = list_any (λ (account : AccountRecord). account.id == id) accounts
+
+-- a transfer is between accounts, what it names is there, and the moment at which it expires can be written down
+pub record IsGrounded (accounts : List AccountRecord) (transfers : List TransferRecord) (transfer : TransferRecord) : Type 0 where
+  pub debit : has_account transfer.debit_account_id accounts ≡ true
+  pub credit : has_account transfer.credit_account_id accounts ≡ true
+  pub named : is_resolving transfer ≡ true → has_id transfer.pending_id transfers ≡ true
+  pub expiry_fits : is_pending transfer ≡ true → expires_at transfer < 2 ^ 64
+
+abbrev pub AreGrounded : Facts → Type 0
+AreGrounded facts = AllByRecursion (IsGrounded facts.accounts facts.transfers) facts.transfers
+
+-- what expired stands in order of making, and is pending and unresolved
+pub record AreExpiries (facts : Facts) : Type 0 where
+  pub ordered : facts.expired ≡ map (λ (transfer : TransferRecord). transfer.id) (filter (λ transfer. is_expired facts transfer.id) facts.transfers)
+  pub open_ones : (place : ℕ) (transfer : TransferRecord) → slice_get facts.transfers place ≡ Some transfer → is_expired facts transfer.id ≡ true → (is_pending transfer ≡ true) × (is_resolved facts transfer.id ≡ false)
+
+pub record IsSound (is_indexed : ℕ → ℕ → Bool) (facts : Facts) : Type 0 where
+  pub lawful : IsLawful facts
+  pub grounded : AreGrounded facts
+  pub made : AllByRecursion HasNoBalances facts.accounts
+  pub expiries : AreExpiries facts
+  pub paired : (moment place : ℕ) → expects facts moment place ≡ true → is_indexed moment place ≡ true
+
+-- the maps hold the facts, and each pair is that of a transfer
+pub record AreHeld (account_entries : List (ℕ × AccountRecord)) (transfer_entries : List (ℕ × Row)) (is_indexed : ℕ → ℕ → Bool) (facts : Facts) : Type 0 where
+  pub hold : Hold facts account_entries transfer_entries
+  pub timed : (moment place : ℕ) → is_indexed moment place ≡ true → is_pair facts moment place ≡ true
+  pub sound : IsSound is_indexed facts
+
+-- ---- what was owed for a transfer that was stored
+
+pub record MayPost (facts : Facts) (transfer : TransferRecord) (place : ℕ) : Type 0 where
+  pub may : MayResolve facts transfer
+  pub pending_at : slice_get facts.transfers place ≡ Some may.pending
+
+abbrev pub MayStore : Facts → TransferRecord → Option ℕ → Type 0
+MayStore facts transfer None = MayAdd facts transfer
+MayStore facts transfer (Some place) = MayPost facts transfer place
+
+-- the places are those of the accounts
+pub record HavePlaces (facts : Facts) (transfer : TransferRecord) (places : Places) : Type 0 where
+  pub are_at : AreAt facts.accounts places transfer.debit_account_id transfer.credit_account_id
+
+-- the facts allow it, and the places are those of its accounts
+pub record Allow (facts : Facts) (transfer : TransferRecord) (places : Places) : Type 0 where
+  pub lawful : IsLawful facts
+  pub grounded : AreGrounded facts
+  pub not_expired : is_expired facts transfer.id ≡ false
+  pub are_at : AreAt facts.accounts places transfer.debit_account_id transfer.credit_account_id
+  pub may : MayStore facts transfer places.pending
+
+-- ---- the undo list
 
 -- the place of the transfer that a change resolved
 abbrev pub named_by : Change Places → Option ℕ
@@ -73,74 +163,27 @@ resolves_at place change = names_place place (named_by change)
 abbrev pub is_resolved_at : ℕ → List (Change Places) → Bool
 is_resolved_at place changes = list_any (resolves_at place) changes
 
--- whether a pair is that of a transfer
-abbrev pub is_pair_of : ℕ → Option TransferRecord → Bool
-is_pair_of moment None = false
-is_pair_of moment (Some transfer) = is_timed transfer && (expires_at transfer == moment)
-
-abbrev pub is_pair : Facts → ℕ → ℕ → Bool
-is_pair facts moment place = is_pair_of moment (slice_get facts.transfers place)
-
--- whether a pair belongs in the index: that of a transfer that reserves its amount, or that was resolved since the last
--- `keep`
-abbrev pub expects_of : Facts → List (Change Places) → ℕ → ℕ → Option TransferRecord → Bool
-expects_of facts changes moment place None = false
-expects_of facts changes moment place (Some transfer) = (is_timed transfer && (expires_at transfer == moment)) && (is_reserving facts transfer || is_resolved_at place changes)
-
-abbrev pub expects : Facts → List (Change Places) → ℕ → ℕ → Bool
-expects facts changes moment place = expects_of facts changes moment place (slice_get facts.transfers place)
-
--- whether the id is that of one of the accounts
-abbrev pub has_account : ℕ → List AccountRecord → Bool
-has_account id accounts = list_any (λ (account : AccountRecord). account.id == id) accounts
-
--- a transfer is between accounts, what it names is there, and the moment at which it expires can be written down
-pub record IsGrounded (accounts : List AccountRecord) (transfers : List TransferRecord) (transfer : TransferRecord) : Type 0 where
-  pub debit : has_account transfer.debit_account_id accounts ≡ true
-  pub credit : has_account transfer.credit_account_id accounts ≡ true
-  pub named : is_resolving transfer ≡ true → has_id transfer.pending_id transfers ≡ true
-  pub expiry_fits : is_pending transfer ≡ true → expires_at transfer < 2 ^ 64
-
-abbrev pub AreGrounded : Facts → Type 0
-AreGrounded facts = AllByRecursion (IsGrounded facts.accounts facts.transfers) facts.transfers
-
--- what was owed for a transfer that was stored
-pub record MayPost (facts : Facts) (transfer : TransferRecord) (place : ℕ) : Type 0 where
-  pub may : MayResolve facts transfer
-  pub pending_at : slice_get facts.transfers place ≡ Some may.pending
-
-abbrev pub MayStore : Facts → TransferRecord → Option ℕ → Type 0
-MayStore facts transfer None = MayAdd facts transfer
-MayStore facts transfer (Some place) = MayPost facts transfer place
-
--- the places are those of the accounts
-pub record HavePlaces (facts : Facts) (transfer : TransferRecord) (places : Places) : Type 0 where
-  pub are_at : AreAt facts.accounts places transfer.debit_account_id transfer.credit_account_id
-
-pub record WasStored (places : Places) (old new : Lists) : Type 0 where
+pub record WasStored (places : Places) (old new : Facts) : Type 0 where
   pub transfer : TransferRecord
-  pub stored : new ≡ record old { rows = old.rows ++ (transfer, false) ∷ [] }
-  pub are_at : AreAt old.accounts places transfer.debit_account_id transfer.credit_account_id
-  pub may : MayStore (facts_of old) transfer places.pending
+  pub stored : new ≡ add_transfer old transfer
+  pub allow : Allow old transfer places
 
--- what a change says of the lists after it
-abbrev pub IsUndoable : Change Places → Lists → Type 0
-IsUndoable Account lists = AreGrounded (facts_of (before {T = Places} Account lists))
-IsUndoable (Transfer places) lists = AreGrounded (facts_of (before (Transfer places) lists)) × WasStored places (before (Transfer places) lists) lists
-IsUndoable Failed lists = AreGrounded (facts_of (before {T = Places} Failed lists))
+abbrev pub WasMade : Change Places → Facts → Facts → Type 0
+WasMade Account old new = Unit {0}
+WasMade (Transfer places) old new = WasStored places old new
+WasMade Failed old new = Unit {0}
 
-abbrev pub AreUndoable : List (Change Places) → Lists → Type 0
-AreUndoable [] lists = Unit {0}
-AreUndoable (change ∷ changes) lists = IsUndoable change (oldest changes lists) × AreUndoable changes lists
+-- what a change says of the facts after it
+abbrev pub IsUndoable : (ℕ → ℕ → Bool) → Change Places → Facts → Type 0
+IsUndoable indexed change facts = IsSound indexed (before change facts) × WasMade change (before change facts) facts
 
--- what the maps keep about the lists that they stand for
-pub record AreKept (stored : Stored) (lists : Lists) : Type 0 where
-  pub accounts : stored.accounts ≡ account_rows (sums_of (facts_of lists)) lists.accounts
-  pub transfers : stored.transfers ≡ transfer_rows (facts_of lists) (facts_of lists).transfers
-  pub indexed : (moment place : ℕ) → stored.is_indexed moment place ≡ expects (facts_of lists) stored.changes moment place
-  pub grounded : AreGrounded (facts_of lists)
-  pub undoable : AreUndoable stored.changes lists
-  pub lawful : AreLawful (history_of stored.changes lists)
+abbrev pub AreUndoable : (ℕ → ℕ → Bool) → List (Change Places) → Facts → Type 0
+AreUndoable indexed [] facts = Unit {0}
+AreUndoable indexed (change ∷ changes) facts = IsUndoable indexed change (oldest before changes facts) × AreUndoable indexed changes facts
+
+pub record AreKept (stored : Stored) (facts : Facts) : Type 0 where
+  pub held : AreHeld stored.accounts stored.transfers stored.is_indexed facts
+  pub undoable : AreUndoable stored.is_indexed stored.changes facts
 
 abbrev pub IsKept : Stored → Type 0
-IsKept stored = AreKept stored (lists_of stored)
+IsKept stored = AreKept stored (facts_of stored)

@@ -7,6 +7,7 @@ pub mod Conditions
 pub mod History
 pub mod Lawful
 pub mod Changes
+pub mod Plain
 pub mod Expiring
 pub mod Sums
 pub mod Expiries

@@ -1,3 +1,5 @@
+//! An entry of the undo list.
+
 /// What a change added; for a transfer, with what else is told of it.
 #[derive(Clone, Copy)]
 pub enum Change<T> {

@@ -5,6 +5,14 @@
 //! what the facts say. Beside the facts now stand those before each change since the last `keep`, to
 //! which `undo_to` goes back. What a caller owes (a new id, accounts that are there, sums that fit) is
 //! a `requires`; the only refusal is want of memory, after which the tables are as before.
+//!
+//! What stands on what, lowest first:
+//!
+//! - `key`, `handed`, `by_id`: ids with their hashes, and maps of what stands under them;
+//! - `balance`, `amounts`: one balance of an account, an amount between two;
+//! - `entries`, `expiries`: one entry of a map, one pair of the index of expiries;
+//! - `storing`, `timeouts`: all that one transfer changes, over facts that the maps hold (`AreHeld`);
+//! - `tables`: the maps, the index and the undo list together, whose invariant is `IsKept`.
 #![tactic(auto)]
 
 mod amounts;

@@ -1,3 +1,5 @@
+//! A further entry of the undo list.
+
 ghost use Rattle.std.specs.Prelude.{◌≡◌, ◌<◌, ◌++◌, ◌∷◌, [], vec_len, vec_capacity};
 
 use crate::change::Change;

@@ -1,3 +1,5 @@
+//! Places in the maps.
+
 /// Where the rows stand that a transfer changes: its two accounts, and the pending transfer that a post
 /// or a void names.
 #[derive(Clone, Copy)]

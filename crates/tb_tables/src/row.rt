@@ -1,3 +1,5 @@
+//! What stands under the id of a transfer.
+
 use crate::status::Status;
 use tb_layout::Transfer;
 

@@ -1,3 +1,5 @@
+//! The status of a pending transfer.
+
 /// What became of a pending transfer.
 #[derive(Clone, Copy, Debug, PartialEq, Eq)]
 pub enum Status {

@@ -1,21 +1,20 @@
 //! What a transfer changes beside its own row: balances, the status of what it names, and the index of
 //! expiries.
 
-ghost use Rattle.std.specs.Prelude.{◌≡◌, ℕ, List, not, ◌&&◌, ◌||◌, ◌<◌, ◌^◌, OnOk, OnErr, true, Some, length};
+ghost use Rattle.std.specs.Prelude.{◌≡◌, ℕ, List, not, ◌&&◌, ◌||◌, ◌<◌, ◌^◌, ◌==◌, OnOk, OnErr, true, Some, length};
 ghost use Rattle.std.specs.List.{AllByRecursion};
-ghost use Rattle.tb_layout.specs.declared.account.Account.{Account as AccountRecord};
 ghost use Rattle.tb_layout.specs.declared.transfer.Transfer.{Transfer as TransferRecord};
 ghost use Rattle.tb_layout.specs.Transfer.{is_pending};
 ghost use Rattle.tb_tables.specs.Facts.{Facts};
 ghost use Rattle.tb_tables.specs.Status.{expires_at as expires_at_of};
 ghost use Rattle.tb_tables.specs.Expiries.{is_indexed, same_pair};
-ghost use Rattle.tb_tables.specs.Kept.{is_timed as is_timed_of, named_by as named_by_of, resolves_at, is_resolved_at, is_pair};
-ghost use Rattle.tb_tables.specs.Storing.{IsPushed, IsStored, IsPopped, Hold, CanForget};
+ghost use Rattle.tb_tables.specs.Kept.{is_timed as is_timed_of, named_by as named_by_of, resolves_at, is_resolved_at, is_spent, Hold};
+ghost use Rattle.tb_tables.specs.Storing.{IsPushed, IsStored, IsPopped, IsForgettable, CanForget};
 
 use crate::amounts::{add_amount, post_if, take_amount, unpost_if};
 use crate::by_id::ById;
 use crate::change::Change;
-use crate::entries::{pop_transfer, set_status, settled_status, transfer_at};
+use crate::entries::{is_open, pop_transfer, set_status, settled_status, transfer_at};
 use crate::expiries::{put_in, take_out};
 use crate::places::Places;
 use crate::row::Row;
@@ -74,9 +73,9 @@ fn settle(
     transfer: Transfer,
 )
     requires names { places.pending ≡ Some pending }
-    requires pushed { (facts : Facts) × (records : List AccountRecord) × IsPushed facts records transfer places accounts.old.entries transfers.old.entries }
-    ensures { (facts : Facts) (records : List AccountRecord) → IsPushed facts records transfer places accounts.old.entries transfers.old.entries
-        → IsStored facts records transfer places accounts.new.entries transfers.new.entries }
+    requires pushed { (facts : Facts) × IsPushed facts transfer places accounts.old.entries transfers.old.entries }
+    ensures { (facts : Facts) → IsPushed facts transfer places accounts.old.entries transfers.old.entries
+        → IsStored facts transfer places accounts.new.entries transfers.new.entries }
 {
     let reserved = transfer_at(transfers, pending).amount;
     take_amount(accounts, places, true, reserved);
@@ -91,9 +90,9 @@ pub fn apply(
     places: Places,
     transfer: Transfer,
 )
-    requires { (facts : Facts) × (records : List AccountRecord) × IsPushed facts records transfer places accounts.old.entries transfers.old.entries }
-    ensures { (facts : Facts) (records : List AccountRecord) → IsPushed facts records transfer places accounts.old.entries transfers.old.entries
-        → IsStored facts records transfer places accounts.new.entries transfers.new.entries }
+    requires { (facts : Facts) × IsPushed facts transfer places accounts.old.entries transfers.old.entries }
+    ensures { (facts : Facts) → IsPushed facts transfer places accounts.old.entries transfers.old.entries
+        → IsStored facts transfer places accounts.new.entries transfers.new.entries }
 {
     match places.pending {
         None => add_amount(accounts, places, transfer.is_pending(), transfer.amount),
@@ -110,9 +109,9 @@ fn unsettle(
     transfer: Transfer,
 )
     requires names { places.pending ≡ Some pending }
-    requires popped { (facts : Facts) × (records : List AccountRecord) × IsPopped facts records transfer places accounts.old.entries transfers.old.entries }
-    ensures { (facts : Facts) (records : List AccountRecord) → IsPopped facts records transfer places accounts.old.entries transfers.old.entries
-        → Hold facts records accounts.new.entries transfers.new.entries }
+    requires popped { (facts : Facts) × IsPopped facts transfer places accounts.old.entries transfers.old.entries }
+    ensures { (facts : Facts) → IsPopped facts transfer places accounts.old.entries transfers.old.entries
+        → Hold facts accounts.new.entries transfers.new.entries }
 {
     let reserved = transfer_at(transfers, pending).amount;
     unpost_if(accounts, places, transfer.is_post(), transfer.amount);
@@ -127,10 +126,10 @@ pub fn take_back(
     expiries: &mut BTreeSet<(u64, usize)>,
     places: Places,
 )
-    requires { (facts : Facts) × (records : List AccountRecord) × (transfer : TransferRecord) × IsStored facts records transfer places accounts.old.entries transfers.old.entries }
-    ensures maps { (facts : Facts) (records : List AccountRecord) (transfer : TransferRecord) → IsStored facts records transfer places accounts.old.entries transfers.old.entries
-        → Hold facts records accounts.new.entries transfers.new.entries }
-    ensures index { (facts : Facts) (records : List AccountRecord) (transfer : TransferRecord) → IsStored facts records transfer places accounts.old.entries transfers.old.entries → (m p : ℕ)
+    requires { (facts : Facts) × (transfer : TransferRecord) × IsStored facts transfer places accounts.old.entries transfers.old.entries }
+    ensures maps { (facts : Facts) (transfer : TransferRecord) → IsStored facts transfer places accounts.old.entries transfers.old.entries
+        → Hold facts accounts.new.entries transfers.new.entries }
+    ensures index { (facts : Facts) (transfer : TransferRecord) → IsStored facts transfer places accounts.old.entries transfers.old.entries → (m p : ℕ)
         → is_indexed expiries.new m p ≡ (not (is_timed_of transfer && same_pair (expires_at_of transfer) (length facts.transfers) m p) && is_indexed expiries.old m p) }
 {
     let transfer = pop_transfer(transfers);
@@ -151,6 +150,18 @@ fn named_by(change: &Change<Places>) -> Option<usize>
     }
 }
 
+/// Takes the pair of the transfer at a place out of the index, where it reserves nothing any more.
+fn forget_at(expiries: &mut BTreeSet<(u64, usize)>, transfers: &ById<Row>, place: usize)
+    requires { (facts : Facts) × (transfer : TransferRecord) × IsForgettable facts transfer transfers.now.entries place }
+    ensures { (facts : Facts) (transfer : TransferRecord) → IsForgettable facts transfer transfers.now.entries place → (m p : ℕ)
+        → is_indexed expiries.new m p ≡ (not ((place == p) && is_spent facts m p) && is_indexed expiries.old m p) }
+{
+    let transfer = transfer_at(transfers, place);
+    if is_timed(&transfer) && !is_open(transfers, place) {
+        take_out(expiries, expires_at(&transfer), place);
+    }
+}
+
 /// Takes the pair of the transfer that a change resolved out of the index.
 fn forget_change(
     expiries: &mut BTreeSet<(u64, usize)>,
@@ -159,10 +170,10 @@ fn forget_change(
 )
     requires { (facts : Facts) × CanForget facts change.now transfers.now.entries }
     ensures { (facts : Facts) → CanForget facts change.now transfers.now.entries → (m p : ℕ)
-        → is_indexed expiries.new m p ≡ (not (resolves_at p change.now && is_pair facts m p) && is_indexed expiries.old m p) }
+        → is_indexed expiries.new m p ≡ (not (resolves_at p change.now && is_spent facts m p) && is_indexed expiries.old m p) }
 {
     if let Some(place) = named_by(change) {
-        forget(expiries, &transfer_at(transfers, place), place);
+        forget_at(expiries, transfers, place);
     }
 }
 
@@ -174,7 +185,7 @@ pub fn forget_resolved(
 )
     requires { (facts : Facts) × AllByRecursion (λ change. CanForget facts change transfers.now.entries) changes.now }
     ensures { (facts : Facts) → AllByRecursion (λ change. CanForget facts change transfers.now.entries) changes.now → (m p : ℕ)
-        → is_indexed expiries.new m p ≡ (not (is_resolved_at p changes.now && is_pair facts m p) && is_indexed expiries.old m p) }
+        → is_indexed expiries.new m p ≡ (not (is_resolved_at p changes.now && is_spent facts m p) && is_indexed expiries.old m p) }
 {
     for change in changes {
         forget_change(expiries, transfers, change);

@@ -34,14 +34,13 @@ pub struct Tables {
 
 impl Model for Tables {
     ghost use Rattle.tb_tables.specs.History.{History};
-    ghost use Rattle.tb_tables.specs.Changes.{history_of};
-    ghost use Rattle.tb_tables.specs.Kept.{lists_of, IsKept};
+    ghost use Rattle.tb_tables.specs.Kept.{facts_of, history_in, IsKept};
 
     ghost Value = { History };
 
     ghost use Rattle.tb_tables.specs.Held.{stored_in};
 
-    ghost view = { λ tables. history_of tables.changes.items (lists_of (stored_in tables)) };
+    ghost view = { λ tables. history_in tables.changes.items (facts_of (stored_in tables)) };
 
     ghost invariant = { λ tables. IsKept (stored_in tables) };
 }

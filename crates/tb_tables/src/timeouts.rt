@@ -1,16 +1,15 @@
 //! Pending transfers whose timeout is over.
 
-ghost use Rattle.std.specs.Prelude.{◌≡◌, ℕ, List, [], map, Bool, not, ◌&&◌};
-ghost use Rattle.tb_tables.specs.Changes.{transfers_in};
-ghost use Rattle.tb_tables.specs.Expiring.{with_expiries};
-ghost use Rattle.tb_tables.specs.Expiries.{is_indexed, same_pair};
-ghost use Rattle.tb_tables.specs.Kept.{row_of, lists_in, IsKept};
-ghost use Rattle.tb_tables.specs.Status.{expires_at};
-ghost use Rattle.tb_tables.specs.Storing.{stored_for_good, CanExpire, HasExpired};
+ghost use Rattle.std.specs.Prelude.{◌≡◌, ℕ};
+ghost use Rattle.tb_tables.specs.Facts.{Facts};
+ghost use Rattle.tb_tables.specs.Expiries.{is_indexed};
+ghost use Rattle.tb_tables.specs.Kept.{Hold, AreHeld};
+ghost use Rattle.tb_tables.specs.Status.{expire_due};
+ghost use Rattle.tb_tables.specs.Storing.{CanExpire, expire_one};
 
 use crate::amounts::take_amount;
 use crate::by_id::ById;
-use crate::entries::{place_of, set_status, transfer_at};
+use crate::entries::{is_open, place_of, set_status, transfer_at};
 use crate::expiries::take_due;
 use crate::places::Places;
 use crate::row::Row;
@@ -20,13 +19,9 @@ use tb_layout::Account;
 
 /// Lets the transfer at a place expire: its amount is reserved no more.
 fn expire(accounts: &mut ById<Account>, transfers: &mut ById<Row>, place: usize)
-    requires { (failed : List ℕ) × (indexed : ℕ → ℕ → Bool)
-        × CanExpire (stored_for_good accounts.old.entries transfers.old.entries failed indexed) place }
-    ensures { (failed : List ℕ) (indexed next : ℕ → ℕ → Bool)
-        (can : CanExpire (stored_for_good accounts.old.entries transfers.old.entries failed indexed) place)
-        → ((m p : ℕ) → next m p ≡ (not (same_pair (expires_at can.transfer) place m p) && indexed m p))
-        → HasExpired (stored_for_good accounts.old.entries transfers.old.entries failed indexed)
-        (stored_for_good accounts.new.entries transfers.new.entries failed next) place can.transfer }
+    requires { (facts : Facts) × CanExpire facts accounts.old.entries transfers.old.entries place }
+    ensures { (facts : Facts) (can : CanExpire facts accounts.old.entries transfers.old.entries place)
+        → Hold (expire_one can.transfer.id facts) accounts.new.entries transfers.new.entries }
 {
     let transfer = transfer_at(transfers, place);
     let places = Places {
@@ -38,21 +33,20 @@ fn expire(accounts: &mut ById<Account>, transfers: &mut ById<Row>, place: usize)
     set_status(transfers, place, Status::Expired);
 }
 
-/// Lets each transfer expire whose pair is due at a clock. Costs as much as what expires.
+/// Lets each transfer expire that still reserves its amount and whose pair is due at a clock. Costs as much as what expires.
 pub fn expire_all(
     accounts: &mut ById<Account>,
     transfers: &mut ById<Row>,
     expiries: &mut BTreeSet<(u64, usize)>,
     clock: u64,
 )
-    requires { (failed : List ℕ) × IsKept (stored_for_good accounts.old.entries transfers.old.entries failed (is_indexed expiries.old)) }
-    ensures kept { (failed : List ℕ) → IsKept (stored_for_good accounts.old.entries transfers.old.entries failed (is_indexed expiries.old))
-        → IsKept (stored_for_good accounts.new.entries transfers.new.entries failed (is_indexed expiries.new)) }
-    ensures lists { (failed : List ℕ) → IsKept (stored_for_good accounts.old.entries transfers.old.entries failed (is_indexed expiries.old))
-        → lists_in accounts.new.entries transfers.new.entries failed
-        ≡ record (lists_in accounts.old.entries transfers.old.entries failed) { rows = with_expiries clock (transfers_in (map row_of transfers.old.entries)) (map row_of transfers.old.entries) } }
+    requires { (facts : Facts) × AreHeld accounts.old.entries transfers.old.entries (is_indexed expiries.old) facts }
+    ensures { (facts : Facts) → AreHeld accounts.old.entries transfers.old.entries (is_indexed expiries.old) facts
+        → AreHeld accounts.new.entries transfers.new.entries (is_indexed expiries.new) (expire_due clock facts) }
 {
     while let Some(place) = take_due(expiries, clock) {
-        expire(accounts, transfers, place);
+        if is_open(transfers, place) {
+            expire(accounts, transfers, place);
+        }
     }
 }

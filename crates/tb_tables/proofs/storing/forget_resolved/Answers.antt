@@ -1,7 +1,7 @@
 use Rattle.std.proofs.Common.{◌∙◌, ap, not}
 use Rattle.std.specs.Prelude.{◌&&◌}
 use Rattle.tb_tables.specs.Expiries.{is_indexed}
-use Rattle.tb_tables.specs.Kept.{is_resolved_at, is_pair}
+use Rattle.tb_tables.specs.Kept.{is_resolved_at, is_spent}
 use Rattle.tb_tables.specs.declared.change.Change.TheVariants.{Account}
 use Rattle.tb_tables.proofs.Forgetting.{all-at, forgotten-more, taken-all}
 use Rattle.tb_tables.proofs.storing.forget_resolved.Goals as goal
@@ -11,10 +11,10 @@ forget_change-requires c = (c.requires.0, all-at _ c.args.changes.now c.loop-cha
 
 pub loop-change-preserved : goal.loop-change-preserved
 loop-change-preserved c = λ facts all m p.
-    forgotten-more c.args.changes.now c.loop-change.change-index Account p (is_pair facts m p) (is_indexed c.args.expiries.now m p) (is_indexed c.loop-change.expiries m p) (is_indexed c.forget_change.new.expiries m p)
+    forgotten-more c.args.changes.now c.loop-change.change-index Account p (is_spent facts m p) (is_indexed c.args.expiries.now m p) (is_indexed c.loop-change.expiries m p) (is_indexed c.forget_change.new.expiries m p)
     c.loop-change-test.true (c.loop-change.invariant facts all m p) (c.forget_change.ensures facts (all-at _ c.args.changes.now c.loop-change.change-index Account all c.loop-change-test.true) m p)
 
 pub returns : goal.returns
 returns c = λ facts all m p.
     c.loop-change.invariant facts all m p
-    ∙ ap (λ cs. not (is_resolved_at p cs && is_pair facts m p) && is_indexed c.args.expiries.now m p) (taken-all c.args.changes.now c.loop-change.change-index c.loop-change-test.false)
+    ∙ ap (λ cs. not (is_resolved_at p cs && is_spent facts m p) && is_indexed c.args.expiries.now m p) (taken-all c.args.changes.now c.loop-change.change-index c.loop-change-test.false)

@@ -7,7 +7,7 @@ ghost use Rattle.tb_tables.specs.Facts.{Facts};
 ghost use Rattle.tb_tables.specs.Lawful.{IsLawful};
 ghost use Rattle.tb_tables.specs.Status.{is_reserving as is_reserving_in};
 ghost use Rattle.tb_tables.specs.Balances.{is_posting as is_posting_of, debits_pending as debits_pending_of, debits_posted as debits_posted_of, credits_pending as credits_pending_of, credits_posted as credits_posted_of, with_balances as with_balances_of};
-ghost use Rattle.tb_tables.specs.Changes.{facts_in};
+ghost use Rattle.tb_tables.specs.Plain.{facts_in};
 
 use super::statuses::{is_expired, is_resolved};
 use tb_layout::{Account, Transfer};

@@ -4,7 +4,7 @@ ghost use Rattle.std.specs.Prelude.{◌≡◌, ◌==◌, ◌<◌, ◌&&◌, ◌|
 ghost use Rattle.std.specs.List.{list_any};
 ghost use Rattle.tb_layout.specs.declared.transfer.Transfer.{Transfer as TransferRecord};
 ghost use Rattle.tb_layout.specs.Transfer.{is_pending, is_post, is_void, is_resolving};
-ghost use Rattle.tb_tables.specs.Changes.{transfers_in, expired_in, facts_in};
+ghost use Rattle.tb_tables.specs.Plain.{transfers_in, expired_in, facts_in};
 ghost use Rattle.tb_tables.specs.Status.{status_of, is_due as is_due_at};
 ghost use Rattle.tb_tables.specs.Expiring.{expires_among, with_expiries};
 

@@ -25,13 +25,13 @@ pub struct PlainTables {
 impl Model for PlainTables {
     ghost use Rattle.tb_tables.specs.History.{History};
     ghost use Rattle.tb_tables.specs.Lawful.{AreLawful};
-    ghost use Rattle.tb_tables.specs.Changes.{history_of};
+    ghost use Rattle.tb_tables.specs.Plain.{plain_history};
 
     ghost Value = { History };
 
-    ghost view = { λ tables. history_of tables.changes.items (record { accounts = tables.accounts.items; rows = tables.rows.items; failed = tables.failed.items }) };
+    ghost view = { λ tables. plain_history tables.changes.items (record { accounts = tables.accounts.items; rows = tables.rows.items; failed = tables.failed.items }) };
 
-    ghost invariant = { λ tables. AreLawful (history_of tables.changes.items (record { accounts = tables.accounts.items; rows = tables.rows.items; failed = tables.failed.items })) };
+    ghost invariant = { λ tables. AreLawful (plain_history tables.changes.items (record { accounts = tables.accounts.items; rows = tables.rows.items; failed = tables.failed.items })) };
 }
 
 impl PlainTables {

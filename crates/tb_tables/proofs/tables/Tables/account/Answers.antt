@@ -1,4 +1,5 @@
 use Rattle.std.proofs.Common.{◌∙◌}
+use Rattle.tb_tables.specs.Kept.{facts_of}
 use Rattle.tb_tables.specs.Held.{stored_in}
 use Rattle.tb_tables.proofs.Locating.{account-found}
 use Rattle.tb_tables.proofs.tables.Tables.account.Goals as goal
@@ -6,4 +7,4 @@ use Rattle.tb_tables.proofs.tables.Tables.account.Goals as goal
 pub returns : goal.returns
 returns c =
     let old = stored_in c.self.inside in
-    rw (← c.self.view_is) (c.copied.ensures ∙ rw (c.of.ensures) at c.get.ensures.value ∙ account-found old c.self.invariant c.args.id)
+    rw (← c.self.view_is) (c.copied.ensures ∙ rw (c.of.ensures) at c.get.ensures.value ∙ account-found (facts_of old) old.accounts old.transfers c.self.invariant.held.hold c.args.id)

@@ -1,8 +1,7 @@
 use Rattle.std.proofs.Common.{◌∙◌, ap}
 use Rattle.std.specs.Option.{option_map}
 use Rattle.tb_tables.specs.Sums.{with_sums, sums_of}
-use Rattle.tb_tables.specs.Changes.{facts_of}
-use Rattle.tb_tables.specs.Kept.{lists_of}
+use Rattle.tb_tables.specs.Kept.{facts_of}
 use Rattle.tb_tables.specs.Held.{stored_in}
 use Rattle.tb_tables.proofs.Locating.{account-found}
 use Rattle.tb_tables.proofs.Opening.{kept-account}
@@ -12,7 +11,7 @@ pub push_account-requires : goal.push_account-requires
 push_account-requires c =
     let old = stored_in c.self.inside in
     let none = rw (← c.self.view_is) at c.requires.new in
-    account-found old c.self.invariant c.args.account.id ∙ ap (option_map (with_sums (sums_of (facts_of (lists_of old))))) none
+    account-found (facts_of old) old.accounts old.transfers c.self.invariant.held.hold c.args.account.id ∙ ap (option_map (with_sums (sums_of (facts_of old)))) none
 
 pub invariant_of-self-2 : goal.invariant_of-self-2
 invariant_of-self-2 c =

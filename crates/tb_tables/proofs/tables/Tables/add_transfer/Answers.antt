@@ -1,3 +1,4 @@
+use Rattle.tb_tables.specs.Kept.{facts_of}
 use Rattle.tb_tables.specs.Held.{stored_in}
 use Rattle.tb_tables.proofs.Locating.{account-there, are-at}
 use Rattle.tb_tables.proofs.tables.Tables.add_transfer.Goals as goal
@@ -6,15 +7,15 @@ pub place_of-requires : goal.place_of-requires
 place_of-requires c =
     let old = stored_in c.self.inside in
     let may = rw (← c.self.view_is) at c.requires in
-    account-there old c.self.invariant c.args.transfer.debit_account_id may.debit_there
+    account-there (facts_of old) old.accounts old.transfers c.self.invariant.held.hold c.args.transfer.debit_account_id may.debit_there
 
 pub place_of-requires-2 : goal.place_of-requires-2
 place_of-requires-2 c =
     let old = stored_in c.self.inside in
     let may = rw (← c.self.view_is) at c.requires in
-    account-there old c.self.invariant c.args.transfer.credit_account_id may.credit_there
+    account-there (facts_of old) old.accounts old.transfers c.self.invariant.held.hold c.args.transfer.credit_account_id may.credit_there
 
 pub store-requires-clause-at : goal.store-requires-clause-at
 store-requires-clause-at c =
     let old = stored_in c.self.inside in
-    rw (← c.self.view_is) (record { are_at = are-at old c.self.invariant c.args.transfer _ c.place_of.ensures c.place_of-2.ensures })
+    rw (← c.self.view_is) (record { are_at = are-at (facts_of old) old.accounts old.transfers c.self.invariant.held.hold c.args.transfer _ c.place_of.ensures c.place_of-2.ensures })

@@ -1,30 +1,28 @@
-use Rattle.std.proofs.Common.{◌∙◌, ap, []}
-use Rattle.tb_tables.specs.Changes.{history_of}
-use Rattle.tb_tables.specs.declared.places.Places.{Places}
-use Rattle.tb_tables.specs.Kept.{lists_in}
-use Rattle.tb_tables.proofs.Due.{no-changes, expired}
+use Rattle.std.proofs.Common.{refl, []}
+use Rattle.tb_tables.specs.Facts.{Facts}
+use Rattle.tb_tables.specs.Changes.{before}
+use Rattle.tb_tables.specs.Kept.{facts_of}
+use Rattle.tb_tables.specs.Status.{expire_due}
+use Rattle.tb_tables.specs.Held.{stored_in}
+use Rattle.tb_tables.proofs.Histories.{no-changes}
+use Rattle.tb_tables.proofs.Keeping.{keeps}
 use Rattle.tb_tables.proofs.tables.Tables.expire_due.Goals as goal
 
 pub expire_all-requires : goal.expire_all-requires
-expire_all-requires c =
-    let o = c.self.inside in
-    let lists = lists_in o.accounts.entries o.transfers.entries o.failed.keys in
-    let none = no-changes o.changes.items lists (rw (← c.self.view_is) at c.requires) in
-    let kept = rw none at c.self.invariant in
-    (o.failed.keys, kept)
+expire_all-requires c = (facts_of (stored_in c.self.inside), c.self.invariant.held)
 
 pub invariant_of-self : goal.invariant_of-self
 invariant_of-self c =
     let o = c.self.inside in
-    let lists = lists_in o.accounts.entries o.transfers.entries o.failed.keys in
-    let none = no-changes o.changes.items lists (rw (← c.self.view_is) at c.requires) in
-    let kept = rw none at c.self.invariant in
-    rw none (c.expire_all.ensures.kept o.failed.keys kept)
+    let old = stored_in o in
+    let none = no-changes before (λ (now : Facts). now) o.changes.items (facts_of old) (rw (← c.self.view_is) at c.requires) in
+    let held = c.expire_all.ensures (facts_of old) c.self.invariant.held in
+    rw none (keeps (record old { accounts = c.expire_all.new.accounts.entries; transfers = c.expire_all.new.transfers.entries; changes = []; is_indexed = _ }) (expire_due c.args.clock (facts_of old)) refl held tt).0
 
 pub returns : goal.returns
 returns c =
     let o = c.self.inside in
-    let lists = lists_in o.accounts.entries o.transfers.entries o.failed.keys in
-    let none = no-changes o.changes.items lists (rw (← c.self.view_is) at c.requires) in
-    let kept = rw none at c.self.invariant in
-    rw (← c.self.view_is, none) (ap (history_of {T = Places} []) (c.expire_all.ensures.lists o.failed.keys kept) ∙ expired c.args.clock lists kept.lawful.now)
+    let old = stored_in o in
+    let none = no-changes before (λ (now : Facts). now) o.changes.items (facts_of old) (rw (← c.self.view_is) at c.requires) in
+    let held = c.expire_all.ensures (facts_of old) c.self.invariant.held in
+    rw (← c.self.view_is, none) (keeps (record old { accounts = c.expire_all.new.accounts.entries; transfers = c.expire_all.new.transfers.entries; changes = []; is_indexed = _ }) (expire_due c.args.clock (facts_of old)) refl held tt).1

@@ -1,3 +1,4 @@
+use Rattle.tb_tables.specs.Kept.{facts_of}
 use Rattle.tb_tables.specs.Held.{stored_in}
 use Rattle.tb_tables.proofs.Locating.{debit-there, credit-there, transfer-there, are-at, may-post}
 use Rattle.tb_tables.proofs.tables.Tables.resolve_under.Goals as goal
@@ -5,25 +6,25 @@ use Rattle.tb_tables.proofs.tables.Tables.resolve_under.Goals as goal
 pub place_of-requires : goal.place_of-requires
 place_of-requires c =
     let old = stored_in c.self.inside in
-    debit-there old c.self.invariant c.args.transfer (rw (← c.self.view_is) at c.requires.may)
+    debit-there (facts_of old) old.accounts old.transfers c.self.invariant.held.hold c.self.invariant.held.sound.grounded c.args.transfer (rw (← c.self.view_is) at c.requires.may)
 
 pub place_of-requires-2 : goal.place_of-requires-2
 place_of-requires-2 c =
     let old = stored_in c.self.inside in
-    credit-there old c.self.invariant c.args.transfer (rw (← c.self.view_is) at c.requires.may)
+    credit-there (facts_of old) old.accounts old.transfers c.self.invariant.held.hold c.self.invariant.held.sound.grounded c.args.transfer (rw (← c.self.view_is) at c.requires.may)
 
 pub place_under-requires : goal.place_under-requires
 place_under-requires c =
     let old = stored_in c.self.inside in
     let may = rw (← c.self.view_is) at c.requires.may in
-    rw (c.requires.pending) (transfer-there old c.self.invariant c.args.transfer.pending_id may.pending may.named)
+    rw (c.requires.pending) (transfer-there (facts_of old) old.accounts old.transfers c.self.invariant.held.hold c.args.transfer.pending_id may.pending may.named)
 
 pub store-requires-clause-at : goal.store-requires-clause-at
 store-requires-clause-at c =
     let old = stored_in c.self.inside in
-    rw (← c.self.view_is) (record { are_at = are-at old c.self.invariant c.args.transfer _ c.place_of.ensures c.place_of-2.ensures })
+    rw (← c.self.view_is) (record { are_at = are-at (facts_of old) old.accounts old.transfers c.self.invariant.held.hold c.args.transfer _ c.place_of.ensures c.place_of-2.ensures })
 
 pub store-requires-clause-may : goal.store-requires-clause-may
 store-requires-clause-may c =
     let old = stored_in c.self.inside in
-    rw (← c.self.view_is) (may-post old c.self.invariant c.args.transfer c.place_under.result (rw (← c.self.view_is) at c.requires.may) (rw (c.requires.pending) at c.place_under.ensures))
+    rw (← c.self.view_is) (may-post (facts_of old) old.accounts old.transfers c.self.invariant.held.hold c.self.invariant.held.sound.lawful c.args.transfer c.place_under.result (rw (← c.self.view_is) at c.requires.may) (rw (c.requires.pending) at c.place_under.ensures))

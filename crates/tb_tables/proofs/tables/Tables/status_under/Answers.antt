@@ -1,5 +1,6 @@
 use Rattle.std.proofs.Common.{◌∙◌, sym, ap}
 use Rattle.std.specs.Option.{option_copied}
+use Rattle.tb_tables.specs.Kept.{facts_of}
 use Rattle.tb_tables.specs.Held.{stored_in}
 use Rattle.tb_tables.proofs.Locating.{row_status, status-found}
 use Rattle.tb_tables.proofs.tables.Tables.status_under.Goals as goal
@@ -8,10 +9,10 @@ pub returns-in_err-get : goal.returns-in_err-get
 returns-in_err-get c =
     let old = stored_in c.self.inside in
     let none = sym c.get.ensures.value ∙ ap option_copied c.in_err-get.was in
-    rw (← c.self.view_is) (c.from_residual.ensures ∙ sym (status-found old c.self.invariant c.args.key ∙ ap row_status none))
+    rw (← c.self.view_is) (c.from_residual.ensures ∙ sym (status-found (facts_of old) old.accounts old.transfers c.self.invariant.held.hold c.args.key ∙ ap row_status none))
 
 pub returns : goal.returns
 returns c =
     let old = stored_in c.self.inside in
     let some = sym c.get.ensures.value ∙ ap option_copied c.in_ok-get.was in
-    rw (← c.self.view_is) (sym (status-found old c.self.invariant c.args.key ∙ ap row_status some))
+    rw (← c.self.view_is) (sym (status-found (facts_of old) old.accounts old.transfers c.self.invariant.held.hold c.args.key ∙ ap row_status some))

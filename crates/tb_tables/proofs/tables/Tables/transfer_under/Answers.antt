@@ -1,5 +1,6 @@
 use Rattle.std.proofs.Common.{◌∙◌, sym, ap}
 use Rattle.std.specs.Option.{option_copied, option_map}
+use Rattle.tb_tables.specs.Kept.{facts_of}
 use Rattle.tb_tables.specs.Held.{stored_in}
 use Rattle.tb_tables.specs.declared.row.Row.{Row}
 use Rattle.tb_tables.proofs.Locating.{transfer-found}
@@ -9,10 +10,10 @@ pub returns-in_err-row : goal.returns-in_err-row
 returns-in_err-row c =
     let old = stored_in c.self.inside in
     let none = sym c.get.ensures.value ∙ ap option_copied c.in_err-row.was in
-    rw (← c.self.view_is) (c.from_residual.ensures ∙ sym (transfer-found old c.self.invariant c.args.key ∙ ap (option_map (λ (row : Row). row.transfer)) none))
+    rw (← c.self.view_is) (c.from_residual.ensures ∙ sym (transfer-found (facts_of old) old.accounts old.transfers c.self.invariant.held.hold c.args.key ∙ ap (option_map (λ (row : Row). row.transfer)) none))
 
 pub returns : goal.returns
 returns c =
     let old = stored_in c.self.inside in
     let some = sym c.get.ensures.value ∙ ap option_copied c.in_ok-row.was in
-    rw (← c.self.view_is) (sym (transfer-found old c.self.invariant c.args.key ∙ ap (option_map (λ (row : Row). row.transfer)) some))
+    rw (← c.self.view_is) (sym (transfer-found (facts_of old) old.accounts old.transfers c.self.invariant.held.hold c.args.key ∙ ap (option_map (λ (row : Row). row.transfer)) some))

@@ -1,5 +1,5 @@
 use Rattle.std.proofs.Common.{◌∙◌, sym, ap, length}
-use Rattle.tb_tables.specs.Changes.{transfers_in}
+use Rattle.tb_tables.specs.Plain.{transfers_in}
 use Rattle.tb_tables.proofs.Marking.{marked_one, unmarked_one, marked_all, length_below}
 use Rattle.tb_tables.proofs.tests.plain.statuses.expire_due.Goals as goal
 use Rattle.tb_tables.proofs.tests.plain.statuses.expire_due.Goals.{then-expires, else-expires}

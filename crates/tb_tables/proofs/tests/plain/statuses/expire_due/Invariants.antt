@@ -1,5 +1,5 @@
 use Rattle.std.proofs.Common.{◌≡◌}
-use Rattle.tb_tables.specs.Changes.{transfers_in}
+use Rattle.tb_tables.specs.Plain.{transfers_in}
 use Rattle.tb_tables.proofs.Marking.{marked_below}
 use Rattle.tb_tables.proofs.tests.plain.statuses.expire_due.Given as goal
 

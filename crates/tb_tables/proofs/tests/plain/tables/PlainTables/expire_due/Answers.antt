@@ -1,6 +1,6 @@
 use Rattle.std.proofs.Common.{◌∙◌}
 use Rattle.std.proofs.lemmas.List.{with_items_is}
-use Rattle.tb_tables.specs.Changes.{Lists}
+use Rattle.tb_tables.specs.Plain.{Lists, facts_of, cut_back}
 use Rattle.tb_tables.proofs.Expiring.{history_expired}
 use Rattle.tb_tables.proofs.tests.plain.tables.PlainTables.expire_due.Goals as goal
 
