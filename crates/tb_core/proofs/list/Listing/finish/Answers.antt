@@ -1,13 +1,19 @@
-use Rattle.std.proofs.Common.{append-nil}
+use Rattle.std.proofs.Common.{sym, subst, ◌++◌, map, append-nil}
 use Rattle.std.proofs.lemmas.Result.{on_ok_weaker}
+use Rattle.tb_batch.specs.Grouping.{IsGroup}
+use Rattle.tb_core.specs.Passage.{Admitted}
+use Rattle.tb_core.specs.Run.{GoesOn}
 use Rattle.tb_core.proofs.Listing.{through}
 use Rattle.tb_core.proofs.list.Listing.finish.Goals as goal
 
 pub returns-in-Some : goal.returns-in-Some
 returns-in-Some c = λ clock limit items run.
     let held = c.in-Some.ensures.some.0 in
-    on_ok_weaker c.apply.result (λ on. through clock limit items c.args.self.now.front c.args.self.now.ledger c.args.self.now.replies.items c.apply.new.ledger c.apply.new.replies.items run (rw held at on))
-    (c.apply.ensures clock limit run.sent (rw (held, ← run.under) c.in-Some.ensures.lawful) run.goes_on)
+    let now = c.apply.new.ledger in
+    let given = c.apply.new.replies.items in
+    on_ok_weaker c.apply.result
+    (λ on. through clock limit items c.args.self.now.front c.args.self.now.ledger c.args.self.now.replies.items now given run (subst (λ jobs. GoesOn clock limit (run.sent ++ map Admitted jobs) now given) held on))
+    (c.apply.ensures clock limit run.sent (subst (IsGroup limit) (sym held) (subst (λ n. IsGroup n c.args.self.now.front.held) run.under c.in-Some.ensures.lawful)) run.goes_on)
 
 pub returns-in-None : goal.returns-in-None
 returns-in-None c = λ clock limit items run.
