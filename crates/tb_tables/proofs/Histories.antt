@@ -1,10 +1,9 @@
 -- The history after a change, and after one is taken back.
-use Rattle.std.proofs.Common.{refl, sym, ap, subst, ◌∙◌, arith, ◌≡◌, ℕ, ◌-◌, ◌≤◌, List, [], ◌∷◌, ◌++◌, length, take, length-append, suc, zero, get_or}
+use Rattle.std.proofs.Common.{refl, sym, ap, subst, ◌∙◌, arith, ◌≡◌, ◌-◌, List, [], ◌∷◌, ◌++◌, length, take, length-append, suc}
 use Rattle.std.specs.List.{AllByRecursion}
-use Rattle.std.proofs.Math.Seq.{take-append_seam, take-length}
-use Rattle.std.proofs.lemmas.List.{take-append-le, get_or_past}
+use Rattle.std.proofs.Math.Seq.{take-append_seam}
 use Rattle.tb_tables.specs.Facts.{Facts}
-use Rattle.tb_tables.specs.History.{History, with_change, mark_of, back_to, Extends}
+use Rattle.tb_tables.specs.History.{History, with_change}
 use Rattle.tb_tables.specs.Lawful.{IsLawful, AreLawful}
 use Rattle.tb_tables.specs.Changes.{without_last, oldest, past_of, history_of}
 use Rattle.tb_tables.specs.declared.change.Change.{Change}
@@ -40,45 +39,6 @@ module _ {T X : Type 0} (undo : Change T → X → X) (seen : X → Facts) where
   -- the history with the last change on it again
   pub history_of-pop : (changes : List (Change T)) (change : Change T) (now : X) → with_change (history_of undo seen changes (undo change now)) (seen now) ≡ history_of undo seen (changes ++ change ∷ []) now
   history_of-pop changes change now = sym (history_of-push changes change (undo change now) now refl)
-
-get_or-push : {X : Type 0} (xs : List X) (place : ℕ) (x d : X) → place ≤ length xs → get_or (xs ++ x ∷ []) place d ≡ get_or xs place x
-get_or-push [] zero x d h = refl
-get_or-push [] (suc place) x d h = absurd (omega arith)
-get_or-push (y ∷ xs) zero x d h = refl
-get_or-push (y ∷ xs) (suc place) x d h = get_or-push xs place x d (omega arith)
-
--- a later change doesn't matter to what was before it
-pub undone-changed : (mark : ℕ) (history : History) (facts : Facts) → mark ≤ length history.past → back_to mark (with_change history facts) ≡ back_to mark history
-undone-changed mark history facts h =
-    let now = get_or-push history.past mark history.now facts h in
-    let past = take-append-le mark history.past (history.now ∷ []) h in
-    λ i. record { now = now i; past = past i }
-
--- at the mark itself nothing is taken back
-pub undone-mark : (history : History) → back_to (length history.past) history ≡ history
-undone-mark history =
-    let now = get_or_past history.past (length history.past) history.now (omega arith) in
-    let past = take-length history.past in
-    λ i. record { now = now i; past = past i }
-
-pub extends_itself : (history : History) → Extends history history
-extends_itself history = record { more = omega arith; same = λ mark within. refl }
-
-pub extends_changed : (history : History) (facts : Facts) → Extends history (with_change history facts)
-extends_changed history facts = record {
-  more = omega (arith, length-append history.past (history.now ∷ []));
-  same = λ mark within. undone-changed mark history facts within;
-}
-
-pub extends_through : (a b c : History) → Extends a b → Extends b c → Extends a c
-extends_through a b c first next = record {
-  more = omega (arith, first.more, next.more);
-  same = λ mark within. next.same mark (omega (arith, first.more)) ∙ first.same mark within;
-}
-
--- back at the mark, the history is what it was there
-pub undone-extended : (old new : History) → Extends old new → back_to (mark_of old) new ≡ old
-undone-extended old new extended = extended.same (mark_of old) (omega arith) ∙ undone-mark old
 
 -- ---- the facts of each moment stay lawful
 
