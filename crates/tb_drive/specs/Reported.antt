@@ -1,0 +1,27 @@
+-- A pipeline that was driven until all of its senders had ended.
+use Rattle.std.specs.Prelude.{◌≡◌, ℕ, List, map, length}
+use Rattle.tb_core.specs.Grouping.{IsGrouping}
+use Rattle.tb_core.specs.Ledger.{LedgerState, works}
+use Rattle.tb_core.specs.Report.{LawfulReport}
+use Rattle.tb_machine.specs.Replay.{replay}
+use Rattle.tb_submit.specs.Ends.{EndedState, SubmitterState, SenderState, origin_of, control_seat, replies_of}
+use Rattle.tb_work.specs.declared.item.Item.{Item}
+use Rattle.tb_work.specs.declared.item.Ticket.{Ticket}
+use Rattle.tb_pipe.specs.Pulses.{IsPrefixOf, moments_committed, moments_queued}
+use Rattle.tb_pipe.specs.Run.{PipelineState}
+
+-- the submitters and the control are a pipeline's own, by rising number, and there are as many as its queue has
+abbrev pub AreTogether : PipelineState → List SubmitterState → SenderState → Type 0
+AreTogether pipeline submitters control =
+    (map origin_of submitters ≡ pipeline.submitters) × (control.seat ≡ control_seat pipeline.intake) × (length pipeline.submitters ≡ pipeline.intake.submitters)
+
+-- of a pipeline with this clock and this limit, whose control queued these items, the report is lawful of some queue that
+-- its senders filled
+pub record HasReported (clock limit submitters : ℕ) (controlled : List Item) (ledger : LedgerState) (ends : List EndedState) : Type 0 where
+  pub queue : List Ticket
+  pub queued : ℕ → List Item
+  pub control : queued submitters ≡ controlled
+  pub report : LawfulReport clock submitters queue queued (works ledger) (replay ledger.opening (works ledger)) ledger.stopped (replies_of ends)
+  pub grouping : IsGrouping limit ledger.groups
+  pub pulses : IsPrefixOf (moments_committed (works ledger)) (moments_queued controlled)
+  pub number : length ends ≡ submitters

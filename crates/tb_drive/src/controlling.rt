@@ -1,0 +1,172 @@
+//! The control's thread.
+
+ghost use Rattle.std.specs.Prelude.{◌≡◌, ◌∷◌, ◌++◌, [], ◌⊎◌, false, IfErr, IfSome, OnOk, OnSome};
+ghost use Rattle.tb_submit.specs.Ends.{sender_with};
+ghost use Rattle.tb_work.specs.declared.refusal.Refusal.TheVariants as refusal;
+ghost use Rattle.tb_drive.specs.Lines.{last_item, pulse_of, pulses_of, with_items};
+ghost use Rattle.tb_drive.specs.Threads.{IsControlEnd, IsPromiseOf};
+
+use crossbeam_utils::Backoff;
+use std::alloc::Global;
+use std::snapshot::Snapshot;
+use std::sync::Wait;
+use std::sync::atomic::{AtomicBool, Ordering};
+use std::thread::Promise;
+use tb_submit::{Control, ControlEnd};
+use tb_work::Refusal;
+
+/// What the control may have queued: behind so many pulses the queue is full for it.
+const MOST_QUEUED: u64 = 1 << 56;
+
+/// What the control queues.
+#[derive(Drop)]
+pub struct ControlLines {
+    /// The moments of its pulses, in nanoseconds, in their order. A pulse above 2^62 is refused.
+    pub moments: Vec<u64>,
+    /// Whether it ends by the Close, which stands behind all its pulses.
+    pub shuts: bool,
+}
+
+impl ControlLines {
+    /// No pulse and no Close.
+    pub fn none(alloc: Global) -> ControlLines
+        ensures moments { result.moments.items ≡ [] }
+        ensures open { result.shuts ≡ false }
+    {
+        ControlLines {
+            moments: Vec::new(alloc),
+            shuts: false,
+        }
+    }
+}
+
+/// The control with what it is to queue.
+#[derive(Drop)]
+pub(crate) struct ControlDriver {
+    pub(crate) control: Control,
+    pub(crate) lines: ControlLines,
+}
+
+/// What the control's thread leaves: the control's end, unless it was told to stop first, and how many pulses were
+/// refused.
+#[derive(Drop)]
+pub(crate) struct ControlDriven {
+    pub(crate) end: Option<ControlEnd>,
+    pub(crate) refused: u64,
+}
+
+/// The end that comes back is that of the control that was handed over, and its lines are queued.
+#[derive(Drop)]
+pub(crate) struct EndOfControl {
+    control: Snapshot<Control>,
+    moments: Snapshot<Vec<u64>>,
+    shuts: bool,
+}
+
+impl Promise<ControlDriven> for EndOfControl {
+    ghost use Rattle.std.specs.Prelude.{IfSome};
+    ghost use Rattle.tb_drive.specs.Threads.{IsEndPromised};
+
+    ghost kept_by = { λ p r. IfSome r.end (λ end. IsEndPromised p end) };
+}
+
+/// Queues a pulse once.
+fn pulse_once<R: Wait>(rt: &R, control: &mut Control, moment: u64) -> Result<(), Refusal>
+    ensures ok { OnOk result (control.new ≡ with_items control.old (pulse_of moment)) }
+    ensures refused { IfErr result (λ why. (control.new ≡ control.old) × ((why ≡ refusal.Full) ⊎ (pulse_of moment ≡ []))) }
+{
+    if control.queued() >= MOST_QUEUED {
+        return Err(Refusal::Full);
+    }
+    control.pulse(rt, moment)
+}
+
+/// Queues a pulse, and while the queue is full tries again. Answers whether it is refused, or None where it is told to
+/// stop.
+fn pulse<R: Wait>(rt: &R, control: &mut Control, moment: u64, stop: &AtomicBool) -> Option<bool>
+    ensures { OnSome result (control.new ≡ with_items control.old (pulse_of moment)) }
+{
+    let backoff = Backoff::new();
+    for _ in rt.forever() {
+        match pulse_once(rt, control, moment) {
+            Ok(()) => return Some(false),
+            Err(Refusal::Full) => {}
+            Err(_) => return Some(true),
+        }
+        if stop.load(Ordering::SeqCst) {
+            return None;
+        }
+        backoff.snooze();
+    }
+    unreachable!()
+}
+
+/// Queues pulses in their order; how many were refused. None where it is told to stop.
+fn pulse_all<R: Wait>(
+    rt: &R,
+    control: &mut Control,
+    moments: Vec<u64>,
+    stop: &AtomicBool,
+) -> Option<u64>
+    ensures { OnSome result (control.new ≡ with_items control.old (pulses_of moments.items)) }
+{
+    let mut refused = 0u64;
+    for moment in moments {
+        if pulse(rt, control, moment, stop)? {
+            refused = refused.saturating_add(1);
+        }
+    }
+    Some(refused)
+}
+
+/// Queues the Close or the control's end, and while the queue is full tries again. None where it is told to stop.
+fn end<R: Wait>(rt: &R, control: Control, shuts: bool, stop: &AtomicBool) -> Option<ControlEnd>
+    ensures { IfSome result (λ end. end ≡ sender_with control (last_item shuts)) }
+{
+    let mut control = control;
+    let backoff = Backoff::new();
+    for _ in rt.forever() {
+        let ended = if shuts {
+            control.shut(rt)
+        } else {
+            control.end(rt)
+        };
+        match ended {
+            Ok(end) => return Some(end),
+            Err((back, _)) => control = back,
+        }
+        if stop.load(Ordering::SeqCst) {
+            return None;
+        }
+        backoff.snooze();
+    }
+    unreachable!()
+}
+
+impl ControlDriver {
+    /// What the thread promises.
+    pub(crate) fn promise(&self) -> EndOfControl
+        ensures { IsPromiseOf self.now result }
+    {
+        EndOfControl {
+            control: Snapshot::of(&self.control),
+            moments: Snapshot::of(&self.lines.moments),
+            shuts: self.lines.shuts,
+        }
+    }
+
+    /// Queues the lines and then the control's end, unless it is told to stop.
+    pub(crate) fn drive<R: Wait>(self, rt: &R, stop: &AtomicBool) -> ControlDriven
+        ensures { IsControlEnd self result.end }
+    {
+        let ControlDriver { mut control, lines } = self;
+        let Some(refused) = pulse_all(rt, &mut control, lines.moments, stop) else {
+            return ControlDriven {
+                end: None,
+                refused: 0,
+            };
+        };
+        let end = end(rt, control, lines.shuts, stop);
+        ControlDriven { end, refused }
+    }
+}

@@ -1,0 +1,378 @@
+//! A run of a pipeline, with a thread for each of its senders.
+
+ghost use Rattle.std.specs.Prelude.{◌≡◌, ◌<◌, ◌∷◌, ◌++◌, [], map, length, IfOk, IfSome, OnOk};
+ghost use Rattle.tb_submit.specs.Ends.{Origin, control_seat, end_origin, origin_of};
+ghost use Rattle.tb_drive.specs.Lines.{lines_of};
+ghost use Rattle.tb_drive.specs.Reported.{AreTogether, HasReported};
+ghost use Rattle.tb_drive.specs.Threads.{IsControlEnd, IsEnd, IsEndPromised, IsPromiseOf, items_promised, items_to_queue, seated_origin, started_origin};
+
+use crate::controlling::{ControlDriven, ControlDriver, ControlLines, EndOfControl};
+use crate::driver::Driver;
+use crate::submitting::{Driven, EndOfSubmitter, Seated, submit_once};
+use std::alloc::{AllocError, AllocFailed, Global};
+use std::snapshot::Snapshot;
+use std::sync::Wait;
+use std::sync::atomic::{AtomicBool, Ordering};
+use std::thread;
+use std::thread::{PromisedHandle, Scope, Threads};
+use tb_pipe::{Open, Opened, Pipeline, Report, Served, settle};
+use tb_submit::{ControlEnd, Ended, Submitter};
+use tb_work::{Packet, Refusal};
+
+/// A run that has ended: its report, the drivers in the order of their submitters, and how many pulses were refused.
+#[derive(Drop)]
+pub struct Finished<D> {
+    pub report: Report,
+    pub drivers: Vec<D>,
+    pub refused_pulses: u64,
+}
+
+/// Why a run was given up.
+#[derive(Clone, Copy, Debug, PartialEq, Eq)]
+pub enum DriveFault {
+    /// Memory was wanting, before any thread was started.
+    NoMemory,
+    /// A thread couldn't be started.
+    NoThread,
+}
+
+impl<T: Drop> From<AllocFailed<T>> for DriveFault {
+    fn from(_refused: AllocFailed<T>) -> DriveFault {
+        DriveFault::NoMemory
+    }
+}
+
+impl From<AllocError> for DriveFault {
+    fn from(_refused: AllocError) -> DriveFault {
+        DriveFault::NoMemory
+    }
+}
+
+/// What the drivers' threads left, in the order of their submitters.
+#[derive(Drop)]
+struct Left<D> {
+    ends: Vec<Ended>,
+    drivers: Vec<D>,
+}
+
+type Started<D> = PromisedHandle<Driven<D>, EndOfSubmitter>;
+
+type StartedControl = PromisedHandle<ControlDriven, EndOfControl>;
+
+impl<D: Driver> Left<D> {
+    /// Nothing yet, with room for what so many threads leave.
+    fn new(alloc: Global, threads: usize) -> Result<Left<D>, DriveFault>
+        ensures { IfOk result (λ left. left.ends.items ≡ []) }
+    {
+        Ok(Left {
+            ends: Vec::with_capacity(alloc, threads)?,
+            drivers: Vec::with_capacity(alloc, threads)?,
+        })
+    }
+
+    /// What the next thread left.
+    fn add(&mut self, driven: Driven<D>) -> Result<(), DriveFault>
+        ensures { (origin : Origin) → IfSome driven.ended (λ end. end_origin end ≡ origin)
+            → OnOk result (map end_origin self.new.ends.items ≡ map end_origin self.old.ends.items ++ origin ∷ []) }
+    {
+        let Driven { ended, driver } = driven;
+        let Some(ended) = ended else {
+            return Err(DriveFault::NoThread);
+        };
+        self.ends.push(ended)?;
+        self.drivers.push(driver)?;
+        Ok(())
+    }
+}
+
+/// Each submitter with its driver.
+fn seat_all<D: Driver>(
+    alloc: Global,
+    submitters: Vec<Submitter>,
+    drivers: Vec<D>,
+) -> Result<Vec<Seated<D>>, DriveFault>
+    requires { length drivers.items ≡ length submitters.items }
+    ensures { IfOk result (λ all. map seated_origin all.items ≡ map origin_of submitters.items) }
+{
+    let mut drivers = drivers.into_iter();
+    let mut all = Vec::with_capacity(alloc, submitters.len())?;
+    for submitter in submitters {
+        let Some(driver) = drivers.next() else {
+            unreachable!()
+        };
+        all.push(Seated { submitter, driver })?;
+    }
+    Ok(all)
+}
+
+/// Starts a submitter's thread.
+fn start_one<'s, E, D: Driver + Send + 's, R: Wait + Sync>(
+    scope: &Scope<'s, E>,
+    rt: &'s R,
+    alloc: Global,
+    stop: &'s AtomicBool,
+    seated: Seated<D>,
+) -> Result<Started<D>, DriveFault>
+    ensures { IfOk result (λ handle. started_origin handle ≡ seated_origin seated) }
+{
+    let promise = EndOfSubmitter {
+        submitter: Snapshot::of(&seated.submitter),
+    };
+    let started = scope.spawn_with(
+        promise,
+        move || -> Driven<D>
+            ensures { IsEnd seated.submitter result.ended }
+        { seated.drive(rt, alloc, stop) },
+    );
+    match started {
+        Ok(handle) => Ok(handle),
+        Err(_) => Err(DriveFault::NoThread),
+    }
+}
+
+/// Starts the submitters' threads, once there is room for their handles.
+fn start_all<'s, E, D: Driver + Send + 's, R: Wait + Sync>(
+    scope: &Scope<'s, E>,
+    rt: &'s R,
+    alloc: Global,
+    stop: &'s AtomicBool,
+    all: Vec<Seated<D>>,
+) -> Result<Vec<Started<D>>, DriveFault>
+    ensures { IfOk result (λ handles. map started_origin handles.items ≡ map seated_origin all.items) }
+{
+    let mut handles = Vec::with_capacity(alloc, all.len())?;
+    for seated in all {
+        handles.push(start_one(scope, rt, alloc, stop, seated)?)?;
+    }
+    Ok(handles)
+}
+
+/// Starts the control's thread.
+fn start_control<'s, E, R: Wait + Sync>(
+    scope: &Scope<'s, E>,
+    rt: &'s R,
+    stop: &'s AtomicBool,
+    control_driver: ControlDriver,
+) -> Result<StartedControl, DriveFault>
+    ensures { IfOk result (λ handle. IsPromiseOf control_driver handle.promise) }
+{
+    let started = scope.spawn_with(
+        control_driver.promise(),
+        move || -> ControlDriven
+            ensures { IsControlEnd control_driver result.end }
+        { control_driver.drive(rt, stop) },
+    );
+    match started {
+        Ok(handle) => Ok(handle),
+        Err(_) => Err(DriveFault::NoThread),
+    }
+}
+
+/// The threads of all senders, with room for what those of the submitters leave.
+#[derive(Drop)]
+struct Running<D> {
+    submitters: Vec<Started<D>>,
+    control: StartedControl,
+    room: Left<D>,
+}
+
+/// Starts the threads of all senders, once there is room for all that they leave.
+fn start<'s, E, D: Driver + Send + 's, R: Wait + Sync>(
+    scope: &Scope<'s, E>,
+    rt: &'s R,
+    alloc: Global,
+    stop: &'s AtomicBool,
+    all: Vec<Seated<D>>,
+    control_driver: ControlDriver,
+) -> Result<Running<D>, DriveFault>
+    ensures own { IfOk result (λ running. map started_origin running.submitters.items ≡ map seated_origin all.items) }
+    ensures control { IfOk result (λ running. IsPromiseOf control_driver running.control.promise) }
+    ensures room { IfOk result (λ running. running.room.ends.items ≡ []) }
+{
+    let room = Left::new(alloc, all.len())?;
+    let submitters = start_all(scope, rt, alloc, stop, all)?;
+    let control = start_control(scope, rt, stop, control_driver)?;
+    Ok(Running {
+        submitters,
+        control,
+        room,
+    })
+}
+
+/// Joins the submitters' threads, in their order.
+fn join_all<D: Driver, R: Threads>(
+    rt: &R,
+    handles: Vec<Started<D>>,
+    room: Left<D>,
+) -> Result<Left<D>, DriveFault>
+    requires { room.ends.items ≡ [] }
+    ensures { IfOk result (λ left. map end_origin left.ends.items ≡ map started_origin handles.items) }
+{
+    let mut left = room;
+    for handle in handles {
+        left.add(handle.join(rt))?;
+    }
+    Ok(left)
+}
+
+/// Joins the control's thread: the control's end, and how many pulses were refused.
+fn join_control<R: Threads>(rt: &R, handle: StartedControl) -> Result<(ControlEnd, u64), DriveFault>
+    ensures { IfOk result (λ both. IsEndPromised handle.promise both.0) }
+{
+    let ControlDriven { end, refused } = handle.join(rt);
+    match end {
+        Some(end) => Ok((end, refused)),
+        None => Err(DriveFault::NoThread),
+    }
+}
+
+/// Settles with the ends of all senders.
+fn settle_ends(served: Served, ends: Vec<Ended>, end: ControlEnd) -> Report
+    requires own { map end_origin ends.items ≡ served.submitters }
+    requires control { end.seat ≡ control_seat served.intake }
+    requires number { length served.submitters ≡ served.intake.submitters }
+    ensures { HasReported served.clock served.intake.limit served.intake.submitters end.queued result.ledger result.ends.items }
+{
+    settle(served, ends, end)
+}
+
+/// Joins all threads, and settles with the ends that they leave.
+fn finish<D: Driver, R: Threads>(
+    rt: &R,
+    served: Served,
+    running: Running<D>,
+) -> Result<Finished<D>, DriveFault>
+    requires own { map started_origin running.submitters.items ≡ served.submitters }
+    requires control { running.control.promise.control.value.seat ≡ control_seat served.intake }
+    requires number { length served.submitters ≡ served.intake.submitters }
+    requires room { running.room.ends.items ≡ [] }
+    ensures { IfOk result (λ finished. HasReported served.clock served.intake.limit served.intake.submitters (items_promised running.control.promise) finished.report.ledger finished.report.ends.items) }
+{
+    let Running {
+        submitters,
+        control,
+        room,
+    } = running;
+    let Left { ends, drivers } = join_all(rt, submitters, room)?;
+    let (end, refused_pulses) = join_control(rt, control)?;
+    Ok(Finished {
+        report: settle_ends(served, ends, end),
+        drivers,
+        refused_pulses,
+    })
+}
+
+/// Serves while the threads run, joins them and settles.
+fn serve<D: Driver, R: Threads + Wait + Sync>(
+    rt: &R,
+    pipeline: Pipeline,
+    running: Running<D>,
+) -> Result<Finished<D>, DriveFault>
+    requires own { map started_origin running.submitters.items ≡ pipeline.submitters }
+    requires control { running.control.promise.control.value.seat ≡ control_seat pipeline.intake }
+    requires number { length pipeline.submitters ≡ pipeline.intake.submitters }
+    requires room { running.room.ends.items ≡ [] }
+    ensures { IfOk result (λ finished. HasReported pipeline.clock pipeline.intake.limit pipeline.intake.submitters (items_promised running.control.promise) finished.report.ledger finished.report.ends.items) }
+{
+    match pipeline.serve(rt, &Open) {
+        Ok(served) => finish(rt, served, running),
+        Err(_) => Err(DriveFault::NoThread),
+    }
+}
+
+/// Starts all threads, serves, and settles once all have ended.
+fn run_all<'s, E, D: Driver + Send + 's, R: Threads + Wait + Sync>(
+    scope: &Scope<'s, E>,
+    rt: &'s R,
+    alloc: Global,
+    stop: &'s AtomicBool,
+    pipeline: Pipeline,
+    all: Vec<Seated<D>>,
+    control_driver: ControlDriver,
+) -> Result<Finished<D>, DriveFault>
+    requires own { map seated_origin all.items ≡ pipeline.submitters }
+    requires control { control_driver.control.seat ≡ control_seat pipeline.intake }
+    requires number { length pipeline.submitters ≡ pipeline.intake.submitters }
+    ensures { IfOk result (λ finished. HasReported pipeline.clock pipeline.intake.limit pipeline.intake.submitters (items_to_queue control_driver) finished.report.ledger finished.report.ends.items) }
+{
+    match start(scope, rt, alloc, stop, all, control_driver) {
+        Ok(running) => serve(rt, pipeline, running),
+        Err(fault) => Err(fault),
+    }
+}
+
+/// Runs a pipeline with a thread for each of its senders. Where one of them can't be started the others are told to stop.
+fn run_in_scope<D: Driver + Send, R: Threads + Wait + Sync>(
+    rt: &R,
+    alloc: Global,
+    pipeline: Pipeline,
+    all: Vec<Seated<D>>,
+    control_driver: ControlDriver,
+) -> Result<Finished<D>, DriveFault>
+    requires own { map seated_origin all.items ≡ pipeline.submitters }
+    requires control { control_driver.control.seat ≡ control_seat pipeline.intake }
+    requires number { length pipeline.submitters ≡ pipeline.intake.submitters }
+    ensures { IfOk result (λ finished. HasReported pipeline.clock pipeline.intake.limit pipeline.intake.submitters (items_to_queue control_driver) finished.report.ledger finished.report.ends.items) }
+{
+    let flag = AtomicBool::new(false);
+    let stop = &flag;
+    thread::scope(
+        thread::scope_env(),
+        rt,
+        |scope| -> Result<Finished<D>, DriveFault>
+            requires own { map seated_origin all.items ≡ pipeline.submitters }
+            requires control { control_driver.control.seat ≡ control_seat pipeline.intake }
+            requires number { length pipeline.submitters ≡ pipeline.intake.submitters }
+            ensures { IfOk result (λ finished. HasReported pipeline.clock pipeline.intake.limit pipeline.intake.submitters (items_to_queue control_driver) finished.report.ledger finished.report.ends.items) }
+        {
+            let finished = run_all(scope, rt, alloc, stop, pipeline, all, control_driver);
+            if finished.is_err() {
+                stop.store(true, Ordering::SeqCst);
+            }
+            finished
+        },
+    )
+}
+
+/// Queues a packet of the submitter at an index, before any thread is started: what is queued so is ahead of all that
+/// drivers queue. A refused packet comes back.
+pub fn submit_ahead<R: Wait>(
+    rt: &R,
+    alloc: Global,
+    opened: &mut Opened,
+    submitter: usize,
+    packet: Packet,
+) -> Result<u64, (Packet, Refusal)>
+    requires { submitter < length opened.old.submitters.items }
+    ensures pipeline { opened.new.pipeline ≡ opened.old.pipeline }
+    ensures control { opened.new.control ≡ opened.old.control }
+    ensures own { map origin_of opened.new.submitters.items ≡ map origin_of opened.old.submitters.items }
+{
+    submit_once(rt, alloc, &mut opened.submitters[submitter], packet)
+}
+
+/// Runs a pipeline until all of its senders have ended. Each submitter has the driver of the same index and a thread of its
+/// own, the control has one that queues its lines, and the calling thread serves. The drivers come back in their order with
+/// the report, in which a submitter's end still gives the replies that its driver hasn't taken. Where a thread can't be
+/// started the others are told to stop, and what was queued is lost with the pipeline.
+pub fn drive_all<D: Driver + Send, R: Threads + Wait + Sync>(
+    rt: &R,
+    alloc: Global,
+    opened: Opened,
+    drivers: Vec<D>,
+    lines: ControlLines,
+) -> Result<Finished<D>, DriveFault>
+    requires together { AreTogether opened.pipeline opened.submitters.items opened.control }
+    requires number { length drivers.items ≡ length opened.pipeline.submitters }
+    ensures { IfOk result (λ finished. HasReported opened.pipeline.clock opened.pipeline.intake.limit opened.pipeline.intake.submitters (opened.control.queued ++ lines_of lines.moments.items lines.shuts) finished.report.ledger finished.report.ends.items) }
+{
+    let Opened {
+        pipeline,
+        submitters,
+        control,
+    } = opened;
+    match seat_all(alloc, submitters, drivers) {
+        Ok(all) => run_in_scope(rt, alloc, pipeline, all, ControlDriver { control, lines }),
+        Err(fault) => Err(fault),
+    }
+}

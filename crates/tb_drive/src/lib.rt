@@ -1,0 +1,23 @@
+//! Threads that drive a pipeline: one for each submitter, one for the control, and the caller's own, which serves.
+//!
+//! An application writes a `Driver`: what its submitter does next, and what becomes of the replies. `drive_all` takes an
+//! opened pipeline with a driver for each submitter, runs it until all have ended, and gives its report and the drivers:
+//!
+//! ```
+//! let Ok(opened) = open(alloc, clock, limit, capacity, credit, 2) else { .. };
+//! let drivers = vec![in alloc; Teller::new(1), Teller::new(2)]?;
+//! let finished = drive_all(&rt, alloc, opened, drivers, ControlLines::none(alloc))?;
+//! ```
+//!
+//! Each thread ends its sender, whatever its driver does, since `serve` waits for each end. `drive_all` settles with the
+//! pipeline's own ends, so that what `settle` says of the report it says itself. The crate `two_tellers` is such an application.
+#![tactic(auto)]
+
+mod controlling;
+mod driver;
+mod driving;
+mod submitting;
+
+pub use controlling::ControlLines;
+pub use driver::{Action, Driver};
+pub use driving::{DriveFault, Finished, drive_all, submit_ahead};
