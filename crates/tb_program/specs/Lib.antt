@@ -10,5 +10,4 @@ pub mod Output
 pub mod Printing
 pub mod Source
 pub mod Spelling
-pub mod Run
 pub mod Laws
