@@ -16,35 +16,31 @@ mod driver;
 mod events;
 mod request;
 mod tally;
-mod threads;
 
-ghost use Rattle.std.specs.Prelude.{◌≡◌, map, IfSome};
-ghost use Rattle.tb_submit.specs.Ends.{control_seat, origin_of};
-ghost use Rattle.bench_pipeline.specs.Threads.{driver_origin};
+ghost use Rattle.std.specs.Prelude.{◌≡◌, length, IfSome};
 
 use crate::commit::{Committed, commit_packets, make_packets};
-use crate::driver::Driver;
+use crate::driver::LoadDriver;
 use crate::events::ACCOUNTS;
 use crate::request::{Load, Opening, Request, requested};
-use crate::tally::sum_of_balances;
-use crate::threads::{Finished, end_control, run_pipeline};
+use crate::tally::{Tally, sum_of_balances};
 use std::alloc::Global;
 use std::env;
 use std::process::ExitCode;
 use std::sync::Wait;
 use std::thread::Threads;
-use tb_pipe::{Opened, open};
-use tb_submit::Submitter;
+use tb_drive::{ControlLines, Finished, drive_all};
+use tb_pipe::open;
 
 /// A driver for each submitter, by rising number.
-fn drivers(alloc: Global, submitters: Vec<Submitter>, load: Load) -> Option<Vec<Driver>>
-    ensures { IfSome result (λ drivers. map driver_origin drivers.items ≡ map origin_of submitters.items) }
+fn drivers(alloc: Global, submitters: u32, load: Load) -> Option<Vec<LoadDriver>>
+    ensures { IfSome result (λ drivers. length drivers.items ≡ submitters) }
 {
     let mut drivers = Vec::new(alloc);
-    let mut number = 0u64;
-    for submitter in submitters {
-        drivers.push(Driver::new(submitter, number, load)).ok()?;
-        number = number.wrapping_add(1);
+    for number in 0..submitters {
+        drivers
+            .push(LoadDriver::new(u64::from(number), load))
+            .ok()?;
     }
     Some(drivers)
 }
@@ -55,31 +51,36 @@ fn run<R: Threads + Wait + Sync>(
     alloc: Global,
     opening: Opening,
     load: Load,
-) -> Option<Finished> {
+) -> Option<Finished<LoadDriver>> {
     let Opening {
         submitters,
         capacity,
         limit,
     } = opening;
-    let opened = open(alloc, 0, limit, capacity, load.credit, submitters);
-    let Ok(
-        Opened {
-            pipeline,
-            submitters,
-            control,
-        },
-    ) = opened
-    else {
-        return None;
-    };
     let drivers = drivers(alloc, submitters, load)?;
-    let control = end_control(rt, control);
-    run_pipeline(rt, alloc, pipeline, drivers, control)
+    match open(alloc, 0, limit, capacity, load.credit, submitters) {
+        Ok(opened) => drive_all(rt, alloc, opened, drivers, ControlLines::none(alloc)).ok(),
+        Err(_) => None,
+    }
+}
+
+/// What all replies came to.
+fn tally_of(drivers: Vec<LoadDriver>) -> Tally {
+    let mut tally = Tally::new();
+    for driver in drivers {
+        tally.join(driver.tally);
+    }
+    tally
 }
 
 /// The line of a run.
-fn line_of_run(alloc: Global, finished: Finished, submitters: u32) -> Option<String> {
-    let Finished { report, tally } = finished;
+fn line_of_run(
+    alloc: Global,
+    finished: Finished<LoadDriver>,
+    submitters: u32,
+) -> Option<String> {
+    let Finished { report, drivers, .. } = finished;
+    let tally = tally_of(drivers);
     let accounts = u64::from(submitters).wrapping_mul(ACCOUNTS);
     let balances = sum_of_balances(report.ledger.machine(), accounts);
     let replies = tally.replies;

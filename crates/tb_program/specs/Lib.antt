@@ -2,4 +2,3 @@ pub mod Plan
 pub mod Output
 pub mod Printing
 pub mod Source
-pub mod Run

@@ -4,6 +4,7 @@ ghost use Rattle.std.specs.Prelude.{◌≡◌};
 ghost use Rattle.tb_program.specs.declared.program_fault.ProgramFault.TheVariants.{NoMemory as OutOfMemory};
 
 use std::alloc::{AllocError, AllocFailed};
+use tb_drive::DriveFault;
 use tb_layout::NoMemory;
 use thiserror::Error;
 
@@ -43,5 +44,14 @@ impl<T: Drop> From<AllocFailed<T>> for ProgramFault {
 
     fn from(_refused: AllocFailed<T>) -> ProgramFault {
         ProgramFault::NoMemory
+    }
+}
+
+impl From<DriveFault> for ProgramFault {
+    fn from(fault: DriveFault) -> ProgramFault {
+        match fault {
+            DriveFault::NoMemory => ProgramFault::NoMemory,
+            DriveFault::NoThread => ProgramFault::NoThread,
+        }
     }
 }

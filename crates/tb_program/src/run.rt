@@ -1,42 +1,37 @@
 //! A script through the pipeline, with a thread for each sender.
 
-ghost use Rattle.std.specs.Prelude.{◌≡◌, false, map, IfOk, IfSome, IsErrOf, string_bytes};
+ghost use Rattle.std.specs.Prelude.{◌≡◌, false, length, IfOk, IfSome, IsErrOf, string_bytes};
 ghost use Rattle.std.specs.Io.KnownBytes.{Appends, Keeps};
-ghost use Rattle.tb_submit.specs.Ends.{control_seat, origin_of};
+ghost use Rattle.tb_drive.specs.Reported.{AreTogether};
 ghost use Rattle.tb_program.specs.Output.{out, is_faultless};
-ghost use Rattle.tb_program.specs.Run.{driver_origin};
-ghost use Rattle.tb_script.specs.Script.{InBounds};
+ghost use Rattle.tb_script.specs.Script.{InBounds, submitters_of};
 
-mod control;
 mod driver;
 mod notes;
 mod report;
 mod share;
-mod threads;
 
 use crate::output::write_out;
 use crate::program_fault::ProgramFault;
-use crate::run::control::ControlDriver;
-use crate::run::driver::Driver;
+use crate::run::driver::ScriptDriver;
 use crate::run::report::text_of;
 use crate::run::share::share_out;
-use crate::run::threads::run_pipeline;
 use crate::source::{Source, read_source};
 use std::alloc::Global;
 use std::io::{Read, Write};
 use std::sync::Wait;
 use std::thread::Threads;
+use tb_drive::drive_all;
 use tb_layout::NoMemory;
 use tb_pipe::{Opened, open};
 use tb_script::{Script, Settings};
-use tb_submit::Submitter;
 use tb_work::{Packet, Refusal};
 
 /// The pipeline that a script's settings open. They are all in range, so that only want of memory refuses it.
 fn opened(alloc: Global, settings: &Settings) -> Result<Opened, NoMemory>
     requires { InBounds settings.now }
-    ensures own { IfOk result (λ opened. map origin_of opened.submitters.items ≡ opened.pipeline.submitters) }
-    ensures control { IfOk result (λ opened. opened.control.seat ≡ control_seat opened.pipeline.intake) }
+    ensures together { IfOk result (λ opened. AreTogether opened.pipeline opened.submitters.items opened.control) }
+    ensures number { IfOk result (λ opened. length opened.pipeline.submitters ≡ submitters_of settings.now) }
 {
     let opened = open(
         alloc,
@@ -58,16 +53,16 @@ fn opened(alloc: Global, settings: &Settings) -> Result<Opened, NoMemory>
 /// A driver for each submitter, by rising number.
 fn drivers(
     alloc: Global,
-    submitters: Vec<Submitter>,
+    submitters: u32,
     packets: Vec<Vec<Packet>>,
-) -> Result<Vec<Driver>, NoMemory>
-    ensures { IfOk result (λ drivers. map driver_origin drivers.items ≡ map origin_of submitters.items) }
+) -> Result<Vec<ScriptDriver>, NoMemory>
+    ensures { IfOk result (λ drivers. length drivers.items ≡ submitters) }
 {
     let mut shares = packets.into_iter();
     let mut drivers = Vec::new(alloc);
-    for submitter in submitters {
+    for _ in 0..submitters {
         let packets = shares.next().unwrap_or(Vec::new(alloc));
-        drivers.push(Driver::new(alloc, submitter, packets)?)?;
+        drivers.push(ScriptDriver::new(alloc, packets)?)?;
     }
     Ok(drivers)
 }
@@ -80,17 +75,9 @@ fn output_for<T: Threads + Wait + Sync>(
 ) -> Result<String, ProgramFault> {
     let (settings, items) = script.finish()?;
     let shares = share_out(alloc, settings.submitters(), items)?;
-    let Opened {
-        pipeline,
-        submitters,
-        control,
-    } = opened(alloc, &settings)?;
-    let drivers = drivers(alloc, submitters, shares.packets)?;
-    let control_driver = ControlDriver {
-        control,
-        lines: shares.lines,
-    };
-    let finished = run_pipeline(rt, alloc, pipeline, drivers, control_driver)?;
+    let drivers = drivers(alloc, settings.submitters(), shares.packets)?;
+    let opened = opened(alloc, &settings)?;
+    let finished = drive_all(rt, alloc, opened, drivers, shares.lines)?;
     Ok(text_of(alloc, finished)?)
 }
 

@@ -1,11 +1,12 @@
 //! What is printed of a run.
 
 use crate::output::{put_pulse, put_refused, put_refused_pulse, put_reply, put_state};
+use crate::run::driver::ScriptDriver;
 use crate::run::notes::{Notes, Told};
-use crate::run::threads::Finished;
 use std::alloc::{AllocError, Global};
 use std::vec::IntoIter;
 use tb_core::Entry;
+use tb_drive::Finished;
 use tb_layout::NoMemory;
 use tb_pipe::Report;
 use tb_submit::Ended;
@@ -69,10 +70,14 @@ fn put_packets(
 }
 
 /// The lines of all packets, by rising number of their submitters.
-fn put_all_packets(out: &mut String, notes: Vec<Notes>, ends: Vec<Ended>) -> Result<(), NoMemory> {
+fn put_all_packets(
+    out: &mut String,
+    drivers: Vec<ScriptDriver>,
+    ends: Vec<Ended>,
+) -> Result<(), NoMemory> {
     let mut submitter = 0u32;
-    for (notes, ended) in notes.into_iter().zip(ends) {
-        put_packets(out, submitter, notes, ended)?;
+    for (driver, ended) in drivers.into_iter().zip(ends) {
+        put_packets(out, submitter, driver.into_notes(), ended)?;
         submitter = submitter.saturating_add(1);
     }
     Ok(())
@@ -103,15 +108,15 @@ fn put_refused_pulses(out: &mut String, count: u64) -> Result<(), AllocError> {
 }
 
 /// The text of a run: its packets, its pulses, the pulses that were refused, the clock and the accounts.
-pub fn text_of(alloc: Global, finished: Finished) -> Result<String, NoMemory> {
+pub fn text_of(alloc: Global, finished: Finished<ScriptDriver>) -> Result<String, NoMemory> {
     let Finished {
         report,
-        notes,
+        drivers,
         refused_pulses,
     } = finished;
     let Report { ledger, ends } = report;
     let mut out = String::new(alloc);
-    put_all_packets(&mut out, notes, ends)?;
+    put_all_packets(&mut out, drivers, ends)?;
     put_pulses(&mut out, ledger.journal())?;
     put_refused_pulses(&mut out, refused_pulses)?;
     put_state(&mut out, ledger.machine())?;

@@ -1,18 +1,10 @@
 //! What each thread is to queue.
 
 use std::alloc::Global;
+use tb_drive::ControlLines;
 use tb_layout::NoMemory;
 use tb_script::{Item, Submission};
 use tb_work::{Bytes, Packet};
-
-/// The control's lines.
-#[derive(Drop)]
-pub struct ControlLines {
-    /// The moments of its pulses, in the order of the script.
-    pub moments: Vec<u64>,
-    /// Whether it ends by the Close, which stands behind all pulses.
-    pub shuts: bool,
-}
 
 /// The items of a script by the threads that queue them: the packets of each submitter, and the control's lines.
 #[derive(Drop)]
@@ -37,10 +29,7 @@ impl Shares {
         }
         Ok(Shares {
             packets,
-            lines: ControlLines {
-                moments: Vec::new(alloc),
-                shuts: false,
-            },
+            lines: ControlLines::none(alloc),
         })
     }
 

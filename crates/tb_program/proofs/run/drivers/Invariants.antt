@@ -1,7 +1,5 @@
-use Rattle.std.proofs.Common.{◌≡◌, map}
-use Rattle.tb_submit.specs.Ends.{origin_of}
-use Rattle.tb_program.specs.Run.{driver_origin}
+use Rattle.std.proofs.Common.{◌≡◌, length}
 use Rattle.tb_program.proofs.run.drivers.Given as goal
 
-abbrev pub invariant-loop-submitter : goal.invariant-loop-submitter
-invariant-loop-submitter l = map driver_origin l.drivers.items ≡ map origin_of l.yielded
+abbrev pub invariant-loop : goal.invariant-loop
+invariant-loop l = length l.drivers.items ≡ length l.yielded
