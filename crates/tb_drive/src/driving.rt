@@ -347,6 +347,8 @@ pub fn submit_ahead<R: Wait>(
     ensures pipeline { opened.new.pipeline ≡ opened.old.pipeline }
     ensures control { opened.new.control ≡ opened.old.control }
     ensures own { map origin_of opened.new.submitters.items ≡ map origin_of opened.old.submitters.items }
+    ensures together { AreTogether opened.old.pipeline opened.old.submitters.items opened.old.control
+        → AreTogether opened.new.pipeline opened.new.submitters.items opened.new.control }
 {
     submit_once(rt, alloc, &mut opened.submitters[submitter], packet)
 }

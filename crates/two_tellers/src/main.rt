@@ -2,6 +2,9 @@
 //! end, and the balances are printed. So an application uses the pipeline: `open`, a driver for each submitter, `drive_all`.
 #![tactic(auto)]
 
+ghost use Rattle.std.specs.Prelude.{◌≡◌, length};
+ghost use Rattle.tb_drive.specs.Reported.{AreTogether};
+
 use std::alloc::{AllocError, Global};
 use std::process::ExitCode;
 use std::sync::Wait;
@@ -10,7 +13,7 @@ use tb_drive::{Action, ControlLines, Driver, drive_all, submit_ahead};
 use tb_layout::{
     Account, CREATE_ACCOUNTS, CREATE_TRANSFERS, Transfer, write_account, write_transfer,
 };
-use tb_pipe::{Report, open};
+use tb_pipe::{Opened, Report, open};
 use tb_work::{Bytes, Packet, Refusal, Reply};
 
 /// Posts transfers from one account to another, and reads the reply to each before it posts the next one.
@@ -91,14 +94,25 @@ fn two_accounts(alloc: Global) -> Result<Packet, AllocError> {
     packet_of(alloc, CREATE_ACCOUNTS, events.as_slice())
 }
 
-/// A whole run, or None where memory or a thread was wanting. What is queued before the tellers' threads start is ahead of
-/// all that they queue.
-fn run<R: Threads + Wait + Sync>(rt: &R, alloc: Global) -> Option<Report> {
-    let mut opened = open(alloc, 0, 100, 64, 32, 2).ok()?;
+/// What becomes of the tellers' transfers, or None where memory or a thread was wanting. What is queued before the tellers'
+/// threads start is ahead of all that they queue.
+fn post<R: Threads + Wait + Sync>(rt: &R, alloc: Global, opened: Opened) -> Option<Report>
+    requires together { AreTogether opened.pipeline opened.submitters.items opened.control }
+    requires two { length opened.pipeline.submitters ≡ 2 }
+{
+    let mut opened = opened;
     submit_ahead(rt, alloc, &mut opened, 0, two_accounts(alloc).ok()?).ok()?;
-    let tellers = vec![in alloc; Teller::new(1, 1, 2, 30), Teller::new(101, 2, 1, 10)].ok()?;
+    let tellers = vec![in alloc; teller(1, 1, 2, 30), teller(101, 2, 1, 10)].ok()?;
     let finished = drive_all(rt, alloc, opened, tellers, ControlLines::none(alloc));
     Some(finished.ok()?.report)
+}
+
+/// The report of a pipeline with two submitters.
+fn run<R: Threads + Wait + Sync>(rt: &R, alloc: Global) -> Option<Report> {
+    match open(alloc, 0, 100, 64, 32, 2) {
+        Ok(opened) => post(rt, alloc, opened),
+        Err(_) => None,
+    }
 }
 
 fn main(rt: HostRuntime) -> ExitCode {
