@@ -102,7 +102,7 @@ fn post<R: Threads + Wait + Sync>(rt: &R, alloc: Global, opened: Opened) -> Opti
 {
     let mut opened = opened;
     submit_ahead(rt, alloc, &mut opened, 0, two_accounts(alloc).ok()?).ok()?;
-    let tellers = vec![in alloc; teller(1, 1, 2, 30), teller(101, 2, 1, 10)].ok()?;
+    let tellers = vec![in alloc; Teller::new(1, 1, 2, 30), Teller::new(101, 2, 1, 10)].ok()?;
     let finished = drive_all(rt, alloc, opened, tellers, ControlLines::none(alloc));
     Some(finished.ok()?.report)
 }
