@@ -55,7 +55,7 @@ fn resolving(made: u64) -> [u8; 128] {
 
 /// The bytes of a plain transfer in a chain of ten; the last one of each tenth chain has another ledger than its
 /// accounts.
-fn chained(made: u64) -> [u8; 128] {
+fn linked_transfer(made: u64) -> [u8; 128] {
     let mut event = transfer(made.wrapping_add(1), 1, made);
     if made % 10 != 9 {
         event[118] = 1;
@@ -72,7 +72,7 @@ pub fn event_of(kind: Kind, made: u64) -> [u8; 128] {
         Kind::TwoPhase if made % 2 == 0 => pending(made),
         Kind::TwoPhase => resolving(made),
         Kind::Accounts => account(made.wrapping_add(1)),
-        Kind::Chains => chained(made),
+        Kind::Chains => linked_transfer(made),
     }
 }
 

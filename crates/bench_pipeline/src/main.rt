@@ -22,7 +22,7 @@ ghost use Rattle.std.specs.Prelude.{◌≡◌, length, IfSome};
 use crate::commit::{Committed, commit_packets, make_packets};
 use crate::driver::LoadDriver;
 use crate::events::ACCOUNTS;
-use crate::request::{Load, Opening, Request, requested};
+use crate::request::{Load, Opening, Request, request_of};
 use crate::tally::{Tally, sum_of_balances};
 use std::alloc::Global;
 use std::env;
@@ -38,9 +38,7 @@ fn drivers(alloc: Global, submitters: u32, load: Load) -> Option<Vec<LoadDriver>
 {
     let mut drivers = Vec::new(alloc);
     for number in 0..submitters {
-        drivers
-            .push(LoadDriver::new(u64::from(number), load))
-            .ok()?;
+        drivers.push(LoadDriver::new(u64::from(number), load)).ok()?;
     }
     Some(drivers)
 }
@@ -74,12 +72,12 @@ fn tally_of(drivers: Vec<LoadDriver>) -> Tally {
 }
 
 /// The line of a run.
-fn line_of_run(
-    alloc: Global,
-    finished: Finished<LoadDriver>,
-    submitters: u32,
-) -> Option<String> {
-    let Finished { report, drivers, .. } = finished;
+fn line_of_run(alloc: Global, finished: Finished<LoadDriver>, submitters: u32) -> Option<String> {
+    let Finished {
+        report,
+        drivers,
+        ..
+    } = finished;
     let tally = tally_of(drivers);
     let accounts = u64::from(submitters).wrapping_mul(ACCOUNTS);
     let balances = sum_of_balances(report.ledger.machine(), accounts);
@@ -118,7 +116,7 @@ fn line_of<R: Threads + Wait + Sync>(rt: &R, alloc: Global, request: Request) ->
 }
 
 fn main(rt: HostRuntime) -> ExitCode {
-    let Some(request) = env::args(&rt).ok().and_then(requested) else {
+    let Some(request) = env::args(&rt).ok().and_then(request_of) else {
         let _ = println!(rt;
             "usage: bench_pipeline run EVENTS PACKETS SUBMITTERS CREDIT CAPACITY LIMIT | commit|make KIND EVENTS PACKETS"
         );

@@ -95,7 +95,7 @@ fn next_run(words: &mut Args) -> Option<Request> {
 }
 
 /// What the words ask for, the first of which is the program's name.
-pub fn requested(words: Args) -> Option<Request> {
+pub fn request_of(words: Args) -> Option<Request> {
     let mut words = words;
     words.next()?;
     let command = words.next()?;

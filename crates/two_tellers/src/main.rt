@@ -2,7 +2,7 @@
 //! end, and the balances are printed. So an application uses the pipeline: `open`, a driver for each submitter, `drive_all`.
 #![tactic(auto)]
 
-ghost use Rattle.std.specs.Prelude.{◌≡◌, length};
+ghost use Rattle.std.specs.Prelude.{◌≡◌, ◌<◌, length};
 ghost use Rattle.tb_drive.specs.Reported.{AreTogether};
 
 use std::alloc::{AllocError, Global};
@@ -96,21 +96,31 @@ fn two_accounts(alloc: Global) -> Result<Packet, AllocError> {
 
 /// What becomes of the tellers' transfers, or None where memory or a thread was wanting. What is queued before the tellers'
 /// threads start is ahead of all that they queue.
-fn post<R: Threads + Wait + Sync>(rt: &R, alloc: Global, opened: Opened) -> Option<Report>
+fn post<R: Threads + Wait + Sync>(
+    rt: &R,
+    alloc: Global,
+    opened: Opened,
+    accounts: Packet,
+    tellers: Vec<Teller>,
+) -> Option<Report>
     requires together { AreTogether opened.pipeline opened.submitters.items opened.control }
-    requires two { length opened.pipeline.submitters ≡ 2 }
+    requires own { length tellers.items ≡ length opened.pipeline.submitters }
+    requires some { 0 < length tellers.items }
 {
     let mut opened = opened;
-    submit_ahead(rt, alloc, &mut opened, 0, two_accounts(alloc).ok()?).ok()?;
-    let tellers = vec![in alloc; Teller::new(1, 1, 2, 30), Teller::new(101, 2, 1, 10)].ok()?;
+    if submit_ahead(rt, alloc, &mut opened, 0, accounts).is_err() {
+        return None;
+    }
     let finished = drive_all(rt, alloc, opened, tellers, ControlLines::none(alloc));
     Some(finished.ok()?.report)
 }
 
 /// The report of a pipeline with two submitters.
 fn run<R: Threads + Wait + Sync>(rt: &R, alloc: Global) -> Option<Report> {
+    let accounts = two_accounts(alloc).ok()?;
+    let tellers = vec![in alloc; Teller::new(1, 1, 2, 30), Teller::new(101, 2, 1, 10)].ok()?;
     match open(alloc, 0, 100, 64, 32, 2) {
-        Ok(opened) => post(rt, alloc, opened),
+        Ok(opened) => post(rt, alloc, opened, accounts, tellers),
         Err(_) => None,
     }
 }
