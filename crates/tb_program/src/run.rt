@@ -15,20 +15,20 @@ use crate::output::write_out;
 use crate::program_fault::ProgramFault;
 use crate::run::driver::ScriptDriver;
 use crate::run::report::text_of;
-use crate::run::share::share_out;
+use crate::run::share::{Shares, share_out};
 use crate::source::{Source, read_source};
 use std::alloc::Global;
 use std::io::{Read, Write};
 use std::sync::Wait;
 use std::thread::Threads;
-use tb_drive::drive_all;
+use tb_drive::{ControlLines, drive_all};
 use tb_layout::NoMemory;
 use tb_pipe::{Opened, open};
 use tb_script::{Script, Settings};
 use tb_work::{Packet, Refusal};
 
 /// The pipeline that a script's settings open. They are all in range, so that only want of memory refuses it.
-fn opened(alloc: Global, settings: &Settings) -> Result<Opened, NoMemory>
+fn open_for(alloc: Global, settings: &Settings) -> Result<Opened, NoMemory>
     requires { InBounds settings.now }
     ensures together { IfOk result (λ opened. AreTogether opened.pipeline opened.submitters.items opened.control) }
     ensures number { IfOk result (λ opened. length opened.pipeline.submitters ≡ submitters_of settings.now) }
@@ -67,6 +67,23 @@ fn drivers(
     Ok(drivers)
 }
 
+/// Runs what is opened until all of its senders have ended; the output of the run.
+fn run_opened<T: Threads + Wait + Sync>(
+    rt: &T,
+    alloc: Global,
+    opened: Opened,
+    drivers: Vec<ScriptDriver>,
+    lines: ControlLines,
+) -> Result<String, ProgramFault>
+    requires together { AreTogether opened.pipeline opened.submitters.items opened.control }
+    requires number { length drivers.items ≡ length opened.pipeline.submitters }
+{
+    match drive_all(rt, alloc, opened, drivers, lines) {
+        Ok(finished) => Ok(text_of(alloc, finished)?),
+        Err(fault) => Err(ProgramFault::from(fault)),
+    }
+}
+
 /// The output for a script that has no fault.
 fn output_for<T: Threads + Wait + Sync>(
     rt: &T,
@@ -74,11 +91,12 @@ fn output_for<T: Threads + Wait + Sync>(
     script: Script,
 ) -> Result<String, ProgramFault> {
     let (settings, items) = script.finish()?;
-    let shares = share_out(alloc, settings.submitters(), items)?;
-    let drivers = drivers(alloc, settings.submitters(), shares.packets)?;
-    let opened = opened(alloc, &settings)?;
-    let finished = drive_all(rt, alloc, opened, drivers, shares.lines)?;
-    Ok(text_of(alloc, finished)?)
+    let Shares { packets, lines } = share_out(alloc, settings.submitters(), items)?;
+    let drivers = drivers(alloc, settings.submitters(), packets)?;
+    match open_for(alloc, &settings) {
+        Ok(opened) => run_opened(rt, alloc, opened, drivers, lines),
+        Err(fault) => Err(ProgramFault::from(fault)),
+    }
 }
 
 /// The output for all that a reader has, and whether its script has no fault.

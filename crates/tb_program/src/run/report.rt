@@ -5,7 +5,7 @@ use crate::run::driver::ScriptDriver;
 use crate::run::notes::{Notes, Told};
 use std::alloc::{AllocError, Global};
 use std::vec::IntoIter;
-use tb_core::Entry;
+use tb_core::{Entry, Ledger};
 use tb_drive::Finished;
 use tb_layout::NoMemory;
 use tb_pipe::Report;
@@ -107,6 +107,28 @@ fn put_refused_pulses(out: &mut String, count: u64) -> Result<(), AllocError> {
     Ok(())
 }
 
+/// The lines of what was committed: the pulses, those that were refused, the clock and the accounts.
+fn put_ledger(out: &mut String, ledger: &Ledger, refused_pulses: u64) -> Result<(), NoMemory> {
+    put_pulses(out, ledger.journal())?;
+    put_refused_pulses(out, refused_pulses)?;
+    put_state(out, ledger.machine())?;
+    Ok(())
+}
+
+/// The text of these packets and of what was committed of them.
+fn text_with(
+    alloc: Global,
+    ledger: &Ledger,
+    drivers: Vec<ScriptDriver>,
+    ends: Vec<Ended>,
+    refused_pulses: u64,
+) -> Result<String, NoMemory> {
+    let mut out = String::new(alloc);
+    put_all_packets(&mut out, drivers, ends)?;
+    put_ledger(&mut out, ledger, refused_pulses)?;
+    Ok(out)
+}
+
 /// The text of a run: its packets, its pulses, the pulses that were refused, the clock and the accounts.
 pub fn text_of(alloc: Global, finished: Finished<ScriptDriver>) -> Result<String, NoMemory> {
     let Finished {
@@ -115,10 +137,5 @@ pub fn text_of(alloc: Global, finished: Finished<ScriptDriver>) -> Result<String
         refused_pulses,
     } = finished;
     let Report { ledger, ends } = report;
-    let mut out = String::new(alloc);
-    put_all_packets(&mut out, drivers, ends)?;
-    put_pulses(&mut out, ledger.journal())?;
-    put_refused_pulses(&mut out, refused_pulses)?;
-    put_state(&mut out, ledger.machine())?;
-    Ok(out)
+    text_with(alloc, &ledger, drivers, ends, refused_pulses)
 }

@@ -2,4 +2,4 @@ use Rattle.std.proofs.Common.{◌≡◌, length}
 use Rattle.tb_program.proofs.run.drivers.Given as goal
 
 abbrev pub invariant-loop : goal.invariant-loop
-invariant-loop l = length l.drivers.items ≡ length l.yielded
+invariant-loop l = length l.drivers.items ≡ l.counter

@@ -2,7 +2,7 @@ use Rattle.std.proofs.Common.{◌≡◌, ℕ, ◌≤◌, le-ltb, None, refl}
 use Rattle.tb_layout.specs.Limits.{batch_max, capacity_max, submitters_max}
 use Rattle.tb_submit.specs.Refusals.{queue_refusal}
 use Rattle.tb_script.specs.Script.{limit_of, capacity_of, credit_of, submitters_of}
-use Rattle.tb_program.proofs.run.opened.Goals as goal
+use Rattle.tb_program.proofs.run.open_for.Goals as goal
 
 no_refusal : (limit capacity credit submitters : ℕ) → 1 ≤ limit → limit ≤ batch_max → 1 ≤ capacity → capacity ≤ capacity_max →
     1 ≤ credit → credit ≤ capacity_max → 1 ≤ submitters → submitters ≤ submitters_max → queue_refusal limit capacity credit submitters ≡ None
