@@ -28,7 +28,12 @@ fn main(rt: HostRuntime) -> ExitCode {
     let alloc = rt.alloc();
     let ending = match read_arguments(&rt) {
         Ok(Request::List) => ending_of(run_script(alloc, &mut rt.reader(), &mut io::writer(&rt))),
-        Ok(Request::Run) => ending_of(run_threads(&rt, alloc, &mut rt.reader(), &mut io::writer(&rt))),
+        Ok(Request::Run) => ending_of(run_threads(
+            &rt,
+            alloc,
+            &mut rt.reader(),
+            &mut io::writer(&rt),
+        )),
         Ok(Request::Usage) => Ending::Usage,
         Err(fault) => Ending::Failed(fault),
     };
