@@ -15,9 +15,9 @@ fn packet_of(rt: &HostRuntime, operation: u8, flags: &[u8]) -> Result<Packet, Fa
         if operation == 131 {
             bytes.extend_from_slice(&[0; 16])?;
         } else {
-            let mut row = [0; 128];
-            row[118] = *flag;
-            bytes.extend_from_slice(&row)?;
+            let mut event = [0; 128];
+            event[118] = *flag;
+            bytes.extend_from_slice(&event)?;
         }
     }
     Ok(Packet {

@@ -6,7 +6,7 @@ use Rattle.std.proofs.lemmas.List.{length-map}
 use Rattle.std.proofs.lemmas.Bool.{and_parts, both_ways, eqb-true, not-true}
 use Rattle.tb_layout.specs.Account.{account_of, is_linked as is_linked_account}
 use Rattle.tb_layout.specs.Transfer.{transfer_of, is_linked as is_linked_transfer}
-use Rattle.tb_layout.specs.Events.{Accounts, Transfers, Ids, events_of, rows, ids_of}
+use Rattle.tb_layout.specs.Events.{Accounts, Transfers, Ids, events_of, chunks, ids_of}
 use Rattle.tb_layout.specs.Bytes.{little_endian}
 use Rattle.tb_tables.specs.Balances.{balanced_account}
 use Rattle.tb_layout.specs.Limits.{clock_max}
@@ -132,7 +132,7 @@ gives_one place operation state (job ∷ []) lawful lookup =
     let bytes = job.packet.bytes in
     let events : events_in job.packet ≡ Ids (ids_of bytes) = ap (λ op. events_of op bytes) number in
     let count : count_of job.packet ≡ length bytes / 16 = ap (λ op. count_of_size bytes (event_size op)) number in
-    let ids : length (ids_of bytes) ≡ length bytes / 16 = length-map (rows 16 bytes) little_endian ∙ length-chunks 16 (length bytes / 16) bytes in
+    let ids : length (ids_of bytes) ≡ length bytes / 16 = length-map (chunks 16 bytes) little_endian ∙ length-chunks 16 (length bytes / 16) bytes in
     let found = length-found (balanced_account state.facts) (ids_of bytes) in
     let same : ids_of (bytes ++ []) ≡ ids_of bytes = ap ids_of (append-nil bytes) in
     record {

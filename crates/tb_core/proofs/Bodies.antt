@@ -6,7 +6,7 @@ use Rattle.std.proofs.lemmas.Nat.{div-add-mod'}
 use Rattle.std.proofs.lemmas.List.{map-append, take-append-le, drop-append-le, length-drop}
 use Rattle.std.proofs.Math.Seq.{take-append_seam, drop-append_seam}
 use Rattle.std.proofs.lemmas.Bool.{eqb-true, and_parts}
-use Rattle.tb_layout.specs.Events.{rows}
+use Rattle.tb_layout.specs.Events.{chunks}
 use Rattle.tb_work.specs.Admission.{event_size, admission_of, admission_of_size, count_of, count_of_size}
 use Rattle.tb_work.specs.Job.{Numbered, stub_of}
 use Rattle.tb_work.specs.Work.{work_of}
@@ -18,7 +18,7 @@ use Rattle.tb_batch.specs.Batch.{body_of, AreAdmitted}
 use Rattle.tb_machine.specs.Joining.{events_in_turn}
 use Rattle.tb_core.specs.Ledger.{size_of, packets_of}
 
--- ---- rows
+-- ---- chunks
 
 chunks-append : {X : Type 0} (size k m : ℕ) (xs ys : List X) → length xs ≡ k * size → first_chunks size (k + m) (xs ++ ys) ≡ first_chunks size k xs ++ first_chunks size m ys
 chunks-append size zero m [] ys h = ap (λ n. first_chunks size n ys) (omega arith)
@@ -29,8 +29,8 @@ chunks-append size (suc k) m xs ys h =
     let count : suc k + m ≡ suc (k + m) = omega arith in
     rw (count, take-append-le size xs ys fits, drop-append-le size xs ys fits, chunks-append size k m (drop size xs) ys rest) refl
 
-rows-append_128 : (xs ys : List ℕ) → length xs / 128 * 128 ≡ length xs → rows 128 (xs ++ ys) ≡ rows 128 xs ++ rows 128 ys
-rows-append_128 xs ys whole =
+chunks-append_128 : (xs ys : List ℕ) → length xs / 128 * 128 ≡ length xs → chunks 128 (xs ++ ys) ≡ chunks 128 xs ++ chunks 128 ys
+chunks-append_128 xs ys whole =
     let count : length (xs ++ ys) / 128 ≡ length xs / 128 + length ys / 128 = omega (arith, whole, length-append xs ys) in
     ap (λ n. first_chunks 128 n (xs ++ ys)) count ∙ chunks-append 128 (length xs / 128) (length ys / 128) xs ys (sym whole)
 
@@ -64,11 +64,11 @@ packets_of-jobs operation size (job ∷ jobs) is one all =
     rw (cut, take-append_seam bytes (body_of jobs), drop-append_seam bytes (body_of jobs), packets_of-jobs operation size jobs is first.1 all.1, first.0) refl
 
 -- the events of the body are those of its packets, laid one behind the other
-pub laid-rows : {Event : Type 0} (f : List ℕ → Event) (operation : ℕ) (jobs : List Numbered) → event_size operation ≡ Some 128 → are_of operation jobs ≡ true → AreAdmitted jobs →
-    map f (rows 128 (body_of jobs)) ≡ events_in_turn (map (λ (job : Numbered). map f (rows 128 job.packet.bytes)) jobs)
-laid-rows f operation [] is one all = refl
-laid-rows f operation (job ∷ jobs) is one all =
+pub laid-chunks : {Event : Type 0} (f : List ℕ → Event) (operation : ℕ) (jobs : List Numbered) → event_size operation ≡ Some 128 → are_of operation jobs ≡ true → AreAdmitted jobs →
+    map f (chunks 128 (body_of jobs)) ≡ events_in_turn (map (λ (job : Numbered). map f (chunks 128 job.packet.bytes)) jobs)
+laid-chunks f operation [] is one all = refl
+laid-chunks f operation (job ∷ jobs) is one all =
     let first = first_is operation job jobs one in
     let whole = whole_events job.packet 128 (ap event_size first.0 ∙ is) all.0 in
-    ap (map f) (rows-append_128 job.packet.bytes (body_of jobs) whole) ∙ map-append f (rows 128 job.packet.bytes) (rows 128 (body_of jobs))
-    ∙ ap (λ events. map f (rows 128 job.packet.bytes) ++ events) (laid-rows f operation jobs is first.1 all.1)
+    ap (map f) (chunks-append_128 job.packet.bytes (body_of jobs) whole) ∙ map-append f (chunks 128 job.packet.bytes) (chunks 128 (body_of jobs))
+    ∙ ap (λ events. map f (chunks 128 job.packet.bytes) ++ events) (laid-chunks f operation jobs is first.1 all.1)

@@ -6,7 +6,7 @@ use Rattle.std.specs.Simd.{first_chunks}
 use Rattle.std.proofs.lemmas.List.{length-map}
 use Rattle.std.proofs.lemmas.Bool.{and_parts, and_from}
 use Rattle.tb_layout.specs.declared.failure.Failure.{Failure}
-use Rattle.tb_layout.specs.Events.{Events, events_of, rows, is_last_linked, is_open}
+use Rattle.tb_layout.specs.Events.{Events, events_of, chunks, is_last_linked, is_open}
 use Rattle.tb_layout.specs.Failures.{RiseWithin}
 use Rattle.tb_layout.specs.Limits.{clock_max}
 use Rattle.tb_machine.specs.Replay.{State, failures_of, answer_of, after_packet}
@@ -20,7 +20,7 @@ use Rattle.tb_batch.specs.Grouping.{can_share, are_of}
 use Rattle.tb_batch.specs.Batch.{body_of, AreAdmitted}
 use Rattle.tb_demux.specs.Cutting.{replies_from}
 use Rattle.tb_core.proofs.Answering.{answers_from}
-use Rattle.tb_core.proofs.Bodies.{first_is, laid-rows}
+use Rattle.tb_core.proofs.Bodies.{first_is, laid-chunks}
 
 -- what a batch of accounts or transfers gives: the replies, the state and the failures' range
 pub record GivesEach (place operation : ℕ) (state : State) (jobs : List Numbered) : Type 0 where
@@ -40,11 +40,11 @@ length-chunks size (suc k) xs = ap suc (length-chunks size k (drop size xs))
 
 -- for an operation whose events have 128 bytes, where packets of a group give what each gives by itself
 module _ {Event : Type 0} (is_linked : Event → Bool) (number : ℕ) (f : List ℕ → Event) (packet_of : List Event → Events) (law : JoiningIsInvisible packet_of is_linked)
-    (size : event_size number ≡ Some 128) (events_is : (bytes : List ℕ) → events_of number bytes ≡ packet_of (map f (rows 128 bytes)))
+    (size : event_size number ≡ Some 128) (events_is : (bytes : List ℕ) → events_of number bytes ≡ packet_of (map f (chunks 128 bytes)))
     (answers : (state : State) (events : List Event) → answer_of state (packet_of events) ≡ Failures (failures_of state (packet_of events)))
     (opens : (events : List Event) → is_open (packet_of events) ≡ is_last_linked is_linked events) where
   abbrev own : Numbered → List Event
-  own job = map f (rows 128 job.packet.bytes)
+  own job = map f (chunks 128 job.packet.bytes)
 
   own_is : (job : Numbered) → job.packet.operation ≡ number → events_in job.packet ≡ packet_of (own job)
   own_is job is = ap (λ op. events_of op job.packet.bytes) is ∙ events_is job.packet.bytes
@@ -52,10 +52,10 @@ module _ {Event : Type 0} (is_linked : Event → Bool) (number : ℕ) (f : List 
   count_is : (job : Numbered) → job.packet.operation ≡ number → count_of job.packet ≡ length (own job)
   count_is job is =
       ap (count_of_size job.packet.bytes) (ap event_size is ∙ size)
-      ∙ sym (length-map (rows 128 job.packet.bytes) f ∙ length-chunks 128 (length job.packet.bytes / 128) job.packet.bytes)
+      ∙ sym (length-map (chunks 128 job.packet.bytes) f ∙ length-chunks 128 (length job.packet.bytes / 128) job.packet.bytes)
 
   body_is : (jobs : List Numbered) → are_of number jobs ≡ true → AreAdmitted jobs → events_of number (body_of jobs) ≡ packet_of (events_in_turn (map own jobs))
-  body_is jobs one all = events_is (body_of jobs) ∙ ap packet_of (laid-rows f number jobs size one all)
+  body_is jobs one all = events_is (body_of jobs) ∙ ap packet_of (laid-chunks f number jobs size one all)
 
   count_all : (jobs : List Numbered) → are_of number jobs ≡ true → length (events_in_turn (map own jobs)) ≡ count_of_all jobs
   count_all [] one = refl

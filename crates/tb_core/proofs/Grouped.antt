@@ -7,7 +7,7 @@ use Rattle.std.proofs.lemmas.Bool.{and_parts, and_from, cond_both}
 use Rattle.tb_layout.specs.Account.{account_of}
 use Rattle.tb_layout.specs.Transfer.{transfer_of}
 use Rattle.tb_layout.specs.Bytes.{little_endian}
-use Rattle.tb_layout.specs.Events.{events_of, rows, is_open, count_of as count_of_events}
+use Rattle.tb_layout.specs.Events.{events_of, chunks, is_open, count_of as count_of_events}
 use Rattle.tb_layout.specs.Work.{Pulse}
 use Rattle.tb_work.specs.Admission.{admission_of, count_of_size, event_size}
 use Rattle.tb_work.specs.Job.{Numbered, events_in, count_of_all}
@@ -35,9 +35,9 @@ record AreSeen (operation : ℕ) (bytes : List ℕ) : Type 0 where
   joinable : (not (is_open (events_of operation bytes)) && not (operation == 131)) ≡ true → can_join (events_of operation bytes) ≡ true
 
 seen_of : (operation : ℕ) (bytes : List ℕ) → Kind operation → AreSeen operation bytes
-seen_of operation bytes OfAccounts = record { number = refl; count = length-map (rows 128 bytes) account_of ∙ length-chunks 128 _ bytes; joinable = λ share. (and_parts _ _ share).0 }
-seen_of operation bytes OfTransfers = record { number = refl; count = length-map (rows 128 bytes) transfer_of ∙ length-chunks 128 _ bytes; joinable = λ share. (and_parts _ _ share).0 }
-seen_of operation bytes OfIds = record { number = refl; count = length-map (rows 16 bytes) little_endian ∙ length-chunks 16 _ bytes; joinable = λ share. (let e = (and_parts (not (is_open (events_of 131 bytes))) (not (131 == 131)) share).1 in cc) }
+seen_of operation bytes OfAccounts = record { number = refl; count = length-map (chunks 128 bytes) account_of ∙ length-chunks 128 _ bytes; joinable = λ share. (and_parts _ _ share).0 }
+seen_of operation bytes OfTransfers = record { number = refl; count = length-map (chunks 128 bytes) transfer_of ∙ length-chunks 128 _ bytes; joinable = λ share. (and_parts _ _ share).0 }
+seen_of operation bytes OfIds = record { number = refl; count = length-map (chunks 16 bytes) little_endian ∙ length-chunks 16 _ bytes; joinable = λ share. (let e = (and_parts (not (is_open (events_of 131 bytes))) (not (131 == 131)) share).1 in cc) }
 
 seen : (job : Numbered) → IsOk (admission_of 8190 job.packet) → AreSeen job.packet.operation job.packet.bytes
 seen job ok = seen_of job.packet.operation job.packet.bytes (kind_of job.packet.operation job.packet.bytes ok)

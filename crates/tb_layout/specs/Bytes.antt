@@ -1,4 +1,4 @@
--- Numbers in a row of bytes, and records as rows of numbers.
+-- Numbers in a list of bytes, and records as lists of numbers.
 use Rattle.std.specs.Prelude.{◌≡◌, ◌<◌, ℕ, zero, suc, ◌+◌, ◌*◌, ◌/◌, ◌%◌, List, [], ◌∷◌, ◌++◌, length, slice_range, All}
 
 -- the number whose bytes these are, the least significant first
@@ -20,7 +20,7 @@ abbrev pub bytes_in_turn : List (ℕ × ℕ) → List ℕ
 bytes_in_turn [] = []
 bytes_in_turn ((size, number) ∷ fields) = bytes_of size number ++ bytes_in_turn fields
 
--- a row of so many bytes
+-- a list of so many bytes
 pub record IsBytes (size : ℕ) (bytes : List ℕ) : Type 0 where
   pub count : length bytes ≡ size
   pub each : All (λ byte. byte < 256) bytes

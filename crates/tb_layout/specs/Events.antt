@@ -9,18 +9,18 @@ use Rattle.tb_layout.specs.Bytes.{little_endian, number_at}
 use Rattle.tb_layout.specs.Flags.{has_flag}
 use Rattle.tb_layout.specs.Operation.{create_accounts, create_transfers}
 
--- a body cut into rows of so many bytes
-abbrev pub rows : ℕ → List ℕ → List (List ℕ)
-rows size body = first_chunks size (length body / size) body
+-- a body cut into chunks of so many bytes
+abbrev pub chunks : ℕ → List ℕ → List (List ℕ)
+chunks size body = first_chunks size (length body / size) body
 
 abbrev pub accounts_of : List ℕ → List Account
-accounts_of body = map account_of (rows 128 body)
+accounts_of body = map account_of (chunks 128 body)
 
 abbrev pub transfers_of : List ℕ → List Transfer
-transfers_of body = map transfer_of (rows 128 body)
+transfers_of body = map transfer_of (chunks 128 body)
 
 abbrev pub ids_of : List ℕ → List ℕ
-ids_of body = map little_endian (rows 16 body)
+ids_of body = map little_endian (chunks 16 body)
 
 -- events of one operation, in order; those of a lookup are ids
 pub data Events : Type 0 where
@@ -40,9 +40,9 @@ count_of (Accounts events) = length events
 count_of (Transfers events) = length events
 count_of (Ids ids) = length ids
 
--- whether the event of a row, an account or a transfer, is linked: both have their flags at byte 118
-abbrev pub is_row_linked : List ℕ → Bool
-is_row_linked row = has_flag (number_at row 118 2) 0
+-- whether the event of a chunk, an account or a transfer, is linked: both have their flags at byte 118
+abbrev pub is_chunk_linked : List ℕ → Bool
+is_chunk_linked chunk = has_flag (number_at chunk 118 2) 0
 
 -- whether the last of some events is linked
 abbrev pub is_last_linked : {Event : Type 0} → (Event → Bool) → List Event → Bool

@@ -7,6 +7,7 @@
 mod account;
 mod account_code;
 mod answer;
+mod chunk;
 mod failure;
 mod flags;
 mod id;
@@ -14,13 +15,13 @@ mod limits;
 mod no_memory;
 mod number;
 mod operation;
-mod row;
 mod transfer;
 mod transfer_code;
 
 pub use account::{Account, read_account, write_account};
 pub use account_code::AccountCode;
 pub use answer::{Accounts, Answer, Failures};
+pub use chunk::is_chunk_linked;
 pub use failure::{Failure, read_failure, write_failure};
 pub use id::read_id;
 pub use limits::{
@@ -28,6 +29,5 @@ pub use limits::{
 };
 pub use no_memory::NoMemory;
 pub use operation::{CREATE_ACCOUNTS, CREATE_TRANSFERS, LOOKUP_ACCOUNTS};
-pub use row::is_row_linked;
 pub use transfer::{Transfer, read_transfer, write_transfer};
 pub use transfer_code::TransferCode;

@@ -29,9 +29,9 @@ first_fault-below operation index clock facts (event ∷ events) end h =
     chosen (code == 0) code index end event _ refl (omega arith)
     (first_fault-below operation (index + 1) (clock_after clock 1) (facts_with operation facts (next_timestamp clock) event) events end (omega arith))
 
--- the same for events that rows of bytes hold
-pub fault-below : {Row Event : Type 0} (operation : Operation Event) (f : Row → Event) (clock : ℕ) (facts : Facts) (rows : List Row) → LiesBelow (length rows) (first_fault operation 0 clock facts (map f rows))
-fault-below operation f clock facts rows = first_fault-below operation 0 clock facts (map f rows) (length rows) (omega (arith, length-map rows f))
+-- the same for events that chunks of bytes hold
+pub fault-below : {Chunk Event : Type 0} (operation : Operation Event) (f : Chunk → Event) (clock : ℕ) (facts : Facts) (chunks : List Chunk) → LiesBelow (length chunks) (first_fault operation 0 clock facts (map f chunks))
+fault-below operation f clock facts chunks = first_fault-below operation 0 clock facts (map f chunks) (length chunks) (omega (arith, length-map chunks f))
 
 pub length-failed_results : {Event : Type 0} (count : ℕ) (fault : Option (Fault Event)) → LiesBelow count fault → length (failed_results count fault) ≡ count
 length-failed_results count None below = length-replicate count 1

@@ -39,24 +39,24 @@ chain_outcome-closed : {Event : Type 0} (operation : Operation Event) (clock : �
 chain_outcome-closed operation clock facts chain d h linked =
     ap (λ b. if b then open_outcome operation facts (all_but_last chain) (first_fault operation 0 clock facts (all_but_last chain)) else closed_outcome operation clock facts chain (first_fault operation 0 clock facts chain)) (last_linked operation.is_linked chain d h ∙ linked)
 
--- the same for events that rows of bytes hold
+-- the same for events that chunks of bytes hold
 
-map-front : {Row Event : Type 0} (f : Row → Event) (rows : List Row) → take (length (map f rows) - 1) (map f rows) ≡ map f (take (length rows - 1) rows)
-map-front f rows = ap (λ n. take (n - 1) (map f rows)) (length-map rows f) ∙ take-map f (length rows - 1) rows
+map-front : {Chunk Event : Type 0} (f : Chunk → Event) (chunks : List Chunk) → take (length (map f chunks) - 1) (map f chunks) ≡ map f (take (length chunks - 1) chunks)
+map-front f chunks = ap (λ n. take (n - 1) (map f chunks)) (length-map chunks f) ∙ take-map f (length chunks - 1) chunks
 
-last_row : {Row Event : Type 0} (f : Row → Event) (rows : List Row) (d : Row) → 0 < length rows → get_or (map f rows) (length (map f rows) - 1) (f d) ≡ f (get_or rows (length rows - 1) d)
-last_row f rows d h = ap (λ n. get_or (map f rows) (n - 1) (f d)) (length-map rows f) ∙ get_or-map f rows (length rows - 1) d (f d) (omega arith)
+last_chunk : {Chunk Event : Type 0} (f : Chunk → Event) (chunks : List Chunk) (d : Chunk) → 0 < length chunks → get_or (map f chunks) (length (map f chunks) - 1) (f d) ≡ f (get_or chunks (length chunks - 1) d)
+last_chunk f chunks d h = ap (λ n. get_or (map f chunks) (n - 1) (f d)) (length-map chunks f) ∙ get_or-map f chunks (length chunks - 1) d (f d) (omega arith)
 
-pub rows-open : {Row Event : Type 0} (operation : Operation Event) (f : Row → Event) (clock : ℕ) (facts : Facts) (rows : List Row) (d : Row) → 0 < length rows → operation.is_linked (f (get_or rows (length rows - 1) d)) ≡ true →
-    let front = map f (take (length rows - 1) rows) in chain_outcome operation clock facts (map f rows) ≡ open_outcome operation facts front (first_fault operation 0 clock facts front)
-rows-open operation f clock facts rows d h linked =
-    chain_outcome-open operation clock facts (map f rows) (f d) (omega (arith, length-map rows f)) (ap operation.is_linked (last_row f rows d h) ∙ linked)
-    ∙ ap (λ front. open_outcome operation facts front (first_fault operation 0 clock facts front)) (map-front f rows)
+pub chunks-open : {Chunk Event : Type 0} (operation : Operation Event) (f : Chunk → Event) (clock : ℕ) (facts : Facts) (chunks : List Chunk) (d : Chunk) → 0 < length chunks → operation.is_linked (f (get_or chunks (length chunks - 1) d)) ≡ true →
+    let front = map f (take (length chunks - 1) chunks) in chain_outcome operation clock facts (map f chunks) ≡ open_outcome operation facts front (first_fault operation 0 clock facts front)
+chunks-open operation f clock facts chunks d h linked =
+    chain_outcome-open operation clock facts (map f chunks) (f d) (omega (arith, length-map chunks f)) (ap operation.is_linked (last_chunk f chunks d h) ∙ linked)
+    ∙ ap (λ front. open_outcome operation facts front (first_fault operation 0 clock facts front)) (map-front f chunks)
 
-pub rows-closed : {Row Event : Type 0} (operation : Operation Event) (f : Row → Event) (clock : ℕ) (facts : Facts) (rows : List Row) (d : Row) → 0 < length rows → operation.is_linked (f (get_or rows (length rows - 1) d)) ≡ false →
-    chain_outcome operation clock facts (map f rows) ≡ closed_outcome operation clock facts (map f rows) (first_fault operation 0 clock facts (map f rows))
-rows-closed operation f clock facts rows d h linked =
-    chain_outcome-closed operation clock facts (map f rows) (f d) (omega (arith, length-map rows f)) (ap operation.is_linked (last_row f rows d h) ∙ linked)
+pub chunks-closed : {Chunk Event : Type 0} (operation : Operation Event) (f : Chunk → Event) (clock : ℕ) (facts : Facts) (chunks : List Chunk) (d : Chunk) → 0 < length chunks → operation.is_linked (f (get_or chunks (length chunks - 1) d)) ≡ false →
+    chain_outcome operation clock facts (map f chunks) ≡ closed_outcome operation clock facts (map f chunks) (first_fault operation 0 clock facts (map f chunks))
+chunks-closed operation f clock facts chunks d h linked =
+    chain_outcome-closed operation clock facts (map f chunks) (f d) (omega (arith, length-map chunks f)) (ap operation.is_linked (last_chunk f chunks d h) ∙ linked)
 
 -- ---- cutting off the first chain
 
@@ -138,17 +138,17 @@ left_all operation clock old events now facts index rest out none left = (
   sym (left.failures ∙ ap (λ es. out ++ failures_from index (events_outcome operation now facts es).results) none ∙ append-nil out),
 )
 
--- the same for events that rows of bytes hold, where what is left of the rows has a name
-pub left_more_rows : {Row Event : Type 0} (operation : Operation Event) (f : Row → Event) (clock : ℕ) (old : Facts) (rows rest : List Row) (now after n index : ℕ) (facts next : Facts) (out more : List Failure) →
-    rest ≡ take (length rows - index) (drop index rows) → after ≡ clock_after now n → index < length rows → n ≡ first_chain_length operation.is_linked (map f rest) →
+-- the same for events that chunks of bytes hold, where what is left of the chunks has a name
+pub left_more_chunks : {Chunk Event : Type 0} (operation : Operation Event) (f : Chunk → Event) (clock : ℕ) (old : Facts) (chunks rest : List Chunk) (now after n index : ℕ) (facts next : Facts) (out more : List Failure) →
+    rest ≡ take (length chunks - index) (drop index chunks) → after ≡ clock_after now n → index < length chunks → n ≡ first_chain_length operation.is_linked (map f rest) →
     next ≡ (chain_outcome operation now facts (map f (take n rest))).facts →
     more ≡ out ++ failures_from index (chain_outcome operation now facts (map f (take n rest))).results →
-    IsLeft operation clock old (map f rows) now facts index (map f (drop index rows)) out → IsLeft operation clock old (map f rows) after next (index + n) (map f (drop (index + n) rows)) more
-left_more_rows {Row} operation f clock old rows rest now after n index facts next out more rest_is after_is h is next_is more_is left =
-    let same : rest ≡ drop index rows = rest_is ∙ take_rest rows index in
-    let first : map f (take n rest) ≡ take n (map f (drop index rows)) = ap (λ (rs : List Row). map f (take n rs)) same ∙ sym (take-map f n (drop index rows)) in
-    let some : 0 < length (map f (drop index rows)) = omega (arith, length-map (drop index rows) f, length-drop index rows) in
-    let dropped : drop n (map f (drop index rows)) ≡ map f (drop (index + n) rows) = drop-map f n (drop index rows) ∙ ap (map f) (drop-drop n index rows) in
+    IsLeft operation clock old (map f chunks) now facts index (map f (drop index chunks)) out → IsLeft operation clock old (map f chunks) after next (index + n) (map f (drop (index + n) chunks)) more
+left_more_chunks {Chunk} operation f clock old chunks rest now after n index facts next out more rest_is after_is h is next_is more_is left =
+    let same : rest ≡ drop index chunks = rest_is ∙ take_rest chunks index in
+    let first : map f (take n rest) ≡ take n (map f (drop index chunks)) = ap (λ (rs : List Chunk). map f (take n rs)) same ∙ sym (take-map f n (drop index chunks)) in
+    let some : 0 < length (map f (drop index chunks)) = omega (arith, length-map (drop index chunks) f, length-drop index chunks) in
+    let dropped : drop n (map f (drop index chunks)) ≡ map f (drop (index + n) chunks) = drop-map f n (drop index chunks) ∙ ap (map f) (drop-drop n index chunks) in
     rw (after_is, ← dropped)
-    (left_more operation clock old (map f rows) now n index facts next (map f (drop index rows)) out more some (is ∙ ap (λ rs. first_chain_length operation.is_linked (map f rs)) same)
+    (left_more operation clock old (map f chunks) now n index facts next (map f (drop index chunks)) out more some (is ∙ ap (λ rs. first_chain_length operation.is_linked (map f rs)) same)
     (next_is ∙ ap (λ es. (chain_outcome operation now facts es).facts) first) (more_is ∙ ap (λ es. out ++ failures_from index (chain_outcome operation now facts es).results) first) left)

@@ -37,16 +37,16 @@ fn examine_at<E: Event>(clock: u64, tables: &mut Tables, event: &E) -> Result<u3
 fn examine_all<E: Event>(
     clock: u64,
     tables: &mut Tables,
-    rows: &[[u8; 128]],
+    chunks: &[[u8; 128]],
 ) -> Result<Option<Fault<E>>, NoMemory>
     requires { clock ≤ clock_max }
     ensures extends { Extends tables.old tables.new }
-    ensures fault { IfOk result (λ fault. fault ≡ first_fault E.operation 0 clock tables.old.now (map E.event_of rows.now)) }
-    ensures stored { result ≡ Ok None → tables.new.now ≡ facts_with_all E.operation clock tables.old.now (map E.event_of rows.now) }
+    ensures fault { IfOk result (λ fault. fault ≡ first_fault E.operation 0 clock tables.old.now (map E.event_of chunks.now)) }
+    ensures stored { result ≡ Ok None → tables.new.now ≡ facts_with_all E.operation clock tables.old.now (map E.event_of chunks.now) }
 {
     let mut clock = clock;
-    for (index, row) in rows.iter().enumerate() {
-        let event = E::read(row);
+    for (index, chunk) in chunks.iter().enumerate() {
+        let event = E::read(chunk);
         let code = examine_at(clock, tables, &event)?;
         if code != 0 {
             return Ok(Some(Fault { index, event, code }));
@@ -152,7 +152,7 @@ fn commit_chain<E: Event>(
     ensures capacity { vec_capacity out.new ≡ vec_capacity out.old }
 {
     let last = chain.len() - 1;
-    if E::is_row_linked(&chain[last]) {
+    if E::is_chunk_linked(&chain[last]) {
         commit_open_chain::<E>(clock, tables, &chain[..last], index, out)
     } else {
         commit_closed_chain::<E>(clock, tables, chain, index, out)
@@ -164,22 +164,22 @@ fn commit_chain<E: Event>(
 pub fn commit_chains<E: Event>(
     clock: u64,
     tables: &mut Tables,
-    rows: &[[u8; 128]],
+    chunks: &[[u8; 128]],
     out: &mut Vec<Failure>,
 ) -> Result<(), NoMemory>
     requires clock { clock ≤ clock_max }
     requires empty { out.old.items ≡ [] }
-    requires room { length rows.now ≤ vec_capacity out.old }
-    requires fits { length rows.now < 2 ^ 32 }
+    requires room { length chunks.now ≤ vec_capacity out.old }
+    requires fits { length chunks.now < 2 ^ 32 }
     ensures extends { Extends tables.old tables.new }
-    ensures facts { OnOk result (tables.new.now ≡ (events_outcome E.operation clock tables.old.now (map E.event_of rows.now)).facts) }
-    ensures failures { OnOk result (out.new.items ≡ failures_from 0 (events_outcome E.operation clock tables.old.now (map E.event_of rows.now)).results) }
+    ensures facts { OnOk result (tables.new.now ≡ (events_outcome E.operation clock tables.old.now (map E.event_of chunks.now)).facts) }
+    ensures failures { OnOk result (out.new.items ≡ failures_from 0 (events_outcome E.operation clock tables.old.now (map E.event_of chunks.now)).results) }
     ensures capacity { vec_capacity out.new ≡ vec_capacity out.old }
 {
     let mut clock = clock;
     let mut start = 0;
-    while start < rows.len() {
-        let rest = &rows[start..];
+    while start < chunks.len() {
+        let rest = &chunks[start..];
         let count = first_chain_length::<E>(rest);
         commit_chain::<E>(clock, tables, &rest[..count], start, out)?;
         clock = clock_after(clock, count);

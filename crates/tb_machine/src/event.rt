@@ -18,7 +18,7 @@ use crate::prefetch::{Prefetch, Sides, Target};
 use crate::resolved::resolved_under;
 use crate::transfer_verdict::transfer_verdict;
 use tb_layout::{
-    Account, NoMemory, Transfer, TransferCode, is_row_linked, read_account, read_transfer,
+    Account, NoMemory, Transfer, TransferCode, is_chunk_linked, read_account, read_transfer,
 };
 use tb_tables::{Key, Tables};
 
@@ -28,13 +28,13 @@ pub trait Event: Copy {
 
     ghost operation: { Operation Self };
 
-    /// The event in the 128 bytes of its row.
-    fn read(row: &[u8; 128]) -> Self
-        ensures { result ≡ event_of row.now };
+    /// The event in the 128 bytes of its chunk.
+    fn read(chunk: &[u8; 128]) -> Self
+        ensures { result ≡ event_of chunk.now };
 
-    /// Whether the event in a row is linked, without reading the rest of it.
-    fn is_row_linked(row: &[u8; 128]) -> bool
-        ensures { result ≡ operation.is_linked (event_of row.now) };
+    /// Whether the event in a chunk is linked, without reading the rest of it.
+    fn is_chunk_linked(chunk: &[u8; 128]) -> bool
+        ensures { result ≡ operation.is_linked (event_of chunk.now) };
 
     /// Stores the event where its checks find nothing, and answers the number of its result.
     fn examine(&self, tables: &mut Tables, timestamp: u64) -> Result<u32, NoMemory>
@@ -54,12 +54,12 @@ impl Event for Account {
 
     ghost operation = { spec.accounts_operation };
 
-    fn read(row: &[u8; 128]) -> Account {
-        read_account(row)
+    fn read(chunk: &[u8; 128]) -> Account {
+        read_account(chunk)
     }
 
-    fn is_row_linked(row: &[u8; 128]) -> bool {
-        is_row_linked(row)
+    fn is_chunk_linked(chunk: &[u8; 128]) -> bool {
+        is_chunk_linked(chunk)
     }
 
     fn examine(&self, tables: &mut Tables, timestamp: u64) -> Result<u32, NoMemory> {
@@ -80,12 +80,12 @@ impl Event for Transfer {
 
     ghost operation = { spec.transfers_operation };
 
-    fn read(row: &[u8; 128]) -> Transfer {
-        read_transfer(row)
+    fn read(chunk: &[u8; 128]) -> Transfer {
+        read_transfer(chunk)
     }
 
-    fn is_row_linked(row: &[u8; 128]) -> bool {
-        is_row_linked(row)
+    fn is_chunk_linked(chunk: &[u8; 128]) -> bool {
+        is_chunk_linked(chunk)
     }
 
     fn examine(&self, tables: &mut Tables, timestamp: u64) -> Result<u32, NoMemory> {

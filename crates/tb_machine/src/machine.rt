@@ -1,7 +1,7 @@
 //! The machine.
 
 ghost use Rattle.std.specs.Prelude.{◌≡◌, ◌==◌, ◌||◌, ◌/◌, ◌%◌, ◌^◌, ◌≤◌, [], true, length, map, slice_get, vec_capacity, OnOk, OnErr};
-ghost use Rattle.tb_layout.specs.Events.{events_of, ids_of, rows};
+ghost use Rattle.tb_layout.specs.Events.{events_of, ids_of, chunks};
 ghost use Rattle.tb_tables.specs.Facts.{transfer_with};
 ghost use Rattle.tb_tables.specs.Status.{status_with};
 ghost use Rattle.tb_tables.specs.Balances.{balanced_account};
@@ -92,20 +92,20 @@ impl Machine {
         requires empty { out.old.items ≡ [] }
         requires room { length body.now / 128 ≤ vec_capacity out.old }
         ensures in_range { self.old.clock ≤ clock_max }
-        ensures state { let events = map E.event_of (rows 128 body.now) in
+        ensures state { let events = map E.event_of (chunks 128 body.now) in
             OnOk result (self.new ≡ after_events self.old (length events) (events_outcome E.operation self.old.clock self.old.facts events).facts) }
-        ensures failures { let events = map E.event_of (rows 128 body.now) in
+        ensures failures { let events = map E.event_of (chunks 128 body.now) in
             OnOk result (out.new.items ≡ failures_from 0 (events_outcome E.operation self.old.clock self.old.facts events).results) }
         ensures unchanged { OnErr result (self.new ≡ self.old) }
         ensures none { OnErr result (out.new.items ≡ []) }
         ensures capacity { vec_capacity out.new ≡ vec_capacity out.old }
     {
         let mark = self.tables.mark();
-        let (rows, _) = body.as_chunks::<128>();
-        match commit_chains::<E>(self.clock, &mut self.tables, rows, out) {
+        let (chunks, _) = body.as_chunks::<128>();
+        match commit_chains::<E>(self.clock, &mut self.tables, chunks, out) {
             Ok(()) => {
                 self.tables.keep();
-                self.clock = clock_after(self.clock, rows.len());
+                self.clock = clock_after(self.clock, chunks.len());
                 Ok(())
             }
             Err(refused) => {
@@ -139,8 +139,8 @@ impl Machine {
         ensures found { out.new.items ≡ accounts_found self.now.facts (ids_of body.now) }
         ensures capacity { vec_capacity out.new ≡ vec_capacity out.old }
     {
-        let (rows, _) = body.as_chunks::<16>();
-        look_up(&self.tables, rows, out);
+        let (chunks, _) = body.as_chunks::<16>();
+        look_up(&self.tables, chunks, out);
     }
 
     /// The clock in nanoseconds: where it started, raised by one for each event and to the moments of pulses.

@@ -9,7 +9,7 @@ use Rattle.tb_layout.specs.Work.{Work}
 use Rattle.tb_layout.specs.Account.{account_of}
 use Rattle.tb_layout.specs.Bytes.{little_endian}
 use Rattle.tb_layout.specs.Transfer.{transfer_of}
-use Rattle.tb_layout.specs.Events.{Accounts, Transfers, Ids, accounts_of, transfers_of, ids_of, rows, count_of}
+use Rattle.tb_layout.specs.Events.{Accounts, Transfers, Ids, accounts_of, transfers_of, ids_of, chunks, count_of}
 use Rattle.tb_work.specs.Admission.{admission_of, admission_of_size}
 use Rattle.tb_work.specs.Job.{events_in}
 use Rattle.tb_work.specs.Queue.{ahead, ahead_of, items_in}
@@ -59,24 +59,24 @@ drained clock limit submitters queue given_parcels taken_parcels left_parcels le
 
 -- ---- no packet of the journal has more events than the limit
 
-length-rows : (size n : ℕ) (bytes : List ℕ) → length (first_chunks size n bytes) ≡ n
-length-rows size zero bytes = refl
-length-rows size (suc n) bytes = ap suc (length-rows size n (drop size bytes))
+length-chunks : (size n : ℕ) (bytes : List ℕ) → length (first_chunks size n bytes) ≡ n
+length-chunks size zero bytes = refl
+length-chunks size (suc n) bytes = ap suc (length-chunks size n (drop size bytes))
 
 abbrev result_of : Result ℕ Refusal → Result ℕ Refusal
 result_of result = result
 
-few : (limit : ℕ) (bytes : List ℕ) (size : ℕ) → IsOk (admission_of_size limit bytes (Some size)) → length (rows size bytes) ≤ limit
+few : (limit : ℕ) (bytes : List ℕ) (size : ℕ) → IsOk (admission_of_size limit bytes (Some size)) → length (chunks size bytes) ≤ limit
 few limit bytes size ok = by (not (length bytes % size == 0)) (nat_lt limit (length bytes / size)) refl ok
   where
     below : nat_lt limit (length bytes / size) ≡ false → length bytes / size ≤ limit
     below is = grind (arith, nat_tests)
 
     by : (odd above : Bool) → nat_lt limit (length bytes / size) ≡ above →
-        IsOk (result_of (if odd then Err InvalidDataSize else if above then Err TooMuchData else Ok (length bytes / size))) → length (rows size bytes) ≤ limit
+        IsOk (result_of (if odd then Err InvalidDataSize else if above then Err TooMuchData else Ok (length bytes / size))) → length (chunks size bytes) ≤ limit
     by true above is ok = absurd (true≢false (sym ok))
     by false true is ok = absurd (true≢false (sym ok))
-    by false false is ok = subst (λ n. n ≤ limit) (sym (length-rows size (length bytes / size) bytes)) (below is)
+    by false false is ok = subst (λ n. n ≤ limit) (sym (length-chunks size (length bytes / size) bytes)) (below is)
 
 few_mapped : {A : Type 0} (limit : ℕ) (f : List ℕ → A) (all : List (List ℕ)) → length all ≤ limit → length (map f all) ≤ limit
 few_mapped limit f all most = subst (λ n. n ≤ limit) (sym (length-map all f)) most
@@ -89,9 +89,9 @@ few_events limit packet ok = by (packet.operation == 129) (packet.operation == 1
 
     by : (accounts transfers lookup : Bool) → IsOk (admission_of_size limit bytes (if accounts then Some 128 else if transfers then Some 128 else if lookup then Some 16 else None)) →
         count_of (if accounts then Accounts (accounts_of bytes) else if transfers then Transfers (transfers_of bytes) else Ids (ids_of bytes)) ≤ limit
-    by true transfers lookup ok = few_mapped limit account_of (rows 128 bytes) (few limit bytes 128 ok)
-    by false true lookup ok = few_mapped limit transfer_of (rows 128 bytes) (few limit bytes 128 ok)
-    by false false true ok = few_mapped limit little_endian (rows 16 bytes) (few limit bytes 16 ok)
+    by true transfers lookup ok = few_mapped limit account_of (chunks 128 bytes) (few limit bytes 128 ok)
+    by false true lookup ok = few_mapped limit transfer_of (chunks 128 bytes) (few limit bytes 128 ok)
+    by false false true ok = few_mapped limit little_endian (chunks 16 bytes) (few limit bytes 16 ok)
     by false false false ok = absurd (true≢false (sym ok))
 
 one_within : (limit : ℕ) (x : Item) (others : List Work) → IsWithin limit x → AreWorksWithin limit others → AreWorksWithin limit (ahead_of x others)

@@ -36,11 +36,11 @@ fn holds(fact: bool, otherwise: &'static str) -> Result<(), Fail> {
 fn packet_of(alloc: Global, operation: u8, id: u8) -> Result<Packet, AllocError> {
     let mut bytes = Vec::new(alloc);
     if id > 0 {
-        let mut row = [0u8; 128];
-        row[0] = id;
-        row[112] = 1;
-        row[116] = 1;
-        bytes.extend_from_slice(&row)?;
+        let mut event = [0u8; 128];
+        event[0] = id;
+        event[112] = 1;
+        event[116] = 1;
+        bytes.extend_from_slice(&event)?;
     }
     Ok(Packet {
         operation,

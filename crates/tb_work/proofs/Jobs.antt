@@ -4,17 +4,17 @@ use Rattle.std.specs.List.{slice_get}
 use Rattle.std.specs.Prelude.{◌==◌, if◌then◌else◌}
 use Rattle.tb_layout.specs.Account.{account_of, is_linked as is_linked_account}
 use Rattle.tb_layout.specs.Transfer.{transfer_of, is_linked as is_linked_transfer}
-use Rattle.tb_layout.specs.Events.{Events, Accounts, Transfers, Ids, accounts_of, transfers_of, ids_of, events_of, is_last_linked, is_open, rows as rows_of}
-use Rattle.tb_work.specs.Job.{is_row_linked}
+use Rattle.tb_layout.specs.Events.{Events, Accounts, Transfers, Ids, accounts_of, transfers_of, ids_of, events_of, is_last_linked, is_open, chunks as chunks_of}
+use Rattle.tb_work.specs.Job.{is_chunk_linked}
 
--- of events that rows hold, the last row tells
-is_last_linked-row : {Event : Type 0} (is_linked : Event → Bool) (f : List ℕ → Event) (rows : List (List ℕ)) (row : List ℕ) → slice_get rows (length rows - 1) ≡ Some row →
-    is_last_linked is_linked (map f rows) ≡ is_linked (f row)
-is_last_linked-row is_linked f [] row h = cc
-is_last_linked-row is_linked f (first ∷ []) row h = let same : first ≡ row = cc in ap (λ r. is_linked (f r)) same
-is_last_linked-row is_linked f (first ∷ next ∷ rows) row h =
-    let place : length (first ∷ next ∷ rows) - 1 ≡ suc (length (next ∷ rows) - 1) = omega arith in
-    is_last_linked-row is_linked f (next ∷ rows) row (ap (slice_get (first ∷ next ∷ rows)) (sym place) ∙ h)
+-- of events that chunks hold, the last chunk tells
+is_last_linked-chunk : {Event : Type 0} (is_linked : Event → Bool) (f : List ℕ → Event) (chunks : List (List ℕ)) (chunk : List ℕ) → slice_get chunks (length chunks - 1) ≡ Some chunk →
+    is_last_linked is_linked (map f chunks) ≡ is_linked (f chunk)
+is_last_linked-chunk is_linked f [] chunk h = cc
+is_last_linked-chunk is_linked f (first ∷ []) chunk h = let same : first ≡ chunk = cc in ap (λ r. is_linked (f r)) same
+is_last_linked-chunk is_linked f (first ∷ next ∷ chunks) chunk h =
+    let place : length (first ∷ next ∷ chunks) - 1 ≡ suc (length (next ∷ chunks) - 1) = omega arith in
+    is_last_linked-chunk is_linked f (next ∷ chunks) chunk (ap (slice_get (first ∷ next ∷ chunks)) (sym place) ∙ h)
 
 chosen : (first second : Bool) (x y z : Events) (p q : Bool) → p ≡ is_open x → q ≡ is_open y → false ≡ is_open z →
     (if first then p else if second then q else false) ≡ is_open (if first then x else if second then y else z)
@@ -22,9 +22,9 @@ chosen true second x y z p q e f g = e
 chosen false true x y z p q e f g = f
 chosen false false x y z p q e f g = g
 
--- the last row of a packet's data tells whether it is open
-pub is_open-row : (operation : ℕ) (bytes row : List ℕ) (rows : List (List ℕ)) → rows ≡ rows_of 128 bytes → Some row ≡ slice_get rows (length rows - 1) → is_row_linked operation row ≡ is_open (events_of operation bytes)
-is_open-row operation bytes row rows is last =
-    let at : slice_get (rows_of 128 bytes) (length (rows_of 128 bytes) - 1) ≡ Some row = ap (λ (rs : List (List ℕ)). slice_get rs (length rs - 1)) (sym is) ∙ sym last in
+-- the last chunk of a packet's data tells whether it is open
+pub is_open-chunk : (operation : ℕ) (bytes chunk : List ℕ) (chunks : List (List ℕ)) → chunks ≡ chunks_of 128 bytes → Some chunk ≡ slice_get chunks (length chunks - 1) → is_chunk_linked operation chunk ≡ is_open (events_of operation bytes)
+is_open-chunk operation bytes chunk chunks is last =
+    let at : slice_get (chunks_of 128 bytes) (length (chunks_of 128 bytes) - 1) ≡ Some chunk = ap (λ (rs : List (List ℕ)). slice_get rs (length rs - 1)) (sym is) ∙ sym last in
     chosen (operation == 129) (operation == 130) (Accounts (accounts_of bytes)) (Transfers (transfers_of bytes)) (Ids (ids_of bytes)) _ _
-    (sym (is_last_linked-row is_linked_account account_of (rows_of 128 bytes) row at)) (sym (is_last_linked-row is_linked_transfer transfer_of (rows_of 128 bytes) row at)) refl
+    (sym (is_last_linked-chunk is_linked_account account_of (chunks_of 128 bytes) chunk at)) (sym (is_last_linked-chunk is_linked_transfer transfer_of (chunks_of 128 bytes) chunk at)) refl

@@ -38,10 +38,10 @@ is_lookup packet = packet.operation == lookup_accounts
 abbrev pub numbered_packet : ℕ → ℕ → Packet → Numbered
 numbered_packet submitter number packet = record { submitter = submitter; number = number; packet = packet }
 
--- whether a row of a packet's data is a linked event
-abbrev pub is_row_linked : ℕ → List ℕ → Bool
-is_row_linked operation row =
-    if operation == create_accounts then is_linked_account (account_of row) else if operation == create_transfers then is_linked_transfer (transfer_of row) else false
+-- whether a chunk of a packet's data is a linked event
+abbrev pub is_chunk_linked : ℕ → List ℕ → Bool
+is_chunk_linked operation chunk =
+    if operation == create_accounts then is_linked_account (account_of chunk) else if operation == create_transfers then is_linked_transfer (transfer_of chunk) else false
 
 -- it is admitted, and so many failures have room
 pub record IsJob (packet : Packet) (count : ℕ) (room : Vec Failure Global) : Type 0 where

@@ -5,7 +5,7 @@ ghost use Rattle.tb_layout.specs.Limits.{batch_max};
 ghost use Rattle.tb_layout.specs.Operation.{lookup_accounts};
 ghost use Rattle.tb_work.specs.Admission.{admission_of};
 ghost use Rattle.tb_work.specs.declared.refusal.Refusal.TheVariants.{NoMemory};
-ghost use Rattle.tb_work.specs.Job.{is_row_linked};
+ghost use Rattle.tb_work.specs.Job.{is_chunk_linked};
 
 use crate::admission::admit;
 use crate::packet::Packet;
@@ -47,11 +47,11 @@ fn room_for(alloc: Global, operation: u8, count: u32) -> Result<Vec<Failure>, Al
     }
 }
 
-/// Whether the event of a row is linked. It is read from its flags, and no event is decoded.
-fn is_last_linked(operation: u8, row: &[u8; 128]) -> bool
-    ensures { result ≡ is_row_linked operation row.now }
+/// Whether the event of a chunk is linked. It is read from its flags, and no event is decoded.
+fn is_last_linked(operation: u8, chunk: &[u8; 128]) -> bool
+    ensures { result ≡ is_chunk_linked operation chunk.now }
 {
-    (operation == CREATE_ACCOUNTS || operation == CREATE_TRANSFERS) && tb_layout::is_row_linked(row)
+    (operation == CREATE_ACCOUNTS || operation == CREATE_TRANSFERS) && tb_layout::is_chunk_linked(chunk)
 }
 
 impl Job {
@@ -121,9 +121,9 @@ impl Job {
         ensures { result ≡ is_open self.now.packet }
     {
         let operation = self.packet.operation;
-        let (rows, _) = self.packet.bytes.as_slice().as_chunks::<128>();
-        match rows.last() {
-            Some(row) => is_last_linked(operation, row),
+        let (chunks, _) = self.packet.bytes.as_slice().as_chunks::<128>();
+        match chunks.last() {
+            Some(chunk) => is_last_linked(operation, chunk),
             None => false,
         }
     }

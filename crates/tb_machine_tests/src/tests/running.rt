@@ -67,27 +67,31 @@ fn event(counter: u64, ids: u64) -> Transfer {
     Transfer { timeout, ..plain }
 }
 
-/// A transfer, and whether it expired.
-type Row = (Transfer, bool);
+/// A transfer that was made, and whether it expired.
+#[derive(Clone, Copy)]
+struct Made {
+    transfer: Transfer,
+    has_expired: bool,
+}
 
 /// The post or void that names the transfer with an id.
-fn resolution(rows: &[Row], id: u128) -> Option<Transfer> {
-    for row in rows {
-        if row.0.pending_id == id {
-            return Some(row.0);
+fn resolution(all: &[Made], id: u128) -> Option<Transfer> {
+    for one in all {
+        if one.transfer.pending_id == id {
+            return Some(one.transfer);
         }
     }
     None
 }
 
-fn plain_status(rows: &[Row], row: &Row) -> Option<Status> {
-    if !row.0.is_pending() {
+fn plain_status(all: &[Made], one: &Made) -> Option<Status> {
+    if !one.transfer.is_pending() {
         return None;
     }
-    match resolution(rows, row.0.id) {
+    match resolution(all, one.transfer.id) {
         Some(named_by) if named_by.is_post() => Some(Status::Posted),
         Some(_) => Some(Status::Voided),
-        None if row.1 => Some(Status::Expired),
+        None if one.has_expired => Some(Status::Expired),
         None => Some(Status::Pending),
     }
 }
@@ -100,8 +104,8 @@ fn raised(balance: u128, belongs: bool, amount: u128) -> u128 {
     }
 }
 
-/// An account with the amount of a row in its balances, where it belongs there.
-fn with_row(account: Account, status: Option<Status>, made: &Transfer) -> Account {
+/// An account with the amount of a transfer in its balances, where it belongs there.
+fn with_amount(account: Account, status: Option<Status>, made: &Transfer) -> Account {
     let is_debit = made.debit_account_id == account.id;
     let is_credit = made.credit_account_id == account.id;
     let reserves = status == Some(Status::Pending);
@@ -124,40 +128,43 @@ fn with_row(account: Account, status: Option<Status>, made: &Transfer) -> Accoun
     }
 }
 
-/// An account, without balances at first, with those that the rows give.
-fn with_rows(account: Account, rows: &[Row]) -> Account {
+/// An account, without balances at first, with those that all transfers give.
+fn with_balances(account: Account, all: &[Made]) -> Account {
     let mut balanced = account;
-    for row in rows {
-        balanced = with_row(balanced, plain_status(rows, row), &row.0);
+    for one in all {
+        balanced = with_amount(balanced, plain_status(all, one), &one.transfer);
     }
     balanced
 }
 
 /// Notes what was made since, by rising id.
-fn note_new(rows: &mut Vec<Row>, machine: &Machine, ids: u32) -> Result<(), AllocError> {
+fn note_new(all: &mut Vec<Made>, machine: &Machine, ids: u32) -> Result<(), AllocError> {
     for id in 1..=ids {
         let id = u128::from(id);
-        let known = rows.iter().any(|row| row.0.id == id);
+        let known = all.iter().any(|one| one.transfer.id == id);
         if let (false, Some(made)) = (known, machine.transfer(id)) {
-            rows.push((made, false))?;
+            all.push(Made {
+                transfer: made,
+                has_expired: false,
+            })?;
         }
     }
     Ok(())
 }
 
-/// Whether all balances and statuses are those of the rows.
-fn agrees(machine: &Machine, rows: &[Row]) -> bool {
+/// Whether all balances and statuses are those of all transfers.
+fn agrees(machine: &Machine, all: &[Made]) -> bool {
     for id in 1..=4_u32 {
         let made = Account {
             timestamp: u64::from(id),
             ..account(u128::from(id), 0)
         };
-        if machine.account(u128::from(id)) != Some(with_rows(made, rows)) {
+        if machine.account(u128::from(id)) != Some(with_balances(made, all)) {
             return false;
         }
     }
-    for row in rows {
-        if machine.status(row.0.id) != plain_status(rows, row) {
+    for one in all {
+        if machine.status(one.transfer.id) != plain_status(all, one) {
             return false;
         }
     }
@@ -165,15 +172,15 @@ fn agrees(machine: &Machine, rows: &[Row]) -> bool {
 }
 
 /// Marks what expires at a clock.
-fn expire(rows: &mut Vec<Row>, clock: u64) {
-    for place in 0..rows.len() {
-        let (made, _) = rows[place];
+fn expire(all: &mut Vec<Made>, clock: u64) {
+    for place in 0..all.len() {
+        let made = all[place].transfer;
         let expires_at = made.timestamp.saturating_add(u64::from(made.timeout).saturating_mul(
             NANOSECONDS_PER_SECOND,
         ));
-        let is_open = plain_status(rows, &rows[place]) == Some(Status::Pending);
+        let is_open = plain_status(all, &all[place]) == Some(Status::Pending);
         if is_open && made.timeout != 0 && expires_at <= clock {
-            rows[place] = (made, true);
+            all[place].has_expired = true;
         }
     }
 }
@@ -200,7 +207,7 @@ fn packet(rt: &HostRuntime, first: u64, events: u64, ids: u64) -> Result<Vec<u8>
 }
 
 /// 115 packets of 1 to 6 events, 400 in all, with a pulse after each tenth packet.
-fn run(rt: &HostRuntime, machine: &mut Machine, rows: &mut Vec<Row>, ids: u32) -> Result<(), Fail> {
+fn run(rt: &HostRuntime, machine: &mut Machine, all: &mut Vec<Made>, ids: u32) -> Result<(), Fail> {
     let events = [account(1, 0), account(2, 0), account(3, 0), account(4, 0)];
     let accounts = accounts_body(rt, events.as_slice())?;
     if !commits(rt, machine, CREATE_ACCOUNTS, &accounts) {
@@ -214,12 +221,12 @@ fn run(rt: &HostRuntime, machine: &mut Machine, rows: &mut Vec<Row>, ids: u32) -
         if !commits_any(rt, machine, &body) {
             return Err("a packet wasn't committed")?;
         }
-        note_new(rows, machine, ids)?;
+        note_new(all, machine, ids)?;
         if number % 10 == 9 {
             machine.pulse((number / 10 + 1) * NANOSECONDS_PER_SECOND);
-            expire(rows, machine.clock());
+            expire(all, machine.clock());
         }
-        if !agrees(machine, rows) {
+        if !agrees(machine, all) {
             return Err("the machine isn't as the lists say")?;
         }
     }
@@ -227,9 +234,9 @@ fn run(rt: &HostRuntime, machine: &mut Machine, rows: &mut Vec<Row>, ids: u32) -
 }
 
 /// Whether some transfer has a status.
-fn some_has(rows: &[Row], status: Status) -> bool {
-    for row in rows {
-        if plain_status(rows, row) == Some(status) {
+fn some_has(all: &[Made], status: Status) -> bool {
+    for one in all {
+        if plain_status(all, one) == Some(status) {
             return true;
         }
     }
@@ -239,17 +246,17 @@ fn some_has(rows: &[Row], status: Status) -> bool {
 #[test]
 fn four_hundred_events(rt: HostRuntime) -> Result<(), Fail> {
     let mut machine = Machine::new(rt.alloc(), 0);
-    let mut rows = Vec::new(rt.alloc());
-    run(&rt, &mut machine, &mut rows, 8)
+    let mut all = Vec::new(rt.alloc());
+    run(&rt, &mut machine, &mut all, 8)
 }
 
 #[test]
 fn four_hundred_events_of_as_many_ids(rt: HostRuntime) -> Result<(), Fail> {
     let mut machine = Machine::new(rt.alloc(), 0);
-    let mut rows = Vec::new(rt.alloc());
-    let result = run(&rt, &mut machine, &mut rows, 400);
-    assert!(rt; some_has(&rows, Status::Pending) && some_has(&rows, Status::Posted));
-    assert!(rt; some_has(&rows, Status::Voided) && some_has(&rows, Status::Expired));
+    let mut all = Vec::new(rt.alloc());
+    let result = run(&rt, &mut machine, &mut all, 400);
+    assert!(rt; some_has(&all, Status::Pending) && some_has(&all, Status::Posted));
+    assert!(rt; some_has(&all, Status::Voided) && some_has(&all, Status::Expired));
     result
 }
 
@@ -257,7 +264,7 @@ fn four_hundred_events_of_as_many_ids(rt: HostRuntime) -> Result<(), Fail> {
 fn run_refused(
     rt: &HostRuntime,
     machine: &mut Machine,
-    rows: &mut Vec<Row>,
+    all: &mut Vec<Made>,
 ) -> Result<(), AllocError> {
     let mut first: u64 = 0;
     for number in 0..6_u64 {
@@ -266,7 +273,7 @@ fn run_refused(
         if !commits_any(rt, machine, &body) {
             return Ok(());
         }
-        note_new(rows, machine, 400)?;
+        note_new(all, machine, 400)?;
     }
     Ok(())
 }
@@ -279,11 +286,11 @@ fn plain_lists_refused_memory(rt: HostRuntime) -> Result<(), Fail> {
         return Ok(());
     };
     let mut machine = Machine::new(rt.alloc(), 0);
-    let mut rows = Vec::new(rt.alloc());
+    let mut all = Vec::new(rt.alloc());
     if commits(&rt, &mut machine, CREATE_ACCOUNTS, &accounts)
-        && run_refused(&rt, &mut machine, &mut rows).is_ok()
+        && run_refused(&rt, &mut machine, &mut all).is_ok()
     {
-        assert!(rt; agrees(&machine, &rows));
+        assert!(rt; agrees(&machine, &all));
     }
     Ok(())
 }

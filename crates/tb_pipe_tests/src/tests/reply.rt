@@ -131,13 +131,13 @@ fn reply_to_one<R: Threads + Wait + Sync>(
 
 /// A packet that asks twice for account 1.
 fn same_account_twice(alloc: Global) -> Result<Packet, AllocError> {
-    let mut row = [0u8; 128];
-    row[0] = 1;
-    row[112] = 1;
-    row[116] = 1;
+    let mut event = [0u8; 128];
+    event[0] = 1;
+    event[112] = 1;
+    event[116] = 1;
     let mut bytes = Vec::new(alloc);
-    bytes.extend_from_slice(&row)?;
-    bytes.extend_from_slice(&row)?;
+    bytes.extend_from_slice(&event)?;
+    bytes.extend_from_slice(&event)?;
     Ok(Packet {
         operation: CREATE_ACCOUNTS,
         bytes: Bytes::from_vec(bytes),

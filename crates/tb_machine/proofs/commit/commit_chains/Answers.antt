@@ -1,5 +1,5 @@
 use Rattle.std.proofs.Common.{rules, refl}
-use Rattle.tb_machine.proofs.FirstChain.{left_more_rows}
+use Rattle.tb_machine.proofs.FirstChain.{left_more_chunks}
 use Rattle.tb_machine.proofs.commit.commit_chains.Goals as goal
 
 pub loop-start-preserved : goal.loop-start-preserved
@@ -12,6 +12,6 @@ loop-start-preserved g c =
       len = search rules;
       capacity = search rules;
       left =
-          left_more_rows g.E.Event.operation g.E.Event.event_of _ _ _ _ _ _ _ _ _ _ _ _ refl c.clock_after-clock.ensures.value c.loop-start-test.true c.first_chain_length-count.ensures.value
+          left_more_chunks g.E.Event.operation g.E.Event.event_of _ _ _ _ _ _ _ _ _ _ _ _ refl c.clock_after-clock.ensures.value c.loop-start-test.true c.first_chain_length-count.ensures.value
           c.in_ok-commit_chain.ensures.facts c.in_ok-commit_chain.ensures.failures c.loop-start.invariant.left;
     }

@@ -7,13 +7,13 @@ use Rattle.tb_machine.proofs.commit.commit_chains.Given as goal
 
 abbrev pub invariant-loop-start : goal.invariant-loop-start
 invariant-loop-start g l = record {
-  within : l.start ≤ length l.rows;
+  within : l.start ≤ length l.chunks;
   clock : l.clock ≤ clock_max;
   extends : Extends l.fn.tables l.tables;
   len : vec_len l.out ≤ l.start;
   capacity : vec_capacity l.out ≡ vec_capacity l.fn.out;
-  left : IsLeft g.E.Event.operation l.fn.clock l.fn.tables.now (map g.E.Event.event_of l.rows) l.clock l.tables.now l.start (map g.E.Event.event_of (drop l.start l.rows)) l.out.items;
+  left : IsLeft g.E.Event.operation l.fn.clock l.fn.tables.now (map g.E.Event.event_of l.chunks) l.clock l.tables.now l.start (map g.E.Event.event_of (drop l.start l.chunks)) l.out.items;
 }
 
 abbrev pub decreases-loop-start : goal.decreases-loop-start
-decreases-loop-start g l = length l.rows - l.start
+decreases-loop-start g l = length l.chunks - l.start

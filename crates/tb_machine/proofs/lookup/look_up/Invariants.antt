@@ -4,9 +4,9 @@ use Rattle.tb_layout.specs.Bytes.{little_endian}
 use Rattle.tb_machine.specs.Replay.{accounts_found}
 use Rattle.tb_machine.proofs.lookup.look_up.Given as goal
 
-abbrev pub invariant-loop-row : goal.invariant-loop-row
-invariant-loop-row l = record {
-  found : l.out.items ++ accounts_found l.tables.now (map little_endian (drop l.row-index l.rows)) ≡ accounts_found l.tables.now (map little_endian l.rows);
-  len : vec_len l.out ≤ l.row-index;
+abbrev pub invariant-loop-chunk : goal.invariant-loop-chunk
+invariant-loop-chunk l = record {
+  found : l.out.items ++ accounts_found l.tables.now (map little_endian (drop l.chunk-index l.chunks)) ≡ accounts_found l.tables.now (map little_endian l.chunks);
+  len : vec_len l.out ≤ l.chunk-index;
   capacity : vec_capacity l.out ≡ vec_capacity l.fn.out;
 }

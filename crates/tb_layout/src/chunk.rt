@@ -1,0 +1,12 @@
+//! What is read off an event without decoding it.
+
+ghost use Rattle.std.specs.Prelude.{◌≡◌};
+ghost use Rattle.tb_layout.specs.Events.{is_chunk_linked as is_linked};
+
+/// Whether the event of a chunk, an account or a transfer, is linked. Both have their flags in the same bytes,
+/// of which the first is read and nothing else: no event is decoded.
+pub fn is_chunk_linked(chunk: &[u8; 128]) -> bool
+    ensures { result ≡ is_linked chunk.now }
+{
+    chunk[118] & 1 != 0
+}
