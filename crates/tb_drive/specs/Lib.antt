@@ -1,3 +1,4 @@
+pub mod Ahead
 pub mod Lines
 pub mod Reported
 pub mod Threads

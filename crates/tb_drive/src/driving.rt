@@ -1,7 +1,10 @@
 //! A run of a pipeline, with a thread for each of its senders.
 
-ghost use Rattle.std.specs.Prelude.{◌≡◌, ◌<◌, ◌∷◌, ◌++◌, [], map, length, IfOk, IfSome, OnOk};
-ghost use Rattle.tb_submit.specs.Ends.{Origin, control_seat, end_origin, origin_of};
+ghost use Rattle.std.specs.Prelude.{◌≡◌, ◌⊎◌, ◌<◌, ◌≤◌, ◌∷◌, ◌++◌, ◌^◌, [], map, length, set, slice_get, Some, None, Err, IfOk, IfErr, IfSome, OnOk};
+ghost use Rattle.tb_submit.specs.Ends.{Origin, SubmitterState, control_seat, end_origin, origin_of};
+ghost use Rattle.tb_submit.specs.Refusals.{IsRefusal, submit_refusal};
+ghost use Rattle.tb_work.specs.declared.refusal.Refusal.TheVariants as refusal;
+ghost use Rattle.tb_drive.specs.Ahead.{with_packet};
 ghost use Rattle.tb_drive.specs.Lines.{lines_of};
 ghost use Rattle.tb_drive.specs.Reported.{AreTogether, HasReported};
 ghost use Rattle.tb_drive.specs.Threads.{IsControlEnd, IsEnd, IsEndPromised, IsPromiseOf, items_promised, items_to_queue, seated_origin, started_origin};
@@ -335,7 +338,8 @@ fn run_in_scope<D: Driver + Send, R: Threads + Wait + Sync>(
 }
 
 /// Queues a packet of the submitter at an index, before any thread is started: what is queued so is ahead of all that
-/// drivers queue. A refused packet comes back.
+/// drivers queue. It is `Submitter::submit` of that submitter, and no other end is touched; behind 2^56 packets the queue is
+/// full. A refused packet comes back, and nothing is changed.
 pub fn submit_ahead<R: Wait>(
     rt: &R,
     alloc: Global,
@@ -344,6 +348,15 @@ pub fn submit_ahead<R: Wait>(
     packet: Packet,
 ) -> Result<u64, (Packet, Refusal)>
     requires { submitter < length opened.old.submitters.items }
+    ensures ok { (before : SubmitterState) → slice_get opened.old.submitters.items submitter ≡ Some before
+        → IfOk result (λ number. (number ≡ length before.queued) × (opened.new.submitters.items ≡ set opened.old.submitters.items submitter (with_packet before number packet))) }
+    ensures admitted { (before : SubmitterState) → slice_get opened.old.submitters.items submitter ≡ Some before
+        → OnOk result (submit_refusal before packet ≡ None) }
+    ensures back { IfErr result (λ refused. (refused.0 ≡ packet) × (opened.new.submitters.items ≡ opened.old.submitters.items)) }
+    ensures refusal { (before : SubmitterState) → slice_get opened.old.submitters.items submitter ≡ Some before
+        → length before.queued < 2 ^ 56 → IfErr result (λ refused. IsRefusal (submit_refusal before packet) (λ other. (other ≡ refusal.NoMemory) ⊎ (other ≡ refusal.Full)) refused.1) }
+    ensures full { (before : SubmitterState) → slice_get opened.old.submitters.items submitter ≡ Some before
+        → 2 ^ 56 ≤ length before.queued → result ≡ Err (packet, refusal.Full) }
     ensures pipeline { opened.new.pipeline ≡ opened.old.pipeline }
     ensures control { opened.new.control ≡ opened.old.control }
     ensures own { map origin_of opened.new.submitters.items ≡ map origin_of opened.old.submitters.items }

@@ -1,7 +1,10 @@
 //! A submitter's thread.
 
-ghost use Rattle.std.specs.Prelude.{◌≡◌};
+ghost use Rattle.std.specs.Prelude.{◌≡◌, ◌⊎◌, ◌<◌, ◌≤◌, ◌^◌, length, None, Err, OnOk, IfOk, IfErr};
 ghost use Rattle.tb_submit.specs.Ends.{origin_of};
+ghost use Rattle.tb_submit.specs.Refusals.{IsRefusal, submit_refusal};
+ghost use Rattle.tb_work.specs.declared.refusal.Refusal.TheVariants as refusal;
+ghost use Rattle.tb_drive.specs.Ahead.{with_packet};
 ghost use Rattle.tb_drive.specs.Threads.{IsEnd};
 
 use crate::driver::{Action, Driver};
@@ -43,14 +46,20 @@ impl<D> Promise<Driven<D>> for EndOfSubmitter {
     ghost kept_by = { λ p r. IsEnd p.submitter.value r.ended };
 }
 
-/// Submits a packet once; where it is refused it comes back.
+/// Submits a packet once, as `Submitter::submit` does; where it is refused it comes back. Behind 2^56 packets the queue is
+/// full, whatever else there is to refuse.
 pub(crate) fn submit_once<R: Wait>(
     rt: &R,
     alloc: Global,
     submitter: &mut Submitter,
     packet: Packet,
 ) -> Result<u64, (Packet, Refusal)>
-    ensures { origin_of submitter.new ≡ origin_of submitter.old }
+    ensures own { origin_of submitter.new ≡ origin_of submitter.old }
+    ensures ok { IfOk result (λ number. (number ≡ length submitter.old.queued) × (submitter.new ≡ with_packet submitter.old number packet)) }
+    ensures admitted { OnOk result (submit_refusal submitter.old packet ≡ None) }
+    ensures back { IfErr result (λ refused. (refused.0 ≡ packet) × (submitter.new ≡ submitter.old)) }
+    ensures refusal { length submitter.old.queued < 2 ^ 56 → IfErr result (λ refused. IsRefusal (submit_refusal submitter.old packet) (λ other. (other ≡ refusal.NoMemory) ⊎ (other ≡ refusal.Full)) refused.1) }
+    ensures full { 2 ^ 56 ≤ length submitter.old.queued → result ≡ Err (packet, refusal.Full) }
 {
     if submitter.queued() >= MOST_QUEUED {
         return Err((packet, Refusal::Full));
