@@ -1,1 +1,2 @@
 mod Control
+mod Seen

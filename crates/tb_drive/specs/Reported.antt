@@ -1,12 +1,15 @@
 -- A pipeline that was driven until all of its senders had ended.
-use Rattle.std.specs.Prelude.{◌≡◌, ℕ, List, map, length}
+use Rattle.std.specs.Prelude.{◌≡◌, ℕ, List, Some, map, length, slice_get}
 use Rattle.tb_core.specs.Grouping.{IsGrouping}
 use Rattle.tb_core.specs.Ledger.{LedgerState, works}
 use Rattle.tb_core.specs.Report.{LawfulReport}
 use Rattle.tb_machine.specs.Replay.{replay}
 use Rattle.tb_submit.specs.Ends.{EndedState, SubmitterState, SenderState, origin_of, control_seat, replies_of}
+use Rattle.tb_work.specs.Job.{Numbered}
+use Rattle.tb_work.specs.Reply.{Replied}
 use Rattle.tb_work.specs.declared.item.Item.{Item}
 use Rattle.tb_work.specs.declared.item.Ticket.{Ticket}
+use Rattle.tb_drive.specs.Seen.{jobs_in}
 use Rattle.tb_pipe.specs.Pulses.{IsPrefixOf, moments_committed, moments_queued}
 use Rattle.tb_pipe.specs.Run.{PipelineState}
 
@@ -15,9 +18,10 @@ abbrev pub AreTogether : PipelineState → List SubmitterState → SenderState �
 AreTogether pipeline submitters control =
     (map origin_of submitters ≡ pipeline.submitters) × (control.seat ≡ control_seat pipeline.intake) × (length pipeline.submitters ≡ pipeline.intake.submitters)
 
--- of a pipeline with this clock and this limit, whose control queued these items, the report is lawful of some queue that
--- its senders filled
-pub record HasReported (clock limit submitters : ℕ) (controlled : List Item) (ledger : LedgerState) (ends : List EndedState) : Type 0 where
+-- Of a pipeline with this clock and this limit, whose control queued these items, the report is lawful of some queue that
+-- its senders filled, and each driver has seen what its submitter queued and read.
+pub record HasReported {D : Type 0} (has_seen : D → List Numbered → List Replied → Type 0) (clock limit submitters : ℕ) (controlled : List Item)
+    (drivers : List D) (ledger : LedgerState) (ends : List EndedState) : Type 0 where
   pub queue : List Ticket
   pub queued : ℕ → List Item
   pub control : queued submitters ≡ controlled
@@ -25,3 +29,5 @@ pub record HasReported (clock limit submitters : ℕ) (controlled : List Item) (
   pub grouping : IsGrouping limit ledger.groups
   pub pulses : IsPrefixOf (moments_committed (works ledger)) (moments_queued controlled)
   pub number : length ends ≡ submitters
+  pub driven : length drivers ≡ submitters
+  pub seen : (k : ℕ) (driver : D) (ended : EndedState) → slice_get drivers k ≡ Some driver → slice_get ends k ≡ Some ended → has_seen driver (jobs_in (queued k)) ended.read

@@ -6,22 +6,15 @@ use Rattle.tb_work.specs.declared.item.Item.{Item}
 use Rattle.tb_drive.specs.Lines.{lines_of, with_items}
 use Rattle.tb_drive.specs.declared.controlling.ControlDriver.{ControlDriver}
 use Rattle.tb_drive.specs.declared.controlling.EndOfControl.{EndOfControl}
-use Rattle.tb_drive.specs.declared.submitting.Seated.{Seated}
-use Rattle.tb_drive.specs.declared.submitting.Driven.{Driven}
 use Rattle.tb_drive.specs.declared.submitting.EndOfSubmitter.{EndOfSubmitter}
 
 -- a submitter's end, if there is one, has its origin
 abbrev pub IsEnd : SubmitterState → Option EndedState → Type 0
 IsEnd submitter ended = IfSome ended (λ end. end_origin end ≡ origin_of submitter)
 
-module _ {D : Type 0} where
-  -- where a driver's submitter comes from
-  abbrev pub seated_origin : Seated D → Origin
-  seated_origin seated = origin_of seated.submitter
-
-  -- and that of the driver which a thread runs
-  abbrev pub started_origin : PromisedHandle (Driven D) EndOfSubmitter → Origin
-  started_origin handle = origin_of handle.promise.submitter.value
+-- where the submitter comes from which a thread drives
+abbrev pub started_origin : PromisedHandle (Option EndedState) EndOfSubmitter → Origin
+started_origin handle = origin_of handle.promise.submitter.value
 
 -- ---- the control
 

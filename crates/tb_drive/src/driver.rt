@@ -1,5 +1,11 @@
 //! What an application says of a submitter.
 
+ghost use Rattle.std.specs.Prelude.{◌≡◌, List, [], ◌∷◌, ◌++◌, Ok, IsErr, ⊤};
+ghost use Rattle.tb_work.specs.Job.{Numbered};
+ghost use Rattle.tb_work.specs.Reply.{Replied};
+ghost use Rattle.tb_work.specs.declared.packet.Packet as packets;
+ghost use Rattle.tb_drive.specs.Actions.{GoesOn};
+
 use std::alloc::Global;
 use tb_work::{Packet, Refusal, Reply};
 
@@ -16,15 +22,28 @@ pub enum Action {
 
 /// Says what a submitter does, and takes what comes of it. A thread of the submitter's own calls it, one call after
 /// another. It needn't end anything itself, nor wait.
+///
+/// What is to be known of a driver after a run is its implementor's to say, as two relations, and holds of anything unless they
+/// are given. `has_seen` is so of a driver behind the packets that it was told are queued and the replies that it was given,
+/// both in their order; `has_asked` besides of one that asked for a packet to be queued and wasn't told yet what became of it.
 pub trait Driver: Drop {
+    ghost has_seen: { Self → List Numbered → List Replied → Type 0 } = { λ _ _ _. ⊤ };
+
+    ghost has_asked: { Self → packets.Packet → List Numbered → List Replied → Type 0 } = { λ _ _ _ _. ⊤ };
+
     /// What the submitter does next.
-    fn next(&mut self, alloc: Global) -> Action;
+    fn next(&mut self, alloc: Global) -> Action
+        ensures { (queued : List Numbered) (read : List Replied) → has_seen self.old queued read → GoesOn result (λ packet. has_asked self.new packet queued read) (has_seen self.new queued read) };
 
     /// Takes what became of the packet that was to be submitted last: the number under which it is queued, or why it is
     /// refused. `InFlight` and `Full` aren't told: such a packet is tried again. None is told of a packet that is still
     /// tried when the run is given up.
-    fn submitted(&mut self, told: Result<u64, Refusal>);
+    fn submitted(&mut self, told: Result<u64, Refusal>)
+        ensures queued { (job : Numbered) (queued : List Numbered) (read : List Replied) → has_asked self.old job.packet queued read → told ≡ Ok job.number → has_seen self.new (queued ++ job ∷ []) read }
+        ensures refused { (packet : packets.Packet) (queued : List Numbered) (read : List Replied) → has_asked self.old packet queued read → IsErr told → has_seen self.new queued read };
 
     /// Takes the next reply.
-    fn receive(&mut self, reply: Reply);
+    fn receive(&mut self, reply: Reply)
+        ensures seen { (queued : List Numbered) (read : List Replied) → has_seen self.old queued read → has_seen self.new queued (read ++ reply ∷ []) }
+        ensures asked { (packet : packets.Packet) (queued : List Numbered) (read : List Replied) → has_asked self.old packet queued read → has_asked self.new packet queued (read ++ reply ∷ []) };
 }

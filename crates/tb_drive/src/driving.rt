@@ -6,13 +6,15 @@ ghost use Rattle.tb_submit.specs.Refusals.{IsRefusal, submit_refusal};
 ghost use Rattle.tb_work.specs.declared.refusal.Refusal.TheVariants as refusal;
 ghost use Rattle.tb_drive.specs.Ahead.{with_packet};
 ghost use Rattle.tb_drive.specs.Lines.{lines_of};
+ghost use Rattle.tb_drive.specs.Seen.{HaveSeen};
 ghost use Rattle.tb_drive.specs.Reported.{AreTogether, HasReported};
-ghost use Rattle.tb_drive.specs.Threads.{IsControlEnd, IsEnd, IsEndPromised, IsPromiseOf, items_promised, items_to_queue, seated_origin, started_origin};
+ghost use Rattle.tb_drive.specs.Threads.{IsControlEnd, IsEnd, IsEndPromised, IsPromiseOf, items_promised, items_to_queue, started_origin};
 
 use crate::controlling::{ControlDriven, ControlDriver, ControlLines, EndOfControl};
 use crate::driver::Driver;
 use crate::submitting::{Driven, EndOfSubmitter, Seated, submit_once};
 use std::alloc::{AllocError, AllocFailed, Global};
+use std::marker::Model;
 use std::snapshot::Snapshot;
 use std::sync::Wait;
 use std::sync::atomic::{AtomicBool, Ordering};
@@ -53,9 +55,21 @@ impl From<AllocError> for DriveFault {
 
 /// What the drivers' threads left, in the order of their submitters.
 #[derive(Drop)]
-struct Left<D> {
+struct Left<D: Driver> {
     ends: Vec<Ended>,
     drivers: Vec<D>,
+}
+
+impl<D: Driver> Model for Left<D> {
+    ghost use Rattle.std.specs.Prelude.{◌≡◌, List, length};
+    ghost use Rattle.tb_submit.specs.Ends.{EndedState};
+    ghost use Rattle.tb_drive.specs.Seen.{HaveSeenEnds};
+
+    ghost Value = { List EndedState };
+
+    ghost view = { λ left. left.ends.items };
+
+    ghost invariant = { λ left. (length left.drivers.items ≡ length left.ends.items) × HaveSeenEnds D.has_seen left.drivers.items left.ends.items };
 }
 
 type Started<D> = PromisedHandle<Driven<D>, EndOfSubmitter>;
@@ -65,7 +79,7 @@ type StartedControl = PromisedHandle<ControlDriven, EndOfControl>;
 impl<D: Driver> Left<D> {
     /// Nothing yet, with room for what so many threads leave.
     fn new(alloc: Global, threads: usize) -> Result<Left<D>, DriveFault>
-        ensures { IfOk result (λ left. left.ends.items ≡ []) }
+        ensures { IfOk result (λ left. left ≡ []) }
     {
         Ok(Left {
             ends: Vec::with_capacity(alloc, threads)?,
@@ -73,18 +87,22 @@ impl<D: Driver> Left<D> {
         })
     }
 
-    /// What the next thread left.
-    fn add(&mut self, driven: Driven<D>) -> Result<(), DriveFault>
-        ensures { (origin : Origin) → IfSome driven.ended (λ end. end_origin end ≡ origin)
-            → OnOk result (map end_origin self.new.ends.items ≡ map end_origin self.old.ends.items ++ origin ∷ []) }
+    /// This, and what the next thread left.
+    fn with(self, driven: Driven<D>) -> Result<Left<D>, DriveFault>
+        ensures { (origin : Origin) → IfSome driven (λ end. end_origin end ≡ origin)
+            → IfOk result (λ left. map end_origin left ≡ map end_origin self ++ origin ∷ []) }
     {
+        let Left {
+            mut ends,
+            mut drivers,
+        } = self;
         let Driven { ended, driver } = driven;
         let Some(ended) = ended else {
             return Err(DriveFault::NoThread);
         };
-        self.ends.push(ended)?;
-        self.drivers.push(driver)?;
-        Ok(())
+        ends.push(ended)?;
+        drivers.push(driver)?;
+        Ok(Left { ends, drivers })
     }
 }
 
@@ -94,8 +112,9 @@ fn seat_all<D: Driver>(
     submitters: Vec<Submitter>,
     drivers: Vec<D>,
 ) -> Result<Vec<Seated<D>>, DriveFault>
-    requires { length drivers.items ≡ length submitters.items }
-    ensures { IfOk result (λ all. map seated_origin all.items ≡ map origin_of submitters.items) }
+    requires number { length drivers.items ≡ length submitters.items }
+    requires seen { HaveSeen D.has_seen drivers.items submitters.items }
+    ensures { IfOk result (λ all. map origin_of all.items ≡ map origin_of submitters.items) }
 {
     let mut drivers = drivers.into_iter();
     let mut all = Vec::with_capacity(alloc, submitters.len())?;
@@ -116,7 +135,7 @@ fn start_one<'s, E, D: Driver + Send + 's, R: Wait + Sync>(
     stop: &'s AtomicBool,
     seated: Seated<D>,
 ) -> Result<Started<D>, DriveFault>
-    ensures { IfOk result (λ handle. started_origin handle ≡ seated_origin seated) }
+    ensures { IfOk result (λ handle. started_origin handle ≡ origin_of seated) }
 {
     let promise = EndOfSubmitter {
         submitter: Snapshot::of(&seated.submitter),
@@ -124,7 +143,7 @@ fn start_one<'s, E, D: Driver + Send + 's, R: Wait + Sync>(
     let started = scope.spawn_with(
         promise,
         move || -> Driven<D>
-            ensures { IsEnd seated.submitter result.ended }
+            ensures { IsEnd seated result }
         { seated.drive(rt, alloc, stop) },
     );
     match started {
@@ -141,7 +160,7 @@ fn start_all<'s, E, D: Driver + Send + 's, R: Wait + Sync>(
     stop: &'s AtomicBool,
     all: Vec<Seated<D>>,
 ) -> Result<Vec<Started<D>>, DriveFault>
-    ensures { IfOk result (λ handles. map started_origin handles.items ≡ map seated_origin all.items) }
+    ensures { IfOk result (λ handles. map started_origin handles.items ≡ map origin_of all.items) }
 {
     let mut handles = Vec::with_capacity(alloc, all.len())?;
     for seated in all {
@@ -173,7 +192,7 @@ fn start_control<'s, E, R: Wait + Sync>(
 
 /// The threads of all senders, with room for what those of the submitters leave.
 #[derive(Drop)]
-struct Running<D> {
+struct Running<D: Driver> {
     submitters: Vec<Started<D>>,
     control: StartedControl,
     room: Left<D>,
@@ -188,9 +207,9 @@ fn start<'s, E, D: Driver + Send + 's, R: Wait + Sync>(
     all: Vec<Seated<D>>,
     control_driver: ControlDriver,
 ) -> Result<Running<D>, DriveFault>
-    ensures own { IfOk result (λ running. map started_origin running.submitters.items ≡ map seated_origin all.items) }
+    ensures own { IfOk result (λ running. map started_origin running.submitters.items ≡ map origin_of all.items) }
     ensures control { IfOk result (λ running. IsPromiseOf control_driver running.control.promise) }
-    ensures room { IfOk result (λ running. running.room.ends.items ≡ []) }
+    ensures room { IfOk result (λ running. running.room ≡ []) }
 {
     let room = Left::new(alloc, all.len())?;
     let submitters = start_all(scope, rt, alloc, stop, all)?;
@@ -208,12 +227,12 @@ fn join_all<D: Driver, R: Threads>(
     handles: Vec<Started<D>>,
     room: Left<D>,
 ) -> Result<Left<D>, DriveFault>
-    requires { room.ends.items ≡ [] }
-    ensures { IfOk result (λ left. map end_origin left.ends.items ≡ map started_origin handles.items) }
+    requires { room ≡ [] }
+    ensures { IfOk result (λ left. map end_origin left ≡ map started_origin handles.items) }
 {
     let mut left = room;
     for handle in handles {
-        left.add(handle.join(rt))?;
+        left = left.with(handle.join(rt))?;
     }
     Ok(left)
 }
@@ -230,13 +249,23 @@ fn join_control<R: Threads>(rt: &R, handle: StartedControl) -> Result<(ControlEn
 }
 
 /// Settles with the ends of all senders.
-fn settle_ends(served: Served, ends: Vec<Ended>, end: ControlEnd) -> Report
-    requires own { map end_origin ends.items ≡ served.submitters }
+fn settle_left<D: Driver>(
+    served: Served,
+    left: Left<D>,
+    end: ControlEnd,
+    refused_pulses: u64,
+) -> Finished<D>
+    requires own { map end_origin left ≡ served.submitters }
     requires control { end.seat ≡ control_seat served.intake }
     requires number { length served.submitters ≡ served.intake.submitters }
-    ensures { HasReported served.clock served.intake.limit served.intake.submitters end.queued result.ledger result.ends.items }
+    ensures { HasReported D.has_seen served.clock served.intake.limit served.intake.submitters end.queued result.drivers.items result.report.ledger result.report.ends.items }
 {
-    settle(served, ends, end)
+    let Left { ends, drivers } = left;
+    Finished {
+        report: settle(served, ends, end),
+        drivers,
+        refused_pulses,
+    }
 }
 
 /// Joins all threads, and settles with the ends that they leave.
@@ -248,21 +277,17 @@ fn finish<D: Driver, R: Threads>(
     requires own { map started_origin running.submitters.items ≡ served.submitters }
     requires control { running.control.promise.control.value.seat ≡ control_seat served.intake }
     requires number { length served.submitters ≡ served.intake.submitters }
-    requires room { running.room.ends.items ≡ [] }
-    ensures { IfOk result (λ finished. HasReported served.clock served.intake.limit served.intake.submitters (items_promised running.control.promise) finished.report.ledger finished.report.ends.items) }
+    requires room { running.room ≡ [] }
+    ensures { IfOk result (λ finished. HasReported D.has_seen served.clock served.intake.limit served.intake.submitters (items_promised running.control.promise) finished.drivers.items finished.report.ledger finished.report.ends.items) }
 {
     let Running {
         submitters,
         control,
         room,
     } = running;
-    let Left { ends, drivers } = join_all(rt, submitters, room)?;
+    let left = join_all(rt, submitters, room)?;
     let (end, refused_pulses) = join_control(rt, control)?;
-    Ok(Finished {
-        report: settle_ends(served, ends, end),
-        drivers,
-        refused_pulses,
-    })
+    Ok(settle_left(served, left, end, refused_pulses))
 }
 
 /// Serves while the threads run, joins them and settles.
@@ -274,8 +299,8 @@ fn serve<D: Driver, R: Threads + Wait + Sync>(
     requires own { map started_origin running.submitters.items ≡ pipeline.submitters }
     requires control { running.control.promise.control.value.seat ≡ control_seat pipeline.intake }
     requires number { length pipeline.submitters ≡ pipeline.intake.submitters }
-    requires room { running.room.ends.items ≡ [] }
-    ensures { IfOk result (λ finished. HasReported pipeline.clock pipeline.intake.limit pipeline.intake.submitters (items_promised running.control.promise) finished.report.ledger finished.report.ends.items) }
+    requires room { running.room ≡ [] }
+    ensures { IfOk result (λ finished. HasReported D.has_seen pipeline.clock pipeline.intake.limit pipeline.intake.submitters (items_promised running.control.promise) finished.drivers.items finished.report.ledger finished.report.ends.items) }
 {
     match pipeline.serve(rt, &Open) {
         Ok(served) => finish(rt, served, running),
@@ -293,10 +318,10 @@ fn run_all<'s, E, D: Driver + Send + 's, R: Threads + Wait + Sync>(
     all: Vec<Seated<D>>,
     control_driver: ControlDriver,
 ) -> Result<Finished<D>, DriveFault>
-    requires own { map seated_origin all.items ≡ pipeline.submitters }
+    requires own { map origin_of all.items ≡ pipeline.submitters }
     requires control { control_driver.control.seat ≡ control_seat pipeline.intake }
     requires number { length pipeline.submitters ≡ pipeline.intake.submitters }
-    ensures { IfOk result (λ finished. HasReported pipeline.clock pipeline.intake.limit pipeline.intake.submitters (items_to_queue control_driver) finished.report.ledger finished.report.ends.items) }
+    ensures { IfOk result (λ finished. HasReported D.has_seen pipeline.clock pipeline.intake.limit pipeline.intake.submitters (items_to_queue control_driver) finished.drivers.items finished.report.ledger finished.report.ends.items) }
 {
     match start(scope, rt, alloc, stop, all, control_driver) {
         Ok(running) => serve(rt, pipeline, running),
@@ -312,10 +337,10 @@ fn run_in_scope<D: Driver + Send, R: Threads + Wait + Sync>(
     all: Vec<Seated<D>>,
     control_driver: ControlDriver,
 ) -> Result<Finished<D>, DriveFault>
-    requires own { map seated_origin all.items ≡ pipeline.submitters }
+    requires own { map origin_of all.items ≡ pipeline.submitters }
     requires control { control_driver.control.seat ≡ control_seat pipeline.intake }
     requires number { length pipeline.submitters ≡ pipeline.intake.submitters }
-    ensures { IfOk result (λ finished. HasReported pipeline.clock pipeline.intake.limit pipeline.intake.submitters (items_to_queue control_driver) finished.report.ledger finished.report.ends.items) }
+    ensures { IfOk result (λ finished. HasReported D.has_seen pipeline.clock pipeline.intake.limit pipeline.intake.submitters (items_to_queue control_driver) finished.drivers.items finished.report.ledger finished.report.ends.items) }
 {
     let flag = AtomicBool::new(false);
     let stop = &flag;
@@ -323,10 +348,10 @@ fn run_in_scope<D: Driver + Send, R: Threads + Wait + Sync>(
         thread::scope_env(),
         rt,
         |scope| -> Result<Finished<D>, DriveFault>
-            requires own { map seated_origin all.items ≡ pipeline.submitters }
+            requires own { map origin_of all.items ≡ pipeline.submitters }
             requires control { control_driver.control.seat ≡ control_seat pipeline.intake }
             requires number { length pipeline.submitters ≡ pipeline.intake.submitters }
-            ensures { IfOk result (λ finished. HasReported pipeline.clock pipeline.intake.limit pipeline.intake.submitters (items_to_queue control_driver) finished.report.ledger finished.report.ends.items) }
+            ensures { IfOk result (λ finished. HasReported D.has_seen pipeline.clock pipeline.intake.limit pipeline.intake.submitters (items_to_queue control_driver) finished.drivers.items finished.report.ledger finished.report.ends.items) }
         {
             let finished = run_all(scope, rt, alloc, stop, pipeline, all, control_driver);
             if finished.is_err() {
@@ -379,7 +404,8 @@ pub fn drive_all<D: Driver + Send, R: Threads + Wait + Sync>(
 ) -> Result<Finished<D>, DriveFault>
     requires together { AreTogether opened.pipeline opened.submitters.items opened.control }
     requires number { length drivers.items ≡ length opened.pipeline.submitters }
-    ensures { IfOk result (λ finished. HasReported opened.pipeline.clock opened.pipeline.intake.limit opened.pipeline.intake.submitters (opened.control.queued ++ lines_of lines.moments.items lines.shuts) finished.report.ledger finished.report.ends.items) }
+    requires seen { HaveSeen D.has_seen drivers.items opened.submitters.items }
+    ensures { IfOk result (λ finished. HasReported D.has_seen opened.pipeline.clock opened.pipeline.intake.limit opened.pipeline.intake.submitters (opened.control.queued ++ lines_of lines.moments.items lines.shuts) finished.drivers.items finished.report.ledger finished.report.ends.items) }
 {
     let Opened {
         pipeline,

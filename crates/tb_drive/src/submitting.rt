@@ -1,15 +1,19 @@
 //! A submitter's thread.
 
-ghost use Rattle.std.specs.Prelude.{◌≡◌, ◌⊎◌, ◌<◌, ◌≤◌, ◌^◌, length, None, Err, OnOk, IfOk, IfErr};
+ghost use Rattle.std.specs.Prelude.{◌≡◌, ◌⊎◌, [], ◌∷◌, ◌++◌, ◌<◌, ◌≤◌, ◌^◌, length, None, Err, OnOk, IfOk, IfErr, IfSome};
 ghost use Rattle.tb_submit.specs.Ends.{origin_of};
 ghost use Rattle.tb_submit.specs.Refusals.{IsRefusal, submit_refusal};
+ghost use Rattle.tb_work.specs.Job.{numbered_packet};
+ghost use Rattle.tb_work.specs.declared.packet.Packet as packets;
 ghost use Rattle.tb_work.specs.declared.refusal.Refusal.TheVariants as refusal;
 ghost use Rattle.tb_drive.specs.Ahead.{with_packet};
+ghost use Rattle.tb_drive.specs.Seen.{HasSeen, HasSeenEnd, HasAsked, jobs_in};
 ghost use Rattle.tb_drive.specs.Threads.{IsEnd};
 
 use crate::driver::{Action, Driver};
 use crossbeam_utils::Backoff;
 use std::alloc::Global;
+use std::marker::Model;
 use std::snapshot::Snapshot;
 use std::sync::Wait;
 use std::sync::atomic::{AtomicBool, Ordering};
@@ -17,21 +21,48 @@ use std::thread::Promise;
 use tb_submit::{Ended, Submitter};
 use tb_work::{Packet, Refusal};
 
+/// The run is given up: another thread couldn't be started.
+struct Stopped;
+
 /// What a submitter may have queued: behind so many packets the queue is full for it.
 const MOST_QUEUED: u64 = 1 << 56;
 
-/// A submitter with its driver.
+/// A submitter with its driver, which has seen what the submitter queued and read.
 #[derive(Drop)]
-pub(crate) struct Seated<D> {
+pub(crate) struct Seated<D: Driver> {
     pub(crate) submitter: Submitter,
     pub(crate) driver: D,
 }
 
-/// What a submitter's thread leaves: the submitter's end, unless it was told to stop first, and the driver.
+impl<D: Driver> Model for Seated<D> {
+    ghost use Rattle.tb_submit.specs.Ends.{SubmitterState};
+    ghost use Rattle.tb_drive.specs.Seen.{HasSeen};
+
+    ghost Value = { SubmitterState };
+
+    ghost view = { λ seated. seated.submitter };
+
+    ghost invariant = { λ seated. HasSeen D.has_seen seated.driver seated.submitter };
+}
+
+/// What a submitter's thread leaves: the submitter's end, unless it was told to stop first, and the driver, which has seen
+/// what the end queued and read.
 #[derive(Drop)]
-pub(crate) struct Driven<D> {
+pub(crate) struct Driven<D: Driver> {
     pub(crate) ended: Option<Ended>,
     pub(crate) driver: D,
+}
+
+impl<D: Driver> Model for Driven<D> {
+    ghost use Rattle.std.specs.Prelude.{Option, IfSome};
+    ghost use Rattle.tb_submit.specs.Ends.{EndedState};
+    ghost use Rattle.tb_drive.specs.Seen.{HasSeenEnd};
+
+    ghost Value = { Option EndedState };
+
+    ghost view = { λ driven. driven.ended };
+
+    ghost invariant = { λ driven. IfSome driven.ended (λ ended. HasSeenEnd D.has_seen driven.driver ended) };
 }
 
 /// The end that comes back is that of the submitter that was handed over.
@@ -40,10 +71,10 @@ pub(crate) struct EndOfSubmitter {
     pub(crate) submitter: Snapshot<Submitter>,
 }
 
-impl<D> Promise<Driven<D>> for EndOfSubmitter {
+impl<D: Driver> Promise<Driven<D>> for EndOfSubmitter {
     ghost use Rattle.tb_drive.specs.Threads.{IsEnd};
 
-    ghost kept_by = { λ p r. IsEnd p.submitter.value r.ended };
+    ghost kept_by = { λ p r. IsEnd p.submitter.value r };
 }
 
 /// Submits a packet once, as `Submitter::submit` does; where it is refused it comes back. Behind 2^56 packets the queue is
@@ -56,6 +87,8 @@ pub(crate) fn submit_once<R: Wait>(
 ) -> Result<u64, (Packet, Refusal)>
     ensures own { origin_of submitter.new ≡ origin_of submitter.old }
     ensures ok { IfOk result (λ number. (number ≡ length submitter.old.queued) × (submitter.new ≡ with_packet submitter.old number packet)) }
+    ensures job { IfOk result (λ number. jobs_in submitter.new.queued ≡ jobs_in submitter.old.queued ++ numbered_packet submitter.old.origin.seat.number number packet ∷ []) }
+    ensures read { submitter.new.read ≡ submitter.old.read }
     ensures admitted { OnOk result (submit_refusal submitter.old packet ≡ None) }
     ensures back { IfErr result (λ refused. (refused.0 ≡ packet) × (submitter.new ≡ submitter.old)) }
     ensures refusal { length submitter.old.queued < 2 ^ 56 → IfErr result (λ refused. IsRefusal (submit_refusal submitter.old packet) (λ other. (other ≡ refusal.NoMemory) ⊎ (other ≡ refusal.Full)) refused.1) }
@@ -69,7 +102,9 @@ pub(crate) fn submit_once<R: Wait>(
 
 /// Hands the next reply to the driver. Answers whether there was one.
 fn read<D: Driver>(submitter: &mut Submitter, driver: &mut D) -> bool
-    ensures { origin_of submitter.new ≡ origin_of submitter.old }
+    ensures own { origin_of submitter.new ≡ origin_of submitter.old }
+    ensures seen { HasSeen D.has_seen driver.old submitter.old → HasSeen D.has_seen driver.new submitter.new }
+    ensures asked { (packet : packets.Packet) → HasAsked D.has_asked driver.old packet submitter.old → HasAsked D.has_asked driver.new packet submitter.new }
 {
     match submitter.reply() {
         Some(reply) => {
@@ -81,7 +116,7 @@ fn read<D: Driver>(submitter: &mut Submitter, driver: &mut D) -> bool
 }
 
 /// Submits a packet, and while the credit is used up or the queue is full reads replies and tries again, unless it is
-/// told to stop.
+/// told to stop. The driver is told what became of the packet.
 fn submit<D: Driver, R: Wait>(
     rt: &R,
     alloc: Global,
@@ -89,19 +124,20 @@ fn submit<D: Driver, R: Wait>(
     driver: &mut D,
     packet: Packet,
     stop: &AtomicBool,
-)
-    ensures { origin_of submitter.new ≡ origin_of submitter.old }
+) -> Result<(), Stopped>
+    ensures own { origin_of submitter.new ≡ origin_of submitter.old }
+    ensures seen { HasAsked D.has_asked driver.old packet submitter.old → OnOk result (HasSeen D.has_seen driver.new submitter.new) }
 {
     let mut packet = packet;
     let backoff = Backoff::new();
     for _ in rt.forever() {
         match submit_once(rt, alloc, submitter, packet) {
-            Ok(number) => return driver.submitted(Ok(number)),
+            Ok(number) => return Ok(driver.submitted(Ok(number))),
             Err((back, Refusal::InFlight | Refusal::Full)) => packet = back,
-            Err((_, refusal)) => return driver.submitted(Err(refusal)),
+            Err((_, refusal)) => return Ok(driver.submitted(Err(refusal))),
         }
         if stop.load(Ordering::SeqCst) {
-            return;
+            return Err(Stopped);
         }
         read(submitter, driver);
         backoff.snooze();
@@ -111,7 +147,8 @@ fn submit<D: Driver, R: Wait>(
 
 /// Waits for the next reply, as long as one is to come and it isn't told to stop.
 fn receive<D: Driver, R: Wait>(rt: &R, submitter: &mut Submitter, driver: &mut D, stop: &AtomicBool)
-    ensures { origin_of submitter.new ≡ origin_of submitter.old }
+    ensures own { origin_of submitter.new ≡ origin_of submitter.old }
+    ensures seen { HasSeen D.has_seen driver.old submitter.old → HasSeen D.has_seen driver.new submitter.new }
 {
     let backoff = Backoff::new();
     for _ in rt.forever() {
@@ -131,17 +168,18 @@ fn follow<D: Driver, R: Wait>(
     submitter: &mut Submitter,
     driver: &mut D,
     stop: &AtomicBool,
-)
-    ensures { origin_of submitter.new ≡ origin_of submitter.old }
+) -> Result<(), Stopped>
+    ensures own { origin_of submitter.new ≡ origin_of submitter.old }
+    ensures seen { HasSeen D.has_seen driver.old submitter.old → OnOk result (HasSeen D.has_seen driver.new submitter.new) }
 {
     for _ in rt.forever() {
         if stop.load(Ordering::SeqCst) {
-            return;
+            return Err(Stopped);
         }
         match driver.next(alloc) {
-            Action::Submit(packet) => submit(rt, alloc, submitter, driver, packet, stop),
+            Action::Submit(packet) => submit(rt, alloc, submitter, driver, packet, stop)?,
             Action::Receive => receive(rt, submitter, driver, stop),
-            Action::End => return,
+            Action::End => return Ok(()),
         }
     }
     unreachable!()
@@ -154,7 +192,8 @@ fn end<D: Driver, R: Wait>(
     driver: &mut D,
     stop: &AtomicBool,
 ) -> Option<Ended>
-    ensures { IsEnd submitter result }
+    ensures own { IsEnd submitter result }
+    ensures seen { HasSeen D.has_seen driver.old submitter → IfSome result (λ ended. HasSeenEnd D.has_seen driver.new ended) }
 {
     let mut submitter = submitter;
     let backoff = Backoff::new();
@@ -175,14 +214,16 @@ fn end<D: Driver, R: Wait>(
 impl<D: Driver> Seated<D> {
     /// Does what the driver says, and then ends the submitter, unless it is told to stop.
     pub(crate) fn drive<R: Wait>(self, rt: &R, alloc: Global, stop: &AtomicBool) -> Driven<D>
-        ensures { IsEnd self.submitter result.ended }
+        ensures { IsEnd self result }
     {
         let Seated {
             mut submitter,
             mut driver,
         } = self;
-        follow(rt, alloc, &mut submitter, &mut driver, stop);
-        let ended = end(rt, submitter, &mut driver, stop);
+        let ended = match follow(rt, alloc, &mut submitter, &mut driver, stop) {
+            Ok(()) => end(rt, submitter, &mut driver, stop),
+            Err(Stopped) => None,
+        };
         Driven { ended, driver }
     }
 }

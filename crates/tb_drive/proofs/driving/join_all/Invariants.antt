@@ -4,4 +4,4 @@ use Rattle.tb_drive.specs.Threads.{started_origin}
 use Rattle.tb_drive.proofs.driving.join_all.Given as goal
 
 abbrev pub invariant-loop-handle : goal.invariant-loop-handle
-invariant-loop-handle g l = map end_origin l.left.ends.items ≡ map started_origin l.yielded
+invariant-loop-handle g l = map end_origin l.left ≡ map started_origin l.yielded

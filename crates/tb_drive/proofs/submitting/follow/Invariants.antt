@@ -1,6 +1,10 @@
 use Rattle.std.proofs.Common.{◌≡◌}
 use Rattle.tb_submit.specs.Ends.{origin_of}
+use Rattle.tb_drive.specs.Seen.{HasSeen}
 use Rattle.tb_drive.proofs.submitting.follow.Given as goal
 
 abbrev pub invariant-loop : goal.invariant-loop
-invariant-loop g l = origin_of l.submitter ≡ origin_of l.initial.submitter
+invariant-loop g l = record {
+  own : origin_of l.submitter ≡ origin_of l.initial.submitter;
+  seen : HasSeen g.D.Driver.has_seen l.initial.driver l.initial.submitter → HasSeen g.D.Driver.has_seen l.driver l.submitter;
+}

@@ -1,6 +1,11 @@
 use Rattle.std.proofs.Common.{◌≡◌}
 use Rattle.tb_submit.specs.Ends.{origin_of}
+use Rattle.tb_drive.specs.Seen.{HasAsked}
 use Rattle.tb_drive.proofs.submitting.submit.Given as goal
 
 abbrev pub invariant-loop : goal.invariant-loop
-invariant-loop g l = origin_of l.submitter ≡ origin_of l.initial.submitter
+invariant-loop g l = record {
+  own : origin_of l.submitter ≡ origin_of l.initial.submitter;
+  same : l.packet ≡ l.fn.packet;
+  asked : HasAsked g.D.Driver.has_asked l.initial.driver l.fn.packet l.initial.submitter → HasAsked g.D.Driver.has_asked l.driver l.fn.packet l.submitter;
+}

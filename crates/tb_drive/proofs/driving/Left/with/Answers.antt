@@ -1,0 +1,15 @@
+use Rattle.std.proofs.Common.{rules, ◌≡◌, ◌∷◌, ◌++◌, [], arith}
+use Rattle.std.proofs.lemmas.List.{length-append}
+use Rattle.tb_drive.specs.Seen.{HasSeenEnd}
+use Rattle.tb_drive.proofs.Seen.{one_more}
+use Rattle.tb_drive.proofs.driving.Left.with.Goals as goal
+
+pub invariant_of-result : goal.invariant_of-result
+invariant_of-result g c =
+    let ends : c.push.new.self.items ≡ c.self.inside.ends.items ++ c.in-Some.ended ∷ [] = search rules in
+    let drivers : c.push-2.new.self.items ≡ c.self.inside.drivers.items ++ c.driven.inside.driver ∷ [] = search rules in
+    let seen : HasSeenEnd g.D.Driver.has_seen c.driven.inside.driver c.in-Some.ended = search rules in
+    rw (drivers, ends) (
+      omega (arith, c.self.invariant.0, length-append c.self.inside.ends.items (c.in-Some.ended ∷ []), length-append c.self.inside.drivers.items (c.driven.inside.driver ∷ [])),
+      one_more g.D.Driver.has_seen _ _ _ _ c.self.invariant.0 c.self.invariant.1 seen,
+    )

@@ -1,0 +1,38 @@
+-- Drivers, and what their submitters have queued and read.
+use Rattle.std.specs.Prelude.{◌≡◌, ℕ, List, [], ◌∷◌, Some, slice_get}
+use Rattle.std.specs.List.{flat_map}
+use Rattle.tb_submit.specs.Ends.{SubmitterState, EndedState}
+use Rattle.tb_work.specs.Job.{Numbered}
+use Rattle.tb_work.specs.Reply.{Replied}
+use Rattle.tb_work.specs.declared.item.Item.{Item}
+use Rattle.tb_work.specs.declared.item.Item.TheVariants.{Packet, Pulse, End, Close}
+use Rattle.tb_work.specs.declared.packet.Packet as packets
+
+abbrev pub job_in : Item → List Numbered
+job_in (Packet job) = job ∷ []
+job_in (Pulse moment) = []
+job_in End = []
+job_in Close = []
+
+-- the packets among what was queued, with their numbers
+abbrev pub jobs_in : List Item → List Numbered
+jobs_in items = flat_map job_in items
+
+module _ {D : Type 0} (has_seen : D → List Numbered → List Replied → Type 0) where
+  -- a driver has seen what its submitter queued and read
+  abbrev pub HasSeen : D → SubmitterState → Type 0
+  HasSeen driver submitter = has_seen driver (jobs_in submitter.queued) submitter.read
+
+  abbrev pub HasSeenEnd : D → EndedState → Type 0
+  HasSeenEnd driver ended = has_seen driver (jobs_in ended.queued) ended.read
+
+  -- each driver has seen it of the submitter of its index
+  abbrev pub HaveSeen : List D → List SubmitterState → Type 0
+  HaveSeen drivers submitters = (k : ℕ) (driver : D) (submitter : SubmitterState) → slice_get drivers k ≡ Some driver → slice_get submitters k ≡ Some submitter → HasSeen driver submitter
+
+  abbrev pub HaveSeenEnds : List D → List EndedState → Type 0
+  HaveSeenEnds drivers ends = (k : ℕ) (driver : D) (ended : EndedState) → slice_get drivers k ≡ Some driver → slice_get ends k ≡ Some ended → HasSeenEnd driver ended
+
+-- a driver has seen it, and asked for a packet to be queued
+abbrev pub HasAsked : {D : Type 0} → (D → packets.Packet → List Numbered → List Replied → Type 0) → D → packets.Packet → SubmitterState → Type 0
+HasAsked has_asked driver packet submitter = has_asked driver packet (jobs_in submitter.queued) submitter.read
