@@ -51,7 +51,8 @@ fn room_for(alloc: Global, operation: u8, count: u32) -> Result<Vec<Failure>, Al
 fn is_last_linked(operation: u8, chunk: &[u8; 128]) -> bool
     ensures { result ≡ is_chunk_linked operation chunk.now }
 {
-    (operation == CREATE_ACCOUNTS || operation == CREATE_TRANSFERS) && tb_layout::is_chunk_linked(chunk)
+    (operation == CREATE_ACCOUNTS || operation == CREATE_TRANSFERS)
+        && tb_layout::is_chunk_linked(chunk)
 }
 
 impl Job {
