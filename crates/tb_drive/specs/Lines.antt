@@ -1,5 +1,5 @@
 -- What the control queues of its lines.
-use Rattle.std.specs.Prelude.{◌≡◌, ℕ, nat_lt, Bool, true, false, List, [], ◌∷◌, ◌++◌, if◌then◌else◌}
+use Rattle.std.specs.Prelude.{ℕ, nat_lt, Bool, true, false, List, [], ◌∷◌, ◌++◌, if◌then◌else◌}
 use Rattle.std.specs.List.{flat_map}
 use Rattle.tb_layout.specs.Limits.{moment_max}
 use Rattle.tb_submit.specs.Ends.{SenderState}
