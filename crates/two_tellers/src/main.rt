@@ -60,7 +60,9 @@ fn run<R: Threads + Wait + Sync>(rt: &R, alloc: Global) -> Option<Finished<Telle
     };
     let accounts = Packet::of_accounts(alloc, &[first, Account { id: 2, ..first }], 0).ok()?;
     let tellers = vec![in alloc; new_teller(0, 1, 2, 30), new_teller(100, 2, 1, 10)].ok()?;
-    let mut opened = open(alloc, 0, 100, 64, 32, 2).ok()?;
+    let Ok(mut opened) = open(alloc, 0, 100, 64, 32, 2) else {
+        return None;
+    };
     submit_ahead(rt, alloc, &mut opened, 0, accounts).ok()?;
     drive_all(rt, alloc, opened, tellers, ControlLines::none(alloc)).ok()
 }
@@ -70,11 +72,9 @@ fn main(rt: HostRuntime) -> ExitCode {
         return ExitCode::from(2);
     };
     let machine = finished.report.ledger.machine();
-    for place in 0..machine.accounts() {
-        if let Some(account) = machine.account_at(place) {
-            let (id, debits, credits) = (account.id, account.debits_posted, account.credits_posted);
-            let _ = println!(rt; "account {id}: debits {debits}, credits {credits}");
-        }
+    for account in (0..machine.accounts()).filter_map(|place| machine.account_at(place)) {
+        let (id, debits, credits) = (account.id, account.debits_posted, account.credits_posted);
+        let _ = println!(rt; "account {id}: debits {debits}, credits {credits}");
     }
     ExitCode::from(0)
 }
