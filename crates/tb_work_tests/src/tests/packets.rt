@@ -61,7 +61,10 @@ fn a_packet_of_one_transfer(rt: HostRuntime) -> Result<(), Fail> {
     let (chunks, _) = packet.bytes.as_slice().as_chunks::<128>();
     assert_eq!(rt; chunks.len(), 1);
     let chunk = &chunks[0];
-    assert_eq!(rt; [chunk[0], chunk[16], chunk[32], chunk[48], chunk[108]], [1, 2, 3, 4, 5]);
+    assert_eq!(rt;
+        [chunk[0], chunk[16], chunk[32], chunk[48], chunk[108]],
+        [1, 2, 3, 4, 5]
+    );
     assert_eq!(rt; read_transfer(chunk), transfer);
     Ok(())
 }
