@@ -42,12 +42,20 @@ pub enum DriveFault {
 }
 
 impl<T: Drop> From<AllocFailed<T>> for DriveFault {
+    ghost use Rattle.tb_drive.specs.declared.driving.DriveFault.TheVariants as fault;
+
+    ghost from_gives = { λ _ given. given ≡ fault.NoMemory };
+
     fn from(_refused: AllocFailed<T>) -> DriveFault {
         DriveFault::NoMemory
     }
 }
 
 impl From<AllocError> for DriveFault {
+    ghost use Rattle.tb_drive.specs.declared.driving.DriveFault.TheVariants as fault;
+
+    ghost from_gives = { λ _ given. given ≡ fault.NoMemory };
+
     fn from(_refused: AllocError) -> DriveFault {
         DriveFault::NoMemory
     }

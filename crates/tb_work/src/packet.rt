@@ -1,4 +1,20 @@
+//! Packets.
+
+ghost use Rattle.std.specs.Prelude.{◌≡◌, ◌+◌, ◌++◌, length, IfOk, OnOk};
+ghost use Rattle.std.specs.List.{flat_map};
+ghost use Rattle.tb_layout.specs.Account.{account_bytes, account_of};
+ghost use Rattle.tb_layout.specs.Events.{accounts_of, transfers_of};
+ghost use Rattle.tb_layout.specs.Operation.{create_accounts, create_transfers};
+ghost use Rattle.tb_layout.specs.Transfer.{transfer_bytes, transfer_of};
+
 use crate::bytes::Bytes;
+use std::alloc::Global;
+use tb_layout::{
+    Account, CREATE_ACCOUNTS, CREATE_TRANSFERS, NoMemory, Transfer, write_account, write_transfer,
+};
+
+/// The bytes of an event of an account or a transfer.
+const EVENT_SIZE: usize = 128;
 
 /// What a submitter hands in: an operation (129 create_accounts, 130 create_transfers,
 /// 131 lookup_accounts), the data of its events, and a user word that comes back untouched.
@@ -7,4 +23,87 @@ pub struct Packet {
     pub operation: u8,
     pub bytes: Bytes,
     pub user: u64,
+}
+
+/// Puts an account behind what is there.
+fn add_account(bytes: &mut Vec<u8>, account: &Account) -> Result<(), NoMemory>
+    ensures bytes { OnOk result (bytes.new.items ≡ bytes.old.items ++ account_bytes account.now) }
+    ensures length { length (account_bytes account.now) ≡ 128 }
+    ensures read_back { account_of (account_bytes account.now) ≡ account.now }
+{
+    bytes.extend_from_slice(&write_account(account))?;
+    Ok(())
+}
+
+/// Puts a transfer behind what is there.
+fn add_transfer(bytes: &mut Vec<u8>, transfer: &Transfer) -> Result<(), NoMemory>
+    ensures bytes { OnOk result (bytes.new.items ≡ bytes.old.items ++ transfer_bytes transfer.now) }
+    ensures length { length (transfer_bytes transfer.now) ≡ 128 }
+    ensures read_back { transfer_of (transfer_bytes transfer.now) ≡ transfer.now }
+{
+    bytes.extend_from_slice(&write_transfer(transfer))?;
+    Ok(())
+}
+
+/// The accounts in turn, in 128 bytes each.
+fn lay_accounts(alloc: Global, accounts: &[Account]) -> Result<Vec<u8>, NoMemory>
+    ensures bytes { IfOk result (λ bytes. bytes.items ≡ flat_map account_bytes accounts.now) }
+    ensures events { IfOk result (λ bytes. accounts_of bytes.items ≡ accounts.now) }
+{
+    let mut bytes = Vec::with_capacity(alloc, accounts.len().saturating_mul(EVENT_SIZE))?;
+    for account in accounts {
+        add_account(&mut bytes, account)?;
+    }
+    Ok(bytes)
+}
+
+/// The transfers in turn, in 128 bytes each.
+fn lay_transfers(alloc: Global, transfers: &[Transfer]) -> Result<Vec<u8>, NoMemory>
+    ensures bytes { IfOk result (λ bytes. bytes.items ≡ flat_map transfer_bytes transfers.now) }
+    ensures events { IfOk result (λ bytes. transfers_of bytes.items ≡ transfers.now) }
+{
+    let mut bytes = Vec::with_capacity(alloc, transfers.len().saturating_mul(EVENT_SIZE))?;
+    for transfer in transfers {
+        add_transfer(&mut bytes, transfer)?;
+    }
+    Ok(bytes)
+}
+
+impl Packet {
+    ghost use Rattle.tb_layout.specs.Events.{Accounts, Transfers};
+    ghost use Rattle.tb_work.specs.Job.{events_in};
+
+    /// A packet that makes these accounts, in their order, with a user word. Takes 128 bytes of memory an account, at
+    /// once. How many a packet may have is its pipeline's limit, 8190 at most, and isn't looked at here.
+    pub fn of_accounts(alloc: Global, accounts: &[Account], user: u64) -> Result<Packet, NoMemory>
+        ensures operation { IfOk result (λ packet. packet.operation ≡ create_accounts) }
+        ensures bytes { IfOk result (λ packet. packet.bytes ≡ flat_map account_bytes accounts.now) }
+        ensures events { IfOk result (λ packet. events_in packet ≡ Accounts accounts.now) }
+        ensures user { IfOk result (λ packet. packet.user ≡ user) }
+    {
+        Ok(Packet {
+            operation: CREATE_ACCOUNTS,
+            bytes: Bytes::from_vec(lay_accounts(alloc, accounts)?),
+            user,
+        })
+    }
+
+    /// A packet that makes these transfers, in their order, with a user word. Takes 128 bytes of memory a transfer, at
+    /// once. How many a packet may have is its pipeline's limit, 8190 at most, and isn't looked at here.
+    pub fn of_transfers(
+        alloc: Global,
+        transfers: &[Transfer],
+        user: u64,
+    ) -> Result<Packet, NoMemory>
+        ensures operation { IfOk result (λ packet. packet.operation ≡ create_transfers) }
+        ensures bytes { IfOk result (λ packet. packet.bytes ≡ flat_map transfer_bytes transfers.now) }
+        ensures events { IfOk result (λ packet. events_in packet ≡ Transfers transfers.now) }
+        ensures user { IfOk result (λ packet. packet.user ≡ user) }
+    {
+        Ok(Packet {
+            operation: CREATE_TRANSFERS,
+            bytes: Bytes::from_vec(lay_transfers(alloc, transfers)?),
+            user,
+        })
+    }
 }

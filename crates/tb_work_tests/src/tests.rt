@@ -1,12 +1,13 @@
 //! What no clause says: worked examples by name, and each call once with ample memory.
 
 use std::test::Fail;
-use tb_layout::{Account, write_account};
+use tb_layout::Account;
 use tb_work::{Bytes, Packet};
 
 mod admission;
 mod calls;
 mod memory;
+mod packets;
 
 /// An account's event with this id and these flags, and all else as in an account that is created.
 fn account(id: u128, flags: u16) -> Account {
@@ -32,13 +33,10 @@ fn packet_of(rt: &HostRuntime, operation: u8, length: usize) -> Result<Packet, F
 
 /// A packet that asks for accounts with these ids and flags.
 fn packet_of_accounts(rt: &HostRuntime, events: &[(u128, u16)]) -> Result<Packet, Fail> {
-    let mut bytes = Vec::new(rt.alloc());
+    let mut accounts = Vec::new(rt.alloc());
     for (id, flags) in events {
-        bytes.extend_from_slice(&write_account(&account(*id, *flags)))?;
+        accounts.push(account(*id, *flags))?;
     }
-    Ok(Packet {
-        operation: 129,
-        bytes: Bytes::from_vec(bytes),
-        user: 7,
-    })
+    let made = Packet::of_accounts(rt.alloc(), accounts.as_slice(), 7);
+    Ok(made.ok().ok_or("no memory")?)
 }

@@ -1,4 +1,5 @@
 use std::test::Fail;
+use tb_layout::{Account, NoMemory, Transfer};
 use tb_work::{Bytes, Job, Packet, Refusal};
 
 /// What is tried with each allocation refused in turn, by `tools/refuse-each-growth`.
@@ -19,5 +20,23 @@ fn job_refused_memory(rt: HostRuntime) -> Result<(), Fail> {
     assert_eq!(rt; refusal, Refusal::NoMemory);
     assert_eq!(rt; packet.user, 7);
     assert_eq!(rt; packet.bytes.as_slice().len(), 256);
+    Ok(())
+}
+
+#[test]
+fn packet_of_accounts_refused_memory(rt: HostRuntime) -> Result<(), Fail> {
+    match Packet::of_accounts(rt.alloc(), &[Account::default()], 7) {
+        Ok(packet) => assert_eq!(rt; packet.bytes.as_slice().len(), 128),
+        Err(refused) => assert_eq!(rt; refused, NoMemory),
+    }
+    Ok(())
+}
+
+#[test]
+fn packet_of_transfers_refused_memory(rt: HostRuntime) -> Result<(), Fail> {
+    match Packet::of_transfers(rt.alloc(), &[Transfer::default()], 7) {
+        Ok(packet) => assert_eq!(rt; packet.bytes.as_slice().len(), 128),
+        Err(refused) => assert_eq!(rt; refused, NoMemory),
+    }
     Ok(())
 }

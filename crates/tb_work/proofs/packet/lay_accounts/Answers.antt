@@ -1,0 +1,15 @@
+use Rattle.std.proofs.lemmas.List.{take_more}
+use Rattle.tb_layout.specs.Account.{account_bytes, account_of}
+use Rattle.tb_work.proofs.Laid.{laid-bytes, laid-length, laid-events}
+use Rattle.tb_work.proofs.packet.lay_accounts.Goals as goal
+
+pub loop-account-preserved : goal.loop-account-preserved
+loop-account-preserved c =
+    let before = c.loop-account.invariant in
+    let added = c.in_ok-add_account.ensures in
+    let next = take_more c.args.accounts.now c.loop-account.account-index _ c.loop-account-test.true in
+    record {
+      bytes = laid-bytes account_bytes account_of c.args.accounts.now c.loop-account.account-index _ next c.loop-account.bytes.items c.add_account.new.bytes.items added.bytes before.bytes;
+      length = laid-length account_bytes account_of c.args.accounts.now c.loop-account.account-index _ next c.loop-account.bytes.items c.add_account.new.bytes.items added.bytes before.length added.length;
+      events = laid-events account_bytes account_of c.args.accounts.now c.loop-account.account-index _ next c.loop-account.bytes.items c.add_account.new.bytes.items added.bytes before.length added.length added.read_back before.events;
+    }

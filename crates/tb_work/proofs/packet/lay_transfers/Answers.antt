@@ -1,0 +1,15 @@
+use Rattle.std.proofs.lemmas.List.{take_more}
+use Rattle.tb_layout.specs.Transfer.{transfer_bytes, transfer_of}
+use Rattle.tb_work.proofs.Laid.{laid-bytes, laid-length, laid-events}
+use Rattle.tb_work.proofs.packet.lay_transfers.Goals as goal
+
+pub loop-transfer-preserved : goal.loop-transfer-preserved
+loop-transfer-preserved c =
+    let before = c.loop-transfer.invariant in
+    let added = c.in_ok-add_transfer.ensures in
+    let next = take_more c.args.transfers.now c.loop-transfer.transfer-index _ c.loop-transfer-test.true in
+    record {
+      bytes = laid-bytes transfer_bytes transfer_of c.args.transfers.now c.loop-transfer.transfer-index _ next c.loop-transfer.bytes.items c.add_transfer.new.bytes.items added.bytes before.bytes;
+      length = laid-length transfer_bytes transfer_of c.args.transfers.now c.loop-transfer.transfer-index _ next c.loop-transfer.bytes.items c.add_transfer.new.bytes.items added.bytes before.length added.length;
+      events = laid-events transfer_bytes transfer_of c.args.transfers.now c.loop-transfer.transfer-index _ next c.loop-transfer.bytes.items c.add_transfer.new.bytes.items added.bytes before.length added.length added.read_back before.events;
+    }

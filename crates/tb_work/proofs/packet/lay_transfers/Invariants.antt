@@ -1,0 +1,12 @@
+use Rattle.std.proofs.Common.{◌≡◌, ◌*◌, length, take}
+use Rattle.std.specs.List.{flat_map}
+use Rattle.tb_layout.specs.Transfer.{transfer_bytes}
+use Rattle.tb_layout.specs.Events.{transfers_of}
+use Rattle.tb_work.proofs.packet.lay_transfers.Given as goal
+
+abbrev pub invariant-loop-transfer : goal.invariant-loop-transfer
+invariant-loop-transfer l = record {
+  bytes : l.bytes.items ≡ flat_map transfer_bytes (take l.transfer-index l.transfers);
+  length : length l.bytes.items ≡ l.transfer-index * 128;
+  events : transfers_of l.bytes.items ≡ take l.transfer-index l.transfers;
+}

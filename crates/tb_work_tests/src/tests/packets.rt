@@ -1,0 +1,86 @@
+//! Packets made of accounts and of transfers.
+
+use super::account;
+use std::test::Fail;
+use tb_layout::{Account, Transfer, read_account, read_transfer};
+use tb_work::{Packet, Refusal, admit};
+
+/// A packet of these accounts, with user word 7.
+fn of_accounts(rt: &HostRuntime, accounts: &[Account]) -> Result<Packet, Fail> {
+    let made = Packet::of_accounts(rt.alloc(), accounts, 7);
+    Ok(made.ok().ok_or("no memory")?)
+}
+
+/// A packet of these transfers, with user word 7.
+fn of_transfers(rt: &HostRuntime, transfers: &[Transfer]) -> Result<Packet, Fail> {
+    let made = Packet::of_transfers(rt.alloc(), transfers, 7);
+    Ok(made.ok().ok_or("no memory")?)
+}
+
+/// How many of so many accounts are admitted, in one packet.
+fn admitted_accounts(rt: &HostRuntime, count: usize) -> Result<Result<u32, Refusal>, Fail> {
+    let mut accounts = Vec::new(rt.alloc());
+    accounts.resize(count, account(1, 0))?;
+    Ok(admit(8190, &of_accounts(rt, accounts.as_slice())?))
+}
+
+/// How many of so many transfers are admitted, in one packet.
+fn admitted_transfers(rt: &HostRuntime, count: usize) -> Result<Result<u32, Refusal>, Fail> {
+    let mut transfers = Vec::new(rt.alloc());
+    transfers.resize(count, Transfer::default())?;
+    Ok(admit(8190, &of_transfers(rt, transfers.as_slice())?))
+}
+
+#[test]
+fn a_packet_of_two_accounts(rt: HostRuntime) -> Result<(), Fail> {
+    let packet = of_accounts(&rt, &[account(258, 1), account(2, 0)])?;
+    assert_eq!(rt; (packet.operation, packet.user), (129, 7));
+    let bytes = packet.bytes.as_slice();
+    assert_eq!(rt; bytes.len(), 256);
+    assert_eq!(rt; &bytes[0..3], [2, 1, 0].as_slice());
+    assert_eq!(rt; &bytes[112..120], [1, 0, 0, 0, 1, 0, 1, 0].as_slice());
+    assert_eq!(rt; &bytes[128..130], [2, 0].as_slice());
+    let (chunks, _) = bytes.as_chunks::<128>();
+    assert_eq!(rt; read_account(&chunks[0]), account(258, 1));
+    assert_eq!(rt; read_account(&chunks[1]), account(2, 0));
+    Ok(())
+}
+
+#[test]
+fn a_packet_of_one_transfer(rt: HostRuntime) -> Result<(), Fail> {
+    let transfer = Transfer {
+        id: 1,
+        debit_account_id: 2,
+        credit_account_id: 3,
+        amount: 4,
+        timeout: 5,
+        ..Transfer::default()
+    };
+    let packet = of_transfers(&rt, &[transfer])?;
+    assert_eq!(rt; (packet.operation, packet.user), (130, 7));
+    let (chunks, _) = packet.bytes.as_slice().as_chunks::<128>();
+    assert_eq!(rt; chunks.len(), 1);
+    let chunk = &chunks[0];
+    assert_eq!(rt;
+        [chunk[0], chunk[16], chunk[32], chunk[48], chunk[108]],
+        [1, 2, 3, 4, 5]
+    );
+    assert_eq!(rt; read_transfer(chunk), transfer);
+    Ok(())
+}
+
+#[test]
+fn largest_packets_of_accounts(rt: HostRuntime) -> Result<(), Fail> {
+    assert_eq!(rt; admitted_accounts(&rt, 0)?, Ok(0));
+    assert_eq!(rt; admitted_accounts(&rt, 8190)?, Ok(8190));
+    assert_eq!(rt; admitted_accounts(&rt, 8191)?, Err(Refusal::TooMuchData));
+    Ok(())
+}
+
+#[test]
+fn largest_packets_of_transfers(rt: HostRuntime) -> Result<(), Fail> {
+    assert_eq!(rt; admitted_transfers(&rt, 0)?, Ok(0));
+    assert_eq!(rt; admitted_transfers(&rt, 8190)?, Ok(8190));
+    assert_eq!(rt; admitted_transfers(&rt, 8191)?, Err(Refusal::TooMuchData));
+    Ok(())
+}
