@@ -1,4 +1,6 @@
+pub mod Faults
 pub mod Plan
 pub mod Output
 pub mod Printing
 pub mod Source
+pub mod Noting

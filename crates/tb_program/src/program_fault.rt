@@ -2,6 +2,7 @@
 
 ghost use Rattle.std.specs.Prelude.{◌≡◌};
 ghost use Rattle.tb_program.specs.declared.program_fault.ProgramFault.TheVariants.{NoMemory as OutOfMemory};
+ghost use Rattle.tb_program.specs.Faults.{program_fault_of};
 
 use std::alloc::{AllocError, AllocFailed};
 use tb_drive::DriveFault;
@@ -48,6 +49,8 @@ impl<T: Drop> From<AllocFailed<T>> for ProgramFault {
 }
 
 impl From<DriveFault> for ProgramFault {
+    ghost from_gives = { λ fault given. given ≡ program_fault_of fault };
+
     fn from(fault: DriveFault) -> ProgramFault {
         match fault {
             DriveFault::NoMemory => ProgramFault::NoMemory,

@@ -3,6 +3,7 @@
 ghost use Rattle.std.specs.Prelude.{◌≡◌, false, length, IfOk, IfSome, IsErrOf, string_bytes};
 ghost use Rattle.std.specs.Io.KnownBytes.{Appends, Keeps};
 ghost use Rattle.tb_drive.specs.Reported.{AreTogether};
+ghost use Rattle.tb_program.specs.Noting.{AreFresh, AreNew};
 ghost use Rattle.tb_program.specs.Output.{out, is_faultless};
 ghost use Rattle.tb_script.specs.Script.{InBounds, submitters_of};
 
@@ -32,6 +33,7 @@ fn open_for(alloc: Global, settings: &Settings) -> Result<Opened, NoMemory>
     requires { InBounds settings.now }
     ensures together { IfOk result (λ opened. AreTogether opened.pipeline opened.submitters.items opened.control) }
     ensures number { IfOk result (λ opened. length opened.pipeline.submitters ≡ submitters_of settings.now) }
+    ensures fresh { IfOk result (λ opened. AreFresh opened.submitters.items) }
 {
     let opened = open(
         alloc,
@@ -56,7 +58,8 @@ fn drivers(
     submitters: u32,
     packets: Vec<Vec<Packet>>,
 ) -> Result<Vec<ScriptDriver>, NoMemory>
-    ensures { IfOk result (λ drivers. length drivers.items ≡ submitters) }
+    ensures number { IfOk result (λ drivers. length drivers.items ≡ submitters) }
+    ensures new { IfOk result (λ drivers. AreNew drivers.items) }
 {
     let mut shares = packets.into_iter();
     let mut drivers = Vec::new(alloc);
@@ -77,6 +80,8 @@ fn run_opened<T: Threads + Wait + Sync>(
 ) -> Result<String, ProgramFault>
     requires together { AreTogether opened.pipeline opened.submitters.items opened.control }
     requires number { length drivers.items ≡ length opened.pipeline.submitters }
+    requires fresh { AreFresh opened.submitters.items }
+    requires new { AreNew drivers.items }
 {
     match drive_all(rt, alloc, opened, drivers, lines) {
         Ok(finished) => Ok(text_of(alloc, finished)?),

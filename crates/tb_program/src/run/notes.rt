@@ -1,5 +1,7 @@
 //! What a driver notes.
 
+ghost use Rattle.std.specs.Prelude.{◌≡◌, true, [], ◌∷◌, ◌++◌, IfOk};
+
 use std::alloc::Global;
 use tb_layout::NoMemory;
 use tb_work::{Refusal, Reply};
@@ -23,7 +25,9 @@ pub struct Notes {
 
 impl Notes {
     /// No notes, with room for so many packets and their replies.
-    pub fn new(alloc: Global, packets: usize) -> Result<Notes, NoMemory> {
+    pub fn new(alloc: Global, packets: usize) -> Result<Notes, NoMemory>
+        ensures { IfOk result (λ notes. (notes.told.items ≡ []) × (notes.replies.items ≡ []) × (notes.complete ≡ true)) }
+    {
         Ok(Notes {
             told: Vec::with_capacity(alloc, packets)?,
             replies: Vec::with_capacity(alloc, packets)?,
@@ -32,14 +36,20 @@ impl Notes {
     }
 
     /// Notes what was told of the next packet.
-    pub fn tell(&mut self, told: Told) {
+    pub fn tell(&mut self, told: Told)
+        ensures told { self.new.complete ≡ true → (self.old.complete ≡ true) × (self.new.told.items ≡ self.old.told.items ++ told ∷ []) }
+        ensures replies { self.new.replies ≡ self.old.replies }
+    {
         if self.told.push(told).is_err() {
             self.complete = false;
         }
     }
 
     /// Keeps the next reply.
-    pub fn keep(&mut self, reply: Reply) {
+    pub fn keep(&mut self, reply: Reply)
+        ensures told { self.new.told ≡ self.old.told }
+        ensures replies { self.new.complete ≡ true → (self.old.complete ≡ true) × (self.new.replies.items ≡ self.old.replies.items ++ reply ∷ []) }
+    {
         if self.replies.push(reply).is_err() {
             self.complete = false;
         }

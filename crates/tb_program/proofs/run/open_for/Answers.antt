@@ -2,6 +2,7 @@ use Rattle.std.proofs.Common.{◌≡◌, ℕ, ◌≤◌, le-ltb, None, refl}
 use Rattle.tb_layout.specs.Limits.{batch_max, capacity_max, submitters_max}
 use Rattle.tb_submit.specs.Refusals.{queue_refusal}
 use Rattle.tb_script.specs.Script.{limit_of, capacity_of, credit_of, submitters_of}
+use Rattle.tb_program.proofs.Noting.{are_fresh}
 use Rattle.tb_program.proofs.run.open_for.Goals as goal
 
 no_refusal : (limit capacity credit submitters : ℕ) → 1 ≤ limit → limit ≤ batch_max → 1 ≤ capacity → capacity ≤ capacity_max →
@@ -15,3 +16,6 @@ unreachable-requires c =
     let none = no_refusal (limit_of settings) (capacity_of settings) (credit_of settings) (submitters_of settings) c.requires.limit_low c.requires.limit_high
     c.requires.capacity_low c.requires.capacity_high c.requires.credit_low c.requires.credit_high c.requires.submitters_low c.requires.submitters_high in
     c.in_default.not-NoMemory (rw (c.limit.ensures, c.capacity.ensures, c.credit.ensures, c.submitters.ensures, none) at c.in-Err.ensures.refusal)
+
+pub returns-in-Ok-clause-fresh : goal.returns-in-Ok-clause-fresh
+returns-in-Ok-clause-fresh c = are_fresh _ _ _ c.in-Ok.ensures.submitters

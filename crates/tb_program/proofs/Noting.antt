@@ -1,0 +1,21 @@
+-- Lists of which each member is something.
+use Rattle.std.proofs.Common.{◌≡◌, ℕ, zero, suc, List, [], ◌∷◌, ◌++◌, map, ap, sym, subst}
+use Rattle.tb_submit.specs.Ends.{Origin, SubmitterState, new_submitter}
+use Rattle.tb_program.specs.Noting.{AreFresh, AreNew, HasNoted}
+use Rattle.tb_program.specs.declared.run.driver.ScriptDriver.{ScriptDriver}
+
+pub one_more_new : (drivers : List ScriptDriver) (last : ScriptDriver) → AreNew drivers → HasNoted last.notes [] [] → AreNew (drivers ++ last ∷ [])
+one_more_new [] last new is zero driver driver_is = let same : last ≡ driver = cc in subst (λ (d : ScriptDriver). HasNoted d.notes [] []) same is
+one_more_new [] last new is (suc k) driver driver_is = cc
+one_more_new (first ∷ drivers) last new is zero driver driver_is = new zero driver driver_is
+one_more_new (first ∷ drivers) last new is (suc k) driver driver_is = one_more_new drivers last (λ k. new (suc k)) is k driver driver_is
+
+opened_fresh : (credit : ℕ) (origins : List Origin) → AreFresh (map (new_submitter credit) origins)
+opened_fresh credit [] k submitter is = cc
+opened_fresh credit (origin ∷ origins) zero submitter is =
+    let same : new_submitter credit origin ≡ submitter = cc in
+    (sym (ap (λ (s : SubmitterState). s.queued) same), sym (ap (λ (s : SubmitterState). s.read) same))
+opened_fresh credit (origin ∷ origins) (suc k) submitter is = opened_fresh credit origins k submitter is
+
+pub are_fresh : (credit : ℕ) (origins : List Origin) (submitters : List SubmitterState) → submitters ≡ map (new_submitter credit) origins → AreFresh submitters
+are_fresh credit origins submitters same = subst AreFresh (sym same) (opened_fresh credit origins)
