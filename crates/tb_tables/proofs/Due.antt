@@ -21,7 +21,7 @@ use Rattle.tb_tables.specs.declared.status.Status.TheVariants.{Expired}
 use Rattle.tb_tables.proofs.Laws.{resolved_either}
 use Rattle.tb_tables.proofs.Added.{rows-same}
 use Rattle.tb_tables.proofs.Forgetting.{all-there}
-use Rattle.tb_tables.proofs.OneExpiry.{expires, filter-at, sums-after, rows-after, sound-after, due-after}
+use Rattle.tb_tables.proofs.OneExpiry.{none-left, sums-after, rows-after, sound-after, due-after}
 
 -- the entry of the transfer at a place
 pub row-at : (facts : Facts) (accounts : List (ℕ × Account)) (transfers : List (ℕ × Row)) → Hold facts accounts transfers → (place : ℕ) (t : Transfer) → slice_get facts.transfers place ≡ Some t → slice_get transfers place ≡ Some (t.id, row_in facts t)
@@ -129,22 +129,16 @@ module _ (accounts : List (ℕ × Account)) (transfers : List (ℕ × Row)) (ind
         stays : (m p : ℕ) → expects facts m p ≡ true → indexed m p ≡ true → next m p ≡ true
         stays m p h was = grind (arith, nat_tests, took m p, pair.at, closed, resolved_either pair.transfer.id facts.transfers)
 
--- where no pair is due, none is left to expire
-none-due : (clock : ℕ) (indexed : ℕ → ℕ → Bool) (facts : Facts) → IsSound indexed facts → ((m p : ℕ) → indexed m p ≡ true → clock < m) → expire_due clock facts ≡ facts
-none-due clock indexed facts sound later =
-    λ i. record facts { expired = (ap (map (λ (t : Transfer). t.id)) (filter-at (expires clock facts) (λ (t : Transfer). is_expired facts t.id) facts.transfers each) ∙ sym sound.expiries.ordered) i }
-  where
-    each : (p : ℕ) (y : Transfer) → slice_get facts.transfers p ≡ Some y → expires clock facts y ≡ is_expired facts y.id
-    each p y at = by (is_reserving facts y && is_due clock y) refl
-      where
-        by : (b : Bool) → (is_reserving facts y && is_due clock y) ≡ b → expires clock facts y ≡ is_expired facts y.id
-        by false e = grind (arith, e)
-        by true e =
-            let expected : expects facts (expires_at y) p ≡ true = grind (arith, nat_tests, at, e) in
-            let after = later (expires_at y) p (sound.paired (expires_at y) p expected) in
-            let due : expires_at y ≤ clock = grind (arith, nat_tests, e) in
-            absurd (omega arith)
+-- where no pair is due, nothing that reserves its amount is
+none-due : (clock : ℕ) (indexed : ℕ → ℕ → Bool) (facts : Facts) → IsSound indexed facts → ((m p : ℕ) → indexed m p ≡ true → clock < m) → (p : ℕ) (y : Transfer) → slice_get facts.transfers p ≡ Some y →
+    (b : Bool) → (is_reserving facts y && is_due clock y) ≡ b → b ≡ false
+none-due clock indexed facts sound later p y at false e = refl
+none-due clock indexed facts sound later p y at true e =
+    let expected : expects facts (expires_at y) p ≡ true = grind (arith, nat_tests, at, e) in
+    let after = later (expires_at y) p (sound.paired (expires_at y) p expected) in
+    let due : expires_at y ≤ clock = grind (arith, nat_tests, e) in
+    absurd (omega arith)
 
 pub all-due : (clock : ℕ) (facts : Facts) (accounts : List (ℕ × Account)) (transfers : List (ℕ × Row)) (indexed : ℕ → ℕ → Bool) → StillDue clock facts accounts transfers indexed → ((m p : ℕ) → indexed m p ≡ true → clock < m) →
     AreHeld accounts transfers indexed (expire_due clock facts)
-all-due clock facts accounts transfers indexed due later = subst (AreHeld accounts transfers indexed) (sym (none-due clock indexed due.now due.held.sound later) ∙ due.same) due.held
+all-due clock facts accounts transfers indexed due later = subst (AreHeld accounts transfers indexed) (sym (none-left clock due.now due.held.sound.expiries.ordered (λ p y at. none-due clock indexed due.now due.held.sound later p y at _ refl)) ∙ due.same) due.held

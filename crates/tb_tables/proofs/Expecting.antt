@@ -26,16 +26,16 @@ has_id-at id [] place x at is = cc
 has_id-at id (y ∷ xs) zero x at is = grind arith
 has_id-at id (y ∷ xs) (suc place) x at is = grind (arith, has_id-at id xs place x at is)
 
-pub one-place : (xs : List Transfer) (i j : ℕ) (x y : Transfer) → ids_distinct xs ≡ true → slice_get xs i ≡ Some x → slice_get xs j ≡ Some y → (x.id == y.id) ≡ true → (i == j) ≡ true
-one-place [] i j x y distinct at at' same = cc
-one-place (z ∷ xs) zero zero x y distinct at at' same = refl
-one-place (z ∷ xs) zero (suc j) x y distinct at at' same = grind (arith, nat_tests, has_id-at z.id xs j y at')
-one-place (z ∷ xs) (suc i) zero x y distinct at at' same = grind (arith, nat_tests, has_id-at z.id xs i x at)
-one-place (z ∷ xs) (suc i) (suc j) x y distinct at at' same = grind (arith, nat_tests, one-place xs i j x y)
+pub one-place : (xs : List Transfer) (i j : ℕ) (x y : Transfer) → ids_distinct xs ≡ true → slice_get xs i ≡ Some x → slice_get xs j ≡ Some y → (x.id == y.id) ≡ (i == j)
+one-place [] i j x y distinct at at' = cc
+one-place (z ∷ xs) zero zero x y distinct at at' = grind (arith, nat_tests)
+one-place (z ∷ xs) zero (suc j) x y distinct at at' = grind (arith, nat_tests, has_id-at z.id xs j y at')
+one-place (z ∷ xs) (suc i) zero x y distinct at at' = grind (arith, nat_tests, has_id-at z.id xs i x at)
+one-place (z ∷ xs) (suc i) (suc j) x y distinct at at' = grind (arith, nat_tests, one-place xs i j x y)
 
 -- and so it is of one transfer
 pub one-transfer : (xs : List Transfer) (i j : ℕ) (x y : Transfer) → ids_distinct xs ≡ true → slice_get xs i ≡ Some x → slice_get xs j ≡ Some y → (x.id == y.id) ≡ true → x ≡ y
-one-transfer xs i j x y distinct at at' same = cc (at, at', ap (slice_get xs) (eqb-true i j (one-place xs i j x y distinct at at' same)))
+one-transfer xs i j x y distinct at at' same = cc (at, at', ap (slice_get xs) (eqb-true i j (sym (one-place xs i j x y distinct at at') ∙ same)))
 
 module _ (facts : Facts) (t : Transfer) where
   abbrev its-pair : ℕ → ℕ → Bool

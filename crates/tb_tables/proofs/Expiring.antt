@@ -1,122 +1,109 @@
--- The facts once each transfer that is due has expired.
-use Rattle.std.proofs.Common.{refl, sym, ap, subst, ◌∙◌, arith, ◌≡◌, ℕ, ◌≤◌, Bool, true, false, not, cond, List, [], ◌∷◌, map, filter}
-use Rattle.std.specs.Prelude.{if◌then◌else◌, ◌==◌, ◌&&◌, ◌||◌}
-use Rattle.std.specs.List.{list_any, AllByRecursion}
+-- Rows of the plain lists, of which some are marked as expired.
+use Rattle.std.proofs.Common.{refl, sym, ap, subst, ◌∙◌, arith, ◌≡◌, ℕ, ◌<◌, ◌≤◌, ◌+◌, Bool, true, false, not, List, [], ◌∷◌, map, filter, slice_get, get_or, set, length, zero, suc}
+use Rattle.std.specs.Prelude.{◌==◌, ◌&&◌, ◌||◌, Some}
+use Rattle.std.specs.List.{list_any}
+use Rattle.std.proofs.lemmas.Bool.{eqb-true}
 use Rattle.std.proofs.lemmas.Bool.Decides.{nat_tests}
+use Rattle.std.proofs.lemmas.List.{length-map, length-set}
+use Rattle.std.proofs.lemmas.Option.{slice_get-get_or, slice_get_within}
 use Rattle.tb_layout.specs.declared.transfer.Transfer.{Transfer}
-use Rattle.tb_layout.specs.Transfer.{is_pending}
 use Rattle.tb_tables.specs.Facts.{Facts, is_expired}
-use Rattle.tb_tables.specs.Status.{is_resolved, is_reserving, is_due, expire_due}
-use Rattle.tb_tables.specs.Lawful.{IsLawful, AreLawful, has_id, ids_distinct}
-use Rattle.tb_tables.specs.Plain.{Lists, facts_of, transfers_in, expired_in, plain_history}
-use Rattle.tb_tables.specs.Expiring.{with_expiries}
-use Rattle.tb_tables.specs.declared.change.Change.{Change}
-use Rattle.tb_tables.proofs.Sums.{amount_if, amounts-most, or-right, not_and-left, not_and-right}
-use Rattle.tb_tables.proofs.Laws.{reserves, total}
+use Rattle.tb_tables.specs.Status.{is_reserving, is_due, expire_due}
+use Rattle.tb_tables.specs.Lawful.{IsLawful, has_id, ids_distinct}
+use Rattle.tb_tables.specs.Plain.{facts_in, transfers_in, expired_in}
+use Rattle.tb_tables.specs.Storing.{expire_one}
+use Rattle.tb_tables.proofs.Expecting.{has_id-at, one-place}
+use Rattle.tb_tables.proofs.OneExpiry.{reserving-after, lawful-after, due-after, none-left}
+
+abbrev Rows : Type 0
+Rows = List (Transfer × Bool)
+
+transfer-at : (rows : Rows) (p : ℕ) (row : Transfer × Bool) → slice_get rows p ≡ Some row → slice_get (transfers_in rows) p ≡ Some row.0
+transfer-at [] p row at = cc
+transfer-at (r ∷ rows) zero row at = cc
+transfer-at (r ∷ rows) (suc p) row at = transfer-at rows p row at
 
 -- ---- a row's mark tells whether its transfer expired
 
-pub marked_id-absent : (id : ℕ) (rows : List (Transfer × Bool)) → has_id id (transfers_in rows) ≡ false → list_any (λ x. x == id) (expired_in rows) ≡ false
-marked_id-absent id [] h = refl
-marked_id-absent id (row ∷ rows) h = grind (arith, marked_id-absent id rows)
+unmarked : (id : ℕ) (rows : Rows) → has_id id (transfers_in rows) ≡ false → list_any (λ x. x == id) (expired_in rows) ≡ false
+unmarked id [] h = refl
+unmarked id (row ∷ rows) h = grind (arith, unmarked id rows)
 
-abbrev IsMarkedAmong : List ℕ → Transfer × Bool → Type 0
-IsMarkedAmong ids row = list_any (λ x. x == row.0.id) ids ≡ row.1
+mark-is : (rows : Rows) (p : ℕ) (row : Transfer × Bool) → ids_distinct (transfers_in rows) ≡ true → slice_get rows p ≡ Some row → list_any (λ x. x == row.0.id) (expired_in rows) ≡ row.1
+mark-is [] p row distinct at = cc
+mark-is (r ∷ rows) zero row distinct at = grind (arith, nat_tests, unmarked r.0.id rows)
+mark-is (r ∷ rows) (suc p) row distinct at = grind (arith, nat_tests, has_id-at r.0.id (transfers_in rows) p row.0 (transfer-at rows p row at), mark-is rows p row)
 
--- the same ids with one more in front, of which none of the rows has
-marked_more : (id : ℕ) (b : Bool) (ids : List ℕ) (rows : List (Transfer × Bool)) → has_id id (transfers_in rows) ≡ false → AllByRecursion (IsMarkedAmong ids) rows → AllByRecursion (IsMarkedAmong (if b then id ∷ ids else ids)) rows
-marked_more id b ids [] h all = tt
-marked_more id b ids (row ∷ rows) h all =
-    (grind (arith, nat_tests, all.0), marked_more id b ids rows (or-right (row.0.id == id) (has_id id (transfers_in rows)) h) all.1)
+-- what is marked, where a test of the transfer tells the mark
+expired-by : (test : Transfer → Bool) (rows : Rows) → ((p : ℕ) (row : Transfer × Bool) → slice_get rows p ≡ Some row → test row.0 ≡ row.1) → expired_in rows ≡ map (λ (t : Transfer). t.id) (filter test (transfers_in rows))
+expired-by test [] same = refl
+expired-by test (r ∷ rows) same = grind (arith, same 0 r refl, expired-by test rows (λ p. same (suc p)))
 
-marked : (rows : List (Transfer × Bool)) → ids_distinct (transfers_in rows) ≡ true → AllByRecursion (IsMarkedAmong (expired_in rows)) rows
-marked [] distinct = tt
-marked (row ∷ rows) distinct =
-    let fresh = not_and-left (has_id row.0.id (transfers_in rows)) (ids_distinct (transfers_in rows)) distinct in
-    let rest = marked rows (not_and-right (has_id row.0.id (transfers_in rows)) (ids_distinct (transfers_in rows)) distinct) in
-    (first row.1 (marked_id-absent row.0.id rows fresh), next row.1 (λ b. marked_more row.0.id b (expired_in rows) rows fresh rest))
-  where
-    ids_if : Bool → List ℕ
-    ids_if b = map (λ (r : Transfer × Bool). r.0.id) (cond b (row ∷ filter (λ (r : Transfer × Bool). r.1) rows) (filter (λ (r : Transfer × Bool). r.1) rows))
+ordered : (rows : Rows) → IsLawful (facts_in rows) → expired_in rows ≡ map (λ (t : Transfer). t.id) (filter (λ t. is_expired (facts_in rows) t.id) (transfers_in rows))
+ordered rows lawful = expired-by (λ t. is_expired (facts_in rows) t.id) rows (λ p row. mark-is rows p row lawful.distinct)
 
-    first : (b : Bool) → list_any (λ x. x == row.0.id) (expired_in rows) ≡ false → list_any (λ x. x == row.0.id) (ids_if b) ≡ b
-    first b absent = grind (arith, nat_tests)
+-- ---- one more is marked
 
-    next : (b : Bool) → ((c : Bool) → AllByRecursion (IsMarkedAmong (if c then row.0.id ∷ expired_in rows else expired_in rows)) rows) → AllByRecursion (IsMarkedAmong (ids_if b)) rows
-    next true all = all true
-    next false all = all false
+transfers-set : (rows : Rows) (place : ℕ) (x : Transfer) (b : Bool) → slice_get (transfers_in rows) place ≡ Some x → transfers_in (set rows place (x, b)) ≡ transfers_in rows
+transfers-set [] place x b at = cc
+transfers-set (r ∷ rows) zero x b at = cc
+transfers-set (r ∷ rows) (suc place) x b at = ap (λ ts. r.0 ∷ ts) (transfers-set rows place x b at)
 
--- ---- the rows with their new marks are seen as the facts after the expiry
+expired-set : (test : Transfer → Bool) (rows : Rows) (place : ℕ) (x : Transfer) → slice_get (transfers_in rows) place ≡ Some x → ((p : ℕ) (row : Transfer × Bool) → slice_get rows p ≡ Some row → test row.0 ≡ (row.1 || (place == p))) →
+    expired_in (set rows place (x, true)) ≡ map (λ (t : Transfer). t.id) (filter test (transfers_in rows))
+expired-set test [] place x at same = cc
+expired-set test (r ∷ rows) zero x at same = grind (arith, nat_tests, same 0 r refl, expired-by test rows (λ p row at'. grind (arith, nat_tests, same (suc p) row at')))
+expired-set test (r ∷ rows) (suc place) x at same = grind (arith, nat_tests, same 0 r refl, expired-set test rows place x at (λ p row at'. grind (arith, nat_tests, same (suc p) row at')))
 
-transfers-with_expiries : (clock : ℕ) (transfers : List Transfer) (rows : List (Transfer × Bool)) → transfers_in (with_expiries clock transfers rows) ≡ transfers_in rows
-transfers-with_expiries clock transfers [] = refl
-transfers-with_expiries clock transfers (row ∷ rows) = ap (λ ts. row.0 ∷ ts) (transfers-with_expiries clock transfers rows)
+-- those before a place have expired where they are due
+pub record AreMarked (clock : ℕ) (old now : Rows) (place : ℕ) : Type 0 where
+  pub lawful : IsLawful (facts_in now)
+  pub same : expire_due clock (facts_in now) ≡ expire_due clock (facts_in old)
+  pub len : length now ≡ length old
+  pub done : (p : ℕ) (t : Transfer) → p < place → slice_get (transfers_in now) p ≡ Some t → (is_reserving (facts_in now) t && is_due clock t) ≡ false
 
-abbrev expires : ℕ → Facts → Transfer → Bool
-expires clock facts transfer = is_expired facts transfer.id || (is_reserving facts transfer && is_due clock transfer)
+module _ (clock : ℕ) (old now : Rows) (place : ℕ) (d : Transfer × Bool) (within : place < length old) (are : AreMarked clock old now place) where
+  abbrev x : Transfer
+  x = (get_or now place d).0
 
-expires-bits : (e p r d : Bool) → (e || ((p && not r && not e) && d)) ≡ (e || (p && not r && d))
-expires-bits e p r d = grind arith
+  at : slice_get (transfers_in now) place ≡ Some x
+  at = transfer-at now place (get_or now place d) (slice_get-get_or now place d (omega (arith, within, are.len)))
 
-expired-with_expiries : (clock : ℕ) (facts : Facts) (rows : List (Transfer × Bool)) → AllByRecursion (IsMarkedAmong facts.expired) rows →
-    expired_in (with_expiries clock facts.transfers rows) ≡ map (λ (t : Transfer). t.id) (filter (expires clock facts) (transfers_in rows))
-expired-with_expiries clock facts [] all = refl
-expired-with_expiries clock facts (row ∷ rows) all =
-    let same = expires-bits (is_expired facts row.0.id) (is_pending row.0) (is_resolved facts row.0.id) (is_due clock row.0) in
-    grind (arith, same, all.0, expired-with_expiries clock facts rows all.1)
+  pub marked : (is_reserving (facts_in now) x && is_due clock x) ≡ true → AreMarked clock old (set now place (x, true)) (place + 1)
+  marked due = record {
+    lawful = subst IsLawful (sym is) (lawful-after (facts_in now) x place at are.lawful reserving (ordered now are.lawful));
+    same = ap (expire_due clock) is ∙ due-after (facts_in now) x place at are.lawful reserving (ordered now are.lawful) clock (grind (arith, due)) ∙ are.same;
+    len = length-set now place (x, true) ∙ are.len;
+    done = subst (λ (facts : Facts). (p : ℕ) (t : Transfer) → p < place + 1 → slice_get facts.transfers p ≡ Some t → (is_reserving facts t && is_due clock t) ≡ false) (sym is) done;
+  }
+    where
+      reserving : is_reserving (facts_in now) x ≡ true
+      reserving = grind (arith, due)
 
-pub facts_of-expired : (clock : ℕ) (lists : Lists) → IsLawful (facts_of lists) →
-    facts_of (record lists { rows = with_expiries clock (transfers_in lists.rows) lists.rows }) ≡ expire_due clock (facts_of lists)
-facts_of-expired clock lists lawful =
-    let transfers = transfers-with_expiries clock (transfers_in lists.rows) lists.rows in
-    let expired = expired-with_expiries clock (facts_of lists) lists.rows (marked lists.rows lawful.distinct) in
-    λ i. record { accounts = lists.accounts; transfers = transfers i; expired = expired i; failed = lists.failed }
+      is : facts_in (set now place (x, true)) ≡ expire_one x.id (facts_in now)
+      is =
+          let transfers = transfers-set now place x true at in
+          let expired = expired-set (λ t. is_expired (facts_in now) t.id || (x.id == t.id)) now place x at
+          (λ p row at'. cc (mark-is now p row are.lawful.distinct at', one-place (transfers_in now) place p x row.0 are.lawful.distinct at (transfer-at now p row at'))) in
+          λ i. record (facts_in now) { transfers = transfers i; expired = expired i }
 
--- ---- which are lawful
+      done : (p : ℕ) (t : Transfer) → p < place + 1 → slice_get (transfers_in now) p ≡ Some t → (is_reserving (expire_one x.id (facts_in now)) t && is_due clock t) ≡ false
+      done p t below at' =
+          let after = reserving-after (facts_in now) x place at are.lawful reserving (ordered now are.lawful) t in
+          let here = one-place (transfers_in now) place p x t are.lawful.distinct at at' in
+          by (place == p) refl after here
+        where
+          by : (b : Bool) → (place == p) ≡ b → is_reserving (expire_one x.id (facts_in now)) t ≡ (is_reserving (facts_in now) t && not (x.id == t.id)) → (x.id == t.id) ≡ (place == p) → (is_reserving (expire_one x.id (facts_in now)) t && is_due clock t) ≡ false
+          by true e after here = grind (arith, after, here, e)
+          by false e after here = let less : p < place = grind (arith, nat_tests, e) in grind (arith, after, are.done p t less at')
 
--- a transfer of the list that passes a test is found among the ids of those that do
-abbrev IsFound : (Transfer → Bool) → List Transfer → Transfer → Type 0
-IsFound test xs t = test t ≡ true → list_any (λ x. x == t.id) (map (λ (y : Transfer). y.id) (filter test xs)) ≡ true
+  pub passed : (is_reserving (facts_in now) x && is_due clock x) ≡ false → AreMarked clock old now (place + 1)
+  passed not_due = record { lawful = are.lawful; same = are.same; len = are.len; done = λ p t below at'. by p t below at' (place == p) refl }
+    where
+      by : (p : ℕ) (t : Transfer) → p < place + 1 → slice_get (transfers_in now) p ≡ Some t → (b : Bool) → (place == p) ≡ b → (is_reserving (facts_in now) t && is_due clock t) ≡ false
+      by p t below at' true e = let same : x ≡ t = cc (at, at', ap (slice_get (transfers_in now)) (eqb-true place p e)) in ap (λ y. is_reserving (facts_in now) y && is_due clock y) (sym same) ∙ not_due
+      by p t below at' false e = are.done p t (grind (arith, nat_tests, e)) at'
 
-found-more : (test : Transfer → Bool) (x : Transfer) (xs ys : List Transfer) → AllByRecursion (IsFound test xs) ys → AllByRecursion (IsFound test (x ∷ xs)) ys
-found-more test x xs [] all = tt
-found-more test x xs (y ∷ ys) all = (λ passes. grind (arith, all.0 passes), found-more test x xs ys all.1)
-
-found-all : (test : Transfer → Bool) (xs : List Transfer) → AllByRecursion (IsFound test xs) xs
-found-all test [] = tt
-found-all test (x ∷ xs) = (λ passes. grind (arith, nat_tests), found-more test x xs xs (found-all test xs))
-
--- whoever reserves its amount afterwards did so before
-reserves-less : (side : Transfer → ℕ) (clock : ℕ) (facts : Facts) (id : ℕ) (xs : List Transfer) → AllByRecursion (IsFound (expires clock facts) facts.transfers) xs →
-    AllByRecursion (λ x. amount_if (reserves side (expire_due clock facts) id) x ≤ amount_if (reserves side facts id) x) xs
-reserves-less side clock facts id [] all = tt
-reserves-less side clock facts id (x ∷ xs) all =
-    (by (is_pending x) (is_resolved facts x.id) (is_expired facts x.id) (is_reserving facts x && is_due clock x) (side x == id) (is_expired (expire_due clock facts) x.id) all.0, reserves-less side clock facts id xs all.1)
-  where
-    by : (p r e d s f : Bool) → ((e || d) ≡ true → f ≡ true) → (if (p && not r && not f) && s then x.amount else 0) ≤ (if (p && not r && not e) && s then x.amount else 0)
-    by p r e d s f h = grind arith
-
-total-less : (side : Transfer → ℕ) (clock : ℕ) (facts : Facts) (id : ℕ) → total side (expire_due clock facts) id ≤ total side facts id
-total-less side clock facts id =
-    omega (arith, amounts-most (reserves side facts id) (reserves side (expire_due clock facts) id) facts.transfers (reserves-less side clock facts id facts.transfers (found-all (expires clock facts) facts.transfers)))
-
-pub expire_due_lawful : (clock : ℕ) (facts : Facts) → IsLawful facts → IsLawful (expire_due clock facts)
-expire_due_lawful clock facts lawful = record {
-  distinct = lawful.distinct;
-  debits_fit = λ id. omega (arith, total-less (λ x. x.debit_account_id) clock facts id, lawful.debits_fit id);
-  credits_fit = λ id. omega (arith, total-less (λ x. x.credit_account_id) clock facts id, lawful.credits_fit id);
-}
-
--- ---- the history then
-
-expired_history : (clock : ℕ) {T : Type 0} (changes : List (Change T)) (lists : Lists) (rows : List (Transfer × Bool)) → (plain_history changes lists).past ≡ [] → rows ≡ with_expiries clock (transfers_in lists.rows) lists.rows → IsLawful (facts_of lists) →
-    plain_history changes (record lists { rows = rows }) ≡ record { now = expire_due clock (facts_of lists); past = [] }
-expired_history clock [] lists rows none is lawful =
-    ap (λ (facts : Facts). record { now = facts; past = [] }) (ap (λ rs. facts_of (record lists { rows = rs })) is ∙ facts_of-expired clock lists lawful)
-expired_history clock (change ∷ changes) lists rows none is lawful = cc
-
-pub history_expired : (clock : ℕ) {T : Type 0} (changes : List (Change T)) (lists : Lists) (rows : List (Transfer × Bool)) → (plain_history changes lists).past ≡ [] → rows ≡ with_expiries clock (transfers_in lists.rows) lists.rows → AreLawful (plain_history changes lists) →
-    (plain_history changes (record lists { rows = rows }) ≡ record { now = expire_due clock (facts_of lists); past = [] }) × AreLawful (plain_history changes (record lists { rows = rows }))
-history_expired clock changes lists rows none is all =
-    let e = expired_history clock changes lists rows none is all.now in
-    (e, subst AreLawful (sym e) (record { now = expire_due_lawful clock (facts_of lists) all.now; past = tt }))
+pub all-marked : (clock : ℕ) (old now : Rows) (place : ℕ) → length old ≤ place → AreMarked clock old now place → facts_in now ≡ expire_due clock (facts_in old)
+all-marked clock old now place past are =
+    sym (none-left clock (facts_in now) (ordered now are.lawful) (λ p t at. are.done p t (omega (arith, are.len, slice_get_within (transfers_in now) p t at, length-map now (λ (row : Transfer × Bool). row.0))) at)) ∙ are.same

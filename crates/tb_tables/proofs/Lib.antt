@@ -5,7 +5,6 @@ mod Laws
 mod Rows
 mod Owed
 mod Expiring
-mod Marking
 pub mod Stored
 pub mod Raising
 pub mod Indexing

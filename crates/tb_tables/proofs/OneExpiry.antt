@@ -37,6 +37,12 @@ filter-at f g (x ∷ xs) same = grind (arith, same 0 x refl, filter-at f g xs (�
 abbrev pub expires : ℕ → Facts → Transfer → Bool
 expires clock facts transfer = is_expired facts transfer.id || (is_reserving facts transfer && is_due clock transfer)
 
+-- where none that reserves its amount is due, none is left to expire
+pub none-left : (clock : ℕ) (facts : Facts) → facts.expired ≡ map (λ (t : Transfer). t.id) (filter (λ t. is_expired facts t.id) facts.transfers) →
+    ((p : ℕ) (y : Transfer) → slice_get facts.transfers p ≡ Some y → (is_reserving facts y && is_due clock y) ≡ false) → expire_due clock facts ≡ facts
+none-left clock facts ordered none =
+    λ i. record facts { expired = (ap (map (λ (t : Transfer). t.id)) (filter-at (expires clock facts) (λ (t : Transfer). is_expired facts t.id) facts.transfers (λ p y at. grind (arith, none p y at))) ∙ sym ordered) i }
+
 -- ---- one transfer more has expired
 
 amounts-same : (test other : Transfer → Bool) (xs : List Transfer) → ((y : Transfer) → test y ≡ other y) → amounts test xs ≡ amounts other xs
@@ -50,7 +56,7 @@ module _ (facts : Facts) (x : Transfer) (place : ℕ) (at : slice_get facts.tran
   pub more : (id : ℕ) → is_expired after id ≡ (is_expired facts id || (x.id == id))
   more id = grind (arith, nat_tests, ids-found (λ k. is_expired facts k || (x.id == k)) id facts.transfers, expired-is facts ordered id, has_id-at id facts.transfers place x at)
 
-  reserving-after : (y : Transfer) → is_reserving after y ≡ (is_reserving facts y && not (x.id == y.id))
+  pub reserving-after : (y : Transfer) → is_reserving after y ≡ (is_reserving facts y && not (x.id == y.id))
   reserving-after y = grind (arith, more y.id)
 
   reserves-after : (side : Transfer → ℕ) (id : ℕ) (y : Transfer) → reserves side after id y ≡ but_for x.id (reserves side facts id) y
