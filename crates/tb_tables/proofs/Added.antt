@@ -1,18 +1,6 @@
 -- What one plain or pending transfer more changes of sums and statuses.
-use Rattle.std.proofs.Common.{refl, ap, arith, ◌≡◌, ℕ, ◌+◌, Bool, true, false, not, List, [], ◌∷◌}
-use Rattle.std.specs.Prelude.{if◌then◌else◌, ◌==◌, ◌&&◌, Some, None}
-use Rattle.std.specs.List.{list_any, AllByRecursion}
-use Rattle.std.proofs.lemmas.Bool.Decides.{nat_tests}
-use Rattle.tb_layout.specs.declared.account.Account.{Account}
-use Rattle.tb_layout.specs.declared.transfer.Transfer.{Transfer}
-use Rattle.tb_layout.specs.Transfer.{is_pending, is_post, is_void, is_resolving}
-use Rattle.tb_tables.specs.Facts.{Facts, is_expired, add_transfer}
-use Rattle.tb_tables.specs.Status.{is_resolved, is_reserving, status_of, status_in}
-use Rattle.tb_tables.specs.Conditions.{MayAdd}
-use Rattle.tb_tables.specs.Lawful.{has_id}
-use Rattle.tb_tables.specs.Sums.{Sums, sums_of, with_sums, with_amount, account_rows}
-use Rattle.tb_tables.specs.Kept.{IsGrounded, AreGrounded}
-use Rattle.tb_tables.specs.declared.status.Status.TheVariants.{Pending}
+use Rattle.std.proofs.Common.{refl, ap, arith, ◌≡◌, ℕ, ◌+◌, Bool, true, false, not, List, [], ◌∷◌, if◌then◌else◌, ◌==◌, ◌&&◌, Some, None}
+use Rattle.tb_tables.proofs.Words.{list_any, AllByRecursion, nat_tests, Account, Transfer, is_pending, is_post, is_void, is_resolving, Facts, is_expired, add_transfer, is_resolved, is_reserving, status_of, status_in, MayAdd, has_id, Sums, sums_of, with_sums, with_amount, account_rows, IsGrounded, AreGrounded, Pending}
 use Rattle.tb_tables.proofs.Stored.{map-same}
 use Rattle.tb_tables.proofs.Sums.{amounts, amounts-push}
 use Rattle.tb_tables.proofs.Laws.{find-none, reserves, posts, any-push, resolved_either, reserving-same, reserves-same}

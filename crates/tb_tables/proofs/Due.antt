@@ -1,23 +1,7 @@
 -- All that is due expires.
-use Rattle.std.proofs.Common.{refl, sym, ap, subst, ◌∙◌, arith, ◌≡◌, ℕ, ◌<◌, ◌≤◌, Bool, true, false, not, List, map, nat_eq, slice_get, true≢false}
-use Rattle.std.specs.Prelude.{◌&&◌, Option, Some, None}
-use Rattle.std.specs.Option.{option_map}
-use Rattle.std.specs.List.{IsDistinct}
-use Rattle.std.specs.Map.{keys_of}
-use Rattle.std.proofs.lemmas.Bool.Decides.{nat_tests}
+use Rattle.std.proofs.Common.{refl, sym, ap, subst, ◌∙◌, arith, ◌≡◌, ℕ, ◌<◌, ◌≤◌, Bool, true, false, not, List, map, nat_eq, slice_get, true≢false, ◌&&◌, Option, Some, None, option_map}
 use Rattle.std.proofs.lemmas.Option.{slice_get-map}
-use Rattle.indexmap.specs.IndexMap.{set_value_at}
-use Rattle.tb_layout.specs.declared.account.Account.{Account}
-use Rattle.tb_layout.specs.declared.transfer.Transfer.{Transfer}
-use Rattle.tb_tables.specs.Facts.{Facts, is_expired}
-use Rattle.tb_tables.specs.Status.{expire_due, is_reserving, is_due, expires_at}
-use Rattle.tb_tables.specs.Expiries.{same_pair}
-use Rattle.tb_tables.specs.Sums.{sums_of, with_amount, account_rows, AreAt, CanTake}
-use Rattle.tb_tables.specs.Kept.{row_in, transfer_rows, is_timed, is_pair_of, expects, IsGrounded, Hold, IsSound, AreHeld}
-use Rattle.tb_tables.specs.Storing.{is_open_status, CanExpire, expire_one}
-use Rattle.tb_tables.specs.declared.places.Places.{Places}
-use Rattle.tb_tables.specs.declared.row.Row.{Row}
-use Rattle.tb_tables.specs.declared.status.Status.TheVariants.{Expired}
+use Rattle.tb_tables.proofs.Words.{IsDistinct, keys_of, nat_tests, set_value_at, Account, Transfer, Facts, is_expired, expire_due, is_reserving, is_due, expires_at, same_pair, sums_of, with_amount, account_rows, AreAt, CanTake, row_in, transfer_rows, is_timed, is_pair_of, expects, IsGrounded, Hold, IsSound, AreHeld, is_open_status, CanExpire, expire_one, Places, Row, Expired}
 use Rattle.tb_tables.proofs.Laws.{resolved_either}
 use Rattle.tb_tables.proofs.Added.{rows-same}
 use Rattle.tb_tables.proofs.Forgetting.{all-there}

@@ -1,14 +1,7 @@
 -- Which pairs are those of a transfer, and which the index has to have, after one transfer more.
-use Rattle.std.proofs.Common.{refl, sym, ap, ◌∙◌, arith, ◌≡◌, ℕ, Bool, true, false, List, [], ◌∷◌, ◌++◌, length, slice_get, zero, suc}
-use Rattle.std.specs.Prelude.{if◌then◌else◌, ◌==◌, ◌&&◌, ◌||◌, Option, Some, None}
+use Rattle.std.proofs.Common.{refl, sym, ap, ◌∙◌, arith, ◌≡◌, ℕ, Bool, true, false, List, [], ◌∷◌, ◌++◌, length, slice_get, zero, suc, if◌then◌else◌, ◌==◌, ◌&&◌, ◌||◌, Option, Some, None}
 use Rattle.std.proofs.lemmas.Bool.{eqb-true}
-use Rattle.std.proofs.lemmas.Bool.Decides.{nat_tests}
-use Rattle.tb_layout.specs.declared.transfer.Transfer.{Transfer}
-use Rattle.tb_tables.specs.Facts.{Facts, add_transfer}
-use Rattle.tb_tables.specs.Status.{is_reserving, expires_at}
-use Rattle.tb_tables.specs.Lawful.{has_id, ids_distinct}
-use Rattle.tb_tables.specs.Expiries.{same_pair}
-use Rattle.tb_tables.specs.Kept.{is_timed, is_pair_of, is_pair, reserves_at, expects}
+use Rattle.tb_tables.proofs.Words.{nat_tests, Transfer, Facts, add_transfer, is_reserving, expires_at, has_id, ids_distinct, same_pair, is_timed, is_pair_of, is_pair, reserves_at, expects}
 
 pub slice_get-push : {X : Type 0} (xs : List X) (x : X) (place : ℕ) → slice_get (xs ++ x ∷ []) place ≡ (if place == length xs then Some x else slice_get xs place)
 slice_get-push [] x zero = refl

@@ -1,17 +1,10 @@
 -- Rows of the plain lists, of which some are marked as expired.
-use Rattle.std.proofs.Common.{refl, sym, ap, subst, ◌∙◌, arith, ◌≡◌, ℕ, ◌<◌, ◌≤◌, ◌+◌, Bool, true, false, not, List, [], ◌∷◌, map, filter, slice_get, get_or, set, length, zero, suc}
-use Rattle.std.specs.Prelude.{◌==◌, ◌&&◌, ◌||◌, Some}
-use Rattle.std.specs.List.{list_any}
+use Rattle.std.proofs.Common.{refl, sym, ap, subst, ◌∙◌, arith, ◌≡◌, ℕ, ◌<◌, ◌≤◌, ◌+◌, Bool, true, false, not, List, [], ◌∷◌, map, filter, slice_get, get_or, set, length, zero, suc, ◌==◌, ◌&&◌, ◌||◌, Some}
 use Rattle.std.proofs.lemmas.Bool.{eqb-true}
-use Rattle.std.proofs.lemmas.Bool.Decides.{nat_tests}
 use Rattle.std.proofs.lemmas.List.{length-map, length-set}
 use Rattle.std.proofs.lemmas.Option.{slice_get-get_or, slice_get_within}
-use Rattle.tb_layout.specs.declared.transfer.Transfer.{Transfer}
-use Rattle.tb_tables.specs.Facts.{Facts, is_expired}
-use Rattle.tb_tables.specs.Status.{is_reserving, is_due, expire_due}
-use Rattle.tb_tables.specs.Lawful.{IsLawful, has_id, ids_distinct}
+use Rattle.tb_tables.proofs.Words.{list_any, nat_tests, Transfer, Facts, is_expired, is_reserving, is_due, expire_due, IsLawful, has_id, ids_distinct, expire_one}
 use Rattle.tb_tables.specs.Plain.{facts_in, transfers_in, expired_in}
-use Rattle.tb_tables.specs.Storing.{expire_one}
 use Rattle.tb_tables.proofs.Expecting.{has_id-at, one-place}
 use Rattle.tb_tables.proofs.OneExpiry.{reserving-after, lawful-after, due-after, none-left}
 

@@ -1,23 +1,10 @@
 -- The pairs of resolved transfers leave the index.
-use Rattle.std.proofs.Common.{refl, sym, ap, subst, ◌∙◌, arith, ◌≡◌, ℕ, ◌+◌, ◌<◌, ◌≤◌, ◌^◌, Bool, true, false, not, List, [], ◌∷◌, ◌++◌, ◌-◌, take, length, get_or, slice_get, zero, suc, true≢false}
-use Rattle.std.specs.Prelude.{◌==◌, ◌&&◌, ◌||◌, Option, Some, None}
-use Rattle.std.specs.Option.{option_map}
-use Rattle.std.specs.List.{AllByRecursion}
+use Rattle.std.proofs.Common.{refl, sym, ap, subst, ◌∙◌, arith, ◌≡◌, ℕ, ◌+◌, ◌<◌, ◌≤◌, ◌^◌, Bool, true, false, not, List, [], ◌∷◌, ◌++◌, ◌-◌, take, length, get_or, slice_get, zero, suc, true≢false, ◌==◌, ◌&&◌, ◌||◌, Option, Some, None, option_map}
 use Rattle.std.proofs.lemmas.Bool.{eqb-true}
-use Rattle.std.proofs.lemmas.Bool.Decides.{nat_tests}
 use Rattle.std.proofs.lemmas.List.Folds.{list_any-append}
 use Rattle.std.proofs.lemmas.Option.{slice_get-map}
 use Rattle.std.proofs.Math.Seq.{take-suc}
-use Rattle.tb_layout.specs.declared.transfer.Transfer.{Transfer}
-use Rattle.tb_tables.specs.Facts.{Facts}
-use Rattle.tb_tables.specs.Status.{expires_at}
-use Rattle.tb_tables.specs.Changes.{before, oldest}
-use Rattle.tb_tables.specs.Expiries.{same_pair}
-use Rattle.tb_tables.specs.Kept.{Stored, facts_of, row_in, is_timed, names_place, is_spent, IsGrounded, MayStore, WasMade, AreUndoable, IsKept, resolves_at, is_resolved_at}
-use Rattle.tb_tables.specs.Storing.{is_open_status, IsForgettable, CanForget}
-use Rattle.tb_tables.specs.declared.places.Places.{Places}
-use Rattle.tb_tables.specs.declared.row.Row.{Row}
-use Rattle.tb_tables.specs.declared.change.Change.{Change}
+use Rattle.tb_tables.proofs.Words.{AllByRecursion, nat_tests, Transfer, Facts, expires_at, before, oldest, same_pair, Stored, facts_of, row_in, is_timed, names_place, is_spent, IsGrounded, MayStore, WasMade, AreUndoable, IsKept, resolves_at, is_resolved_at, is_open_status, IsForgettable, CanForget, Places, Row, Change}
 use Rattle.tb_tables.specs.declared.change.Change.TheVariants.{Account, Failed, Transfer as WasTransfer}
 use Rattle.tb_tables.proofs.Laws.{resolved_either}
 

@@ -1,12 +1,7 @@
 -- The history after a change, and after one is taken back.
 use Rattle.std.proofs.Common.{refl, sym, ap, subst, ◌∙◌, arith, ◌≡◌, ◌-◌, List, [], ◌∷◌, ◌++◌, length, take, length-append, suc}
-use Rattle.std.specs.List.{AllByRecursion}
 use Rattle.std.proofs.Math.Seq.{take-append_seam}
-use Rattle.tb_tables.specs.Facts.{Facts}
-use Rattle.tb_tables.specs.History.{History, with_change}
-use Rattle.tb_tables.specs.Lawful.{IsLawful, AreLawful}
-use Rattle.tb_tables.specs.Changes.{without_last, oldest, past_of, history_of}
-use Rattle.tb_tables.specs.declared.change.Change.{Change}
+use Rattle.tb_tables.proofs.Words.{AllByRecursion, Facts, History, with_change, IsLawful, AreLawful, without_last, oldest, past_of, history_of, Change}
 
 pub without_last-push : {X : Type 0} (xs : List X) (x : X) → without_last (xs ++ x ∷ []) ≡ xs
 without_last-push xs x =

@@ -1,10 +1,7 @@
 -- Pairs of the index of expiries.
-use Rattle.std.proofs.Common.{arith, ap, ◌≡◌, ℕ, ◌≤◌, Bool, true, false, not, cond, is_eq, is_gt}
-use Rattle.std.specs.Prelude.{◌&&◌, ◌||◌}
+use Rattle.std.proofs.Common.{arith, ap, ◌≡◌, ℕ, ◌≤◌, Bool, true, false, not, cond, is_eq, is_gt, ◌&&◌, ◌||◌}
 use Rattle.std.specs.BTreeSet.{BTreeSet}
-use Rattle.std.specs.List.{list_any}
-use Rattle.std.proofs.lemmas.Bool.Decides.{nat_tests}
-use Rattle.tb_tables.specs.Expiries.{pair_cmp, is_indexed, same_pair}
+use Rattle.tb_tables.proofs.Words.{list_any, nat_tests, pair_cmp, is_indexed, same_pair}
 
 pair-eq : (moment place m p : ℕ) → is_eq (pair_cmp (moment, place) (m, p)) ≡ same_pair moment place m p
 pair-eq moment place m p = grind (arith, nat_tests)

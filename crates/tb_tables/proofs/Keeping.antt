@@ -1,19 +1,7 @@
 -- What the maps hold is what is seen, and what can be undone stays so.
-use Rattle.std.proofs.Common.{refl, sym, ap, subst, arith, ◌∙◌, ◌≡◌, ℕ, ◌<◌, ◌≤◌, ◌-◌, Bool, true, List, [], ◌∷◌, ◌++◌, map, filter, take, length, slice_get, zero, suc, true≢false}
-use Rattle.std.specs.Prelude.{◌&&◌, Option, Some, None}
-use Rattle.std.specs.List.{AllByRecursion}
+use Rattle.std.proofs.Common.{refl, sym, ap, subst, arith, ◌∙◌, ◌≡◌, ℕ, ◌<◌, ◌≤◌, ◌-◌, Bool, true, List, [], ◌∷◌, ◌++◌, map, filter, take, length, slice_get, zero, suc, true≢false, ◌&&◌, Option, Some, None}
 use Rattle.std.proofs.lemmas.Option.{slice_get_within}
-use Rattle.tb_layout.specs.declared.account.Account.{Account as AccountRecord}
-use Rattle.tb_layout.specs.declared.transfer.Transfer.{Transfer as TransferRecord}
-use Rattle.tb_tables.specs.Facts.{Facts, is_expired}
-use Rattle.tb_tables.specs.Status.{status_in}
-use Rattle.tb_tables.specs.Changes.{before, oldest}
-use Rattle.tb_tables.specs.Conditions.{HasNoBalances}
-use Rattle.tb_tables.specs.Sums.{Sums, sums_of, with_sums, account_rows}
-use Rattle.tb_tables.specs.Kept.{Stored, account_made, has_expired, facts_of, history_in, transfer_rows, is_pair_of, reserves_at, IsSound, AreHeld, WasMade, IsUndoable, AreUndoable, AreKept, IsKept}
-use Rattle.tb_tables.specs.declared.places.Places.{Places}
-use Rattle.tb_tables.specs.declared.row.Row.{Row}
-use Rattle.tb_tables.specs.declared.change.Change.{Change}
+use Rattle.tb_tables.proofs.Words.{AllByRecursion, Account as AccountRecord, Transfer as TransferRecord, Facts, is_expired, status_in, before, oldest, HasNoBalances, Sums, sums_of, with_sums, account_rows, Stored, account_made, has_expired, facts_of, history_in, transfer_rows, is_pair_of, reserves_at, IsSound, AreHeld, WasMade, IsUndoable, AreUndoable, AreKept, IsKept, Places, Row, Change}
 use Rattle.tb_tables.specs.declared.change.Change.TheVariants.{Account, Transfer, Failed}
 use Rattle.tb_tables.proofs.Laws.{resolved_either}
 use Rattle.tb_tables.proofs.Histories.{oldest-push}

@@ -1,17 +1,7 @@
 -- The facts stay lawful with each change.
-use Rattle.std.proofs.Common.{refl, ap, ◌∙◌, arith, ◌≡◌, ℕ, ◌+◌, ◌<◌, ◌≤◌, ◌^◌, Bool, true, false, not, List, [], ◌∷◌, ◌++◌}
-use Rattle.std.specs.Prelude.{if◌then◌else◌, ◌==◌, ◌&&◌, ◌||◌, None, find}
-use Rattle.std.specs.List.{list_any}
-use Rattle.std.proofs.lemmas.Bool.Decides.{nat_tests}
+use Rattle.std.proofs.Common.{refl, ap, ◌∙◌, arith, ◌≡◌, ℕ, ◌+◌, ◌<◌, ◌≤◌, ◌^◌, Bool, true, false, not, List, [], ◌∷◌, ◌++◌, if◌then◌else◌, ◌==◌, ◌&&◌, ◌||◌, None, find}
 use Rattle.std.proofs.lemmas.List.Folds.{list_any-append}
-use Rattle.tb_layout.specs.declared.transfer.Transfer.{Transfer}
-use Rattle.tb_layout.specs.Transfer.{is_pending, is_post, is_void, is_resolving}
-use Rattle.tb_tables.specs.Facts.{Facts, is_expired, add_transfer}
-use Rattle.tb_tables.specs.Status.{is_posted, is_voided, is_resolved, is_reserving}
-use Rattle.tb_tables.specs.declared.status.Status.TheVariants.{Pending, Posted, Voided, Expired}
-use Rattle.tb_tables.specs.Balances.{is_posting}
-use Rattle.tb_tables.specs.Conditions.{MayAdd, MayResolve}
-use Rattle.tb_tables.specs.Lawful.{IsLawful, has_id, ids_distinct}
+use Rattle.tb_tables.proofs.Words.{list_any, nat_tests, Transfer, is_pending, is_post, is_void, is_resolving, Facts, is_expired, add_transfer, is_posted, is_voided, is_resolved, is_reserving, Pending, Posted, Voided, Expired, is_posting, MayAdd, MayResolve, IsLawful, has_id, ids_distinct}
 use Rattle.tb_tables.proofs.Finding.{found-id}
 use Rattle.tb_tables.proofs.Sums.{amount_if, amounts, amounts-push, but_for, but_for-found}
 

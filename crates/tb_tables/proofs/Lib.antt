@@ -1,3 +1,4 @@
+pub mod Words
 pub mod Histories
 pub mod Finding
 mod Sums

@@ -1,26 +1,10 @@
 -- Look-ups in the maps.
-use Rattle.std.proofs.Common.{refl, sym, ap, subst, ◌∙◌, ◌≡◌, ℕ, Bool, true, false, cond, List, [], ◌∷◌, map, nat_eq, slice_get, length, zero, suc, arith, ◌+◌, ◌<◌, lt-ltb, le-ltb, not}
-use Rattle.std.specs.Prelude.{◌==◌, Option, Some, None, IsSome, find, nat_lt}
-use Rattle.std.specs.List.{position, position_or_len}
-use Rattle.std.specs.Option.{option_map}
-use Rattle.std.specs.Map.{keys_of, lookup}
-use Rattle.std.proofs.lemmas.Bool.Decides.{nat_tests}
+use Rattle.std.proofs.Common.{refl, sym, ap, subst, ◌∙◌, ◌≡◌, ℕ, Bool, true, false, cond, List, [], ◌∷◌, map, nat_eq, slice_get, length, zero, suc, arith, ◌+◌, ◌<◌, lt-ltb, le-ltb, not, ◌==◌, Option, Some, None, IsSome, find, nat_lt, option_map}
 use Rattle.std.proofs.lemmas.List.{length-map}
-use Rattle.tb_layout.specs.declared.account.Account.{Account}
-use Rattle.tb_layout.specs.declared.transfer.Transfer.{Transfer}
-use Rattle.tb_tables.specs.Facts.{Facts, account_with, IsPlaceOf, transfer_with}
-use Rattle.tb_tables.specs.Status.{status_with}
-use Rattle.tb_tables.specs.Conditions.{MayResolve}
-use Rattle.tb_tables.specs.Lawful.{IsLawful, ids_distinct}
-use Rattle.tb_tables.specs.Sums.{sums_of, with_sums, AreAt}
-use Rattle.tb_tables.specs.Kept.{Hold, AreGrounded, row_in, MayPost}
-use Rattle.tb_tables.specs.declared.places.Places.{Places}
-use Rattle.tb_tables.specs.declared.row.Row.{Row}
-use Rattle.tb_tables.specs.declared.status.Status.{Status}
+use Rattle.tb_tables.proofs.Words.{position, position_or_len, keys_of, lookup, nat_tests, Account, Transfer, Facts, account_with, IsPlaceOf, transfer_with, status_with, MayResolve, IsLawful, ids_distinct, sums_of, with_sums, AreAt, Hold, AreGrounded, row_in, MayPost, Places, Row, Status, has_account, IsGrounded}
 use Rattle.tb_tables.proofs.Laws.{==_swap}
 use Rattle.tb_tables.proofs.Stored.{lookup-rows, made-at}
 use Rattle.tb_tables.proofs.Grounding.{all-found}
-use Rattle.tb_tables.specs.Kept.{has_account, IsGrounded}
 use Rattle.tb_tables.proofs.Expecting.{has_id-at}
 
 keys-map : {X V : Type 0} (key : X → ℕ) (made : X → V) (xs : List X) → keys_of (map (λ x. (key x, made x)) xs) ≡ map key xs

@@ -1,23 +1,8 @@
 -- A transfer expires: sums, statuses, and the index of expiries.
-use Rattle.std.proofs.Common.{refl, sym, ap, ◌∙◌, arith, ◌≡◌, ℕ, ◌+◌, Bool, true, false, not, List, [], ◌∷◌, map, filter, subst, nat_eq, slice_get, zero, suc}
-use Rattle.std.specs.Prelude.{if◌then◌else◌, ◌==◌, ◌&&◌, ◌||◌, Option, Some, None, find}
-use Rattle.std.specs.List.{IsDistinct}
-use Rattle.std.specs.Map.{keys_of}
+use Rattle.std.proofs.Common.{refl, sym, ap, ◌∙◌, arith, ◌≡◌, ℕ, ◌+◌, Bool, true, false, not, List, [], ◌∷◌, map, filter, subst, nat_eq, slice_get, zero, suc, if◌then◌else◌, ◌==◌, ◌&&◌, ◌||◌, Option, Some, None, find}
 use Rattle.std.proofs.lemmas.Bool.{eqb-true}
-use Rattle.std.proofs.lemmas.Bool.Decides.{nat_tests}
-use Rattle.indexmap.specs.IndexMap.{set_value_at}
-use Rattle.tb_layout.specs.declared.transfer.Transfer.{Transfer}
-use Rattle.tb_tables.specs.Facts.{Facts, is_expired}
-use Rattle.tb_tables.specs.Status.{is_due, expire_due, is_resolved, is_reserving, expires_at}
-use Rattle.tb_layout.specs.Transfer.{is_pending}
-use Rattle.tb_tables.specs.Lawful.{IsLawful, ids_distinct}
-use Rattle.tb_tables.specs.Storing.{expire_one}
 use Rattle.std.proofs.lemmas.List.Elements.{filter_agree}
-use Rattle.tb_tables.specs.Expiries.{same_pair}
-use Rattle.tb_tables.specs.Sums.{sums_of, with_amount}
-use Rattle.tb_tables.specs.Kept.{row_in, transfer_rows, is_pair_of, reserves_at, expects, IsSound}
-use Rattle.tb_tables.specs.declared.row.Row.{Row}
-use Rattle.tb_tables.specs.declared.status.Status.TheVariants.{Expired}
+use Rattle.tb_tables.proofs.Words.{IsDistinct, keys_of, nat_tests, set_value_at, Transfer, Facts, is_expired, is_due, expire_due, is_resolved, is_reserving, expires_at, is_pending, IsLawful, ids_distinct, expire_one, same_pair, sums_of, with_amount, row_in, transfer_rows, is_pair_of, reserves_at, expects, IsSound, Row, Expired}
 use Rattle.tb_tables.proofs.Sums.{amount_if, amounts, amounts-each, sum_by-same, but_for, but_for-found}
 use Rattle.tb_tables.proofs.Laws.{==_swap, reserves, resolved_either}
 use Rattle.tb_tables.proofs.Stored.{rows-set}

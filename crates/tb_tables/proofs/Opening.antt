@@ -1,25 +1,10 @@
 -- Accounts and failed ids, added and taken back.
-use Rattle.std.proofs.Common.{arith, refl, sym, ap, subst, ◌∙◌, ◌≡◌, ℕ, ◌-◌, Bool, true, false, List, [], ◌∷◌, ◌++◌, map, take, length}
-use Rattle.std.specs.Prelude.{◌==◌, ◌&&◌, None, find}
-use Rattle.std.specs.List.{AllByRecursion}
-use Rattle.std.proofs.lemmas.Bool.Decides.{nat_tests}
+use Rattle.std.proofs.Common.{arith, refl, sym, ap, subst, ◌∙◌, ◌≡◌, ℕ, ◌-◌, Bool, true, false, List, [], ◌∷◌, ◌++◌, map, take, length, ◌==◌, ◌&&◌, None, find}
 use Rattle.std.proofs.lemmas.List.{map-append, length-map, take-map}
-use Rattle.tb_layout.specs.declared.account.Account.{Account as AccountRecord}
-use Rattle.tb_layout.specs.declared.transfer.Transfer.{Transfer as TransferRecord}
-use Rattle.tb_tables.specs.Facts.{Facts, account_with, add_account, add_failed}
-use Rattle.tb_tables.specs.Status.{is_reserving}
-use Rattle.tb_tables.specs.Balances.{is_posting}
-use Rattle.tb_tables.specs.Conditions.{HasNoBalances}
-use Rattle.tb_tables.specs.History.{with_change}
-use Rattle.tb_tables.specs.Changes.{without_last, before}
-use Rattle.tb_tables.specs.Sums.{sums_of, with_sums, account_rows}
-use Rattle.tb_tables.specs.Kept.{Stored, facts_of, history_in, has_account, IsGrounded, AreGrounded, AreHeld, AreUndoable, IsKept}
-use Rattle.tb_tables.specs.declared.places.Places.{Places}
-use Rattle.tb_tables.specs.declared.change.Change.{Change}
+use Rattle.tb_tables.proofs.Words.{AllByRecursion, nat_tests, Account as AccountRecord, Transfer as TransferRecord, Facts, account_with, add_account, add_failed, is_reserving, is_posting, HasNoBalances, with_change, without_last, before, sums_of, with_sums, account_rows, Stored, facts_of, history_in, has_account, IsGrounded, AreGrounded, AreHeld, AreUndoable, IsKept, Places, Change, Row}
 use Rattle.tb_tables.specs.declared.change.Change.TheVariants.{Account, Failed}
 use Rattle.tb_tables.proofs.Sums.{amounts}
 use Rattle.tb_tables.proofs.Grounding.{grounded_account}
-use Rattle.tb_tables.specs.declared.row.Row.{Row}
 use Rattle.tb_tables.proofs.Keeping.{keeps, undoable-push, undoable-pop}
 use Rattle.tb_tables.proofs.Histories.{all_push, history_of-push, history_of-pop, without_last-push}
 

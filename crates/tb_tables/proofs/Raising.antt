@@ -1,15 +1,7 @@
 -- A balance of one account raised or lowered among the accounts' rows.
-use Rattle.std.proofs.Common.{sym, ap, ◌∙◌, arith, ◌≡◌, ℕ, ◌+◌, ◌<◌, ◌≤◌, ◌^◌, Bool, false, List, nat_eq, slice_get, Some}
-use Rattle.std.specs.Prelude.{◌==◌}
-use Rattle.std.specs.Option.{option_map}
-use Rattle.std.specs.List.{IsDistinct}
-use Rattle.std.specs.Map.{keys_of}
-use Rattle.std.proofs.lemmas.Bool.Decides.{nat_tests}
-use Rattle.indexmap.specs.IndexMap.{set_value_at}
-use Rattle.tb_layout.specs.declared.account.Account.{Account}
-use Rattle.tb_tables.specs.Sums.{Sums, HasRoom, HasAmount, debits_in, credits_in, balance_of, with_more, raise_balance, lower_balance, with_sums, account_rows}
-use Rattle.tb_tables.specs.declared.balance.Balance.{Balance}
+use Rattle.std.proofs.Common.{sym, ap, ◌∙◌, arith, ◌≡◌, ℕ, ◌+◌, ◌<◌, ◌≤◌, ◌^◌, Bool, false, List, nat_eq, slice_get, Some, ◌==◌, option_map}
 use Rattle.std.proofs.lemmas.Option.{slice_get-map}
+use Rattle.tb_tables.proofs.Words.{IsDistinct, keys_of, nat_tests, set_value_at, Account, Sums, HasRoom, HasAmount, debits_in, credits_in, balance_of, with_more, raise_balance, lower_balance, with_sums, account_rows, Balance}
 use Rattle.tb_tables.proofs.Stored.{made-at, rows-set}
 
 raised-here : (balance : Balance) (amount : ℕ) (sums : Sums) (account : Account) → with_sums (with_more balance account.id amount sums) account ≡ raise_balance balance amount (with_sums sums account)

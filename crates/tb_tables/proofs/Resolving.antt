@@ -1,15 +1,6 @@
 -- What one post or void more changes of sums and statuses.
-use Rattle.std.proofs.Common.{refl, arith, ◌≡◌, ℕ, ◌+◌, Bool, true, false, not}
-use Rattle.std.specs.Prelude.{if◌then◌else◌, ◌==◌, ◌&&◌}
-use Rattle.std.proofs.lemmas.Bool.Decides.{nat_tests}
-use Rattle.tb_layout.specs.declared.transfer.Transfer.{Transfer}
-use Rattle.tb_layout.specs.Transfer.{is_pending, is_post, is_void}
-use Rattle.tb_tables.specs.Facts.{Facts, is_expired, add_transfer}
-use Rattle.tb_tables.specs.Status.{is_resolved, status_of}
-use Rattle.tb_tables.specs.Conditions.{MayResolve}
-use Rattle.tb_tables.specs.Lawful.{IsLawful}
-use Rattle.tb_tables.specs.Storing.{status_after}
-use Rattle.tb_tables.specs.Sums.{Sums, sums_of, with_amount, posted_if}
+use Rattle.std.proofs.Common.{refl, arith, ◌≡◌, ℕ, ◌+◌, Bool, true, false, not, if◌then◌else◌, ◌==◌, ◌&&◌}
+use Rattle.tb_tables.proofs.Words.{nat_tests, Transfer, is_pending, is_post, is_void, Facts, is_expired, add_transfer, is_resolved, status_of, MayResolve, IsLawful, status_after, Sums, sums_of, with_amount, posted_if}
 use Rattle.tb_tables.proofs.Sums.{amounts, amounts-push, but_for, but_for-found}
 use Rattle.tb_tables.proofs.Laws.{reserves, posts, any-push, reserving, reserves-but_for, reserves_nothing}
 use Rattle.tb_tables.proofs.Added.{AreSame, More}

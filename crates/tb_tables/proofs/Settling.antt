@@ -1,25 +1,9 @@
 -- A transfer stored and taken back: balances, and the status of what it names.
-use Rattle.std.proofs.Common.{refl, sym, ap, subst, ◌∙◌, arith, ◌≡◌, ℕ, ◌+◌, ◌<◌, ◌^◌, Bool, true, false, List, [], ◌∷◌, ◌++◌, nat_eq, slice_get, length, length-append, append-nil, true≢false, zero, suc}
-use Rattle.std.specs.Prelude.{if◌then◌else◌, ◌==◌, Option, Some, None}
-use Rattle.std.specs.Option.{option_map}
-use Rattle.std.specs.List.{IsDistinct}
-use Rattle.std.specs.Map.{keys_of}
+use Rattle.std.proofs.Common.{refl, sym, ap, subst, ◌∙◌, arith, ◌≡◌, ℕ, ◌+◌, ◌<◌, ◌^◌, Bool, true, false, List, [], ◌∷◌, ◌++◌, nat_eq, slice_get, length, length-append, append-nil, true≢false, zero, suc, if◌then◌else◌, ◌==◌, Option, Some, None, option_map}
 use Rattle.std.proofs.lemmas.Bool.{eq-eqb}
 use Rattle.std.proofs.lemmas.List.{map-append}
 use Rattle.std.proofs.lemmas.Option.{slice_get-map}
-use Rattle.indexmap.specs.IndexMap.{set_value_at}
-use Rattle.tb_layout.specs.declared.account.Account.{Account}
-use Rattle.tb_layout.specs.declared.transfer.Transfer.{Transfer}
-use Rattle.tb_layout.specs.Transfer.{is_pending, is_post}
-use Rattle.tb_tables.specs.Facts.{Facts, add_transfer}
-use Rattle.tb_tables.specs.Status.{status_of, expires_at}
-use Rattle.tb_tables.specs.Conditions.{MayAdd}
-use Rattle.tb_tables.specs.Sums.{Sums, sums_of, with_amount, posted_if, account_rows, CanAdd, CanTake}
-use Rattle.tb_tables.specs.Kept.{Allow, row_in, transfer_rows, MayPost, MayStore}
-use Rattle.tb_tables.specs.Storing.{new_row, status_after, IsPushed, IsPopped}
-use Rattle.tb_tables.specs.declared.places.Places.{Places}
-use Rattle.tb_tables.specs.declared.row.Row.{Row}
-use Rattle.tb_tables.specs.declared.status.Status.TheVariants.{Pending}
+use Rattle.tb_tables.proofs.Words.{IsDistinct, keys_of, set_value_at, Account, Transfer, is_pending, is_post, Facts, add_transfer, status_of, expires_at, MayAdd, Sums, sums_of, with_amount, posted_if, account_rows, CanAdd, CanTake, Allow, row_in, transfer_rows, MayPost, MayStore, new_row, status_after, IsPushed, IsPopped, Places, Row, Pending}
 use Rattle.tb_tables.proofs.Finding.{found-id}
 use Rattle.tb_tables.proofs.Stored.{rows-set, map-same}
 use Rattle.tb_tables.proofs.Laws.{==_swap, find-none}

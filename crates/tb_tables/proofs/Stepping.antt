@@ -1,24 +1,7 @@
 -- A transfer stored in the tables, and taken back.
-use Rattle.std.proofs.Common.{refl, sym, ap, subst, arith, ◌∙◌, ◌≡◌, ℕ, ◌<◌, Bool, true, false, not, List, [], ◌∷◌, ◌++◌, map, filter, length, append-nil}
-use Rattle.std.specs.Prelude.{if◌then◌else◌, ◌==◌, ◌&&◌, ◌||◌, Option, Some, None}
-use Rattle.std.specs.List.{list_any}
-use Rattle.std.proofs.lemmas.Bool.Decides.{nat_tests}
+use Rattle.std.proofs.Common.{refl, sym, ap, subst, arith, ◌∙◌, ◌≡◌, ℕ, ◌<◌, Bool, true, false, not, List, [], ◌∷◌, ◌++◌, map, filter, length, append-nil, if◌then◌else◌, ◌==◌, ◌&&◌, ◌||◌, Option, Some, None}
 use Rattle.std.proofs.lemmas.List.Elements.{filter-append}
-use Rattle.tb_layout.specs.declared.account.Account.{Account}
-use Rattle.tb_layout.specs.declared.transfer.Transfer.{Transfer as TransferRecord}
-use Rattle.tb_layout.specs.Transfer.{is_pending, is_resolving}
-use Rattle.tb_tables.specs.Facts.{Facts, transfer_with, is_expired, add_transfer}
-use Rattle.tb_tables.specs.Status.{is_resolved, is_reserving, expires_at}
-use Rattle.tb_tables.specs.History.{with_change}
-use Rattle.tb_tables.specs.Lawful.{IsLawful, has_id}
-use Rattle.tb_tables.specs.Changes.{before}
-use Rattle.tb_tables.specs.Expiries.{same_pair}
-use Rattle.tb_tables.specs.Sums.{AreAt}
-use Rattle.tb_tables.specs.Kept.{Stored, AreGrounded, facts_of, history_in, is_timed, is_pair, AreExpiries, IsSound, AreHeld, Allow, MayStore, WasStored, AreUndoable, AreKept, IsKept, Hold}
-use Rattle.tb_tables.specs.Storing.{new_row, IsPushed, IsStored}
-use Rattle.tb_tables.specs.declared.places.Places.{Places}
-use Rattle.tb_tables.specs.declared.row.Row.{Row}
-use Rattle.tb_tables.specs.declared.change.Change.{Change}
+use Rattle.tb_tables.proofs.Words.{list_any, nat_tests, Account, Transfer as TransferRecord, is_pending, is_resolving, Facts, transfer_with, is_expired, add_transfer, is_resolved, is_reserving, expires_at, with_change, IsLawful, has_id, before, same_pair, AreAt, Stored, AreGrounded, facts_of, history_in, is_timed, is_pair, AreExpiries, IsSound, AreHeld, Allow, MayStore, WasStored, AreUndoable, AreKept, IsKept, Hold, new_row, IsPushed, IsStored, Places, Row, Change}
 use Rattle.tb_tables.specs.declared.change.Change.TheVariants.{Transfer}
 use Rattle.tb_tables.proofs.Sums.{not_and-left, not_and-right}
 use Rattle.tb_tables.proofs.Laws.{find-none, any-push, reserving-same, reserving-other, resolves_nothing, add_transfer_lawful, resolve_lawful}

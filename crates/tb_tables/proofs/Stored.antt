@@ -1,15 +1,10 @@
 -- Rows that stand in a map under their keys, in order.
-use Rattle.std.proofs.Common.{refl, sym, ap, subst, ◌∙◌, arith, ◌≡◌, ℕ, false, List, [], ◌∷◌, map, nat_eq, slice_get, get_or, position, zero, suc}
-use Rattle.std.specs.Prelude.{Some, find, ◌==◌}
-use Rattle.std.specs.Option.{option_map}
-use Rattle.std.specs.List.{list_any, AllByRecursion, IsDistinct}
-use Rattle.std.specs.Map.{keys_of, lookup, lookup_key}
-use Rattle.std.proofs.lemmas.Bool.Decides.{nat_tests}
+use Rattle.std.proofs.Common.{refl, sym, ap, subst, ◌∙◌, arith, ◌≡◌, ℕ, false, List, [], ◌∷◌, map, nat_eq, slice_get, get_or, position, zero, suc, Some, find, ◌==◌, option_map}
 use Rattle.std.proofs.lemmas.Option.{slice_get-get_or}
 use Rattle.std.proofs.lemmas.List.{length-map}
 use Rattle.std.proofs.lemmas.Map.Keys.{IsDistinct-head, IsDistinct-tail}
-use Rattle.indexmap.specs.IndexMap.{set_value_at}
 use Rattle.indexmap.proofs.MapLemmas.{Found-position}
+use Rattle.tb_tables.proofs.Words.{list_any, AllByRecursion, IsDistinct, keys_of, lookup, lookup_key, nat_tests, set_value_at}
 use Rattle.tb_tables.proofs.Laws.{==_swap}
 
 -- each under its key, with what is made of it

@@ -1,11 +1,7 @@
 -- How the sums of an account change with the facts.
-use Rattle.std.proofs.Common.{refl, sym, ap, ◌∙◌, arith, ◌≡◌, ℕ, ◌+◌, ◌≤◌, Bool, true, false, not, List, [], ◌∷◌, ◌++◌, sum_by, filter}
-use Rattle.std.specs.Prelude.{if◌then◌else◌, ◌==◌, ◌&&◌, ◌||◌, Some, find}
-use Rattle.std.specs.List.{AllByRecursion}
-use Rattle.std.proofs.lemmas.Bool.Decides.{nat_tests}
+use Rattle.std.proofs.Common.{refl, sym, ap, ◌∙◌, arith, ◌≡◌, ℕ, ◌+◌, ◌≤◌, Bool, true, false, not, List, [], ◌∷◌, ◌++◌, sum_by, filter, if◌then◌else◌, ◌==◌, ◌&&◌, ◌||◌, Some, find}
 use Rattle.std.proofs.lemmas.List.Sums.{sum_by-cons, sum_by_push}
-use Rattle.tb_layout.specs.declared.transfer.Transfer.{Transfer}
-use Rattle.tb_tables.specs.Lawful.{has_id, ids_distinct}
+use Rattle.tb_tables.proofs.Words.{AllByRecursion, nat_tests, Transfer, has_id, ids_distinct}
 
 -- the amount of a transfer, where it passes a test
 abbrev pub amount_if : (Transfer → Bool) → Transfer → ℕ

@@ -1,10 +1,8 @@
-use Rattle.std.proofs.Common.{◌∙◌, ap, sym, refl, not}
-use Rattle.std.specs.Prelude.{◌&&◌}
-use Rattle.tb_tables.specs.Expiries.{is_indexed}
-use Rattle.tb_tables.specs.Kept.{is_timed}
+use Rattle.std.proofs.Common.{◌∙◌, ap, sym, refl, not, ◌&&◌}
+use Rattle.tb_tables.proofs.Words.{is_indexed, is_timed}
 use Rattle.tb_tables.proofs.Forgetting.{row-there, fits, spent-gone, open-stays, untimed-stays}
-use Rattle.tb_tables.proofs.storing.forget_at.Goals as goal
 use Rattle.tb_tables.proofs.storing.forget_at.Goals.{else-is_timed-via-then-is_timed+else-not-is_open, else-is_timed-via-else-is_timed}
+use Rattle.tb_tables.proofs.storing.forget_at.Goals as goal
 
 pub transfer_at-transfer-requires : goal.transfer_at-transfer-requires
 transfer_at-transfer-requires c =

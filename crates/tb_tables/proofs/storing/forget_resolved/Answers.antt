@@ -1,7 +1,5 @@
-use Rattle.std.proofs.Common.{◌∙◌, ap, not}
-use Rattle.std.specs.Prelude.{◌&&◌}
-use Rattle.tb_tables.specs.Expiries.{is_indexed}
-use Rattle.tb_tables.specs.Kept.{is_resolved_at, is_spent}
+use Rattle.std.proofs.Common.{◌∙◌, ap, not, ◌&&◌}
+use Rattle.tb_tables.proofs.Words.{is_indexed, is_resolved_at, is_spent}
 use Rattle.tb_tables.specs.declared.change.Change.TheVariants.{Account}
 use Rattle.tb_tables.proofs.Forgetting.{all-at, forgotten-more, taken-all}
 use Rattle.tb_tables.proofs.storing.forget_resolved.Goals as goal

@@ -1,7 +1,5 @@
 use Rattle.std.proofs.Common.{◌∙◌, ap, refl, None}
-use Rattle.tb_layout.specs.declared.transfer.Transfer.{Transfer}
-use Rattle.tb_tables.specs.Sums.{sums_of}
-use Rattle.tb_tables.specs.Storing.{expire_one}
+use Rattle.tb_tables.proofs.Words.{Transfer, sums_of, expire_one}
 use Rattle.tb_tables.proofs.Locating.{has-account, are-at}
 use Rattle.tb_tables.proofs.Due.{ground, there, released, can-take, expired-row}
 use Rattle.tb_tables.proofs.timeouts.expire.Goals as goal

@@ -1,5 +1,5 @@
 use Rattle.std.proofs.Common.{◌∙◌, refl, sym}
-use Rattle.tb_tables.specs.Expiries.{is_indexed}
+use Rattle.tb_tables.proofs.Words.{is_indexed}
 use Rattle.tb_tables.proofs.Indexing.{same-keys}
 use Rattle.tb_tables.proofs.Stepping.{same-held}
 use Rattle.tb_tables.proofs.Due.{pair-row, can-expire, still-due, passed-over, all-due}

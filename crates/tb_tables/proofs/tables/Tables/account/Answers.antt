@@ -1,6 +1,5 @@
 use Rattle.std.proofs.Common.{◌∙◌}
-use Rattle.tb_tables.specs.Kept.{facts_of}
-use Rattle.tb_tables.specs.Held.{stored_in}
+use Rattle.tb_tables.proofs.Words.{facts_of, stored_in}
 use Rattle.tb_tables.proofs.Locating.{account-found}
 use Rattle.tb_tables.proofs.tables.Tables.account.Goals as goal
 

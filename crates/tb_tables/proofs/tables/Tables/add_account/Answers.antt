@@ -1,8 +1,5 @@
-use Rattle.std.proofs.Common.{◌∙◌, ap}
-use Rattle.std.specs.Option.{option_map}
-use Rattle.tb_tables.specs.Sums.{with_sums, sums_of}
-use Rattle.tb_tables.specs.Kept.{facts_of}
-use Rattle.tb_tables.specs.Held.{stored_in}
+use Rattle.std.proofs.Common.{◌∙◌, ap, option_map}
+use Rattle.tb_tables.proofs.Words.{with_sums, sums_of, facts_of, stored_in}
 use Rattle.tb_tables.proofs.Locating.{account-found}
 use Rattle.tb_tables.proofs.Opening.{kept-account}
 use Rattle.tb_tables.proofs.tables.Tables.add_account.Goals as goal

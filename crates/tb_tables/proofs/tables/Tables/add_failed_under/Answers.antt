@@ -1,4 +1,4 @@
-use Rattle.tb_tables.specs.Held.{stored_in}
+use Rattle.tb_tables.proofs.Words.{stored_in}
 use Rattle.tb_tables.proofs.Opening.{kept-failed}
 use Rattle.tb_tables.proofs.tables.Tables.add_failed_under.Goals as goal
 

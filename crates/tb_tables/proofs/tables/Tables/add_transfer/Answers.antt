@@ -1,5 +1,4 @@
-use Rattle.tb_tables.specs.Kept.{facts_of}
-use Rattle.tb_tables.specs.Held.{stored_in}
+use Rattle.tb_tables.proofs.Words.{facts_of, stored_in}
 use Rattle.tb_tables.proofs.Locating.{account-there, are-at}
 use Rattle.tb_tables.proofs.tables.Tables.add_transfer.Goals as goal
 

@@ -1,9 +1,5 @@
 use Rattle.std.proofs.Common.{refl, []}
-use Rattle.tb_tables.specs.Facts.{Facts}
-use Rattle.tb_tables.specs.Changes.{before}
-use Rattle.tb_tables.specs.Kept.{facts_of}
-use Rattle.tb_tables.specs.Status.{expire_due}
-use Rattle.tb_tables.specs.Held.{stored_in}
+use Rattle.tb_tables.proofs.Words.{Facts, before, facts_of, expire_due, stored_in}
 use Rattle.tb_tables.proofs.Histories.{no-changes}
 use Rattle.tb_tables.proofs.Keeping.{keeps}
 use Rattle.tb_tables.proofs.tables.Tables.expire_due.Goals as goal

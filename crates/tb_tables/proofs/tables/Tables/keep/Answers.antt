@@ -1,6 +1,4 @@
-use Rattle.tb_tables.specs.Expiries.{is_indexed}
-use Rattle.tb_tables.specs.Kept.{facts_of}
-use Rattle.tb_tables.specs.Held.{stored_in}
+use Rattle.tb_tables.proofs.Words.{is_indexed, facts_of, stored_in}
 use Rattle.tb_tables.proofs.Forgetting.{can-forget, kept-now}
 use Rattle.tb_tables.proofs.tables.Tables.keep.Goals as goal
 

@@ -1,8 +1,5 @@
 use Rattle.std.proofs.Common.{ap, length}
-use Rattle.tb_tables.specs.Facts.{Facts}
-use Rattle.tb_tables.specs.Changes.{before}
-use Rattle.tb_tables.specs.Kept.{facts_of}
-use Rattle.tb_tables.specs.Held.{stored_in}
+use Rattle.tb_tables.proofs.Words.{Facts, before, facts_of, stored_in}
 use Rattle.tb_tables.proofs.Histories.{length-past_of}
 use Rattle.tb_tables.proofs.tables.Tables.mark.Goals as goal
 

@@ -1,7 +1,5 @@
-use Rattle.std.proofs.Common.{◌∙◌, sym, ap}
-use Rattle.std.specs.Option.{option_copied}
-use Rattle.tb_tables.specs.Kept.{facts_of}
-use Rattle.tb_tables.specs.Held.{stored_in}
+use Rattle.std.proofs.Common.{◌∙◌, sym, ap, option_copied}
+use Rattle.tb_tables.proofs.Words.{facts_of, stored_in}
 use Rattle.tb_tables.proofs.Locating.{row_status, status-found}
 use Rattle.tb_tables.proofs.tables.Tables.status_under.Goals as goal
 

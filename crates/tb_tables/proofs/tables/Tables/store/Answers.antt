@@ -1,10 +1,6 @@
-use Rattle.std.proofs.Common.{◌∙◌, ap, refl, not, ◌&&◌, ◌++◌, ◌∷◌, [], length}
-use Rattle.std.specs.Option.{option_map}
-use Rattle.tb_tables.specs.Expiries.{is_indexed, same_pair}
-use Rattle.tb_tables.specs.Status.{expires_at}
+use Rattle.std.proofs.Common.{◌∙◌, ap, refl, not, ◌&&◌, ◌++◌, ◌∷◌, [], length, option_map}
+use Rattle.tb_tables.proofs.Words.{is_indexed, same_pair, expires_at, Stored, facts_of, is_timed, row_in, stored_in}
 use Rattle.tb_tables.specs.declared.change.Change.TheVariants.{Transfer as Noted}
-use Rattle.tb_tables.specs.Kept.{Stored, facts_of, is_timed, row_in}
-use Rattle.tb_tables.specs.Held.{stored_in}
 use Rattle.tb_tables.proofs.Indexing.{same-keys}
 use Rattle.tb_tables.proofs.Locating.{row-found, transfers-length}
 use Rattle.tb_tables.proofs.Stepping as stepping

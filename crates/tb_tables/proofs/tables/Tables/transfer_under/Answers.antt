@@ -1,8 +1,5 @@
-use Rattle.std.proofs.Common.{◌∙◌, sym, ap}
-use Rattle.std.specs.Option.{option_copied, option_map}
-use Rattle.tb_tables.specs.Kept.{facts_of}
-use Rattle.tb_tables.specs.Held.{stored_in}
-use Rattle.tb_tables.specs.declared.row.Row.{Row}
+use Rattle.std.proofs.Common.{◌∙◌, sym, ap, option_copied, option_map}
+use Rattle.tb_tables.proofs.Words.{facts_of, stored_in, Row}
 use Rattle.tb_tables.proofs.Locating.{transfer-found}
 use Rattle.tb_tables.proofs.tables.Tables.transfer_under.Goals as goal
 

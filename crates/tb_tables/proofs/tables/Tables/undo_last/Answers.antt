@@ -1,8 +1,5 @@
 use Rattle.std.proofs.Common.{◌∙◌, ap, refl, ◌++◌, ◌∷◌, []}
-use Rattle.tb_tables.specs.Expiries.{is_indexed}
-use Rattle.tb_tables.specs.Changes.{before}
-use Rattle.tb_tables.specs.Kept.{Stored, facts_of}
-use Rattle.tb_tables.specs.Held.{stored_in}
+use Rattle.tb_tables.proofs.Words.{is_indexed, before, Stored, facts_of, stored_in}
 use Rattle.tb_tables.specs.declared.change.Change.TheVariants.{Transfer}
 use Rattle.tb_tables.proofs.Opening.{kept-unaccount, kept-unfailed}
 use Rattle.tb_tables.proofs.Stepping as stepping

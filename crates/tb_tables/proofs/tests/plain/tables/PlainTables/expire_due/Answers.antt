@@ -1,5 +1,5 @@
 use Rattle.std.proofs.Common.{ap, []}
-use Rattle.tb_tables.specs.Facts.{Facts}
+use Rattle.tb_tables.proofs.Words.{Facts}
 use Rattle.tb_tables.specs.Plain.{facts_of, cut_back}
 use Rattle.tb_tables.proofs.Histories.{no-changes}
 use Rattle.tb_tables.proofs.tests.plain.tables.PlainTables.expire_due.Goals as goal
