@@ -1,7 +1,7 @@
 -- All that is due expires.
 use Rattle.std.proofs.Common.{refl, sym, ap, subst, ◌∙◌, arith, ◌≡◌, ℕ, ◌<◌, ◌≤◌, Bool, true, false, not, List, map, nat_eq, slice_get, true≢false, ◌&&◌, Option, Some, None, option_map}
 use Rattle.std.proofs.lemmas.Option.{slice_get-map}
-use Rattle.tb_tables.proofs.Words.{IsDistinct, keys_of, nat_tests, set_value_at, Account, Transfer, Facts, is_expired, expire_due, is_reserving, is_due, expires_at, same_pair, sums_of, with_amount, account_rows, AreAt, CanTake, row_in, transfer_rows, is_timed, is_pair_of, expects, IsGrounded, Hold, IsSound, AreHeld, is_open_status, CanExpire, expire_one, Places, Row, Expired}
+use Rattle.tb_tables.proofs.Words.{IsDistinct, keys_of, nat_tests, set_value_at, Account, Transfer, Facts, expire_due, is_reserving, is_due, expires_at, same_pair, sums_of, with_amount, account_rows, AreAt, CanTake, row_in, transfer_rows, is_timed, is_pair_of, expects, IsGrounded, Hold, IsSound, AreHeld, is_open_status, CanExpire, expire_one, Places, Row, Expired}
 use Rattle.tb_tables.proofs.Laws.{resolved_either}
 use Rattle.tb_tables.proofs.Added.{rows-same}
 use Rattle.tb_tables.proofs.Forgetting.{all-there}

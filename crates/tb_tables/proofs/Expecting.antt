@@ -1,7 +1,7 @@
 -- Which pairs are those of a transfer, and which the index has to have, after one transfer more.
 use Rattle.std.proofs.Common.{refl, sym, ap, ◌∙◌, arith, ◌≡◌, ℕ, Bool, true, false, List, [], ◌∷◌, ◌++◌, length, slice_get, zero, suc, if◌then◌else◌, ◌==◌, ◌&&◌, ◌||◌, Option, Some, None}
 use Rattle.std.proofs.lemmas.Bool.{eqb-true}
-use Rattle.tb_tables.proofs.Words.{nat_tests, Transfer, Facts, add_transfer, is_reserving, expires_at, has_id, ids_distinct, same_pair, is_timed, is_pair_of, is_pair, reserves_at, expects}
+use Rattle.tb_tables.proofs.Words.{its_pair, nat_tests, Transfer, Facts, add_transfer, is_reserving, has_id, ids_distinct, is_pair_of, is_pair, reserves_at, expects, before}
 
 pub slice_get-push : {X : Type 0} (xs : List X) (x : X) (place : ℕ) → slice_get (xs ++ x ∷ []) place ≡ (if place == length xs then Some x else slice_get xs place)
 slice_get-push [] x zero = refl
@@ -9,7 +9,7 @@ slice_get-push [] x (suc place) = grind (arith, nat_tests)
 slice_get-push (y ∷ xs) x zero = grind (arith, nat_tests)
 slice_get-push (y ∷ xs) x (suc place) = grind (arith, nat_tests, slice_get-push xs x place)
 
-slice_get-end : {X : Type 0} (xs : List X) → slice_get xs (length xs) ≡ None
+pub slice_get-end : {X : Type 0} (xs : List X) → slice_get xs (length xs) ≡ None
 slice_get-end [] = refl
 slice_get-end (x ∷ xs) = slice_get-end xs
 
@@ -31,24 +31,21 @@ pub one-transfer : (xs : List Transfer) (i j : ℕ) (x y : Transfer) → ids_dis
 one-transfer xs i j x y distinct at at' same = cc (at, at', ap (slice_get xs) (eqb-true i j (sym (one-place xs i j x y distinct at at') ∙ same)))
 
 module _ (facts : Facts) (t : Transfer) where
-  abbrev its-pair : ℕ → ℕ → Bool
-  its-pair moment place = is_timed t && same_pair (expires_at t) (length facts.transfers) moment place
-
-  pub pairs-push : (moment place : ℕ) → is_pair (add_transfer facts t) moment place ≡ (its-pair moment place || is_pair facts moment place)
+  pub pairs-push : (moment place : ℕ) → is_pair (add_transfer facts t) moment place ≡ (its_pair facts t moment place || is_pair facts moment place)
   pairs-push moment place = ap (is_pair_of moment) (slice_get-push facts.transfers t place) ∙ by (place == length facts.transfers) refl
     where
-      by : (b : Bool) → (place == length facts.transfers) ≡ b → is_pair_of moment (if b then Some t else slice_get facts.transfers place) ≡ (its-pair moment place || is_pair facts moment place)
+      by : (b : Bool) → (place == length facts.transfers) ≡ b → is_pair_of moment (if b then Some t else slice_get facts.transfers place) ≡ (its_pair facts t moment place || is_pair facts moment place)
       by true is =
           let none : slice_get facts.transfers place ≡ None = ap (slice_get facts.transfers) (eqb-true place (length facts.transfers) is) ∙ slice_get-end facts.transfers in
           grind (arith, nat_tests, none, is)
       by false is = grind (arith, nat_tests, is)
 
   -- where none reserves its amount that didn't before
-  pub expects-push : ((y : Transfer) → is_reserving (add_transfer facts t) y ≡ true → is_reserving facts y ≡ true) → (moment place : ℕ) → expects (add_transfer facts t) moment place ≡ true → (its-pair moment place || expects facts moment place) ≡ true
+  pub expects-push : ((y : Transfer) → is_reserving (add_transfer facts t) y ≡ true → is_reserving facts y ≡ true) → (moment place : ℕ) → expects (add_transfer facts t) moment place ≡ true → (its_pair facts t moment place || expects facts moment place) ≡ true
   expects-push less moment place has = by (place == length facts.transfers) refl (slice_get facts.transfers place) refl (sym (ap (λ o. is_pair_of moment o && reserves_at (add_transfer facts t) o) (slice_get-push facts.transfers t place)) ∙ has)
     where
       by : (b : Bool) → (place == length facts.transfers) ≡ b → (o : Option Transfer) → slice_get facts.transfers place ≡ o →
-          (is_pair_of moment (if b then Some t else o) && reserves_at (add_transfer facts t) (if b then Some t else o)) ≡ true → (its-pair moment place || expects facts moment place) ≡ true
+          (is_pair_of moment (if b then Some t else o) && reserves_at (add_transfer facts t) (if b then Some t else o)) ≡ true → (its_pair facts t moment place || expects facts moment place) ≡ true
       by true is o at h = grind (arith, nat_tests, is)
       by false is None at h = grind arith
       by false is (Some y) at h = grind (arith, at, less y)

@@ -15,6 +15,7 @@ pub mod Grounding
 pub mod Expecting
 pub mod Keeping
 pub mod Settling
+pub mod Undoing
 pub mod Opening
 pub mod Locating
 pub mod Stepping

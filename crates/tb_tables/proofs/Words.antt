@@ -3,18 +3,17 @@ pub use Rattle.indexmap.specs.IndexMap.{insert_entry, set_value_at}
 pub use Rattle.std.proofs.lemmas.Bool.Decides.{nat_tests}
 pub use Rattle.std.specs.List.{AllByRecursion, IsDistinct, list_any, position, position_or_len}
 pub use Rattle.std.specs.Map.{keys_of, lookup, lookup_key}
-pub use Rattle.std.specs.Option.{option_copied, option_map}
 pub use Rattle.tb_layout.specs.Transfer.{is_pending, is_post, is_resolving, is_void}
 pub use Rattle.tb_layout.specs.declared.account.Account.{Account}
 pub use Rattle.tb_layout.specs.declared.transfer.Transfer.{Transfer}
 pub use Rattle.tb_tables.specs.Balances.{balanced_account, credits, debits, is_posting, with_balances}
 pub use Rattle.tb_tables.specs.Changes.{before, history_of, oldest, past_of, without_last}
 pub use Rattle.tb_tables.specs.Conditions.{HasNoBalances, MayAdd, MayResolve}
-pub use Rattle.tb_tables.specs.Expiries.{is_indexed, pair_cmp, same_pair}
+pub use Rattle.tb_tables.specs.Expiries.{has_pair, is_indexed, pair_cmp, same_pair}
 pub use Rattle.tb_tables.specs.Facts.{Facts, IsPlaceOf, account_with, add_account, add_failed, add_transfer, is_expired, transfer_with}
 pub use Rattle.tb_tables.specs.Held.{stored_in}
 pub use Rattle.tb_tables.specs.History.{History, back_to, mark_of, with_change}
-pub use Rattle.tb_tables.specs.Kept.{Allow, AreExpiries, AreGrounded, AreHeld, AreKept, AreUndoable, Hold, IsGrounded, IsKept, IsSound, IsUndoable, MayPost, MayStore, Stored, WasMade, WasStored, account_made, expects, facts_of, has_account, has_expired, history_in, is_pair, is_pair_of, is_resolved_at, is_spent, is_timed, names_place, reserves_at, resolves_at, row_in, transfer_rows}
+pub use Rattle.tb_tables.specs.Kept.{Allow, AreExpiries, AreGrounded, AreHeld, AreUndoable, HavePlaces, Hold, Indexed, IsGrounded, IsKept, IsSound, IsUndoable, KeepsPairs, MayPost, MayStore, NamesOne, Stored, WasMade, WasStored, account_made, expects, facts_of, has_account, has_expired, history_in, is_pair, is_pair_of, is_resolved_at, is_spent, is_timed, its_pair, names_place, reserves_at, resolves_at, row_in, transfer_rows}
 pub use Rattle.tb_tables.specs.Lawful.{AreLawful, IsLawful, has_id, ids_distinct}
 pub use Rattle.tb_tables.specs.Status.{expire_due, expires_at, is_due, is_posted, is_reserving, is_resolved, is_voided, status_if_pending, status_in, status_of, status_with}
 pub use Rattle.tb_tables.specs.Storing.{CanExpire, CanForget, IsForgettable, IsPopped, IsPushed, IsStored, expire_one, is_open_status, new_row, status_after}
