@@ -1,32 +1,30 @@
 -- All that is due expires.
-use Rattle.std.proofs.Common.{refl, sym, ap, subst, ◌∙◌, arith, ◌≡◌, ℕ, ◌<◌, ◌≤◌, Bool, true, false, not, List, map, nat_eq, slice_get, true≢false, ◌&&◌, Option, Some, None, option_map}
-use Rattle.std.proofs.lemmas.Option.{slice_get-map}
+use Rattle.std.proofs.Common.{refl, sym, ap, subst, ◌∙◌, arith, ◌≡◌, ℕ, ◌<◌, ◌≤◌, Bool, true, false, not, List, nat_eq, slice_get, true≢false, ◌&&◌, Option, Some, None}
 use Rattle.tb_tables.proofs.Words.{IsDistinct, keys_of, nat_tests, set_value_at, Account, Transfer, Facts, expire_due, is_reserving, is_due, expires_at, same_pair, sums_of, with_amount, account_rows, AreAt, CanTake, row_in, transfer_rows, is_timed, is_pair_of, expects, IsGrounded, Hold, IsSound, AreHeld, is_open_status, CanExpire, expire_one, Places, Row, Expired}
 use Rattle.tb_tables.proofs.Laws.{resolved_either}
+use Rattle.tb_tables.proofs.Stored.{row-placed}
 use Rattle.tb_tables.proofs.Added.{rows-same}
 use Rattle.tb_tables.proofs.Forgetting.{all-there}
 use Rattle.tb_tables.proofs.OneExpiry.{none-left, sums-after, rows-after, sound-after, due-after}
 
 -- the entry of the transfer at a place
-pub row-at : (facts : Facts) (accounts : List (ℕ × Account)) (transfers : List (ℕ × Row)) → Hold facts accounts transfers → (place : ℕ) (t : Transfer) → slice_get facts.transfers place ≡ Some t → slice_get transfers place ≡ Some (t.id, row_in facts t)
-row-at facts accounts transfers hold place t at =
-    ap (λ es. slice_get es place) hold.transfers_are ∙ slice_get-map (λ (x : Transfer). (x.id, row_in facts x)) facts.transfers place
-    ∙ ap (option_map (λ (x : Transfer). (x.id, row_in facts x))) at
+row-at : {facts : Facts} {accounts : List (ℕ × Account)} {transfers : List (ℕ × Row)} → Hold facts accounts transfers → (place : ℕ) {t : Transfer} → slice_get facts.transfers place ≡ Some t → slice_get transfers place ≡ Some (t.id, row_in facts t)
+row-at {facts} hold place at = row-placed (λ (x : Transfer). x.id) (row_in facts) facts.transfers hold.transfers_are place at
 
 -- ---- one expires
 
-module _ (facts : Facts) (accounts : List (ℕ × Account)) (transfers : List (ℕ × Row)) (place : ℕ) (can : CanExpire facts accounts transfers place) where
+module _ {facts : Facts} {accounts : List (ℕ × Account)} {transfers : List (ℕ × Row)} {place : ℕ} (can : CanExpire facts accounts transfers place) where
   pub ground : IsGrounded facts.accounts facts.transfers can.transfer
   ground = all-there (IsGrounded facts.accounts facts.transfers) facts.transfers place can.transfer can.grounded can.at
 
   pub there : slice_get transfers place ≡ Some (can.transfer.id, row_in facts can.transfer)
-  there = row-at facts accounts transfers can.hold place can.transfer can.at
+  there = row-at can.hold place can.at
 
   pub released : accounts ≡ account_rows (with_amount true can.transfer.debit_account_id can.transfer.credit_account_id can.transfer.amount (sums_of (expire_one can.transfer.id facts))) facts.accounts
   released = can.hold.accounts_are ∙ rows-same _ _ facts.accounts (sums-after facts can.transfer place can.at can.lawful can.reserves can.ordered)
 
-  pub can-take : (places : Places) (amount : ℕ) → AreAt facts.accounts places can.transfer.debit_account_id can.transfer.credit_account_id → amount ≡ can.transfer.amount → CanTake accounts places true amount
-  can-take places amount are_at same = rw same (record {
+  pub can-take : {places : Places} {amount : ℕ} → AreAt facts.accounts places can.transfer.debit_account_id can.transfer.credit_account_id → amount ≡ can.transfer.amount → CanTake accounts places true amount
+  can-take are_at same = rw same (record {
     sums = sums_of (expire_one can.transfer.id facts);
     accounts = facts.accounts;
     debit = can.transfer.debit_account_id;
@@ -53,7 +51,7 @@ pub record IsPairOf (facts : Facts) (moment place : ℕ) : Type 0 where
   pub is : expires_at transfer ≡ moment
   pub timed : is_timed transfer ≡ true
 
-module _ (accounts : List (ℕ × Account)) (transfers : List (ℕ × Row)) (indexed : ℕ → ℕ → Bool) (facts : Facts) (held : AreHeld accounts transfers indexed facts) (moment place : ℕ) (has : indexed moment place ≡ true) where
+module _ {accounts : List (ℕ × Account)} {transfers : List (ℕ × Row)} {indexed : ℕ → ℕ → Bool} {facts : Facts} (held : AreHeld accounts transfers indexed facts) {moment place : ℕ} (has : indexed moment place ≡ true) where
   pub pair : IsPairOf facts moment place
   pair = by (slice_get facts.transfers place) refl (held.timed moment place has)
     where
@@ -62,7 +60,7 @@ module _ (accounts : List (ℕ × Account)) (transfers : List (ℕ × Row)) (ind
       by (Some t) at h = record { transfer = t; at = at; is = grind (arith, nat_tests, h); timed = grind (arith, h) }
 
   pub pair-row : slice_get transfers place ≡ Some (pair.transfer.id, row_in facts pair.transfer)
-  pair-row = row-at facts accounts transfers held.hold place pair.transfer pair.at
+  pair-row = row-at held.hold place pair.at
 
   pub can-expire : is_open_status (row_in facts pair.transfer).status ≡ true → CanExpire facts accounts transfers place
   can-expire open_one = record {
@@ -75,11 +73,11 @@ module _ (accounts : List (ℕ × Account)) (transfers : List (ℕ × Row)) (ind
     reserves = grind (arith, open_one, resolved_either pair.transfer.id facts.transfers);
   }
 
-  module _ (clock : ℕ) (within : moment ≤ clock) (next : ℕ → ℕ → Bool) (took : (m p : ℕ) → next m p ≡ (not (same_pair moment place m p) && indexed m p)) where
+  module _ {clock : ℕ} (within : moment ≤ clock) {next : ℕ → ℕ → Bool} (took : (m p : ℕ) → next m p ≡ (not (same_pair moment place m p) && indexed m p)) where
     -- it expires
-    pub still-due : (old : Facts) (can : CanExpire facts accounts transfers place) → expire_due clock facts ≡ expire_due clock old → (accounts' : List (ℕ × Account)) (transfers' : List (ℕ × Row)) → Hold (expire_one can.transfer.id facts) accounts' transfers' →
+    pub still-due : {old : Facts} (can : CanExpire facts accounts transfers place) → expire_due clock facts ≡ expire_due clock old → {accounts' : List (ℕ × Account)} {transfers' : List (ℕ × Row)} → Hold (expire_one can.transfer.id facts) accounts' transfers' →
         StillDue clock old accounts' transfers' next
-    still-due old can same accounts' transfers' hold =
+    still-due can same hold =
         let one : can.transfer ≡ pair.transfer = cc (can.at, pair.at) in
         let moment-is : expires_at can.transfer ≡ moment = ap expires_at one ∙ pair.is in
         let due : is_due clock can.transfer ≡ true = due-now can.transfer (ap is_timed one ∙ pair.timed) moment-is in
@@ -97,8 +95,8 @@ module _ (accounts : List (ℕ × Account)) (transfers : List (ℕ × Row)) (ind
         due-now t timed is = grind (arith, nat_tests, within)
 
     -- it reserves nothing any more
-    pub passed-over : (old : Facts) → is_open_status (row_in facts pair.transfer).status ≡ false → expire_due clock facts ≡ expire_due clock old → StillDue clock old accounts transfers next
-    passed-over old closed same =
+    pub passed-over : {old : Facts} → is_open_status (row_in facts pair.transfer).status ≡ false → expire_due clock facts ≡ expire_due clock old → StillDue clock old accounts transfers next
+    passed-over closed same =
         let s = held.sound in
         record {
           now = facts;
@@ -123,6 +121,6 @@ none-due clock indexed facts sound later p y at true e =
     let due : expires_at y ≤ clock = grind (arith, nat_tests, e) in
     absurd (omega arith)
 
-pub all-due : (clock : ℕ) (facts : Facts) (accounts : List (ℕ × Account)) (transfers : List (ℕ × Row)) (indexed : ℕ → ℕ → Bool) → StillDue clock facts accounts transfers indexed → ((m p : ℕ) → indexed m p ≡ true → clock < m) →
+pub all-due : {clock : ℕ} {facts : Facts} {accounts : List (ℕ × Account)} {transfers : List (ℕ × Row)} {indexed : ℕ → ℕ → Bool} → StillDue clock facts accounts transfers indexed → ((m p : ℕ) → indexed m p ≡ true → clock < m) →
     AreHeld accounts transfers indexed (expire_due clock facts)
-all-due clock facts accounts transfers indexed due later = subst (AreHeld accounts transfers indexed) (sym (none-left clock due.now due.held.sound.expiries.ordered (λ p y at. none-due clock indexed due.now due.held.sound later p y at _ refl)) ∙ due.same) due.held
+all-due {clock} {facts} {accounts} {transfers} {indexed} due later = subst (AreHeld accounts transfers indexed) (sym (none-left clock due.now due.held.sound.expiries.ordered (λ p y at. none-due clock indexed due.now due.held.sound later p y at _ refl)) ∙ due.same) due.held

@@ -1,7 +1,7 @@
 -- Which pairs are those of a transfer, and which the index has to have, after one transfer more.
-use Rattle.std.proofs.Common.{refl, sym, ap, ◌∙◌, arith, ◌≡◌, ℕ, Bool, true, false, List, [], ◌∷◌, ◌++◌, length, slice_get, zero, suc, if◌then◌else◌, ◌==◌, ◌&&◌, ◌||◌, Option, Some, None}
+use Rattle.std.proofs.Common.{find, refl, sym, ap, ◌∙◌, arith, ◌≡◌, ℕ, Bool, true, false, List, [], ◌∷◌, ◌++◌, length, slice_get, zero, suc, if◌then◌else◌, ◌==◌, ◌&&◌, ◌||◌, Option, Some, None}
 use Rattle.std.proofs.lemmas.Bool.{eqb-true}
-use Rattle.tb_tables.proofs.Words.{its_pair, nat_tests, Transfer, Facts, add_transfer, is_reserving, has_id, ids_distinct, is_pair_of, is_pair, reserves_at, expects, before}
+use Rattle.tb_tables.proofs.Words.{its_pair, nat_tests, Transfer, Facts, add_transfer, is_reserving, has_id, ids_distinct, is_pair_of, is_pair, reserves_at, expects}
 
 pub slice_get-push : {X : Type 0} (xs : List X) (x : X) (place : ℕ) → slice_get (xs ++ x ∷ []) place ≡ (if place == length xs then Some x else slice_get xs place)
 slice_get-push [] x zero = refl
@@ -18,6 +18,12 @@ pub has_id-at : (id : ℕ) (xs : List Transfer) (place : ℕ) (x : Transfer) →
 has_id-at id [] place x at is = cc
 has_id-at id (y ∷ xs) zero x at is = grind arith
 has_id-at id (y ∷ xs) (suc place) x at is = grind (arith, has_id-at id xs place x at is)
+
+-- where its own id finds it
+pub find-at : (xs : List Transfer) (place : ℕ) (x : Transfer) → ids_distinct xs ≡ true → slice_get xs place ≡ Some x → find (λ (t : Transfer). t.id == x.id) xs ≡ Some x
+find-at [] place x distinct at = cc
+find-at (y ∷ xs) zero x distinct at = grind (arith, nat_tests)
+find-at (y ∷ xs) (suc place) x distinct at = grind (arith, nat_tests, has_id-at y.id xs place x at, find-at xs place x)
 
 pub one-place : (xs : List Transfer) (i j : ℕ) (x y : Transfer) → ids_distinct xs ≡ true → slice_get xs i ≡ Some x → slice_get xs j ≡ Some y → (x.id == y.id) ≡ (i == j)
 one-place [] i j x y distinct at at' = cc

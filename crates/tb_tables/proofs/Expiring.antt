@@ -3,7 +3,7 @@ use Rattle.std.proofs.Common.{refl, sym, ap, subst, ◌∙◌, arith, ◌≡◌,
 use Rattle.std.proofs.lemmas.Bool.{eqb-true}
 use Rattle.std.proofs.lemmas.List.{length-map, length-set}
 use Rattle.std.proofs.lemmas.Option.{slice_get-get_or, slice_get_within}
-use Rattle.tb_tables.proofs.Words.{list_any, nat_tests, Transfer, Facts, is_expired, is_reserving, is_due, expire_due, IsLawful, has_id, ids_distinct, expire_one, before}
+use Rattle.tb_tables.proofs.Words.{list_any, nat_tests, Transfer, Facts, is_expired, is_reserving, is_due, expire_due, IsLawful, has_id, ids_distinct, expire_one}
 use Rattle.tb_tables.specs.Plain.{facts_in, transfers_in, expired_in}
 use Rattle.tb_tables.proofs.Expecting.{has_id-at, one-place}
 use Rattle.tb_tables.proofs.OneExpiry.{reserving-after, lawful-after, due-after, none-left}

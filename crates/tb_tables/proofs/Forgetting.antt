@@ -1,20 +1,16 @@
 -- The pairs of resolved transfers leave the index.
-use Rattle.std.proofs.Common.{refl, sym, ap, subst, ◌∙◌, arith, ◌≡◌, ℕ, ◌+◌, ◌<◌, ◌≤◌, ◌^◌, Bool, true, false, not, List, [], ◌∷◌, ◌++◌, ◌-◌, take, length, get_or, slice_get, zero, suc, true≢false, ◌==◌, ◌&&◌, ◌||◌, Option, Some, None, option_map}
-use Rattle.std.proofs.lemmas.Bool.{eqb-true}
+use Rattle.std.proofs.Common.{refl, sym, ap, subst, ◌∙◌, arith, ◌≡◌, ℕ, ◌+◌, ◌<◌, ◌≤◌, ◌^◌, Bool, true, false, not, List, [], ◌∷◌, ◌++◌, take, length, get_or, slice_get, zero, suc, ◌==◌, ◌&&◌, ◌||◌, Some}
 use Rattle.std.proofs.lemmas.List.Folds.{list_any-append}
-use Rattle.std.proofs.lemmas.Option.{slice_get-map}
 use Rattle.std.proofs.Math.Seq.{take-suc}
-use Rattle.tb_tables.proofs.Words.{NamesOne, AllByRecursion, nat_tests, Transfer, Facts, expires_at, same_pair, Stored, facts_of, row_in, is_timed, is_spent, IsGrounded, IsKept, resolves_at, is_resolved_at, is_open_status, IsForgettable, CanForget, Places, Row, Change, is_indexed}
-use Rattle.tb_tables.specs.declared.change.Change.TheVariants.{Account, Failed, Transfer as WasTransfer}
+use Rattle.tb_tables.proofs.Words.{NamesOne, AllByRecursion, nat_tests, Transfer, Facts, expires_at, same_pair, Stored, facts_of, row_in, is_timed, is_spent, IsGrounded, IsKept, resolves_at, is_resolved_at, is_open_status, IsForgettable, CanForget, Places, Row, Change}
 use Rattle.tb_tables.proofs.Laws.{resolved_either}
+use Rattle.tb_tables.proofs.Stored.{row-placed}
 
 -- ---- one transfer
 
-module _ (facts : Facts) (t : Transfer) (entries : List (ℕ × Row)) (place : ℕ) (can : IsForgettable facts t entries place) where
+module _ {facts : Facts} {t : Transfer} {entries : List (ℕ × Row)} {place : ℕ} (can : IsForgettable facts t entries place) where
   pub row-there : slice_get entries place ≡ Some (t.id, row_in facts t)
-  row-there =
-      ap (λ es. slice_get es place) can.transfers_are ∙ slice_get-map (λ (x : Transfer). (x.id, row_in facts x)) facts.transfers place
-      ∙ ap (option_map (λ (x : Transfer). (x.id, row_in facts x))) can.at
+  row-there = row-placed (λ (x : Transfer). x.id) (row_in facts) facts.transfers can.transfers_are place can.at
 
   pub fits : is_timed t ≡ true → expires_at t < 2 ^ 64
   fits timed = can.expiry_fits (grind (arith, timed))

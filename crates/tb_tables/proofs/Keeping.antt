@@ -1,5 +1,5 @@
 -- What the maps hold is what is seen, and what can be undone stays so.
-use Rattle.std.proofs.Common.{refl, sym, ap, subst, arith, ◌∙◌, ◌≡◌, ℕ, ◌<◌, ◌≤◌, ◌-◌, Bool, true, List, [], ◌∷◌, ◌++◌, map, filter, take, length, slice_get, zero, suc, true≢false, ◌&&◌, Option, Some, None}
+use Rattle.std.proofs.Common.{refl, sym, ap, subst, arith, ◌∙◌, ◌≡◌, ℕ, ◌<◌, ◌≤◌, Bool, true, List, [], ◌∷◌, map, filter, length, slice_get, suc, true≢false, ◌&&◌, Option, Some, None}
 use Rattle.std.proofs.lemmas.Option.{slice_get_within}
 use Rattle.tb_tables.proofs.Words.{AllByRecursion, Account as AccountRecord, Transfer as TransferRecord, Facts, is_expired, status_in, HasNoBalances, Sums, sums_of, with_sums, account_rows, Stored, account_made, has_expired, facts_of, transfer_rows, is_pair_of, reserves_at, IsSound, AreHeld, IsKept, Row, KeepsPairs}
 use Rattle.tb_tables.proofs.Laws.{resolved_either}
@@ -33,10 +33,11 @@ seen new facts failed held =
     each : (place : ℕ) (t : TransferRecord) → slice_get facts.transfers place ≡ Some t → has_expired (status_in facts t) ≡ is_expired facts t.id
     each place t at = grind (arith, held.sound.expiries.open_ones place t at, resolved_either t.id facts.transfers)
 
-pub keeps : (new : Stored) (facts : Facts) → new.failed ≡ facts.failed → AreHeld new.accounts new.transfers new.is_indexed facts → IsKept new × (facts_of new ≡ facts)
-keeps new facts failed held =
-    let is = seen new facts failed held in
-    (subst (AreHeld new.accounts new.transfers new.is_indexed) (sym is) held, is)
+pub keeps : {accounts : List (ℕ × AccountRecord)} {transfers : List (ℕ × Row)} {indexed : ℕ → ℕ → Bool} (facts : Facts) → AreHeld accounts transfers indexed facts →
+    let new : Stored = record { accounts = accounts; transfers = transfers; failed = facts.failed; is_indexed = indexed } in IsKept new × (facts_of new ≡ facts)
+keeps {accounts} {transfers} {indexed} facts held =
+    let is = seen (record { accounts = accounts; transfers = transfers; failed = facts.failed; is_indexed = indexed }) facts refl held in
+    (subst (AreHeld accounts transfers indexed) (sym is) held, is)
 
 -- ---- the same with another index, which has the same pairs of the places that there are
 

@@ -1,11 +1,11 @@
 -- Look-ups in the maps.
-use Rattle.std.proofs.Common.{refl, sym, ap, subst, ◌∙◌, ◌≡◌, ℕ, Bool, true, false, cond, List, [], ◌∷◌, map, nat_eq, slice_get, length, zero, suc, arith, ◌+◌, ◌<◌, lt-ltb, le-ltb, not, ◌==◌, Option, Some, None, IsSome, find, nat_lt, option_map}
+use Rattle.std.proofs.Common.{refl, sym, ap, subst, ◌∙◌, ◌≡◌, ℕ, Bool, true, false, cond, List, [], ◌∷◌, map, nat_eq, slice_get, length, suc, arith, ◌+◌, ◌<◌, lt-ltb, le-ltb, not, ◌==◌, Option, Some, None, IsSome, find, nat_lt, option_map}
 use Rattle.std.proofs.lemmas.List.{length-map}
-use Rattle.tb_tables.proofs.Words.{position, position_or_len, keys_of, lookup, nat_tests, Account, Transfer, Facts, account_with, IsPlaceOf, transfer_with, status_with, MayResolve, IsLawful, ids_distinct, sums_of, with_sums, AreAt, Hold, AreGrounded, row_in, MayPost, Places, Row, Status, has_account, IsGrounded}
+use Rattle.tb_tables.proofs.Words.{position, position_or_len, keys_of, lookup, Account, Transfer, Facts, account_with, IsPlaceOf, transfer_with, status_with, MayResolve, IsLawful, ids_distinct, sums_of, with_sums, AreAt, Hold, AreGrounded, row_in, MayPost, Places, Row, Status, has_account, IsGrounded}
 use Rattle.tb_tables.proofs.Laws.{==_swap}
 use Rattle.tb_tables.proofs.Stored.{lookup-rows, made-at}
 use Rattle.tb_tables.proofs.Grounding.{all-found}
-use Rattle.tb_tables.proofs.Expecting.{has_id-at}
+use Rattle.tb_tables.proofs.Expecting.{find-at}
 
 keys-map : {X V : Type 0} (key : X → ℕ) (made : X → V) (xs : List X) → keys_of (map (λ x. (key x, made x)) xs) ≡ map key xs
 keys-map key made [] = refl
@@ -13,9 +13,7 @@ keys-map key made (x ∷ xs) = ap (λ ks. key x ∷ ks) (keys-map key made xs)
 
 -- the transfer at a place is the one that its id finds
 found-at : (id : ℕ) (xs : List Transfer) (place : ℕ) (x p : Transfer) → ids_distinct xs ≡ true → slice_get xs place ≡ Some x → x.id ≡ id → find (λ (t : Transfer). t.id == id) xs ≡ Some p → x ≡ p
-found-at id [] place x p distinct at is found = cc
-found-at id (y ∷ xs) zero x p distinct at is found = grind (arith, nat_tests)
-found-at id (y ∷ xs) (suc place) x p distinct at is found = grind (arith, nat_tests, has_id-at y.id xs place x at, found-at id xs place x p)
+found-at id xs place x p distinct at is found = cc (find-at xs place x distinct at, found, ap (λ k. find (λ (t : Transfer). t.id == k) xs) is)
 
 -- so many accounts stand in front of the one that is found, or all
 abbrev AtPlace : Option Account → List Account → ℕ → Type 0
@@ -45,7 +43,7 @@ abbrev pub row_status : Option Row → Option Status
 row_status None = None
 row_status (Some row) = row.status
 
-module _ (facts : Facts) (accounts : List (ℕ × Account)) (transfers : List (ℕ × Row)) (hold : Hold facts accounts transfers) where
+module _ {facts : Facts} {accounts : List (ℕ × Account)} {transfers : List (ℕ × Row)} (hold : Hold facts accounts transfers) where
   pub account-found : (id : ℕ) → lookup (nat_eq id) accounts ≡ option_map (with_sums (sums_of facts)) (account_with facts id)
   account-found id = ap (lookup (nat_eq id)) hold.accounts_are ∙ lookup-rows (λ (a : Account). a.id) (with_sums (sums_of facts)) id facts.accounts
 

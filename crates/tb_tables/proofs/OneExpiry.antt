@@ -1,19 +1,14 @@
 -- A transfer expires: sums, statuses, and the index of expiries.
-use Rattle.std.proofs.Common.{refl, sym, ap, ◌∙◌, arith, ◌≡◌, ℕ, ◌+◌, Bool, true, false, not, List, [], ◌∷◌, map, filter, subst, nat_eq, slice_get, zero, suc, if◌then◌else◌, ◌==◌, ◌&&◌, ◌||◌, Option, Some, None, find}
+use Rattle.std.proofs.Common.{refl, sym, ap, ◌∙◌, arith, ◌≡◌, ℕ, ◌+◌, Bool, true, false, not, List, [], ◌∷◌, map, filter, subst, nat_eq, slice_get, suc, if◌then◌else◌, ◌==◌, ◌&&◌, ◌||◌, Option, Some, None}
 use Rattle.std.proofs.lemmas.Bool.{eqb-true}
 use Rattle.std.proofs.lemmas.List.Elements.{filter_agree}
-use Rattle.tb_tables.proofs.Words.{IsDistinct, keys_of, nat_tests, set_value_at, Transfer, Facts, is_expired, is_due, expire_due, is_resolved, is_reserving, expires_at, is_pending, IsLawful, ids_distinct, expire_one, same_pair, sums_of, with_amount, row_in, transfer_rows, is_pair_of, reserves_at, expects, IsSound, Row, Expired}
+use Rattle.tb_tables.proofs.Words.{IsDistinct, keys_of, nat_tests, set_value_at, Transfer, Facts, is_expired, is_due, expire_due, is_resolved, is_reserving, expires_at, is_pending, IsLawful, expire_one, same_pair, sums_of, with_amount, row_in, transfer_rows, is_pair_of, reserves_at, expects, IsSound, Row, Expired}
 use Rattle.tb_tables.proofs.Sums.{amount_if, amounts, amounts-each, sum_by-same, but_for, but_for-found}
 use Rattle.tb_tables.proofs.Laws.{==_swap, reserves, resolved_either}
 use Rattle.tb_tables.proofs.Stored.{rows-set}
-use Rattle.tb_tables.proofs.Expecting.{has_id-at, one-transfer}
+use Rattle.tb_tables.proofs.Expecting.{find-at, has_id-at, one-transfer}
 use Rattle.tb_tables.proofs.Stepping.{ids-found, expired-is}
 use Rattle.tb_tables.proofs.Added.{AreSame}
-
-find-at : (xs : List Transfer) (place : ℕ) (x : Transfer) → ids_distinct xs ≡ true → slice_get xs place ≡ Some x → find (λ (t : Transfer). t.id == x.id) xs ≡ Some x
-find-at [] place x distinct at = cc
-find-at (y ∷ xs) zero x distinct at = grind (arith, nat_tests)
-find-at (y ∷ xs) (suc place) x distinct at = grind (arith, nat_tests, has_id-at y.id xs place x at, find-at xs place x)
 
 pub filter-at : (f g : Transfer → Bool) (xs : List Transfer) → ((place : ℕ) (x : Transfer) → slice_get xs place ≡ Some x → f x ≡ g x) → filter f xs ≡ filter g xs
 filter-at f g [] same = refl

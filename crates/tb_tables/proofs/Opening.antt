@@ -1,5 +1,5 @@
 -- Accounts and failed ids, added and taken back.
-use Rattle.std.proofs.Common.{arith, refl, sym, ap, subst, ◌∙◌, ◌≡◌, ℕ, ◌-◌, Bool, true, false, List, [], ◌∷◌, ◌++◌, map, take, length, ◌==◌, ◌&&◌, None, find}
+use Rattle.std.proofs.Common.{arith, refl, sym, ap, ◌∙◌, ◌≡◌, ℕ, ◌-◌, Bool, true, false, List, [], ◌∷◌, ◌++◌, map, take, length, ◌==◌, ◌&&◌, None, find}
 use Rattle.std.proofs.lemmas.List.{map-append, length-map, take-map}
 use Rattle.tb_tables.proofs.Words.{AllByRecursion, nat_tests, Account as AccountRecord, Transfer as TransferRecord, Facts, account_with, add_account, is_reserving, is_posting, HasNoBalances, without_last, before, sums_of, with_sums, account_rows, Stored, facts_of, has_account, IsGrounded, AreGrounded, AreHeld, IsKept, Places, Row, IsUndoable}
 use Rattle.tb_tables.specs.declared.change.Change.TheVariants.{Account}
@@ -10,35 +10,25 @@ use Rattle.tb_tables.proofs.Histories.{all_push}
 
 -- ---- an account that is new has no balances
 
-amounts-none : (test : TransferRecord → Bool) (side : TransferRecord → ℕ) (id : ℕ) (xs : List TransferRecord) → AllByRecursion (λ x. (side x == id) ≡ false) xs → amounts (λ x. test x && (side x == id)) xs ≡ 0
-amounts-none test side id [] all = refl
-amounts-none test side id (x ∷ xs) all = grind (arith, all.0, amounts-none test side id xs all.1)
-
 none-there : (id : ℕ) (accounts : List AccountRecord) → find (λ (a : AccountRecord). a.id == id) accounts ≡ None → has_account id accounts ≡ false
 none-there id [] e = refl
 none-there id (x ∷ xs) e = grind (arith, none-there id xs)
 
 module _ (facts : Facts) (grounded : AreGrounded facts) (account : AccountRecord) (fresh : account_with facts account.id ≡ None) (none : HasNoBalances account) where
-  differs : (side : TransferRecord → ℕ) (x : TransferRecord) → has_account (side x) facts.accounts ≡ true → (side x == account.id) ≡ false
-  differs side x there = grind (arith, nat_tests, none-there account.id facts.accounts fresh)
-
-  debits-differ : (xs : List TransferRecord) → AllByRecursion (IsGrounded facts.accounts facts.transfers) xs → AllByRecursion (λ x. (x.debit_account_id == account.id) ≡ false) xs
-  debits-differ [] all = tt
-  debits-differ (x ∷ xs) all = (differs (λ y. y.debit_account_id) x all.0.debit, debits-differ xs all.1)
-
-  credits-differ : (xs : List TransferRecord) → AllByRecursion (IsGrounded facts.accounts facts.transfers) xs → AllByRecursion (λ x. (x.credit_account_id == account.id) ≡ false) xs
-  credits-differ [] all = tt
-  credits-differ (x ∷ xs) all = (differs (λ y. y.credit_account_id) x all.0.credit, credits-differ xs all.1)
+  amounts-none : (test : TransferRecord → Bool) (side : TransferRecord → ℕ) → ((x : TransferRecord) → IsGrounded facts.accounts facts.transfers x → has_account (side x) facts.accounts ≡ true) →
+      (xs : List TransferRecord) → AllByRecursion (IsGrounded facts.accounts facts.transfers) xs → 0 ≡ amounts (λ x. test x && (side x == account.id)) xs
+  amounts-none test side there [] all = refl
+  amounts-none test side there (x ∷ xs) all = grind (arith, nat_tests, none-there account.id facts.accounts fresh, there x all.0, amounts-none test side there xs all.1)
 
   -- it is stored as it was made
   new-account : account ≡ with_sums (sums_of facts) account
   new-account =
-      let debits = debits-differ facts.transfers grounded in
-      let credits = credits-differ facts.transfers grounded in
-      let dp = none.debits_pending ∙ sym (amounts-none (is_reserving facts) (λ x. x.debit_account_id) account.id facts.transfers debits) in
-      let dpo = none.debits_posted ∙ sym (amounts-none is_posting (λ x. x.debit_account_id) account.id facts.transfers debits) in
-      let cp = none.credits_pending ∙ sym (amounts-none (is_reserving facts) (λ x. x.credit_account_id) account.id facts.transfers credits) in
-      let cpo = none.credits_posted ∙ sym (amounts-none is_posting (λ x. x.credit_account_id) account.id facts.transfers credits) in
+      let debits = λ (test : TransferRecord → Bool). amounts-none test (λ x. x.debit_account_id) (λ x ground. ground.debit) facts.transfers grounded in
+      let credits = λ (test : TransferRecord → Bool). amounts-none test (λ x. x.credit_account_id) (λ x ground. ground.credit) facts.transfers grounded in
+      let dp = none.debits_pending ∙ debits (is_reserving facts) in
+      let dpo = none.debits_posted ∙ debits is_posting in
+      let cp = none.credits_pending ∙ credits (is_reserving facts) in
+      let cpo = none.credits_posted ∙ credits is_posting in
       λ i. record account { debits_pending = dp i; debits_posted = dpo i; credits_pending = cp i; credits_posted = cpo i }
 
 -- the failed ids are nothing to what the maps hold
@@ -89,7 +79,7 @@ module _ (old : Stored) (kept : IsKept old) where
         }
 
     pub kept-account : IsKept with_account × (facts_of with_account ≡ facts_with)
-    kept-account = keeps with_account facts_with refl held
+    kept-account = keeps facts_with held
 
   -- ---- an account taken back
 
@@ -102,4 +92,4 @@ module _ (old : Stored) (kept : IsKept old) where
   pub kept-unaccount : IsUndoable old.is_indexed Account (facts_of old) → IsKept without_account × (facts_of without_account ≡ before {T = Places} Account (facts_of old))
   kept-unaccount undoable =
       let accounts = ap without_last kept.hold.accounts_are ∙ sym (map-without_last (λ (a : AccountRecord). (a.id, with_sums (sums_of (facts_of old)) a)) (facts_of old).accounts) in
-      keeps without_account (before {T = Places} Account (facts_of old)) refl (record { hold = record { accounts_are = accounts; transfers_are = kept.hold.transfers_are }; timed = kept.timed; sound = undoable.0 })
+      keeps (before {T = Places} Account (facts_of old)) (record { hold = record { accounts_are = accounts; transfers_are = kept.hold.transfers_are }; timed = kept.timed; sound = undoable.0 })

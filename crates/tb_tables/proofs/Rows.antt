@@ -2,7 +2,7 @@
 use Rattle.std.proofs.Common.{sym, ap, subst, ◌∙◌, ◌≡◌, ℕ, Bool, false, List, [], ◌∷◌, ◌++◌, map, append-nil}
 use Rattle.std.proofs.lemmas.List.{map-append}
 use Rattle.std.proofs.lemmas.List.Elements.{filter-append}
-use Rattle.tb_tables.proofs.Words.{Account as AccountRecord, Transfer as TransferRecord, Facts, add_account, add_transfer, add_failed, with_change, IsLawful, AreLawful, Change, before}
+use Rattle.tb_tables.proofs.Words.{Account as AccountRecord, Transfer as TransferRecord, Facts, add_account, add_transfer, add_failed, with_change, IsLawful, AreLawful, Change}
 use Rattle.tb_tables.specs.Plain.{Lists, facts_of, expired_in, cut_back, plain_history}
 use Rattle.tb_tables.specs.declared.change.Change.TheVariants.{Account, Transfer, Failed}
 use Rattle.tb_tables.proofs.Histories.{history_of-push, lawful_push, without_last-push}

@@ -1,8 +1,8 @@
 -- A transfer stored in the tables, and taken back.
-use Rattle.std.proofs.Common.{refl, sym, ap, subst, arith, ◌∙◌, ◌≡◌, ℕ, ◌<◌, Bool, true, false, not, List, [], ◌∷◌, ◌++◌, map, filter, length, append-nil, if◌then◌else◌, ◌==◌, ◌&&◌, ◌||◌, Option, Some, None, slice_get}
+use Rattle.std.proofs.Common.{refl, sym, ap, subst, arith, ◌∙◌, ◌≡◌, ℕ, Bool, true, false, not, List, [], ◌∷◌, ◌++◌, map, filter, length, append-nil, if◌then◌else◌, ◌==◌, ◌&&◌, ◌||◌, Option, Some, None, slice_get}
 use Rattle.std.proofs.lemmas.Bool.{eqb-true}
 use Rattle.std.proofs.lemmas.List.Elements.{filter-append}
-use Rattle.tb_tables.proofs.Words.{list_any, nat_tests, Account, Transfer as TransferRecord, is_pending, is_resolving, Facts, transfer_with, is_expired, add_transfer, is_resolved, is_reserving, IsLawful, has_id, before, AreAt, Stored, AreGrounded, facts_of, is_pair, AreExpiries, IsSound, AreHeld, Allow, MayStore, WasStored, IsKept, Hold, new_row, IsPushed, IsStored, Places, Row, IsUndoable, KeepsPairs, is_indexed, its_pair}
+use Rattle.tb_tables.proofs.Words.{list_any, nat_tests, Account, Transfer as TransferRecord, is_pending, is_resolving, Facts, transfer_with, is_expired, add_transfer, is_resolved, is_reserving, IsLawful, has_id, before, AreAt, Stored, AreGrounded, facts_of, is_pair, AreExpiries, IsSound, AreHeld, Allow, MayStore, WasStored, IsKept, Hold, new_row, IsPushed, IsStored, Places, Row, IsUndoable, KeepsPairs, its_pair}
 use Rattle.tb_tables.specs.declared.change.Change.TheVariants.{Transfer}
 use Rattle.tb_tables.proofs.Laws.{find-none, any-push, reserving-same, reserving-other, resolves_nothing, add_transfer_lawful, resolve_lawful}
 use Rattle.tb_tables.proofs.Grounding.{grounded_added, grounded_resolved}
@@ -89,9 +89,9 @@ module _ (facts : Facts) (t : TransferRecord) where
 
   -- ---- one more
 
-  pub held-push : (accounts : List _) (transfers : List (ℕ × Row)) (indexed next : ℕ → ℕ → Bool) (places : Places) → AreHeld accounts transfers indexed facts → (accounts' : List _) (transfers' : List (ℕ × Row)) → IsStored facts t places accounts' transfers' →
+  held-push : {accounts accounts' : List (ℕ × Account)} {transfers transfers' : List (ℕ × Row)} {indexed next : ℕ → ℕ → Bool} {places : Places} → AreHeld accounts transfers indexed facts → IsStored facts t places accounts' transfers' →
       ((m p : ℕ) → next m p ≡ (its_pair facts t m p || indexed m p)) → AreHeld accounts' transfers' next (add_transfer facts t)
-  held-push accounts transfers indexed next places held accounts' transfers' is put = record {
+  held-push {indexed = indexed} {next = next} {places = places} held is put = record {
     hold = is.hold;
     timed = λ m p has. grind (arith, pairs-push facts t m p, put m p, held.timed m p);
     sound = sound-push indexed next places is.allow held.sound put;
@@ -112,9 +112,9 @@ module _ (old : Stored) (kept : IsKept old) (t : TransferRecord) (places : Place
     transfers_are = is ∙ ap (λ es. es ++ (t.id, new_row t) ∷ []) kept.hold.transfers_are;
   }
 
-pub stored : (old : Stored) → IsKept old → (t : TransferRecord) (places : Places) (new : Stored) → new.failed ≡ old.failed → IsStored (facts_of old) t places new.accounts new.transfers → ((m p : ℕ) → new.is_indexed m p ≡ (its_pair (facts_of old) t m p || old.is_indexed m p)) →
-    IsKept new × (facts_of new ≡ add_transfer (facts_of old) t)
-stored old kept t places new failed is put = keeps new (add_transfer (facts_of old) t) failed (held-push (facts_of old) t old.accounts old.transfers old.is_indexed new.is_indexed places kept new.accounts new.transfers is put)
+pub stored : (old : Stored) → IsKept old → (t : TransferRecord) (places : Places) {accounts : List (ℕ × Account)} {transfers : List (ℕ × Row)} {next : ℕ → ℕ → Bool} → IsStored (facts_of old) t places accounts transfers →
+    ((m p : ℕ) → next m p ≡ (its_pair (facts_of old) t m p || old.is_indexed m p)) → let new : Stored = record old { accounts = accounts; transfers = transfers; is_indexed = next } in IsKept new × (facts_of new ≡ add_transfer (facts_of old) t)
+stored old kept t places is put = keeps (add_transfer (facts_of old) t) (held-push (facts_of old) t kept is put)
 
 -- its pair put into the index and taken out again: it wasn't there
 pub refused : (old : Stored) → IsKept old → (t : TransferRecord) (m p : ℕ) → (not (its_pair (facts_of old) t m p) && (its_pair (facts_of old) t m p || old.is_indexed m p)) ≡ old.is_indexed m p
@@ -138,13 +138,12 @@ module _ (old : Stored) (kept : IsKept old) (places : Places) (undoable : IsUndo
   pub was-stored : IsStored facts was.transfer places old.accounts old.transfers
   was-stored = record { allow = was.allow; hold = subst (λ now. Hold now old.accounts old.transfers) was.stored kept.hold }
 
-  module _ (next : ℕ → ℕ → Bool) (took : (m p : ℕ) → next m p ≡ (not (its_pair facts was.transfer m p) && old.is_indexed m p)) where
+  module _ {next : ℕ → ℕ → Bool} (took : (m p : ℕ) → next m p ≡ (not (its_pair facts was.transfer m p) && old.is_indexed m p)) where
     pub kept-in : KeepsPairs (length facts.transfers) old.is_indexed next
     kept-in m p within has = grind (arith, nat_tests, took m p, has)
 
     still : (m p : ℕ) → next m p ≡ true → (old.is_indexed m p ≡ true → is_pair (facts_of old) m p ≡ true) → is_pair facts m p ≡ true
     still m p has timed = grind (arith, took m p, has, pairs-push facts was.transfer m p, ap (λ now. is_pair now m p) was.stored)
 
-    pub taken : (new : Stored) → new.is_indexed ≡ next → new.failed ≡ old.failed → Hold facts new.accounts new.transfers → IsKept new × (facts_of new ≡ facts)
-    taken new index failed hold =
-        keeps new facts failed (subst (λ ix. AreHeld new.accounts new.transfers ix facts) (sym index) (record { hold = hold; timed = λ m p has. still m p has (kept.timed m p); sound = sound-indexed old.is_indexed next (length facts.transfers) kept-in facts (omega arith) undoable.0 }))
+    pub taken : {accounts : List (ℕ × Account)} {transfers : List (ℕ × Row)} → Hold facts accounts transfers → let new : Stored = record old { accounts = accounts; transfers = transfers; is_indexed = next } in IsKept new × (facts_of new ≡ facts)
+    taken hold = keeps facts (record { hold = hold; timed = λ m p has. still m p has (kept.timed m p); sound = sound-indexed old.is_indexed next (length facts.transfers) kept-in facts (omega arith) undoable.0 })

@@ -1,6 +1,6 @@
 -- Rows that stand in a map under their keys, in order.
 use Rattle.std.proofs.Common.{refl, sym, ap, subst, ◌∙◌, arith, ◌≡◌, ℕ, false, List, [], ◌∷◌, map, nat_eq, slice_get, get_or, position, zero, suc, Some, find, ◌==◌, option_map}
-use Rattle.std.proofs.lemmas.Option.{slice_get-get_or}
+use Rattle.std.proofs.lemmas.Option.{slice_get-get_or, slice_get-map}
 use Rattle.std.proofs.lemmas.List.{length-map}
 use Rattle.std.proofs.lemmas.Map.Keys.{IsDistinct-head, IsDistinct-tail}
 use Rattle.indexmap.proofs.MapLemmas.{Found-position}
@@ -20,6 +20,10 @@ pub made-at : {X Y : Type 0} (f : X → Y) (xs : List X) (place : ℕ) (y : Y) �
 made-at f [] place y at = cc
 made-at f (x ∷ xs) zero y at = (x, refl, cc)
 made-at f (x ∷ xs) (suc place) y at = made-at f xs place y at
+
+-- and what stands at a place of the rows
+pub row-placed : {X V : Type 0} (key : X → ℕ) (made : X → V) (xs : List X) {es : List (ℕ × V)} → es ≡ rows key made xs → (place : ℕ) {x : X} → slice_get xs place ≡ Some x → slice_get es place ≡ Some (key x, made x)
+row-placed key made xs is place at = ap (λ es. slice_get es place) is ∙ slice_get-map (λ x. (key x, made x)) xs place ∙ ap (option_map (λ x. (key x, made x))) at
 
 -- a look-up by key finds the first of that key
 pub lookup-rows : {X V : Type 0} (key : X → ℕ) (made : X → V) (id : ℕ) (xs : List X) → lookup (nat_eq id) (rows key made xs) ≡ option_map made (find (λ x. key x == id) xs)

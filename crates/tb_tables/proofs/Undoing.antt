@@ -1,5 +1,5 @@
 -- The undo list: what can be undone stays so.
-use Rattle.std.proofs.Common.{refl, sym, ap, subst, arith, ◌∙◌, ◌≡◌, ℕ, ◌<◌, ◌≤◌, ◌-◌, Bool, true, List, [], ◌∷◌, ◌++◌, take, length, slice_get, zero, suc, true≢false, Option, Some, None}
+use Rattle.std.proofs.Common.{sym, ap, subst, arith, ◌∙◌, ◌≡◌, ℕ, ◌≤◌, ◌-◌, Bool, true, List, [], ◌∷◌, ◌++◌, take, length, slice_get, zero, suc, true≢false, Option, Some, None}
 use Rattle.std.proofs.lemmas.Bool.{eqb-true}
 use Rattle.tb_tables.proofs.Words.{AllByRecursion, Account as AccountRecord, Transfer as TransferRecord, Facts, add_account, add_failed, with_change, before, oldest, Indexed, add_transfer, has_pair, HavePlaces, MayStore, KeepsPairs, NamesOne, names_place, resolves_at, IsSound, WasMade, IsUndoable, AreUndoable, history_in, Places, Change}
 use Rattle.tb_tables.specs.declared.change.Change.TheVariants.{Account, Transfer, Failed}

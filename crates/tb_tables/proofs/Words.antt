@@ -12,7 +12,7 @@ pub use Rattle.tb_tables.specs.Conditions.{HasNoBalances, MayAdd, MayResolve}
 pub use Rattle.tb_tables.specs.Expiries.{has_pair, is_indexed, pair_cmp, same_pair}
 pub use Rattle.tb_tables.specs.Facts.{Facts, IsPlaceOf, account_with, add_account, add_failed, add_transfer, is_expired, transfer_with}
 pub use Rattle.tb_tables.specs.Held.{stored_in}
-pub use Rattle.tb_tables.specs.History.{History, back_to, mark_of, with_change}
+pub use Rattle.tb_tables.specs.History.{back_to, mark_of, with_change}
 pub use Rattle.tb_tables.specs.Kept.{Allow, AreExpiries, AreGrounded, AreHeld, AreUndoable, HavePlaces, Hold, Indexed, IsGrounded, IsKept, IsSound, IsUndoable, KeepsPairs, MayPost, MayStore, NamesOne, Stored, WasMade, WasStored, account_made, expects, facts_of, has_account, has_expired, history_in, is_pair, is_pair_of, is_resolved_at, is_spent, is_timed, its_pair, names_place, reserves_at, resolves_at, row_in, transfer_rows}
 pub use Rattle.tb_tables.specs.Lawful.{AreLawful, IsLawful, has_id, ids_distinct}
 pub use Rattle.tb_tables.specs.Status.{expire_due, expires_at, is_due, is_posted, is_reserving, is_resolved, is_voided, status_if_pending, status_in, status_of, status_with}

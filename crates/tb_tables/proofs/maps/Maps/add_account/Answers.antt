@@ -8,7 +8,7 @@ pub push_account-requires : goal.push_account-requires
 push_account-requires c =
     let old = stored_in c.self.inside in
     let none = rw (← c.self.view_is) at c.requires.new in
-    account-found (facts_of old) old.accounts old.transfers c.self.invariant.hold c.args.account.id ∙ ap (option_map (with_sums (sums_of (facts_of old)))) none
+    account-found c.self.invariant.hold c.args.account.id ∙ ap (option_map (with_sums (sums_of (facts_of old)))) none
 
 pub invariant_of-self-2 : goal.invariant_of-self-2
 invariant_of-self-2 c = rw (c.in_ok-push_account.ensures.ok) (kept-account (stored_in c.self.inside) c.self.invariant c.args.account (rw (← c.self.view_is) at c.requires.new) c.requires.no_balances).0
