@@ -1,17 +1,32 @@
--- Which pairs are those of a transfer, and which the index has to have, after one transfer more.
-use Rattle.std.proofs.Common.{find, refl, sym, ap, ◌∙◌, arith, ◌≡◌, ℕ, Bool, true, false, List, [], ◌∷◌, ◌++◌, length, slice_get, zero, suc, if◌then◌else◌, ◌==◌, ◌&&◌, ◌||◌, Option, Some, None}
+-- Pairs of the index of expiries: which are those of a transfer, and which it has to have.
+use Rattle.std.proofs.Common.{find, refl, sym, ap, ◌∙◌, arith, ◌≡◌, ℕ, Bool, true, false, List, [], ◌∷◌, ◌++◌, length, slice_get, zero, suc, if◌then◌else◌, ◌==◌, ◌&&◌, ◌||◌, Option, Some, None, ◌≤◌, not, cond, is_eq, is_gt}
 use Rattle.std.proofs.lemmas.Bool.{eqb-true}
-use Rattle.tb_tables.proofs.Words.{its_pair, nat_tests, Transfer, Facts, add_transfer, is_reserving, has_id, ids_distinct, is_pair_of, is_pair, reserves_at, expects}
+use Rattle.std.proofs.lemmas.Option.{slice_get_past}
+use Rattle.tb_tables.proofs.Words.{its_pair, nat_tests, Transfer, Facts, add_transfer, is_reserving, has_id, ids_distinct, is_pair_of, is_pair, reserves_at, expects, list_any, pair_cmp, is_indexed, same_pair}
+use Rattle.std.specs.BTreeSet.{BTreeSet}
+
+pair-eq : (moment place m p : ℕ) → is_eq (pair_cmp (moment, place) (m, p)) ≡ same_pair moment place m p
+pair-eq moment place m p = grind (arith, nat_tests)
+
+-- a set with a pair more, and with a pair less
+pub with_pair : (moment place m p : ℕ) (had : Bool) → cond (is_eq (pair_cmp (moment, place) (m, p))) true had ≡ (same_pair moment place m p || had)
+with_pair moment place m p had = grind (arith, pair-eq moment place m p)
+
+pub without_pair : (moment place m p : ℕ) (had : Bool) → cond (is_eq (pair_cmp (moment, place) (m, p))) false had ≡ (not (same_pair moment place m p) && had)
+without_pair moment place m p had = grind (arith, pair-eq moment place m p)
+
+-- a pair that isn't above another has no later moment
+pub moment-le : (a b x y : ℕ) → is_gt (pair_cmp (a, x) (b, y)) ≡ false → a ≤ b
+moment-le a b x y h = grind (arith, nat_tests)
+
+pub same-keys : (old new : BTreeSet (ℕ × ℕ)) → new.keys ≡ old.keys → (m p : ℕ) → is_indexed new m p ≡ is_indexed old m p
+same-keys old new same m p = ap (list_any (λ k. is_eq (pair_cmp (m, p) k))) same
 
 pub slice_get-push : {X : Type 0} (xs : List X) (x : X) (place : ℕ) → slice_get (xs ++ x ∷ []) place ≡ (if place == length xs then Some x else slice_get xs place)
 slice_get-push [] x zero = refl
 slice_get-push [] x (suc place) = grind (arith, nat_tests)
 slice_get-push (y ∷ xs) x zero = grind (arith, nat_tests)
 slice_get-push (y ∷ xs) x (suc place) = grind (arith, nat_tests, slice_get-push xs x place)
-
-pub slice_get-end : {X : Type 0} (xs : List X) → slice_get xs (length xs) ≡ None
-slice_get-end [] = refl
-slice_get-end (x ∷ xs) = slice_get-end xs
 
 -- an id stands at one place
 pub has_id-at : (id : ℕ) (xs : List Transfer) (place : ℕ) (x : Transfer) → slice_get xs place ≡ Some x → (x.id == id) ≡ true → has_id id xs ≡ true
@@ -42,7 +57,7 @@ module _ (facts : Facts) (t : Transfer) where
     where
       by : (b : Bool) → (place == length facts.transfers) ≡ b → is_pair_of moment (if b then Some t else slice_get facts.transfers place) ≡ (its_pair facts t moment place || is_pair facts moment place)
       by true is =
-          let none : slice_get facts.transfers place ≡ None = ap (slice_get facts.transfers) (eqb-true place (length facts.transfers) is) ∙ slice_get-end facts.transfers in
+          let none : slice_get facts.transfers place ≡ None = ap (slice_get facts.transfers) (eqb-true place (length facts.transfers) is) ∙ slice_get_past facts.transfers (length facts.transfers) (omega arith) in
           grind (arith, nat_tests, none, is)
       by false is = grind (arith, nat_tests, is)
 

@@ -1,5 +1,5 @@
 -- The pairs of resolved transfers leave the index.
-use Rattle.std.proofs.Common.{refl, sym, ap, subst, ◌∙◌, arith, ◌≡◌, ℕ, ◌+◌, ◌<◌, ◌≤◌, ◌^◌, Bool, true, false, not, List, [], ◌∷◌, ◌++◌, take, length, get_or, slice_get, zero, suc, ◌==◌, ◌&&◌, ◌||◌, Some}
+use Rattle.std.proofs.Common.{sym, ap, subst, ◌∙◌, arith, ◌≡◌, ℕ, ◌+◌, ◌<◌, ◌^◌, Bool, true, false, not, List, [], ◌∷◌, ◌++◌, take, length, get_or, slice_get, zero, suc, ◌==◌, ◌&&◌, ◌||◌, Some}
 use Rattle.std.proofs.lemmas.List.Folds.{list_any-append}
 use Rattle.std.proofs.Math.Seq.{take-suc}
 use Rattle.tb_tables.proofs.Words.{NamesOne, AllByRecursion, nat_tests, Transfer, Facts, expires_at, same_pair, Stored, facts_of, row_in, is_timed, is_spent, IsGrounded, IsKept, resolves_at, is_resolved_at, is_open_status, IsForgettable, CanForget, Places, Row, Change}
@@ -47,12 +47,6 @@ forgotten-more changes k d p pair had now next h was is =
   where
     bits : (a r now : Bool) → now ≡ (not (a && pair) && had) → (not (r && pair) && now) ≡ (not ((a || r) && pair) && had)
     bits a r now was = grind arith
-
-pub taken-all : {X : Type 0} (xs : List X) (k : ℕ) → length xs ≤ k → take k xs ≡ xs
-taken-all [] zero h = refl
-taken-all [] (suc k) h = refl
-taken-all (x ∷ xs) zero h = absurd (omega arith)
-taken-all (x ∷ xs) (suc k) h = ap (λ ys. x ∷ ys) (taken-all xs k (omega arith))
 
 pub all-there : {X : Type 0} (P : X → Type 0) (xs : List X) (place : ℕ) (x : X) → AllByRecursion P xs → slice_get xs place ≡ Some x → P x
 all-there P [] place x all at = cc

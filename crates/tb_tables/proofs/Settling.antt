@@ -1,21 +1,17 @@
 -- A transfer stored and taken back: balances, and the status of what it names.
 use Rattle.std.proofs.Common.{refl, sym, ap, subst, ◌∙◌, arith, ◌≡◌, ℕ, ◌+◌, ◌<◌, ◌^◌, Bool, true, false, List, [], ◌∷◌, ◌++◌, nat_eq, slice_get, length, length-append, append-nil, true≢false, zero, suc, if◌then◌else◌, ◌==◌, Option, Some, None}
-use Rattle.std.proofs.lemmas.Bool.{eq-eqb}
 use Rattle.std.proofs.lemmas.List.{map-append}
-use Rattle.tb_tables.proofs.Words.{IsDistinct, keys_of, set_value_at, Account, Transfer, is_pending, is_post, Facts, add_transfer, status_of, expires_at, MayAdd, Sums, sums_of, with_amount, posted_if, account_rows, CanAdd, CanTake, Allow, row_in, transfer_rows, MayPost, MayStore, new_row, status_after, IsPushed, IsPopped, Places, Row, Pending}
+use Rattle.tb_tables.proofs.Words.{IsDistinct, keys_of, set_value_at, Account, Transfer, is_pending, is_post, Facts, add_transfer, status_of, expires_at, MayAdd, Sums, sums_of, with_amount, posted_if, account_rows, CanAdd, CanTake, Allow, row_in, transfer_rows, MayPost, MayStore, new_row, status_after, IsPushed, IsPopped, Places, Row, Pending, nat_tests}
 use Rattle.tb_tables.proofs.Finding.{found-id}
 use Rattle.tb_tables.proofs.Stored.{rows-set, map-same, row-placed}
-use Rattle.tb_tables.proofs.Laws.{==_swap, find-none}
-use Rattle.tb_tables.proofs.Added.{rows-same, status_in-add, status-add, status-fresh, sums-add}
-use Rattle.tb_tables.proofs.Resolving.{left, sums-release, sums-post, status-other, status-named, reserved-resolve}
+use Rattle.tb_tables.proofs.Sums.{amounts}
+use Rattle.tb_tables.proofs.Laws.{==_swap, find-none, reserves}
+use Rattle.tb_tables.proofs.Added.{rows-same, status_in-add, status-add, status-fresh, sums-add, left, sums-release, sums-post, status-other, status-named, reserved-resolve}
 
 pub slice_get-append : {X : Type 0} (xs ys : List X) (place : ℕ) (x : X) → slice_get xs place ≡ Some x → slice_get (xs ++ ys) place ≡ Some x
 slice_get-append [] ys place x at = cc
 slice_get-append (z ∷ xs) ys zero x at = at
 slice_get-append (z ∷ xs) ys (suc place) x at = slice_get-append xs ys place x at
-
-here : (n m : ℕ) → (if n == n then m else 0) ≡ m
-here n m = ap (λ b. if b then m else 0) (eq-eqb n n refl)
 
 module _ {facts : Facts} {t : Transfer} {places : Places} (allow : Allow facts t places) where
   last-row : (entries : List (ℕ × Row)) → entries ≡ transfer_rows (add_transfer facts t) (facts.transfers ++ t ∷ []) → entries ≡ transfer_rows (add_transfer facts t) facts.transfers ++ (t.id, row_in (add_transfer facts t) t) ∷ []
@@ -169,11 +165,8 @@ module _ (s : Settlement) where
   pub post-sums : account_rows (sums_of (add_transfer s.facts s.transfer)) s.facts.accounts ≡ account_rows (posted_if (is_post s.transfer) s.transfer.debit_account_id s.transfer.credit_account_id s.transfer.amount (left s.facts s.transfer posted.may)) s.facts.accounts
   post-sums = rows-same _ _ s.facts.accounts (sums-post s.facts s.transfer posted.may)
 
-  debits_reserved : (sums_of s.facts).debits_pending s.transfer.debit_account_id ≡ (sums_of (add_transfer s.facts s.transfer)).debits_pending s.transfer.debit_account_id + named.amount
-  debits_reserved = reserved-resolve s.facts s.transfer posted.may s.allow.lawful (λ x. x.debit_account_id) posted.may.same_debit s.transfer.debit_account_id ∙ ap (λ n. (sums_of (add_transfer s.facts s.transfer)).debits_pending s.transfer.debit_account_id + n) (here s.transfer.debit_account_id named.amount)
-
-  credits_reserved : (sums_of s.facts).credits_pending s.transfer.credit_account_id ≡ (sums_of (add_transfer s.facts s.transfer)).credits_pending s.transfer.credit_account_id + named.amount
-  credits_reserved = reserved-resolve s.facts s.transfer posted.may s.allow.lawful (λ x. x.credit_account_id) posted.may.same_credit s.transfer.credit_account_id ∙ ap (λ n. (sums_of (add_transfer s.facts s.transfer)).credits_pending s.transfer.credit_account_id + n) (here s.transfer.credit_account_id named.amount)
+  reserved : (side : Transfer → ℕ) → side s.transfer ≡ side named → (id : ℕ) → side s.transfer ≡ id → amounts (reserves side s.facts id) s.facts.transfers ≡ amounts (reserves side (add_transfer s.facts s.transfer) id) (s.facts.transfers ++ s.transfer ∷ []) + named.amount
+  reserved side same id own = grind (arith, nat_tests, own, reserved-resolve s.facts s.transfer posted.may s.allow.lawful side same id)
 
   pub can_release : {entries : List (ℕ × Account)} {amount : ℕ} → entries ≡ account_rows (sums_of s.facts) s.facts.accounts → amount ≡ named.amount → CanTake entries s.places true amount
   can_release {entries} is same = rw same (takes s.allow (left s.facts s.transfer posted.may) entries true named.amount (is ∙ release-sums))
@@ -182,7 +175,7 @@ module _ (s : Settlement) where
   can_post {entries} is =
       let debit = s.allow.lawful.debits_fit s.transfer.debit_account_id in
       let credit = s.allow.lawful.credits_fit s.transfer.credit_account_id in
-      adds s.allow (left s.facts s.transfer posted.may) entries false s.transfer.amount is (omega (arith, debits_reserved, posted.may.at_most)) (omega (arith, credits_reserved, posted.may.at_most))
+      adds s.allow (left s.facts s.transfer posted.may) entries false s.transfer.amount is (omega (arith, reserved (λ x. x.debit_account_id) posted.may.same_debit s.transfer.debit_account_id refl, posted.may.at_most)) (omega (arith, reserved (λ x. x.credit_account_id) posted.may.same_credit s.transfer.credit_account_id refl, posted.may.at_most))
 
   pub can_unpost : {entries : List (ℕ × Account)} → entries ≡ account_rows (sums_of (add_transfer s.facts s.transfer)) s.facts.accounts → is_post s.transfer ≡ true → CanTake entries s.places false s.transfer.amount
   can_unpost {entries} is post =
@@ -193,4 +186,4 @@ module _ (s : Settlement) where
   can_reserve {entries} is same =
       let debit = s.allow.lawful.debits_fit s.transfer.debit_account_id in
       let credit = s.allow.lawful.credits_fit s.transfer.credit_account_id in
-      rw same (adds s.allow (left s.facts s.transfer posted.may) entries true named.amount is (omega (arith, debits_reserved)) (omega (arith, credits_reserved)))
+      rw same (adds s.allow (left s.facts s.transfer posted.may) entries true named.amount is (omega (arith, reserved (λ x. x.debit_account_id) posted.may.same_debit s.transfer.debit_account_id refl)) (omega (arith, reserved (λ x. x.credit_account_id) posted.may.same_credit s.transfer.credit_account_id refl)))

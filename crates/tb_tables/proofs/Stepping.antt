@@ -2,11 +2,12 @@
 use Rattle.std.proofs.Common.{refl, sym, ap, subst, arith, ◌∙◌, ◌≡◌, ℕ, Bool, true, false, not, List, [], ◌∷◌, ◌++◌, map, filter, length, append-nil, if◌then◌else◌, ◌==◌, ◌&&◌, ◌||◌, Option, Some, None, slice_get}
 use Rattle.std.proofs.lemmas.Bool.{eqb-true}
 use Rattle.std.proofs.lemmas.List.Elements.{filter-append}
+use Rattle.std.proofs.lemmas.Option.{slice_get_past}
 use Rattle.tb_tables.proofs.Words.{list_any, nat_tests, Account, Transfer as TransferRecord, is_pending, is_resolving, Facts, transfer_with, is_expired, add_transfer, is_resolved, is_reserving, IsLawful, has_id, before, AreAt, Stored, AreGrounded, facts_of, is_pair, AreExpiries, IsSound, AreHeld, Allow, MayStore, WasStored, IsKept, Hold, new_row, IsPushed, IsStored, Places, Row, IsUndoable, KeepsPairs, its_pair}
 use Rattle.tb_tables.specs.declared.change.Change.TheVariants.{Transfer}
 use Rattle.tb_tables.proofs.Laws.{find-none, any-push, reserving-same, reserving-other, resolves_nothing, add_transfer_lawful, resolve_lawful}
 use Rattle.tb_tables.proofs.Grounding.{grounded_added, grounded_resolved}
-use Rattle.tb_tables.proofs.Expecting.{slice_get-push, slice_get-end, pairs-push, expects-push}
+use Rattle.tb_tables.proofs.Expecting.{slice_get-push, pairs-push, expects-push}
 use Rattle.tb_tables.proofs.Keeping.{keeps, sound-indexed}
 use Rattle.tb_tables.proofs.Histories.{without_last-push}
 
@@ -122,7 +123,7 @@ refused old kept t m p = by (p == length (facts_of old).transfers) refl
   where
     by : (b : Bool) → (p == length (facts_of old).transfers) ≡ b → (not (its_pair (facts_of old) t m p) && (its_pair (facts_of old) t m p || old.is_indexed m p)) ≡ old.is_indexed m p
     by true is =
-        let none : slice_get (facts_of old).transfers p ≡ None = ap (slice_get (facts_of old).transfers) (eqb-true p (length (facts_of old).transfers) is) ∙ slice_get-end (facts_of old).transfers in
+        let none : slice_get (facts_of old).transfers p ≡ None = ap (slice_get (facts_of old).transfers) (eqb-true p (length (facts_of old).transfers) is) ∙ slice_get_past (facts_of old).transfers (length (facts_of old).transfers) (omega arith) in
         grind (arith, none, kept.timed m p)
     by false is = grind (arith, nat_tests, is)
 

@@ -2,7 +2,7 @@ use Rattle.std.proofs.Common.{◌∙◌, ap, sym, refl}
 use Rattle.tb_tables.proofs.Words.{Transfer}
 use Rattle.tb_tables.proofs.Settling as settling
 use Rattle.tb_tables.proofs.Settling.{settlement}
-use Rattle.tb_tables.proofs.Resolving.{left}
+use Rattle.tb_tables.proofs.Added.{left}
 use Rattle.tb_tables.proofs.storing.unsettle.Goals as goal
 
 pub transfer_at-reserved-requires : goal.transfer_at-reserved-requires

@@ -1,5 +1,5 @@
 use Rattle.std.proofs.Common.{◌∙◌, refl, sym}
-use Rattle.tb_tables.proofs.Indexing.{same-keys}
+use Rattle.tb_tables.proofs.Expecting.{same-keys}
 use Rattle.tb_tables.proofs.Stepping.{same-held}
 use Rattle.tb_tables.proofs.Due.{pair-row, can-expire, still-due, passed-over, all-due}
 use Rattle.tb_tables.proofs.timeouts.expire_all.Goals as goal

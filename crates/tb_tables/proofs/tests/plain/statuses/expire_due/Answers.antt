@@ -1,5 +1,5 @@
 use Rattle.std.proofs.Common.{sym, ◌∙◌}
-use Rattle.tb_tables.proofs.Expiring.{marked, passed, all-marked}
+use Rattle.tb_tables.proofs.Rows.{marked, passed, all-marked}
 use Rattle.tb_tables.proofs.tests.plain.statuses.expire_due.Goals as goal
 use Rattle.tb_tables.proofs.tests.plain.statuses.expire_due.Goals.{then-expires, else-expires}
 

@@ -1,4 +1,4 @@
-use Rattle.tb_tables.proofs.Expiring.{AreMarked}
+use Rattle.tb_tables.proofs.Rows.{AreMarked}
 use Rattle.tb_tables.proofs.tests.plain.statuses.expire_due.Given as goal
 
 abbrev pub invariant-loop-place : goal.invariant-loop-place
