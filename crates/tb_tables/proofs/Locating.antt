@@ -1,7 +1,7 @@
 -- Look-ups in the maps.
 use Rattle.std.proofs.Common.{refl, sym, ap, subst, ◌∙◌, ◌≡◌, ℕ, Bool, true, false, cond, List, [], ◌∷◌, map, nat_eq, slice_get, length, suc, arith, ◌+◌, ◌<◌, lt-ltb, le-ltb, not, ◌==◌, Option, Some, None, IsSome, find, nat_lt, option_map}
 use Rattle.std.proofs.lemmas.List.{length-map}
-use Rattle.tb_tables.proofs.Words.{position, position_or_len, keys_of, lookup, Account, Transfer, Facts, account_with, IsPlaceOf, transfer_with, status_with, MayResolve, IsLawful, ids_distinct, sums_of, with_sums, AreAt, Hold, AreGrounded, row_in, MayPost, Places, Row, Status, has_account, IsGrounded}
+use Rattle.tb_tables.proofs.Words.{position, position_or_len, keys_of, lookup, Account, Transfer, Facts, account_with, IsPlaceOf, transfer_with, status_with, MayResolve, IsLawful, sums_of, with_sums, AreAt, Hold, AreGrounded, row_in, MayPost, Places, Row, Status, has_account, IsGrounded}
 use Rattle.tb_tables.proofs.Laws.{==_swap}
 use Rattle.tb_tables.proofs.Stored.{lookup-rows, made-at}
 use Rattle.tb_tables.proofs.Grounding.{all-found}
@@ -10,10 +10,6 @@ use Rattle.tb_tables.proofs.Expecting.{find-at}
 keys-map : {X V : Type 0} (key : X → ℕ) (made : X → V) (xs : List X) → keys_of (map (λ x. (key x, made x)) xs) ≡ map key xs
 keys-map key made [] = refl
 keys-map key made (x ∷ xs) = ap (λ ks. key x ∷ ks) (keys-map key made xs)
-
--- the transfer at a place is the one that its id finds
-found-at : (id : ℕ) (xs : List Transfer) (place : ℕ) (x p : Transfer) → ids_distinct xs ≡ true → slice_get xs place ≡ Some x → x.id ≡ id → find (λ (t : Transfer). t.id == id) xs ≡ Some p → x ≡ p
-found-at id xs place x p distinct at is found = cc (find-at xs place x distinct at, found, ap (λ k. find (λ (t : Transfer). t.id == k) xs) is)
 
 -- so many accounts stand in front of the one that is found, or all
 abbrev AtPlace : Option Account → List Account → ℕ → Type 0
@@ -86,7 +82,8 @@ module _ {facts : Facts} {accounts : List (ℕ × Account)} {transfers : List (�
   may-post lawful t place may at =
       let keys = ap keys_of hold.transfers_are ∙ keys-map (λ (x : Transfer). x.id) (row_in facts) facts.transfers in
       let p = made-at (λ (x : Transfer). x.id) facts.transfers place t.pending_id (sym (ap (λ ks. slice_get ks place) keys) ∙ at) in
-      record { may = may; pending_at = p.1 ∙ ap Some (found-at t.pending_id facts.transfers place p.0 may.pending lawful.distinct p.1 p.2 may.named) }
+      let found = find-at facts.transfers place p.0 lawful.distinct p.1 in
+      record { may = may; pending_at = p.1 ∙ sym found ∙ ap (λ id. find (λ (x : Transfer). x.id == id) facts.transfers) p.2 ∙ may.named }
 
   -- the accounts of the transfer that a post or a void names are there
   there : (id : ℕ) (xs : List Account) → has_account id xs ≡ true → IsSome (find (λ (a : Account). a.id == id) xs)

@@ -35,8 +35,10 @@ allows indexed facts t places sound are_at may = record {
 -- ---- the facts stay sound
 
 module _ (facts : Facts) (t : TransferRecord) where
-  -- none that expired is resolved, and none reserves its amount that didn't
+  -- the facts stay lawful and grounded, none that expired is resolved, and none reserves its amount that didn't
   record Leaves : Type 0 where
+    pub lawful : IsLawful (add_transfer facts t)
+    pub grounded : AreGrounded (add_transfer facts t)
     pub open_ones : (y : TransferRecord) → is_expired facts y.id ≡ true → is_resolved facts y.id ≡ false → is_resolved (add_transfer facts t) y.id ≡ false
     pub less : (y : TransferRecord) → is_reserving (add_transfer facts t) y ≡ true → is_reserving facts y ≡ true
 
@@ -45,16 +47,17 @@ module _ (facts : Facts) (t : TransferRecord) where
     where
       by : (o : Option ℕ) → MayStore facts t o → Leaves
       by None may = record {
+        lawful = add_transfer_lawful facts t may allow.lawful;
+        grounded = grounded_added facts t may allow.grounded;
         open_ones = λ y expired open_one. grind (arith, any-push (λ other. is_resolving other && (other.pending_id == y.id)) facts.transfers t, resolves_nothing facts t may y.id, open_one);
         less = λ y reserves. sym (reserving-same facts t may y) ∙ reserves;
       }
       by (Some place) posted = record {
-        open_ones = λ y expired open_one. resolved-open y expired open_one;
+        lawful = resolve_lawful facts t posted.may allow.lawful;
+        grounded = grounded_resolved facts t posted.may allow.grounded;
+        open_ones = λ y expired open_one. grind (arith, nat_tests, any-push (λ other. is_resolving other && (other.pending_id == y.id)) facts.transfers t, posted.may.unresolved, expired, open_one);
         less = λ y reserves. grind (arith, reserving-other facts t posted.may y, reserves);
       }
-        where
-          resolved-open : (y : TransferRecord) → is_expired facts y.id ≡ true → is_resolved facts y.id ≡ false → is_resolved (add_transfer facts t) y.id ≡ false
-          resolved-open y expired open_one = grind (arith, nat_tests, any-push (λ other. is_resolving other && (other.pending_id == y.id)) facts.transfers t, posted.may.unresolved)
 
   expiries-push : Leaves → is_expired facts t.id ≡ false → AreExpiries facts → AreExpiries (add_transfer facts t)
   expiries-push l fresh old = record {
@@ -73,20 +76,12 @@ module _ (facts : Facts) (t : TransferRecord) where
   sound-push indexed next places allow sound put =
       let l = leaves places allow in
       record {
-        lawful = lawful places.pending allow.may;
-        grounded = grounded places.pending allow.may;
+        lawful = l.lawful;
+        grounded = l.grounded;
         made = sound.made;
         expiries = expiries-push l allow.not_expired sound.expiries;
         paired = λ m p has. grind (arith, put m p, expects-push facts t l.less m p has, sound.paired m p);
       }
-    where
-      lawful : (o : Option ℕ) → MayStore facts t o → IsLawful (add_transfer facts t)
-      lawful None may = add_transfer_lawful facts t may allow.lawful
-      lawful (Some place) posted = resolve_lawful facts t posted.may allow.lawful
-
-      grounded : (o : Option ℕ) → MayStore facts t o → AreGrounded (add_transfer facts t)
-      grounded None may = grounded_added facts t may allow.grounded
-      grounded (Some place) posted = grounded_resolved facts t posted.may allow.grounded
 
   -- ---- one more
 

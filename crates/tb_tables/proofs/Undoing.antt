@@ -1,6 +1,7 @@
 -- The undo list: what can be undone stays so.
 use Rattle.std.proofs.Common.{sym, ap, subst, arith, ◌∙◌, ◌≡◌, ℕ, ◌≤◌, ◌-◌, Bool, true, List, [], ◌∷◌, ◌++◌, take, length, slice_get, zero, suc, true≢false, Option, Some, None}
 use Rattle.std.proofs.lemmas.Bool.{eqb-true}
+use Rattle.std.proofs.lemmas.List.{length-take}
 use Rattle.tb_tables.proofs.Words.{AllByRecursion, Account as AccountRecord, Transfer as TransferRecord, Facts, add_account, add_failed, with_change, before, oldest, Indexed, add_transfer, has_pair, HavePlaces, MayStore, KeepsPairs, NamesOne, names_place, resolves_at, IsSound, WasMade, IsUndoable, AreUndoable, history_in, Places, Change}
 use Rattle.tb_tables.specs.declared.change.Change.TheVariants.{Account, Transfer, Failed}
 use Rattle.tb_tables.proofs.Histories.{oldest-push, history_of-push, without_last-push}
@@ -24,14 +25,9 @@ undoable-pop indexed (first ∷ changes) change facts all =
 -- ---- the same with another index, which has the same pairs of the places that there are
 
 module _ (indexed other : ℕ → ℕ → Bool) (count : ℕ) (same : KeepsPairs count indexed other) where
-  cut : {X : Type 0} (n : ℕ) (xs : List X) → length (take n xs) ≤ length xs
-  cut zero xs = omega arith
-  cut (suc n) [] = omega arith
-  cut (suc n) (x ∷ xs) = omega (arith, cut n xs)
-
   no-longer : (change : Change Places) (facts : Facts) → length (before change facts).transfers ≤ length facts.transfers
   no-longer Account facts = omega arith
-  no-longer (Transfer places) facts = cut (length facts.transfers - 1) facts.transfers
+  no-longer (Transfer places) facts = omega (arith, length-take (length facts.transfers - 1) facts.transfers)
   no-longer Failed facts = omega arith
 
   oldest-short : (changes : List (Change Places)) (facts : Facts) → length facts.transfers ≤ count → length (oldest before changes facts).transfers ≤ count

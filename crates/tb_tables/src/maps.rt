@@ -87,22 +87,22 @@ impl Maps {
     }
 
     /// Adds a transfer, under its id's key, whose accounts, and whose pending transfer, have these places.
-    pub fn store(&mut self, key: Key, transfer: Transfer, places: Places) -> Result<(), NoMemory>
-        requires key { key ≡ transfer.id }
-        requires at { HavePlaces self.old.facts transfer places }
-        requires may { MayStore self.old.facts transfer places.pending }
-        ensures ok { OnOk result (self.new.facts ≡ with_transfer self.old.facts transfer) }
+    pub fn store(&mut self, key: Key, transfer: &Transfer, places: Places) -> Result<(), NoMemory>
+        requires key { key ≡ transfer.now.id }
+        requires at { HavePlaces self.old.facts transfer.now places }
+        requires may { MayStore self.old.facts transfer.now places.pending }
+        ensures ok { OnOk result (self.new.facts ≡ with_transfer self.old.facts transfer.now) }
         ensures err { OnErr result (self.new.facts ≡ self.old.facts) }
         ensures pairs { KeepsPairs (length self.old.facts.transfers) (has_pair self.old.pairs) (has_pair self.new.pairs) }
         ensures sound { IsSound (has_pair self.old.pairs) self.old.facts }
     {
         let place = self.transfers.len();
-        expect(&mut self.expiries, &transfer, place)?;
-        if let Err(refused) = push_transfer(&mut self.transfers, key, transfer) {
-            forget(&mut self.expiries, &transfer, place);
+        expect(&mut self.expiries, transfer, place)?;
+        if let Err(refused) = push_transfer(&mut self.transfers, key, *transfer) {
+            forget(&mut self.expiries, transfer, place);
             return Err(refused);
         }
-        apply(&mut self.accounts, &mut self.transfers, places, transfer);
+        apply(&mut self.accounts, &mut self.transfers, places, *transfer);
         Ok(())
     }
 

@@ -86,11 +86,11 @@ impl Tables {
     }
 
     /// Adds a transfer, under its id's key, whose accounts, and whose pending transfer, have these places.
-    fn store(&mut self, key: Key, transfer: Transfer, places: Places) -> Result<(), NoMemory>
-        requires key { key ≡ transfer.id }
-        requires at { HavePlaces self.old.now transfer places }
-        requires may { MayStore self.old.now transfer places.pending }
-        ensures ok { OnOk result (self.new ≡ with_change self.old (with_transfer self.old.now transfer)) }
+    fn store(&mut self, key: Key, transfer: &Transfer, places: Places) -> Result<(), NoMemory>
+        requires key { key ≡ transfer.now.id }
+        requires at { HavePlaces self.old.now transfer.now places }
+        requires may { MayStore self.old.now transfer.now places.pending }
+        ensures ok { OnOk result (self.new ≡ with_change self.old (with_transfer self.old.now transfer.now)) }
         ensures err { OnErr result (self.new ≡ self.old) }
     {
         self.changes.reserve(1)?;
@@ -106,7 +106,7 @@ impl Tables {
         ensures err { OnErr result (self.new ≡ self.old) }
     {
         let places = self.maps.places_of(&transfer);
-        self.store(Key::of(transfer.id), transfer, places)
+        self.store(Key::of(transfer.id), &transfer, places)
     }
 
     /// Adds a plain or pending transfer after those that are there, under its id's key and between the accounts at
@@ -127,7 +127,7 @@ impl Tables {
     {
         self.store(
             key,
-            transfer,
+            &transfer,
             Places {
                 debit,
                 credit,
@@ -160,7 +160,7 @@ impl Tables {
         ensures err { OnErr result (self.new ≡ self.old) }
     {
         let places = self.maps.places_resolved(&transfer, pending);
-        self.store(key, transfer, places)
+        self.store(key, &transfer, places)
     }
 
     /// The account with this id, with its balances.

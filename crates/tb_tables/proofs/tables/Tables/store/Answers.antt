@@ -12,11 +12,11 @@ pub invariant_of-self-2 : goal.invariant_of-self-2
 invariant_of-self-2 c =
     let o = c.self.inside in
     let r = rw (← c.self.view_is) at c.requires in
-    rw (c.note.ensures, c.reserve.ensures.items) (transfer-made o.changes.items o.maps c.self.invariant c.store.ensures.sound c.args.transfer c.args.places r.at r.may c.store.new.self c.in_ok-store.ensures.ok c.store.ensures.pairs).0
+    rw (c.note.ensures, c.reserve.ensures.items) (transfer-made o.changes.items o.maps c.self.invariant c.store.ensures.sound c.args.transfer.now c.args.places r.at r.may c.store.new.self c.in_ok-store.ensures.ok c.store.ensures.pairs).0
 
 pub returns-clause-ok : goal.returns-clause-ok
 returns-clause-ok c =
     let o = c.self.inside in
     let r = rw (← c.self.view_is) at c.requires in
     rw (← c.self.view_is, c.note.ensures, c.reserve.ensures.items)
-    ((transfer-made o.changes.items o.maps c.self.invariant c.store.ensures.sound c.args.transfer c.args.places r.at r.may c.store.new.self c.in_ok-store.ensures.ok c.store.ensures.pairs).1 ∙ ap (with_change (history_in o.changes.items o.maps.facts)) c.in_ok-store.ensures.ok)
+    ((transfer-made o.changes.items o.maps c.self.invariant c.store.ensures.sound c.args.transfer.now c.args.places r.at r.may c.store.new.self c.in_ok-store.ensures.ok c.store.ensures.pairs).1 ∙ ap (with_change (history_in o.changes.items o.maps.facts)) c.in_ok-store.ensures.ok)
