@@ -1,21 +1,9 @@
--- What one plain or pending transfer more changes of sums and statuses.
-use Rattle.std.proofs.Common.{refl, ap, arith, ◌≡◌, ℕ, ◌+◌, Bool, true, false, not, List, [], ◌∷◌}
-use Rattle.std.specs.Prelude.{if◌then◌else◌, ◌==◌, ◌&&◌, Some, None}
-use Rattle.std.specs.List.{list_any, AllByRecursion}
-use Rattle.std.proofs.lemmas.Bool.Decides.{nat_tests}
-use Rattle.tb_layout.specs.declared.account.Account.{Account}
-use Rattle.tb_layout.specs.declared.transfer.Transfer.{Transfer}
-use Rattle.tb_layout.specs.Transfer.{is_pending, is_post, is_void, is_resolving}
-use Rattle.tb_tables.specs.Facts.{Facts, is_expired, add_transfer}
-use Rattle.tb_tables.specs.Status.{is_resolved, is_reserving, status_of, status_in}
-use Rattle.tb_tables.specs.Conditions.{MayAdd}
-use Rattle.tb_tables.specs.Lawful.{has_id}
-use Rattle.tb_tables.specs.Sums.{Sums, sums_of, with_sums, with_amount, account_rows}
-use Rattle.tb_tables.specs.Kept.{IsGrounded, AreGrounded}
-use Rattle.tb_tables.specs.declared.status.Status.TheVariants.{Pending}
+-- What one transfer more changes of sums and statuses.
+use Rattle.std.proofs.Common.{refl, ap, arith, ◌≡◌, ℕ, ◌+◌, Bool, true, false, not, List, [], ◌∷◌, if◌then◌else◌, ◌==◌, ◌&&◌, Some, None}
+use Rattle.tb_tables.proofs.Words.{list_any, AllByRecursion, nat_tests, Account, Transfer, is_pending, is_post, is_void, is_resolving, Facts, is_expired, add_transfer, is_resolved, is_reserving, status_of, status_in, MayAdd, has_id, Sums, sums_of, with_sums, with_amount, account_rows, IsGrounded, AreGrounded, Pending, MayResolve, IsLawful, status_after, posted_if}
 use Rattle.tb_tables.proofs.Stored.{map-same}
-use Rattle.tb_tables.proofs.Sums.{amounts, amounts-push}
-use Rattle.tb_tables.proofs.Laws.{find-none, reserves, posts, any-push, resolved_either, reserving-same, reserves-same}
+use Rattle.tb_tables.proofs.Sums.{amounts, amounts-push, but_for, but_for-found}
+use Rattle.tb_tables.proofs.Laws.{find-none, reserves, posts, any-push, resolved_either, reserving-same, reserves-same, reserving, reserves-but_for, reserves_nothing}
 
 -- the same four sums
 pub record AreSame (sums others : Sums) : Type 0 where
@@ -81,3 +69,50 @@ module _ (facts : Facts) (t : Transfer) (may : MayAdd facts t) where
             AreSame new (with_amount b t.debit_account_id t.credit_account_id t.amount old)
         by true dp dpo cp cpo = record { debits_pending = dp; debits_posted = λ id. omega (arith, dpo id); credits_pending = cp; credits_posted = λ id. omega (arith, cpo id) }
         by false dp dpo cp cpo = record { debits_pending = λ id. omega (arith, dp id); debits_posted = dpo; credits_pending = λ id. omega (arith, cp id); credits_posted = cpo }
+
+module _ (facts : Facts) (t : Transfer) (may : MayResolve facts t) where
+  pub status-other : (id : ℕ) → (t.pending_id == id) ≡ false → status_of (add_transfer facts t) id ≡ status_of facts id
+  status-other id apart =
+      let posted = any-push (λ other. is_post other && (other.pending_id == id)) facts.transfers t in
+      let voided = any-push (λ other. is_void other && (other.pending_id == id)) facts.transfers t in
+      grind (arith, posted, voided, apart)
+
+  pub status-named : status_of (add_transfer facts t) t.pending_id ≡ status_after (is_post t)
+  status-named =
+      let id = t.pending_id in
+      let posted = any-push (λ other. is_post other && (other.pending_id == id)) facts.transfers t in
+      let voided = any-push (λ other. is_void other && (other.pending_id == id)) facts.transfers t in
+      grind (arith, nat_tests, posted, voided, may.unresolved, may.post_or_void)
+
+  pub reserved-resolve : IsLawful facts → (side : Transfer → ℕ) → side t ≡ side may.pending → (id : ℕ) →
+      amounts (reserves side facts id) facts.transfers ≡ amounts (reserves side (add_transfer facts t) id) (add_transfer facts t).transfers + (if side t == id then may.pending.amount else 0)
+  reserved-resolve lawful side same id =
+      let reserved = amounts-push (but_for t.pending_id (reserves side facts id)) (reserves side (add_transfer facts t) id) facts.transfers t (reserves-but_for facts t may side id) in
+      let nothing = reserves_nothing facts t may (is_pending t) (not (is_resolved (add_transfer facts t) t.id)) (not (is_expired facts t.id)) (side t == id) t.amount may.not_pending in
+      let found = but_for-found (reserves side facts id) t.pending_id facts.transfers may.pending lawful.distinct may.named in
+      grind (arith, reserved, nothing, found, reserving facts t may, same)
+
+  pub posted-resolve : (side : Transfer → ℕ) (id : ℕ) → amounts (posts side id) (add_transfer facts t).transfers ≡ amounts (posts side id) facts.transfers + (if is_post t && (side t == id) then t.amount else 0)
+  posted-resolve side id =
+      grind (arith, amounts-push (posts side id) (posts side id) facts.transfers t (λ y. refl), may.not_pending, may.post_or_void)
+
+  -- between the release of what was reserved and the post of another amount
+  abbrev pub left : Sums
+  left = record (sums_of facts) { debits_pending = (sums_of (add_transfer facts t)).debits_pending; credits_pending = (sums_of (add_transfer facts t)).credits_pending }
+
+  pub sums-release : IsLawful facts → AreSame (sums_of facts) (with_amount true t.debit_account_id t.credit_account_id may.pending.amount left)
+  sums-release lawful = record {
+    debits_pending = λ id. reserved-resolve lawful (λ x. x.debit_account_id) may.same_debit id;
+    debits_posted = λ id. refl;
+    credits_pending = λ id. reserved-resolve lawful (λ x. x.credit_account_id) may.same_credit id;
+    credits_posted = λ id. refl;
+  }
+
+  pub sums-post : AreSame (sums_of (add_transfer facts t)) (posted_if (is_post t) t.debit_account_id t.credit_account_id t.amount left)
+  sums-post = by (is_post t) (posted-resolve (λ x. x.debit_account_id)) (posted-resolve (λ x. x.credit_account_id))
+    where
+      by : (b : Bool) → let new = sums_of (add_transfer facts t) in let old = sums_of facts in
+          More t.amount b new.debits_posted old.debits_posted t.debit_account_id → More t.amount b new.credits_posted old.credits_posted t.credit_account_id →
+          AreSame new (posted_if b t.debit_account_id t.credit_account_id t.amount left)
+      by true d c = record { debits_pending = λ id. refl; debits_posted = d; credits_pending = λ id. refl; credits_posted = c }
+      by false d c = record { debits_pending = λ id. refl; debits_posted = λ id. omega (arith, d id); credits_pending = λ id. refl; credits_posted = λ id. omega (arith, c id) }

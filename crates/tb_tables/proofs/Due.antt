@@ -1,48 +1,146 @@
--- All that is due expires.
-use Rattle.std.proofs.Common.{refl, sym, ap, subst, ◌∙◌, arith, ◌≡◌, ℕ, ◌<◌, ◌≤◌, Bool, true, false, not, List, map, nat_eq, slice_get, true≢false}
-use Rattle.std.specs.Prelude.{◌&&◌, Option, Some, None}
-use Rattle.std.specs.Option.{option_map}
-use Rattle.std.specs.List.{IsDistinct}
-use Rattle.std.specs.Map.{keys_of}
-use Rattle.std.proofs.lemmas.Bool.Decides.{nat_tests}
-use Rattle.std.proofs.lemmas.Option.{slice_get-map}
-use Rattle.indexmap.specs.IndexMap.{set_value_at}
-use Rattle.tb_layout.specs.declared.account.Account.{Account}
-use Rattle.tb_layout.specs.declared.transfer.Transfer.{Transfer}
-use Rattle.tb_tables.specs.Facts.{Facts, is_expired}
-use Rattle.tb_tables.specs.Status.{expire_due, is_reserving, is_due, expires_at}
-use Rattle.tb_tables.specs.Expiries.{same_pair}
-use Rattle.tb_tables.specs.Sums.{sums_of, with_amount, account_rows, AreAt, CanTake}
-use Rattle.tb_tables.specs.Kept.{row_in, transfer_rows, is_timed, is_pair_of, expects, IsGrounded, Hold, IsSound, AreHeld}
-use Rattle.tb_tables.specs.Storing.{is_open_status, CanExpire, expire_one}
-use Rattle.tb_tables.specs.declared.places.Places.{Places}
-use Rattle.tb_tables.specs.declared.row.Row.{Row}
-use Rattle.tb_tables.specs.declared.status.Status.TheVariants.{Expired}
-use Rattle.tb_tables.proofs.Laws.{resolved_either}
-use Rattle.tb_tables.proofs.Added.{rows-same}
+-- Transfers expire: one, and all that are due.
+use Rattle.std.proofs.Common.{refl, sym, ap, subst, ◌∙◌, arith, ◌≡◌, ℕ, ◌<◌, ◌≤◌, Bool, true, false, not, List, nat_eq, slice_get, true≢false, ◌&&◌, Option, Some, None, ◌+◌, [], ◌∷◌, map, filter, suc, if◌then◌else◌, ◌==◌, ◌||◌}
+use Rattle.tb_tables.proofs.Words.{IsDistinct, keys_of, nat_tests, set_value_at, Account, Transfer, Facts, expire_due, is_reserving, is_due, expires_at, same_pair, sums_of, with_amount, account_rows, AreAt, CanTake, row_in, transfer_rows, is_timed, is_pair_of, expects, IsGrounded, Hold, IsSound, AreHeld, is_open_status, CanExpire, expire_one, Places, Row, Expired, is_expired, is_resolved, is_pending, IsLawful, reserves_at}
+use Rattle.tb_tables.proofs.Laws.{resolved_either, ==_swap, reserves}
+use Rattle.tb_tables.proofs.Stored.{row-placed, rows-set}
+use Rattle.tb_tables.proofs.Added.{rows-same, AreSame}
 use Rattle.tb_tables.proofs.Forgetting.{all-there}
-use Rattle.tb_tables.proofs.OneExpiry.{expires, filter-at, sums-after, rows-after, sound-after, due-after}
+use Rattle.std.proofs.lemmas.Bool.{eqb-true}
+use Rattle.std.proofs.lemmas.List.Elements.{filter_agree}
+use Rattle.tb_tables.proofs.Sums.{amount_if, amounts, amounts-each, sum_by-same, but_for, but_for-found}
+use Rattle.tb_tables.proofs.Expecting.{find-at, has_id-at, one-transfer}
+use Rattle.tb_tables.proofs.Stepping.{ids-found, expired-is}
+
+pub filter-at : (f g : Transfer → Bool) (xs : List Transfer) → ((place : ℕ) (x : Transfer) → slice_get xs place ≡ Some x → f x ≡ g x) → filter f xs ≡ filter g xs
+filter-at f g [] same = refl
+filter-at f g (x ∷ xs) same = grind (arith, same 0 x refl, filter-at f g xs (λ place. same (suc place)))
+
+abbrev pub expires : ℕ → Facts → Transfer → Bool
+expires clock facts transfer = is_expired facts transfer.id || (is_reserving facts transfer && is_due clock transfer)
+
+-- where none that reserves its amount is due, none is left to expire
+pub none-left : (clock : ℕ) (facts : Facts) → facts.expired ≡ map (λ (t : Transfer). t.id) (filter (λ t. is_expired facts t.id) facts.transfers) →
+    ((p : ℕ) (y : Transfer) → slice_get facts.transfers p ≡ Some y → (is_reserving facts y && is_due clock y) ≡ false) → expire_due clock facts ≡ facts
+none-left clock facts ordered none =
+    λ i. record facts { expired = (ap (map (λ (t : Transfer). t.id)) (filter-at (expires clock facts) (λ (t : Transfer). is_expired facts t.id) facts.transfers (λ p y at. grind (arith, none p y at))) ∙ sym ordered) i }
+
+-- ---- one transfer more has expired
+
+amounts-same : (test other : Transfer → Bool) (xs : List Transfer) → ((y : Transfer) → test y ≡ other y) → amounts test xs ≡ amounts other xs
+amounts-same test other xs same = amounts-each test xs ∙ sum_by-same (amount_if test) (amount_if other) xs (λ y. ap (λ b. if b then y.amount else 0) (same y)) ∙ sym (amounts-each other xs)
+
+module _ (facts : Facts) (x : Transfer) (place : ℕ) (at : slice_get facts.transfers place ≡ Some x) (lawful : IsLawful facts) (reserving : is_reserving facts x ≡ true)
+    (ordered : facts.expired ≡ map (λ (t : Transfer). t.id) (filter (λ t. is_expired facts t.id) facts.transfers)) where
+  abbrev pub after : Facts
+  after = expire_one x.id facts
+
+  pub more : (id : ℕ) → is_expired after id ≡ (is_expired facts id || (x.id == id))
+  more id = grind (arith, nat_tests, ids-found (λ k. is_expired facts k || (x.id == k)) id facts.transfers, expired-is facts ordered id, has_id-at id facts.transfers place x at)
+
+  pub reserving-after : (y : Transfer) → is_reserving after y ≡ (is_reserving facts y && not (x.id == y.id))
+  reserving-after y = grind (arith, more y.id)
+
+  reserves-after : (side : Transfer → ℕ) (id : ℕ) (y : Transfer) → reserves side after id y ≡ but_for x.id (reserves side facts id) y
+  reserves-after side id y = grind (arith, reserving-after y, ==_swap x.id y.id)
+
+  reserved-after : (side : Transfer → ℕ) (id : ℕ) → amounts (reserves side facts id) facts.transfers ≡ amounts (reserves side after id) facts.transfers + (if side x == id then x.amount else 0)
+  reserved-after side id =
+      but_for-found (reserves side facts id) x.id facts.transfers x lawful.distinct (find-at facts.transfers place x lawful.distinct at)
+      ∙ ap (λ n. n + amount_if (reserves side facts id) x) (sym (amounts-same (reserves side after id) (but_for x.id (reserves side facts id)) facts.transfers (reserves-after side id)))
+      ∙ ap (λ b. amounts (reserves side after id) facts.transfers + (if b && (side x == id) then x.amount else 0)) reserving
+
+  pub sums-after : AreSame (sums_of facts) (with_amount true x.debit_account_id x.credit_account_id x.amount (sums_of after))
+  sums-after = record {
+    debits_pending = reserved-after (λ t. t.debit_account_id);
+    debits_posted = λ id. refl;
+    credits_pending = reserved-after (λ t. t.credit_account_id);
+    credits_posted = λ id. refl;
+  }
+
+  pub lawful-after : IsLawful after
+  lawful-after = record {
+    distinct = lawful.distinct;
+    debits_fit = λ id. omega (arith, lawful.debits_fit id, reserved-after (λ t. t.debit_account_id) id);
+    credits_fit = λ id. omega (arith, lawful.credits_fit id, reserved-after (λ t. t.credit_account_id) id);
+  }
+
+  row-other : (y : Transfer) → (y.id == x.id) ≡ false → row_in after y ≡ row_in facts y
+  row-other y apart = grind (arith, more y.id, ==_swap x.id y.id)
+
+  row-expired : record (row_in facts x) { status = Some Expired } ≡ row_in after x
+  row-expired = grind (arith, nat_tests, reserving, resolved_either x.id facts.transfers, more x.id)
+
+  pub rows-after : (entries : List (ℕ × Row)) → entries ≡ transfer_rows facts facts.transfers → IsDistinct nat_eq (keys_of entries) → set_value_at entries place (record (row_in facts x) { status = Some Expired }) ≡ transfer_rows after facts.transfers
+  rows-after entries is apart =
+      ap (λ es. set_value_at es place (record (row_in facts x) { status = Some Expired })) is ∙ ap (set_value_at (transfer_rows facts facts.transfers) place) row-expired
+      ∙ rows-set (λ (t : Transfer). t.id) (row_in facts) (row_in after) facts.transfers place x at (rw is at apart) row-other
+
+  -- ---- what it does to sound facts and to the index
+
+  same : (p : ℕ) (y : Transfer) → slice_get facts.transfers p ≡ Some y → (x.id == y.id) ≡ true → x ≡ y
+  same p y at' is = one-transfer facts.transfers place p x y lawful.distinct at at' is
+
+  expects-after : (m p : ℕ) → expects after m p ≡ true → (expects facts m p ≡ true) × ((place == p) ≡ false)
+  expects-after m p has = by (slice_get facts.transfers p) refl has
+    where
+      by : (o : Option Transfer) → slice_get facts.transfers p ≡ o → (is_pair_of m o && reserves_at after o) ≡ true → ((is_pair_of m o && reserves_at facts o) ≡ true) × ((place == p) ≡ false)
+      by None at' h = grind arith
+      by (Some y) at' h = (grind (arith, reserving-after y), elsewhere (place == p) refl)
+        where
+          elsewhere : (b : Bool) → (place == p) ≡ b → b ≡ false
+          elsewhere false is = refl
+          elsewhere true is =
+              let here : x ≡ y = cc (at, at', ap (slice_get facts.transfers) (eqb-true place p is)) in
+              grind (arith, nat_tests, reserving-after y, here)
+
+  pub sound-after : (indexed next : ℕ → ℕ → Bool) → ((m p : ℕ) → next m p ≡ (not (same_pair (expires_at x) place m p) && indexed m p)) → IsSound indexed facts → IsSound next after
+  sound-after indexed next is sound = record {
+    lawful = lawful-after;
+    grounded = sound.grounded;
+    made = sound.made;
+    expiries = record {
+      ordered = ap (map (λ (t : Transfer). t.id)) (filter_agree (λ (t : Transfer). is_expired facts t.id || (x.id == t.id)) (λ (t : Transfer). is_expired after t.id) (λ t. sym (more t.id)) facts.transfers);
+      open_ones = λ p y at' expired. by (x.id == y.id) p refl y at' (sym (more y.id) ∙ expired) (sound.expiries.open_ones p y at') (same p y at');
+    };
+    paired = λ m p has. grind (arith, is m p, expects-after m p has, sound.paired m p);
+  }
+    where
+      by : (b : Bool) (p : ℕ) {c : Bool} → c ≡ b → (y : Transfer) → slice_get facts.transfers p ≡ Some y → (is_expired facts y.id || c) ≡ true →
+          (is_expired facts y.id ≡ true → (is_pending y ≡ true) × (is_resolved facts y.id ≡ false)) → (c ≡ true → x ≡ y) → (is_pending y ≡ true) × (is_resolved facts y.id ≡ false)
+      by true p e y at' h old one = subst (λ z. (is_pending z ≡ true) × (is_resolved facts z.id ≡ false)) (one e) (grind (arith, reserving))
+      by false p e y at' h old one = old (grind (arith, h, e))
+
+  -- ---- and to what is due
+
+  pub due-after : (clock : ℕ) → is_due clock x ≡ true → expire_due clock after ≡ expire_due clock facts
+  due-after clock due =
+      λ i. record facts { expired = map (λ (t : Transfer). t.id) (filter-at (expires clock after) (expires clock facts) facts.transfers each i) }
+    where
+      each : (p : ℕ) (y : Transfer) → slice_get facts.transfers p ≡ Some y → expires clock after y ≡ expires clock facts y
+      each p y at' = by (x.id == y.id) refl
+        where
+          by : (b : Bool) → (x.id == y.id) ≡ b → expires clock after y ≡ expires clock facts y
+          by true is = let one = same p y at' is in grind (arith, more y.id, reserving-after y, reserving, due, one)
+          by false is = grind (arith, more y.id, reserving-after y, is)
 
 -- the entry of the transfer at a place
-pub row-at : (facts : Facts) (accounts : List (ℕ × Account)) (transfers : List (ℕ × Row)) → Hold facts accounts transfers → (place : ℕ) (t : Transfer) → slice_get facts.transfers place ≡ Some t → slice_get transfers place ≡ Some (t.id, row_in facts t)
-row-at facts accounts transfers hold place t at =
-    ap (λ es. slice_get es place) hold.transfers_are ∙ slice_get-map (λ (x : Transfer). (x.id, row_in facts x)) facts.transfers place
-    ∙ ap (option_map (λ (x : Transfer). (x.id, row_in facts x))) at
+row-at : {facts : Facts} {accounts : List (ℕ × Account)} {transfers : List (ℕ × Row)} → Hold facts accounts transfers → (place : ℕ) {t : Transfer} → slice_get facts.transfers place ≡ Some t → slice_get transfers place ≡ Some (t.id, row_in facts t)
+row-at {facts} hold place at = row-placed (λ (x : Transfer). x.id) (row_in facts) facts.transfers hold.transfers_are place at
 
 -- ---- one expires
 
-module _ (facts : Facts) (accounts : List (ℕ × Account)) (transfers : List (ℕ × Row)) (place : ℕ) (can : CanExpire facts accounts transfers place) where
+module _ {facts : Facts} {accounts : List (ℕ × Account)} {transfers : List (ℕ × Row)} {place : ℕ} (can : CanExpire facts accounts transfers place) where
   pub ground : IsGrounded facts.accounts facts.transfers can.transfer
   ground = all-there (IsGrounded facts.accounts facts.transfers) facts.transfers place can.transfer can.grounded can.at
 
   pub there : slice_get transfers place ≡ Some (can.transfer.id, row_in facts can.transfer)
-  there = row-at facts accounts transfers can.hold place can.transfer can.at
+  there = row-at can.hold place can.at
 
   pub released : accounts ≡ account_rows (with_amount true can.transfer.debit_account_id can.transfer.credit_account_id can.transfer.amount (sums_of (expire_one can.transfer.id facts))) facts.accounts
   released = can.hold.accounts_are ∙ rows-same _ _ facts.accounts (sums-after facts can.transfer place can.at can.lawful can.reserves can.ordered)
 
-  pub can-take : (places : Places) (amount : ℕ) → AreAt facts.accounts places can.transfer.debit_account_id can.transfer.credit_account_id → amount ≡ can.transfer.amount → CanTake accounts places true amount
-  can-take places amount are_at same = rw same (record {
+  pub can-take : {places : Places} {amount : ℕ} → AreAt facts.accounts places can.transfer.debit_account_id can.transfer.credit_account_id → amount ≡ can.transfer.amount → CanTake accounts places true amount
+  can-take are_at same = rw same (record {
     sums = sums_of (expire_one can.transfer.id facts);
     accounts = facts.accounts;
     debit = can.transfer.debit_account_id;
@@ -69,7 +167,7 @@ pub record IsPairOf (facts : Facts) (moment place : ℕ) : Type 0 where
   pub is : expires_at transfer ≡ moment
   pub timed : is_timed transfer ≡ true
 
-module _ (accounts : List (ℕ × Account)) (transfers : List (ℕ × Row)) (indexed : ℕ → ℕ → Bool) (facts : Facts) (held : AreHeld accounts transfers indexed facts) (moment place : ℕ) (has : indexed moment place ≡ true) where
+module _ {accounts : List (ℕ × Account)} {transfers : List (ℕ × Row)} {indexed : ℕ → ℕ → Bool} {facts : Facts} (held : AreHeld accounts transfers indexed facts) {moment place : ℕ} (has : indexed moment place ≡ true) where
   pub pair : IsPairOf facts moment place
   pair = by (slice_get facts.transfers place) refl (held.timed moment place has)
     where
@@ -78,7 +176,7 @@ module _ (accounts : List (ℕ × Account)) (transfers : List (ℕ × Row)) (ind
       by (Some t) at h = record { transfer = t; at = at; is = grind (arith, nat_tests, h); timed = grind (arith, h) }
 
   pub pair-row : slice_get transfers place ≡ Some (pair.transfer.id, row_in facts pair.transfer)
-  pair-row = row-at facts accounts transfers held.hold place pair.transfer pair.at
+  pair-row = row-at held.hold place pair.at
 
   pub can-expire : is_open_status (row_in facts pair.transfer).status ≡ true → CanExpire facts accounts transfers place
   can-expire open_one = record {
@@ -91,11 +189,11 @@ module _ (accounts : List (ℕ × Account)) (transfers : List (ℕ × Row)) (ind
     reserves = grind (arith, open_one, resolved_either pair.transfer.id facts.transfers);
   }
 
-  module _ (clock : ℕ) (within : moment ≤ clock) (next : ℕ → ℕ → Bool) (took : (m p : ℕ) → next m p ≡ (not (same_pair moment place m p) && indexed m p)) where
+  module _ {clock : ℕ} (within : moment ≤ clock) {next : ℕ → ℕ → Bool} (took : (m p : ℕ) → next m p ≡ (not (same_pair moment place m p) && indexed m p)) where
     -- it expires
-    pub still-due : (old : Facts) (can : CanExpire facts accounts transfers place) → expire_due clock facts ≡ expire_due clock old → (accounts' : List (ℕ × Account)) (transfers' : List (ℕ × Row)) → Hold (expire_one can.transfer.id facts) accounts' transfers' →
+    pub still-due : {old : Facts} (can : CanExpire facts accounts transfers place) → expire_due clock facts ≡ expire_due clock old → {accounts' : List (ℕ × Account)} {transfers' : List (ℕ × Row)} → Hold (expire_one can.transfer.id facts) accounts' transfers' →
         StillDue clock old accounts' transfers' next
-    still-due old can same accounts' transfers' hold =
+    still-due can same hold =
         let one : can.transfer ≡ pair.transfer = cc (can.at, pair.at) in
         let moment-is : expires_at can.transfer ≡ moment = ap expires_at one ∙ pair.is in
         let due : is_due clock can.transfer ≡ true = due-now can.transfer (ap is_timed one ∙ pair.timed) moment-is in
@@ -113,8 +211,8 @@ module _ (accounts : List (ℕ × Account)) (transfers : List (ℕ × Row)) (ind
         due-now t timed is = grind (arith, nat_tests, within)
 
     -- it reserves nothing any more
-    pub passed-over : (old : Facts) → is_open_status (row_in facts pair.transfer).status ≡ false → expire_due clock facts ≡ expire_due clock old → StillDue clock old accounts transfers next
-    passed-over old closed same =
+    pub passed-over : {old : Facts} → is_open_status (row_in facts pair.transfer).status ≡ false → expire_due clock facts ≡ expire_due clock old → StillDue clock old accounts transfers next
+    passed-over closed same =
         let s = held.sound in
         record {
           now = facts;
@@ -129,22 +227,16 @@ module _ (accounts : List (ℕ × Account)) (transfers : List (ℕ × Row)) (ind
         stays : (m p : ℕ) → expects facts m p ≡ true → indexed m p ≡ true → next m p ≡ true
         stays m p h was = grind (arith, nat_tests, took m p, pair.at, closed, resolved_either pair.transfer.id facts.transfers)
 
--- where no pair is due, none is left to expire
-none-due : (clock : ℕ) (indexed : ℕ → ℕ → Bool) (facts : Facts) → IsSound indexed facts → ((m p : ℕ) → indexed m p ≡ true → clock < m) → expire_due clock facts ≡ facts
-none-due clock indexed facts sound later =
-    λ i. record facts { expired = (ap (map (λ (t : Transfer). t.id)) (filter-at (expires clock facts) (λ (t : Transfer). is_expired facts t.id) facts.transfers each) ∙ sym sound.expiries.ordered) i }
-  where
-    each : (p : ℕ) (y : Transfer) → slice_get facts.transfers p ≡ Some y → expires clock facts y ≡ is_expired facts y.id
-    each p y at = by (is_reserving facts y && is_due clock y) refl
-      where
-        by : (b : Bool) → (is_reserving facts y && is_due clock y) ≡ b → expires clock facts y ≡ is_expired facts y.id
-        by false e = grind (arith, e)
-        by true e =
-            let expected : expects facts (expires_at y) p ≡ true = grind (arith, nat_tests, at, e) in
-            let after = later (expires_at y) p (sound.paired (expires_at y) p expected) in
-            let due : expires_at y ≤ clock = grind (arith, nat_tests, e) in
-            absurd (omega arith)
+-- where no pair is due, nothing that reserves its amount is
+none-due : (clock : ℕ) (indexed : ℕ → ℕ → Bool) (facts : Facts) → IsSound indexed facts → ((m p : ℕ) → indexed m p ≡ true → clock < m) → (p : ℕ) (y : Transfer) → slice_get facts.transfers p ≡ Some y →
+    (b : Bool) → (is_reserving facts y && is_due clock y) ≡ b → b ≡ false
+none-due clock indexed facts sound later p y at false e = refl
+none-due clock indexed facts sound later p y at true e =
+    let expected : expects facts (expires_at y) p ≡ true = grind (arith, nat_tests, at, e) in
+    let after = later (expires_at y) p (sound.paired (expires_at y) p expected) in
+    let due : expires_at y ≤ clock = grind (arith, nat_tests, e) in
+    absurd (omega arith)
 
-pub all-due : (clock : ℕ) (facts : Facts) (accounts : List (ℕ × Account)) (transfers : List (ℕ × Row)) (indexed : ℕ → ℕ → Bool) → StillDue clock facts accounts transfers indexed → ((m p : ℕ) → indexed m p ≡ true → clock < m) →
+pub all-due : {clock : ℕ} {facts : Facts} {accounts : List (ℕ × Account)} {transfers : List (ℕ × Row)} {indexed : ℕ → ℕ → Bool} → StillDue clock facts accounts transfers indexed → ((m p : ℕ) → indexed m p ≡ true → clock < m) →
     AreHeld accounts transfers indexed (expire_due clock facts)
-all-due clock facts accounts transfers indexed due later = subst (AreHeld accounts transfers indexed) (sym (none-due clock indexed due.now due.held.sound later) ∙ due.same) due.held
+all-due {clock} {facts} {accounts} {transfers} {indexed} due later = subst (AreHeld accounts transfers indexed) (sym (none-left clock due.now due.held.sound.expiries.ordered (λ p y at. none-due clock indexed due.now due.held.sound later p y at _ refl)) ∙ due.same) due.held

@@ -1,7 +1,6 @@
 -- What a look-up by id finds.
-use Rattle.std.proofs.Common.{arith, ◌≡◌, ℕ, List, [], ◌∷◌}
-use Rattle.std.specs.Prelude.{◌==◌, Some, find}
-use Rattle.std.proofs.lemmas.Bool.Decides.{nat_tests}
+use Rattle.std.proofs.Common.{arith, ◌≡◌, ℕ, List, [], ◌∷◌, ◌==◌, Some, find}
+use Rattle.tb_tables.proofs.Words.{nat_tests}
 
 -- it has that id
 pub found-id : {X : Type 0} (id_of : X → ℕ) (id : ℕ) (xs : List X) (found : X) → find (λ x. id_of x == id) xs ≡ Some found → id_of found ≡ id

@@ -1,33 +1,16 @@
 -- The pairs of resolved transfers leave the index.
-use Rattle.std.proofs.Common.{refl, sym, ap, subst, ◌∙◌, arith, ◌≡◌, ℕ, ◌+◌, ◌<◌, ◌≤◌, ◌^◌, Bool, true, false, not, List, [], ◌∷◌, ◌++◌, ◌-◌, take, length, get_or, slice_get, zero, suc, true≢false}
-use Rattle.std.specs.Prelude.{◌==◌, ◌&&◌, ◌||◌, Option, Some, None}
-use Rattle.std.specs.Option.{option_map}
-use Rattle.std.specs.List.{AllByRecursion}
-use Rattle.std.proofs.lemmas.Bool.{eqb-true}
-use Rattle.std.proofs.lemmas.Bool.Decides.{nat_tests}
+use Rattle.std.proofs.Common.{sym, ap, subst, ◌∙◌, arith, ◌≡◌, ℕ, ◌+◌, ◌<◌, ◌^◌, Bool, true, false, not, List, [], ◌∷◌, ◌++◌, take, length, get_or, slice_get, zero, suc, ◌==◌, ◌&&◌, ◌||◌, Some}
 use Rattle.std.proofs.lemmas.List.Folds.{list_any-append}
-use Rattle.std.proofs.lemmas.Option.{slice_get-map}
 use Rattle.std.proofs.Math.Seq.{take-suc}
-use Rattle.tb_layout.specs.declared.transfer.Transfer.{Transfer}
-use Rattle.tb_tables.specs.Facts.{Facts}
-use Rattle.tb_tables.specs.Status.{expires_at}
-use Rattle.tb_tables.specs.Changes.{before, oldest}
-use Rattle.tb_tables.specs.Expiries.{same_pair}
-use Rattle.tb_tables.specs.Kept.{Stored, facts_of, row_in, is_timed, names_place, is_spent, IsGrounded, MayStore, WasMade, AreUndoable, IsKept, resolves_at, is_resolved_at}
-use Rattle.tb_tables.specs.Storing.{is_open_status, IsForgettable, CanForget}
-use Rattle.tb_tables.specs.declared.places.Places.{Places}
-use Rattle.tb_tables.specs.declared.row.Row.{Row}
-use Rattle.tb_tables.specs.declared.change.Change.{Change}
-use Rattle.tb_tables.specs.declared.change.Change.TheVariants.{Account, Failed, Transfer as WasTransfer}
+use Rattle.tb_tables.proofs.Words.{NamesOne, AllByRecursion, nat_tests, Transfer, Facts, expires_at, same_pair, Stored, facts_of, row_in, is_timed, is_spent, IsGrounded, IsKept, resolves_at, is_resolved_at, is_open_status, IsForgettable, CanForget, Places, Row, Change}
 use Rattle.tb_tables.proofs.Laws.{resolved_either}
+use Rattle.tb_tables.proofs.Stored.{row-placed}
 
 -- ---- one transfer
 
-module _ (facts : Facts) (t : Transfer) (entries : List (ℕ × Row)) (place : ℕ) (can : IsForgettable facts t entries place) where
+module _ {facts : Facts} {t : Transfer} {entries : List (ℕ × Row)} {place : ℕ} (can : IsForgettable facts t entries place) where
   pub row-there : slice_get entries place ≡ Some (t.id, row_in facts t)
-  row-there =
-      ap (λ es. slice_get es place) can.transfers_are ∙ slice_get-map (λ (x : Transfer). (x.id, row_in facts x)) facts.transfers place
-      ∙ ap (option_map (λ (x : Transfer). (x.id, row_in facts x))) can.at
+  row-there = row-placed (λ (x : Transfer). x.id) (row_in facts) facts.transfers can.transfers_are place can.at
 
   pub fits : is_timed t ≡ true → expires_at t < 2 ^ 64
   fits timed = can.expiry_fits (grind (arith, timed))
@@ -65,70 +48,28 @@ forgotten-more changes k d p pair had now next h was is =
     bits : (a r now : Bool) → now ≡ (not (a && pair) && had) → (not (r && pair) && now) ≡ (not ((a || r) && pair) && had)
     bits a r now was = grind arith
 
-pub taken-all : {X : Type 0} (xs : List X) (k : ℕ) → length xs ≤ k → take k xs ≡ xs
-taken-all [] zero h = refl
-taken-all [] (suc k) h = refl
-taken-all (x ∷ xs) zero h = absurd (omega arith)
-taken-all (x ∷ xs) (suc k) h = ap (λ ys. x ∷ ys) (taken-all xs k (omega arith))
-
--- ---- what a change resolved is there still
-
-prefix-at : {X : Type 0} (n : ℕ) (xs : List X) (place : ℕ) (x : X) → slice_get (take n xs) place ≡ Some x → slice_get xs place ≡ Some x
-prefix-at zero xs place x at = cc
-prefix-at (suc n) [] place x at = at
-prefix-at (suc n) (y ∷ xs) zero x at = at
-prefix-at (suc n) (y ∷ xs) (suc place) x at = prefix-at n xs place x at
-
-there-after : (change : Change Places) (facts : Facts) (place : ℕ) (t : Transfer) → slice_get (before change facts).transfers place ≡ Some t → slice_get facts.transfers place ≡ Some t
-there-after Account facts place t at = at
-there-after (WasTransfer places) facts place t at = prefix-at (length facts.transfers - 1) facts.transfers place t at
-there-after Failed facts place t at = at
-
-there-now : (changes : List (Change Places)) (facts : Facts) (place : ℕ) (t : Transfer) → slice_get (oldest before changes facts).transfers place ≡ Some t → slice_get facts.transfers place ≡ Some t
-there-now [] facts place t at = at
-there-now (change ∷ changes) facts place t at = there-now changes facts place t (there-after change (oldest before changes facts) place t at)
-
-named-there : (change : Change Places) (old new : Facts) → WasMade change old new → (place : ℕ) → resolves_at place change ≡ true → (t : Transfer) × (slice_get old.transfers place ≡ Some t)
-named-there Account old new made place is = absurd (true≢false (sym is))
-named-there Failed old new made place is = absurd (true≢false (sym is))
-named-there (WasTransfer places) old new made place is = by places.pending made.allow.may is
-  where
-    by : (o : Option ℕ) → MayStore old made.transfer o → names_place place o ≡ true → (t : Transfer) × (slice_get old.transfers place ≡ Some t)
-    by None may h = absurd (true≢false (sym h))
-    by (Some pending) posted h = (posted.may.pending, ap (slice_get old.transfers) (sym (eqb-true pending place h)) ∙ posted.pending_at)
-
 pub all-there : {X : Type 0} (P : X → Type 0) (xs : List X) (place : ℕ) (x : X) → AllByRecursion P xs → slice_get xs place ≡ Some x → P x
 all-there P [] place x all at = cc
 all-there P (y ∷ xs) zero x all at = let same : y ≡ x = cc in subst P same all.0
 all-there P (y ∷ xs) (suc place) x all at = all-there P xs place x all.1 at
 
--- ---- at `keep`
+-- ---- in the maps
 
 module _ (old : Stored) (kept : IsKept old) where
-  abbrev facts : Facts
-  facts = facts_of old
-
-  can-all : (changes : List (Change Places)) → AreUndoable old.is_indexed changes facts → AllByRecursion (λ change. CanForget facts change old.transfers) changes
-  can-all [] all = tt
-  can-all (change ∷ changes) all = (can, can-all changes all.1)
+  pub can-forget : (changes : List (Change Places)) → AllByRecursion (NamesOne (facts_of old)) changes → AllByRecursion (λ change. CanForget (facts_of old) change old.transfers) changes
+  can-forget [] all = tt
+  can-forget (change ∷ changes) all = (can, can-forget changes all.1)
     where
-      can : CanForget facts change old.transfers
+      can : CanForget (facts_of old) change old.transfers
       can place is =
-          let named = named-there change (before change (oldest before changes facts)) (oldest before changes facts) all.0.1 place is in
-          let at = there-now (change ∷ changes) facts place named.0 named.1 in
-          (named.0, record { transfers_are = kept.held.hold.transfers_are; at = at; expiry_fits = (all-there (IsGrounded facts.accounts facts.transfers) facts.transfers place named.0 kept.held.sound.grounded at).expiry_fits })
+          let named = all.0 place is in
+          (named.0, record { transfers_are = kept.hold.transfers_are; at = named.1; expiry_fits = (all-there (IsGrounded (facts_of old).accounts (facts_of old).transfers) (facts_of old).transfers place named.0 kept.sound.grounded named.1).expiry_fits })
 
-  pub can-forget : AllByRecursion (λ change. CanForget facts change old.transfers) old.changes
-  can-forget = can-all old.changes kept.undoable
-
-  pub kept-now : (indexed : ℕ → ℕ → Bool) → ((m p : ℕ) → indexed m p ≡ (not (is_resolved_at p old.changes && is_spent facts m p) && old.is_indexed m p)) → IsKept (record old { changes = []; is_indexed = indexed })
-  kept-now indexed is =
-      let s = kept.held.sound in
+  pub kept-now : (changes : List (Change Places)) (indexed : ℕ → ℕ → Bool) → ((m p : ℕ) → indexed m p ≡ (not (is_resolved_at p changes && is_spent (facts_of old) m p) && old.is_indexed m p)) → IsKept (record old { is_indexed = indexed })
+  kept-now changes indexed is =
+      let s = kept.sound in
       record {
-        held = record {
-          hold = kept.held.hold;
-          timed = λ m p has. grind (arith, is m p, has, kept.held.timed m p);
-          sound = record { lawful = s.lawful; grounded = s.grounded; made = s.made; expiries = s.expiries; paired = λ m p has. grind (arith, is m p, has, s.paired m p) };
-        };
-        undoable = tt;
+        hold = kept.hold;
+        timed = λ m p has. grind (arith, is m p, has, kept.timed m p);
+        sound = record { lawful = s.lawful; grounded = s.grounded; made = s.made; expiries = s.expiries; paired = λ m p has. grind (arith, is m p, has, s.paired m p) };
       }

@@ -1,14 +1,8 @@
 -- Transfers stay grounded with each change.
-use Rattle.std.proofs.Common.{refl, sym, ap, subst, ◌∙◌, ◌≡◌, Bool, true, false, cond, append-nil, arith, List, [], ◌∷◌, ◌++◌, true≢false}
-use Rattle.std.specs.Prelude.{◌==◌, ◌||◌, Some, IsSome, find}
-use Rattle.std.specs.List.{list_any, AllByRecursion}
+use Rattle.std.proofs.Common.{refl, sym, ap, subst, ◌∙◌, ◌≡◌, Bool, true, false, cond, append-nil, arith, List, [], ◌∷◌, ◌++◌, true≢false, ◌==◌, ◌||◌, Some, IsSome, find}
 use Rattle.std.proofs.lemmas.List.Folds.{list_any-append}
-use Rattle.tb_layout.specs.declared.account.Account.{Account}
-use Rattle.tb_layout.specs.declared.transfer.Transfer.{Transfer}
-use Rattle.tb_tables.specs.Facts.{Facts, add_account, add_transfer}
-use Rattle.tb_tables.specs.Conditions.{MayAdd, MayResolve}
+use Rattle.tb_tables.proofs.Words.{list_any, AllByRecursion, Account, Transfer, Facts, add_account, add_transfer, MayAdd, MayResolve, has_account, IsGrounded, AreGrounded}
 use Rattle.tb_tables.proofs.Histories.{all_push}
-use Rattle.tb_tables.specs.Kept.{has_account, IsGrounded, AreGrounded}
 
 any-more : {X : Type 0} (test : X → Bool) (xs ys : List X) → list_any test xs ≡ true → list_any test (xs ++ ys) ≡ true
 any-more test xs ys h = list_any-append test xs ys ∙ ap (λ b. b || list_any test ys) h

@@ -1,12 +1,7 @@
 -- The history after a change, and after one is taken back.
 use Rattle.std.proofs.Common.{refl, sym, ap, subst, ◌∙◌, arith, ◌≡◌, ◌-◌, List, [], ◌∷◌, ◌++◌, length, take, length-append, suc}
-use Rattle.std.specs.List.{AllByRecursion}
 use Rattle.std.proofs.Math.Seq.{take-append_seam}
-use Rattle.tb_tables.specs.Facts.{Facts}
-use Rattle.tb_tables.specs.History.{History, with_change}
-use Rattle.tb_tables.specs.Lawful.{IsLawful, AreLawful}
-use Rattle.tb_tables.specs.Changes.{without_last, oldest, past_of, history_of}
-use Rattle.tb_tables.specs.declared.change.Change.{Change}
+use Rattle.tb_tables.proofs.Words.{AllByRecursion, Facts, with_change, IsLawful, AreLawful, without_last, oldest, past_of, history_of, Change}
 
 pub without_last-push : {X : Type 0} (xs : List X) (x : X) → without_last (xs ++ x ∷ []) ≡ xs
 without_last-push xs x =
@@ -52,18 +47,12 @@ all_pop P (y ∷ xs) x all =
     let rest = all_pop P xs x all.1 in
     ((all.0, rest.0), rest.1)
 
-pub lawful_changed : (history : History) (facts : Facts) → AreLawful history → IsLawful facts → AreLawful (with_change history facts)
-lawful_changed history facts old new = record { now = new; past = all_push IsLawful history.past history.now old.past old.now }
-
-pub lawful_before : (history : History) (facts : Facts) → AreLawful (with_change history facts) → AreLawful history
-lawful_before history facts all =
-    let past = all_pop IsLawful history.past history.now all.past in
-    record { now = past.1; past = past.0 }
-
--- one entry more, where the facts with it are lawful
+-- one entry more, where the facts with it are lawful, and one less
 module _ {T X : Type 0} (undo : Change T → X → X) (seen : X → Facts) where
   pub lawful_push : (changes : List (Change T)) (change : Change T) (old new : X) → undo change new ≡ old → IsLawful (seen new) → AreLawful (history_of undo seen changes old) → AreLawful (history_of undo seen (changes ++ change ∷ []) new)
-  lawful_push changes change old new e lawful all = subst AreLawful (sym (history_of-push undo seen changes change old new e)) (lawful_changed (history_of undo seen changes old) (seen new) all lawful)
+  lawful_push changes change old new e lawful all = subst AreLawful (sym (history_of-push undo seen changes change old new e)) (record { now = lawful; past = all_push IsLawful (past_of undo seen changes old) (seen old) all.past all.now })
 
   pub lawful_pop : (changes : List (Change T)) (change : Change T) (now : X) → AreLawful (history_of undo seen (changes ++ change ∷ []) now) → AreLawful (history_of undo seen changes (undo change now))
-  lawful_pop changes change now all = lawful_before (history_of undo seen changes (undo change now)) (seen now) (subst AreLawful (sym (history_of-pop undo seen changes change now)) all)
+  lawful_pop changes change now all =
+      let past = all_pop IsLawful (past_of undo seen changes (undo change now)) (seen (undo change now)) (subst AreLawful (sym (history_of-pop undo seen changes change now)) all).past in
+      record { now = past.1; past = past.0 }

@@ -1,22 +1,8 @@
 -- What the maps hold is what is seen, and what can be undone stays so.
-use Rattle.std.proofs.Common.{refl, sym, ap, subst, arith, ◌∙◌, ◌≡◌, ℕ, ◌<◌, ◌≤◌, ◌-◌, Bool, true, List, [], ◌∷◌, ◌++◌, map, filter, take, length, slice_get, zero, suc, true≢false}
-use Rattle.std.specs.Prelude.{◌&&◌, Option, Some, None}
-use Rattle.std.specs.List.{AllByRecursion}
+use Rattle.std.proofs.Common.{refl, sym, ap, subst, arith, ◌∙◌, ◌≡◌, ℕ, ◌<◌, ◌≤◌, Bool, true, List, [], ◌∷◌, map, filter, length, slice_get, suc, true≢false, ◌&&◌, Option, Some, None}
 use Rattle.std.proofs.lemmas.Option.{slice_get_within}
-use Rattle.tb_layout.specs.declared.account.Account.{Account as AccountRecord}
-use Rattle.tb_layout.specs.declared.transfer.Transfer.{Transfer as TransferRecord}
-use Rattle.tb_tables.specs.Facts.{Facts, is_expired}
-use Rattle.tb_tables.specs.Status.{status_in}
-use Rattle.tb_tables.specs.Changes.{before, oldest}
-use Rattle.tb_tables.specs.Conditions.{HasNoBalances}
-use Rattle.tb_tables.specs.Sums.{Sums, sums_of, with_sums, account_rows}
-use Rattle.tb_tables.specs.Kept.{Stored, account_made, has_expired, facts_of, history_in, transfer_rows, is_pair_of, reserves_at, IsSound, AreHeld, WasMade, IsUndoable, AreUndoable, AreKept, IsKept}
-use Rattle.tb_tables.specs.declared.places.Places.{Places}
-use Rattle.tb_tables.specs.declared.row.Row.{Row}
-use Rattle.tb_tables.specs.declared.change.Change.{Change}
-use Rattle.tb_tables.specs.declared.change.Change.TheVariants.{Account, Transfer, Failed}
+use Rattle.tb_tables.proofs.Words.{AllByRecursion, Account as AccountRecord, Transfer as TransferRecord, Facts, is_expired, status_in, HasNoBalances, Sums, sums_of, with_sums, account_rows, Stored, account_made, has_expired, facts_of, transfer_rows, is_pair_of, reserves_at, IsSound, AreHeld, IsKept, Row, KeepsPairs}
 use Rattle.tb_tables.proofs.Laws.{resolved_either}
-use Rattle.tb_tables.proofs.Histories.{oldest-push}
 
 -- ---- facts that the maps hold are those that they are seen as
 
@@ -36,7 +22,7 @@ expired-seen : (facts : Facts) (transfers : List TransferRecord) → ((place : �
 expired-seen facts [] same = refl
 expired-seen facts (t ∷ transfers) same = grind (arith, same 0 t refl, expired-seen facts transfers (λ place. same (suc place)))
 
-pub seen : (new : Stored) (facts : Facts) → new.failed ≡ facts.failed → AreHeld new.accounts new.transfers new.is_indexed facts → facts_of new ≡ facts
+seen : (new : Stored) (facts : Facts) → new.failed ≡ facts.failed → AreHeld new.accounts new.transfers new.is_indexed facts → facts_of new ≡ facts
 seen new facts failed held =
     let accounts = ap (map account_made) held.hold.accounts_are ∙ accounts-seen (sums_of facts) facts.accounts held.sound.made in
     let rows = held.hold.transfers_are in
@@ -47,29 +33,15 @@ seen new facts failed held =
     each : (place : ℕ) (t : TransferRecord) → slice_get facts.transfers place ≡ Some t → has_expired (status_in facts t) ≡ is_expired facts t.id
     each place t at = grind (arith, held.sound.expiries.open_ones place t at, resolved_either t.id facts.transfers)
 
-pub keeps : (new : Stored) (facts : Facts) → new.failed ≡ facts.failed → AreHeld new.accounts new.transfers new.is_indexed facts → AreUndoable new.is_indexed new.changes facts →
-    IsKept new × (history_in new.changes (facts_of new) ≡ history_in new.changes facts)
-keeps new facts failed held undoable =
-    let is = seen new facts failed held in
-    (subst (AreKept new) (sym is) (record { held = held; undoable = undoable }), ap (history_in new.changes) is)
-
--- ---- one change more, or one taken back, in the list of those that can be undone
-
-pub undoable-push : (indexed : ℕ → ℕ → Bool) (changes : List (Change Places)) (change : Change Places) (old new : Facts) → before change new ≡ old → IsSound indexed old → WasMade change old new → AreUndoable indexed changes old →
-    AreUndoable indexed (changes ++ change ∷ []) new
-undoable-push indexed [] change old new e sound made all = (subst (λ facts. IsSound indexed facts × WasMade change facts new) (sym e) (sound, made), tt)
-undoable-push indexed (first ∷ changes) change old new e sound made all =
-    (subst (IsUndoable indexed first) (sym (oldest-push before (λ (facts : Facts). facts) changes change new ∙ ap (oldest before changes) e)) all.0, undoable-push indexed changes change old new e sound made all.1)
-
-pub undoable-pop : (indexed : ℕ → ℕ → Bool) (changes : List (Change Places)) (change : Change Places) (facts : Facts) → AreUndoable indexed (changes ++ change ∷ []) facts → AreUndoable indexed changes (before change facts) × IsUndoable indexed change facts
-undoable-pop indexed [] change facts all = (tt, all.0)
-undoable-pop indexed (first ∷ changes) change facts all =
-    let rest = undoable-pop indexed changes change facts all.1 in
-    ((subst (IsUndoable indexed first) (oldest-push before (λ (facts : Facts). facts) changes change facts) all.0, rest.0), rest.1)
+pub keeps : {accounts : List (ℕ × AccountRecord)} {transfers : List (ℕ × Row)} {indexed : ℕ → ℕ → Bool} (facts : Facts) → AreHeld accounts transfers indexed facts →
+    let new : Stored = record { accounts = accounts; transfers = transfers; failed = facts.failed; is_indexed = indexed } in IsKept new × (facts_of new ≡ facts)
+keeps {accounts} {transfers} {indexed} facts held =
+    let is = seen (record { accounts = accounts; transfers = transfers; failed = facts.failed; is_indexed = indexed }) facts refl held in
+    (subst (AreHeld accounts transfers indexed) (sym is) held, is)
 
 -- ---- the same with another index, which has the same pairs of the places that there are
 
-module _ (indexed other : ℕ → ℕ → Bool) (count : ℕ) (same : (moment place : ℕ) → place < count → indexed moment place ≡ true → other moment place ≡ true) where
+module _ (indexed other : ℕ → ℕ → Bool) (count : ℕ) (same : KeepsPairs count indexed other) where
   pub sound-indexed : (facts : Facts) → length facts.transfers ≤ count → IsSound indexed facts → IsSound other facts
   sound-indexed facts short sound = record {
     lawful = sound.lawful;
@@ -82,22 +54,3 @@ module _ (indexed other : ℕ → ℕ → Bool) (count : ℕ) (same : (moment pl
       within : (moment place : ℕ) (o : Option TransferRecord) → slice_get facts.transfers place ≡ o → (is_pair_of moment o && reserves_at facts o) ≡ true → place < count
       within moment place None at has = absurd (true≢false (sym has))
       within moment place (Some t) at has = omega (arith, slice_get_within facts.transfers place t at)
-
-  cut : {X : Type 0} (n : ℕ) (xs : List X) → length (take n xs) ≤ length xs
-  cut zero xs = omega arith
-  cut (suc n) [] = omega arith
-  cut (suc n) (x ∷ xs) = omega (arith, cut n xs)
-
-  no-longer : (change : Change Places) (facts : Facts) → length (before change facts).transfers ≤ length facts.transfers
-  no-longer Account facts = omega arith
-  no-longer (Transfer places) facts = cut (length facts.transfers - 1) facts.transfers
-  no-longer Failed facts = omega arith
-
-  oldest-short : (changes : List (Change Places)) (facts : Facts) → length facts.transfers ≤ count → length (oldest before changes facts).transfers ≤ count
-  oldest-short [] facts short = short
-  oldest-short (change ∷ changes) facts short = omega (arith, no-longer change (oldest before changes facts), oldest-short changes facts short)
-
-  pub undoable-indexed : (changes : List (Change Places)) (facts : Facts) → length facts.transfers ≤ count → AreUndoable indexed changes facts → AreUndoable other changes facts
-  undoable-indexed [] facts short all = tt
-  undoable-indexed (change ∷ changes) facts short all =
-      ((sound-indexed (oldest before (change ∷ changes) facts) (oldest-short (change ∷ changes) facts short) all.0.0, all.0.1), undoable-indexed changes facts short all.1)

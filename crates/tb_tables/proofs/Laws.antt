@@ -1,17 +1,8 @@
 -- The facts stay lawful with each change.
-use Rattle.std.proofs.Common.{refl, ap, ◌∙◌, arith, ◌≡◌, ℕ, ◌+◌, ◌<◌, ◌≤◌, ◌^◌, Bool, true, false, not, List, [], ◌∷◌, ◌++◌}
-use Rattle.std.specs.Prelude.{if◌then◌else◌, ◌==◌, ◌&&◌, ◌||◌, None, find}
-use Rattle.std.specs.List.{list_any}
-use Rattle.std.proofs.lemmas.Bool.Decides.{nat_tests}
+use Rattle.std.proofs.Common.{refl, ap, ◌∙◌, arith, ◌≡◌, ℕ, ◌+◌, ◌<◌, ◌≤◌, ◌^◌, Bool, true, false, not, List, [], ◌∷◌, ◌++◌, if◌then◌else◌, ◌==◌, ◌&&◌, ◌||◌, None, find}
+use Rattle.std.proofs.Math.Bool.{or-false}
 use Rattle.std.proofs.lemmas.List.Folds.{list_any-append}
-use Rattle.tb_layout.specs.declared.transfer.Transfer.{Transfer}
-use Rattle.tb_layout.specs.Transfer.{is_pending, is_post, is_void, is_resolving}
-use Rattle.tb_tables.specs.Facts.{Facts, is_expired, add_transfer}
-use Rattle.tb_tables.specs.Status.{is_posted, is_voided, is_resolved, is_reserving}
-use Rattle.tb_tables.specs.declared.status.Status.TheVariants.{Pending, Posted, Voided, Expired}
-use Rattle.tb_tables.specs.Balances.{is_posting}
-use Rattle.tb_tables.specs.Conditions.{MayAdd, MayResolve}
-use Rattle.tb_tables.specs.Lawful.{IsLawful, has_id, ids_distinct}
+use Rattle.tb_tables.proofs.Words.{list_any, nat_tests, Transfer, is_pending, is_post, is_void, is_resolving, Facts, is_expired, add_transfer, is_posted, is_voided, is_resolved, is_reserving, Pending, Posted, Voided, Expired, is_posting, MayAdd, MayResolve, IsLawful, has_id, ids_distinct}
 use Rattle.tb_tables.proofs.Finding.{found-id}
 use Rattle.tb_tables.proofs.Sums.{amount_if, amounts, amounts-push, but_for, but_for-found}
 
@@ -29,10 +20,6 @@ total side facts id = amounts (reserves side facts id) facts.transfers + amounts
 pub ==_swap : (a b : ℕ) → (a == b) ≡ (b == a)
 ==_swap a b = grind (arith, nat_tests)
 
-pub or_false : (b : Bool) → (b || false) ≡ b
-or_false true = refl
-or_false false = refl
-
 -- ---- ids
 
 pub find-none : (id : ℕ) (xs : List Transfer) → find (λ (x : Transfer). x.id == id) xs ≡ None → has_id id xs ≡ false
@@ -47,7 +34,7 @@ distinct-push (x ∷ xs) t fresh distinct =
 -- ---- one plain or pending transfer more
 
 pub any-push : (test : Transfer → Bool) (xs : List Transfer) (x : Transfer) → list_any test (xs ++ x ∷ []) ≡ (list_any test xs || test x)
-any-push test xs x = list_any-append test xs (x ∷ []) ∙ ap (λ b. list_any test xs || b) (or_false (test x))
+any-push test xs x = list_any-append test xs (x ∷ []) ∙ ap (λ b. list_any test xs || b) (or-false (test x))
 
 module _ (facts : Facts) (t : Transfer) (may : MayAdd facts t) where
   pub resolves_nothing : (id : ℕ) → (is_resolving t && (t.pending_id == id)) ≡ false

@@ -1,37 +1,15 @@
 -- Look-ups in the maps.
-use Rattle.std.proofs.Common.{refl, sym, ap, subst, ◌∙◌, ◌≡◌, ℕ, Bool, true, false, cond, List, [], ◌∷◌, map, nat_eq, slice_get, length, zero, suc, arith, ◌+◌, ◌<◌, lt-ltb, le-ltb, not}
-use Rattle.std.specs.Prelude.{◌==◌, Option, Some, None, IsSome, find, nat_lt}
-use Rattle.std.specs.List.{position, position_or_len}
-use Rattle.std.specs.Option.{option_map}
-use Rattle.std.specs.Map.{keys_of, lookup}
-use Rattle.std.proofs.lemmas.Bool.Decides.{nat_tests}
+use Rattle.std.proofs.Common.{refl, sym, ap, subst, ◌∙◌, ◌≡◌, ℕ, Bool, true, false, cond, List, [], ◌∷◌, map, nat_eq, slice_get, length, suc, arith, ◌+◌, ◌<◌, lt-ltb, le-ltb, not, ◌==◌, Option, Some, None, IsSome, find, nat_lt, option_map}
 use Rattle.std.proofs.lemmas.List.{length-map}
-use Rattle.tb_layout.specs.declared.account.Account.{Account}
-use Rattle.tb_layout.specs.declared.transfer.Transfer.{Transfer}
-use Rattle.tb_tables.specs.Facts.{Facts, account_with, IsPlaceOf, transfer_with}
-use Rattle.tb_tables.specs.Status.{status_with}
-use Rattle.tb_tables.specs.Conditions.{MayResolve}
-use Rattle.tb_tables.specs.Lawful.{IsLawful, ids_distinct}
-use Rattle.tb_tables.specs.Sums.{sums_of, with_sums, AreAt}
-use Rattle.tb_tables.specs.Kept.{Hold, AreGrounded, row_in, MayPost}
-use Rattle.tb_tables.specs.declared.places.Places.{Places}
-use Rattle.tb_tables.specs.declared.row.Row.{Row}
-use Rattle.tb_tables.specs.declared.status.Status.{Status}
+use Rattle.tb_tables.proofs.Words.{position, position_or_len, keys_of, lookup, Account, Transfer, Facts, account_with, IsPlaceOf, transfer_with, status_with, MayResolve, IsLawful, sums_of, with_sums, AreAt, Hold, AreGrounded, row_in, MayPost, Places, Row, Status, has_account, IsGrounded}
 use Rattle.tb_tables.proofs.Laws.{==_swap}
 use Rattle.tb_tables.proofs.Stored.{lookup-rows, made-at}
 use Rattle.tb_tables.proofs.Grounding.{all-found}
-use Rattle.tb_tables.specs.Kept.{has_account, IsGrounded}
-use Rattle.tb_tables.proofs.Expecting.{has_id-at}
+use Rattle.tb_tables.proofs.Expecting.{find-at}
 
 keys-map : {X V : Type 0} (key : X → ℕ) (made : X → V) (xs : List X) → keys_of (map (λ x. (key x, made x)) xs) ≡ map key xs
 keys-map key made [] = refl
 keys-map key made (x ∷ xs) = ap (λ ks. key x ∷ ks) (keys-map key made xs)
-
--- the transfer at a place is the one that its id finds
-found-at : (id : ℕ) (xs : List Transfer) (place : ℕ) (x p : Transfer) → ids_distinct xs ≡ true → slice_get xs place ≡ Some x → x.id ≡ id → find (λ (t : Transfer). t.id == id) xs ≡ Some p → x ≡ p
-found-at id [] place x p distinct at is found = cc
-found-at id (y ∷ xs) zero x p distinct at is found = grind (arith, nat_tests)
-found-at id (y ∷ xs) (suc place) x p distinct at is found = grind (arith, nat_tests, has_id-at y.id xs place x at, found-at id xs place x p)
 
 -- so many accounts stand in front of the one that is found, or all
 abbrev AtPlace : Option Account → List Account → ℕ → Type 0
@@ -61,7 +39,7 @@ abbrev pub row_status : Option Row → Option Status
 row_status None = None
 row_status (Some row) = row.status
 
-module _ (facts : Facts) (accounts : List (ℕ × Account)) (transfers : List (ℕ × Row)) (hold : Hold facts accounts transfers) where
+module _ {facts : Facts} {accounts : List (ℕ × Account)} {transfers : List (ℕ × Row)} (hold : Hold facts accounts transfers) where
   pub account-found : (id : ℕ) → lookup (nat_eq id) accounts ≡ option_map (with_sums (sums_of facts)) (account_with facts id)
   account-found id = ap (lookup (nat_eq id)) hold.accounts_are ∙ lookup-rows (λ (a : Account). a.id) (with_sums (sums_of facts)) id facts.accounts
 
@@ -104,7 +82,8 @@ module _ (facts : Facts) (accounts : List (ℕ × Account)) (transfers : List (�
   may-post lawful t place may at =
       let keys = ap keys_of hold.transfers_are ∙ keys-map (λ (x : Transfer). x.id) (row_in facts) facts.transfers in
       let p = made-at (λ (x : Transfer). x.id) facts.transfers place t.pending_id (sym (ap (λ ks. slice_get ks place) keys) ∙ at) in
-      record { may = may; pending_at = p.1 ∙ ap Some (found-at t.pending_id facts.transfers place p.0 may.pending lawful.distinct p.1 p.2 may.named) }
+      let found = find-at facts.transfers place p.0 lawful.distinct p.1 in
+      record { may = may; pending_at = p.1 ∙ sym found ∙ ap (λ id. find (λ (x : Transfer). x.id == id) facts.transfers) p.2 ∙ may.named }
 
   -- the accounts of the transfer that a post or a void names are there
   there : (id : ℕ) (xs : List Account) → has_account id xs ≡ true → IsSome (find (λ (a : Account). a.id == id) xs)

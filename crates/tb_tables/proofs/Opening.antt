@@ -1,63 +1,38 @@
 -- Accounts and failed ids, added and taken back.
-use Rattle.std.proofs.Common.{arith, refl, sym, ap, subst, ◌∙◌, ◌≡◌, ℕ, ◌-◌, Bool, true, false, List, [], ◌∷◌, ◌++◌, map, take, length}
-use Rattle.std.specs.Prelude.{◌==◌, ◌&&◌, None, find}
-use Rattle.std.specs.List.{AllByRecursion}
-use Rattle.std.proofs.lemmas.Bool.Decides.{nat_tests}
+use Rattle.std.proofs.Common.{arith, refl, sym, ap, ◌∙◌, ◌≡◌, ℕ, ◌-◌, Bool, true, false, List, [], ◌∷◌, ◌++◌, map, take, length, ◌==◌, ◌&&◌, None, find}
 use Rattle.std.proofs.lemmas.List.{map-append, length-map, take-map}
-use Rattle.tb_layout.specs.declared.account.Account.{Account as AccountRecord}
-use Rattle.tb_layout.specs.declared.transfer.Transfer.{Transfer as TransferRecord}
-use Rattle.tb_tables.specs.Facts.{Facts, account_with, add_account, add_failed}
-use Rattle.tb_tables.specs.Status.{is_reserving}
-use Rattle.tb_tables.specs.Balances.{is_posting}
-use Rattle.tb_tables.specs.Conditions.{HasNoBalances}
-use Rattle.tb_tables.specs.History.{with_change}
-use Rattle.tb_tables.specs.Changes.{without_last, before}
-use Rattle.tb_tables.specs.Sums.{sums_of, with_sums, account_rows}
-use Rattle.tb_tables.specs.Kept.{Stored, facts_of, history_in, has_account, IsGrounded, AreGrounded, AreHeld, AreUndoable, IsKept}
-use Rattle.tb_tables.specs.declared.places.Places.{Places}
-use Rattle.tb_tables.specs.declared.change.Change.{Change}
-use Rattle.tb_tables.specs.declared.change.Change.TheVariants.{Account, Failed}
+use Rattle.tb_tables.proofs.Words.{AllByRecursion, nat_tests, Account as AccountRecord, Transfer as TransferRecord, Facts, account_with, add_account, is_reserving, is_posting, HasNoBalances, without_last, before, sums_of, with_sums, account_rows, Stored, facts_of, has_account, IsGrounded, AreGrounded, AreHeld, IsKept, Places, Row, IsUndoable}
+use Rattle.tb_tables.specs.declared.change.Change.TheVariants.{Account}
 use Rattle.tb_tables.proofs.Sums.{amounts}
 use Rattle.tb_tables.proofs.Grounding.{grounded_account}
-use Rattle.tb_tables.specs.declared.row.Row.{Row}
-use Rattle.tb_tables.proofs.Keeping.{keeps, undoable-push, undoable-pop}
-use Rattle.tb_tables.proofs.Histories.{all_push, history_of-push, history_of-pop, without_last-push}
+use Rattle.tb_tables.proofs.Keeping.{keeps}
+use Rattle.tb_tables.proofs.Histories.{all_push}
 
 -- ---- an account that is new has no balances
-
-amounts-none : (test : TransferRecord → Bool) (side : TransferRecord → ℕ) (id : ℕ) (xs : List TransferRecord) → AllByRecursion (λ x. (side x == id) ≡ false) xs → amounts (λ x. test x && (side x == id)) xs ≡ 0
-amounts-none test side id [] all = refl
-amounts-none test side id (x ∷ xs) all = grind (arith, all.0, amounts-none test side id xs all.1)
 
 none-there : (id : ℕ) (accounts : List AccountRecord) → find (λ (a : AccountRecord). a.id == id) accounts ≡ None → has_account id accounts ≡ false
 none-there id [] e = refl
 none-there id (x ∷ xs) e = grind (arith, none-there id xs)
 
 module _ (facts : Facts) (grounded : AreGrounded facts) (account : AccountRecord) (fresh : account_with facts account.id ≡ None) (none : HasNoBalances account) where
-  differs : (side : TransferRecord → ℕ) (x : TransferRecord) → has_account (side x) facts.accounts ≡ true → (side x == account.id) ≡ false
-  differs side x there = grind (arith, nat_tests, none-there account.id facts.accounts fresh)
-
-  debits-differ : (xs : List TransferRecord) → AllByRecursion (IsGrounded facts.accounts facts.transfers) xs → AllByRecursion (λ x. (x.debit_account_id == account.id) ≡ false) xs
-  debits-differ [] all = tt
-  debits-differ (x ∷ xs) all = (differs (λ y. y.debit_account_id) x all.0.debit, debits-differ xs all.1)
-
-  credits-differ : (xs : List TransferRecord) → AllByRecursion (IsGrounded facts.accounts facts.transfers) xs → AllByRecursion (λ x. (x.credit_account_id == account.id) ≡ false) xs
-  credits-differ [] all = tt
-  credits-differ (x ∷ xs) all = (differs (λ y. y.credit_account_id) x all.0.credit, credits-differ xs all.1)
+  amounts-none : (test : TransferRecord → Bool) (side : TransferRecord → ℕ) → ((x : TransferRecord) → IsGrounded facts.accounts facts.transfers x → has_account (side x) facts.accounts ≡ true) →
+      (xs : List TransferRecord) → AllByRecursion (IsGrounded facts.accounts facts.transfers) xs → 0 ≡ amounts (λ x. test x && (side x == account.id)) xs
+  amounts-none test side there [] all = refl
+  amounts-none test side there (x ∷ xs) all = grind (arith, nat_tests, none-there account.id facts.accounts fresh, there x all.0, amounts-none test side there xs all.1)
 
   -- it is stored as it was made
   new-account : account ≡ with_sums (sums_of facts) account
   new-account =
-      let debits = debits-differ facts.transfers grounded in
-      let credits = credits-differ facts.transfers grounded in
-      let dp = none.debits_pending ∙ sym (amounts-none (is_reserving facts) (λ x. x.debit_account_id) account.id facts.transfers debits) in
-      let dpo = none.debits_posted ∙ sym (amounts-none is_posting (λ x. x.debit_account_id) account.id facts.transfers debits) in
-      let cp = none.credits_pending ∙ sym (amounts-none (is_reserving facts) (λ x. x.credit_account_id) account.id facts.transfers credits) in
-      let cpo = none.credits_posted ∙ sym (amounts-none is_posting (λ x. x.credit_account_id) account.id facts.transfers credits) in
+      let debits = λ (test : TransferRecord → Bool). amounts-none test (λ x. x.debit_account_id) (λ x ground. ground.debit) facts.transfers grounded in
+      let credits = λ (test : TransferRecord → Bool). amounts-none test (λ x. x.credit_account_id) (λ x ground. ground.credit) facts.transfers grounded in
+      let dp = none.debits_pending ∙ debits (is_reserving facts) in
+      let dpo = none.debits_posted ∙ debits is_posting in
+      let cp = none.credits_pending ∙ credits (is_reserving facts) in
+      let cpo = none.credits_posted ∙ credits is_posting in
       λ i. record account { debits_pending = dp i; debits_posted = dpo i; credits_pending = cp i; credits_posted = cpo i }
 
 -- the failed ids are nothing to what the maps hold
-held-failed : {accounts : List (ℕ × AccountRecord)} {transfers : List (ℕ × Row)} {indexed : ℕ → ℕ → Bool} (facts : Facts) (failed : List ℕ) → AreHeld accounts transfers indexed facts → AreHeld accounts transfers indexed (record facts { failed = failed })
+pub held-failed : {accounts : List (ℕ × AccountRecord)} {transfers : List (ℕ × Row)} {indexed : ℕ → ℕ → Bool} (facts : Facts) (failed : List ℕ) → AreHeld accounts transfers indexed facts → AreHeld accounts transfers indexed (record facts { failed = failed })
 held-failed facts failed held =
     let s = held.sound in
     record {
@@ -77,26 +52,23 @@ module _ (old : Stored) (kept : IsKept old) where
 
   module _ (account : AccountRecord) (fresh : account_with (facts_of old) account.id ≡ None) (none : HasNoBalances account) where
     abbrev pub with_account : Stored
-    with_account = record old { accounts = old.accounts ++ (account.id, account) ∷ []; changes = old.changes ++ Account ∷ [] }
+    with_account = record old { accounts = old.accounts ++ (account.id, account) ∷ [] }
 
     abbrev facts_with : Facts
     facts_with = add_account (facts_of old) account
 
-    back : before {T = Places} Account facts_with ≡ facts_of old
-    back = ap (λ accounts. record (facts_of old) { accounts = accounts }) (without_last-push (facts_of old).accounts account)
-
     rows-are : with_account.accounts ≡ account_rows (sums_of (facts_of old)) facts_with.accounts
     rows-are =
-        ap (λ es. es ++ (account.id, account) ∷ []) kept.held.hold.accounts_are
-        ∙ ap (λ a. account_rows (sums_of (facts_of old)) (facts_of old).accounts ++ (account.id, a) ∷ []) (new-account (facts_of old) kept.held.sound.grounded account fresh none)
+        ap (λ es. es ++ (account.id, account) ∷ []) kept.hold.accounts_are
+        ∙ ap (λ a. account_rows (sums_of (facts_of old)) (facts_of old).accounts ++ (account.id, a) ∷ []) (new-account (facts_of old) kept.sound.grounded account fresh none)
         ∙ sym (map-append (λ (a : AccountRecord). (a.id, with_sums (sums_of (facts_of old)) a)) (facts_of old).accounts (account ∷ []))
 
     held : AreHeld with_account.accounts old.transfers old.is_indexed facts_with
     held =
-        let s = kept.held.sound in
+        let s = kept.sound in
         record {
-          hold = record { accounts_are = rows-are; transfers_are = kept.held.hold.transfers_are };
-          timed = kept.held.timed;
+          hold = record { accounts_are = rows-are; transfers_are = kept.hold.transfers_are };
+          timed = kept.timed;
           sound = record {
             lawful = record { distinct = s.lawful.distinct; debits_fit = s.lawful.debits_fit; credits_fit = s.lawful.credits_fit };
             grounded = grounded_account (facts_of old) account s.grounded;
@@ -106,53 +78,18 @@ module _ (old : Stored) (kept : IsKept old) where
           };
         }
 
-    pub kept-account : IsKept with_account × (history_in with_account.changes (facts_of with_account) ≡ with_change (history_in old.changes (facts_of old)) (add_account (facts_of old) account))
-    kept-account =
-        let k = keeps with_account facts_with refl held (undoable-push old.is_indexed old.changes Account (facts_of old) facts_with back kept.held.sound tt kept.undoable) in
-        (k.0, k.1 ∙ history_of-push before (λ (now : Facts). now) old.changes Account (facts_of old) facts_with back)
+    pub kept-account : IsKept with_account × (facts_of with_account ≡ facts_with)
+    kept-account = keeps facts_with held
 
-  -- ---- one failed id more
-
-  module _ (id : ℕ) where
-    abbrev pub with_failed : Stored
-    with_failed = record old { failed = old.failed ++ id ∷ []; changes = old.changes ++ Failed ∷ [] }
-
-    back-failed : before {T = Places} Failed (facts_of with_failed) ≡ facts_of old
-    back-failed = ap (λ failed. record (facts_of old) { failed = failed }) (without_last-push old.failed id)
-
-    pub kept-failed : IsKept with_failed × (history_in with_failed.changes (facts_of with_failed) ≡ with_change (history_in old.changes (facts_of old)) (add_failed (facts_of old) id))
-    kept-failed = (
-      record {
-        held = held-failed (facts_of old) (add_failed (facts_of old) id).failed kept.held;
-        undoable = undoable-push old.is_indexed old.changes Failed (facts_of old) (facts_of with_failed) back-failed kept.held.sound tt kept.undoable;
-      },
-      history_of-push before (λ (now : Facts). now) old.changes Failed (facts_of old) (facts_of with_failed) back-failed,
-    )
-
-  -- ---- taken back
+  -- ---- an account taken back
 
   map-without_last : {X Y : Type 0} (f : X → Y) (xs : List X) → map f (without_last xs) ≡ without_last (map f xs)
   map-without_last f xs = sym (take-map f (length xs - 1) xs) ∙ ap (λ n. take (n - 1) (map f xs)) (sym (length-map xs f))
 
-  module _ (changes : List (Change Places)) where
-    abbrev pub without_account : Stored
-    without_account = record old { accounts = without_last old.accounts; changes = changes }
+  abbrev pub without_account : Stored
+  without_account = record old { accounts = without_last old.accounts }
 
-    pub kept-unaccount : old.changes ≡ changes ++ Account ∷ [] → IsKept without_account × (with_change (history_in changes (facts_of without_account)) (facts_of old) ≡ history_in old.changes (facts_of old))
-    kept-unaccount popped =
-        let now = before {T = Places} Account (facts_of old) in
-        let undoable = undoable-pop old.is_indexed changes Account (facts_of old) (subst (λ cs. AreUndoable old.is_indexed cs (facts_of old)) popped kept.undoable) in
-        let accounts = ap without_last kept.held.hold.accounts_are ∙ sym (map-without_last (λ (a : AccountRecord). (a.id, with_sums (sums_of (facts_of old)) a)) (facts_of old).accounts) in
-        let held : AreHeld without_account.accounts old.transfers old.is_indexed now = record { hold = record { accounts_are = accounts; transfers_are = kept.held.hold.transfers_are }; timed = kept.held.timed; sound = undoable.1.0 } in
-        let k = keeps without_account now refl held undoable.0 in
-        (k.0, ap (λ h. with_change h (facts_of old)) k.1 ∙ history_of-pop before (λ (now : Facts). now) changes Account (facts_of old) ∙ ap (λ cs. history_in cs (facts_of old)) (sym popped))
-
-    abbrev pub without_failed : Stored
-    without_failed = record old { failed = without_last old.failed; changes = changes }
-
-    pub kept-unfailed : old.changes ≡ changes ++ Failed ∷ [] → IsKept without_failed × (with_change (history_in changes (facts_of without_failed)) (facts_of old) ≡ history_in old.changes (facts_of old))
-    kept-unfailed popped =
-        let undoable = undoable-pop old.is_indexed changes Failed (facts_of old) (subst (λ cs. AreUndoable old.is_indexed cs (facts_of old)) popped kept.undoable) in (
-          record { held = held-failed (facts_of old) (without_last old.failed) kept.held; undoable = undoable.0 },
-          history_of-pop before (λ (now : Facts). now) changes Failed (facts_of old) ∙ ap (λ cs. history_in cs (facts_of old)) (sym popped),
-        )
+  pub kept-unaccount : IsUndoable old.is_indexed Account (facts_of old) → IsKept without_account × (facts_of without_account ≡ before {T = Places} Account (facts_of old))
+  kept-unaccount undoable =
+      let accounts = ap without_last kept.hold.accounts_are ∙ sym (map-without_last (λ (a : AccountRecord). (a.id, with_sums (sums_of (facts_of old)) a)) (facts_of old).accounts) in
+      keeps (before {T = Places} Account (facts_of old)) (record { hold = record { accounts_are = accounts; transfers_are = kept.hold.transfers_are }; timed = kept.timed; sound = undoable.0 })

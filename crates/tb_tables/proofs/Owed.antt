@@ -1,16 +1,7 @@
 -- What look-ups tell of what a caller owes.
-use Rattle.std.proofs.Common.{arith, refl, sym, ap, ◌∙◌, ◌≡◌, ◌+◌, ◌≤◌, ℕ, Bool, true, false, not, Option, Some, None}
+use Rattle.std.proofs.Common.{arith, refl, sym, ap, ◌∙◌, ◌≡◌, ◌+◌, ◌≤◌, ℕ, Bool, true, false, not, Option, Some, None, if◌then◌else◌, option_map}
 use mathlib.Core.Bool.{beq}
-use Rattle.std.specs.Prelude.{if◌then◌else◌}
-use Rattle.std.specs.Option.{option_map}
-use Rattle.tb_layout.specs.declared.account.Account.{Account}
-use Rattle.tb_layout.specs.declared.transfer.Transfer.{Transfer}
-use Rattle.tb_layout.specs.Transfer.{is_pending, is_post, is_void}
-use Rattle.tb_tables.specs.Facts.{Facts, account_with, transfer_with}
-use Rattle.tb_tables.specs.Balances.{balanced_account, with_balances, debits, credits}
-use Rattle.tb_tables.specs.Conditions.{MayResolve}
-use Rattle.tb_tables.specs.Status.{status_of, status_with, status_if_pending}
-use Rattle.tb_tables.specs.declared.status.Status.TheVariants.{Pending}
+use Rattle.tb_tables.proofs.Words.{Account, Transfer, is_pending, is_post, is_void, Facts, account_with, transfer_with, balanced_account, with_balances, debits, credits, MayResolve, status_of, status_with, status_if_pending, Pending}
 use Rattle.tb_tables.proofs.Finding.{found-id}
 
 -- an account that is found has the sums that count

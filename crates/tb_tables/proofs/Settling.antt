@@ -1,50 +1,29 @@
 -- A transfer stored and taken back: balances, and the status of what it names.
-use Rattle.std.proofs.Common.{refl, sym, ap, subst, ◌∙◌, arith, ◌≡◌, ℕ, ◌+◌, ◌<◌, ◌^◌, Bool, true, false, List, [], ◌∷◌, ◌++◌, nat_eq, slice_get, length, length-append, append-nil, true≢false, zero, suc}
-use Rattle.std.specs.Prelude.{if◌then◌else◌, ◌==◌, Option, Some, None}
-use Rattle.std.specs.Option.{option_map}
-use Rattle.std.specs.List.{IsDistinct}
-use Rattle.std.specs.Map.{keys_of}
-use Rattle.std.proofs.lemmas.Bool.{eq-eqb}
+use Rattle.std.proofs.Common.{refl, sym, ap, subst, ◌∙◌, arith, ◌≡◌, ℕ, ◌+◌, ◌<◌, ◌^◌, Bool, true, false, List, [], ◌∷◌, ◌++◌, nat_eq, slice_get, length, length-append, append-nil, true≢false, zero, suc, if◌then◌else◌, ◌==◌, Option, Some, None}
 use Rattle.std.proofs.lemmas.List.{map-append}
-use Rattle.std.proofs.lemmas.Option.{slice_get-map}
-use Rattle.indexmap.specs.IndexMap.{set_value_at}
-use Rattle.tb_layout.specs.declared.account.Account.{Account}
-use Rattle.tb_layout.specs.declared.transfer.Transfer.{Transfer}
-use Rattle.tb_layout.specs.Transfer.{is_pending, is_post}
-use Rattle.tb_tables.specs.Facts.{Facts, add_transfer}
-use Rattle.tb_tables.specs.Status.{status_of, expires_at}
-use Rattle.tb_tables.specs.Conditions.{MayAdd}
-use Rattle.tb_tables.specs.Sums.{Sums, sums_of, with_amount, posted_if, account_rows, CanAdd, CanTake}
-use Rattle.tb_tables.specs.Kept.{Allow, row_in, transfer_rows, MayPost, MayStore}
-use Rattle.tb_tables.specs.Storing.{new_row, status_after, IsPushed, IsPopped}
-use Rattle.tb_tables.specs.declared.places.Places.{Places}
-use Rattle.tb_tables.specs.declared.row.Row.{Row}
-use Rattle.tb_tables.specs.declared.status.Status.TheVariants.{Pending}
+use Rattle.tb_tables.proofs.Words.{IsDistinct, keys_of, set_value_at, Account, Transfer, is_pending, is_post, Facts, add_transfer, status_of, expires_at, MayAdd, Sums, sums_of, with_amount, posted_if, account_rows, CanAdd, CanTake, Allow, row_in, transfer_rows, MayPost, MayStore, new_row, status_after, IsPushed, IsPopped, Places, Row, Pending, nat_tests}
 use Rattle.tb_tables.proofs.Finding.{found-id}
-use Rattle.tb_tables.proofs.Stored.{rows-set, map-same}
-use Rattle.tb_tables.proofs.Laws.{==_swap, find-none}
-use Rattle.tb_tables.proofs.Added.{rows-same, status_in-add, status-add, status-fresh, sums-add}
-use Rattle.tb_tables.proofs.Resolving.{left, sums-release, sums-post, status-other, status-named, reserved-resolve}
+use Rattle.tb_tables.proofs.Stored.{rows-set, map-same, row-placed}
+use Rattle.tb_tables.proofs.Sums.{amounts}
+use Rattle.tb_tables.proofs.Laws.{==_swap, find-none, reserves}
+use Rattle.tb_tables.proofs.Added.{rows-same, status_in-add, status-add, status-fresh, sums-add, left, sums-release, sums-post, status-other, status-named, reserved-resolve}
 
 pub slice_get-append : {X : Type 0} (xs ys : List X) (place : ℕ) (x : X) → slice_get xs place ≡ Some x → slice_get (xs ++ ys) place ≡ Some x
 slice_get-append [] ys place x at = cc
 slice_get-append (z ∷ xs) ys zero x at = at
 slice_get-append (z ∷ xs) ys (suc place) x at = slice_get-append xs ys place x at
 
-here : (n m : ℕ) → (if n == n then m else 0) ≡ m
-here n m = ap (λ b. if b then m else 0) (eq-eqb n n refl)
-
-module _ (facts : Facts) (t : Transfer) (places : Places) (allow : Allow facts t places) where
+module _ {facts : Facts} {t : Transfer} {places : Places} (allow : Allow facts t places) where
   last-row : (entries : List (ℕ × Row)) → entries ≡ transfer_rows (add_transfer facts t) (facts.transfers ++ t ∷ []) → entries ≡ transfer_rows (add_transfer facts t) facts.transfers ++ (t.id, row_in (add_transfer facts t) t) ∷ []
   last-row entries is = is ∙ map-append (λ (x : Transfer). (x.id, row_in (add_transfer facts t) x)) facts.transfers (t ∷ [])
 
-  pub some-row : (entries : List (ℕ × Row)) → entries ≡ transfer_rows (add_transfer facts t) (facts.transfers ++ t ∷ []) → 0 < length entries
-  some-row entries is = omega (arith, ap length (last-row entries is), length-append (transfer_rows (add_transfer facts t) facts.transfers) ((t.id, row_in (add_transfer facts t) t) ∷ []))
+  pub some-row : {entries : List (ℕ × Row)} → entries ≡ transfer_rows (add_transfer facts t) (facts.transfers ++ t ∷ []) → 0 < length entries
+  some-row {entries} is = omega (arith, ap length (last-row entries is), length-append (transfer_rows (add_transfer facts t) facts.transfers) ((t.id, row_in (add_transfer facts t) t) ∷ []))
 
   -- its row taken off
-  pub popped : (old new : List (ℕ × Row)) (result : Transfer) → old ≡ transfer_rows (add_transfer facts t) (facts.transfers ++ t ∷ []) →
+  pub popped : {old new : List (ℕ × Row)} {result : Transfer} → old ≡ transfer_rows (add_transfer facts t) (facts.transfers ++ t ∷ []) →
       ((id : ℕ) (row : Row) (others : List (ℕ × Row)) → old ≡ others ++ (id, row) ∷ [] → (result ≡ row.transfer) × (new ≡ others)) → (result ≡ t) × (new ≡ transfer_rows (add_transfer facts t) facts.transfers)
-  popped old new result is off = off t.id (row_in (add_transfer facts t) t) (transfer_rows (add_transfer facts t) facts.transfers) (last-row old is)
+  popped {old} is off = off t.id (row_in (add_transfer facts t) t) (transfer_rows (add_transfer facts t) facts.transfers) (last-row old is)
 
   pub expiry-fits : is_pending t ≡ true → expires_at t < 2 ^ 64
   expiry-fits pending = by places.pending allow.may
@@ -80,11 +59,11 @@ module _ (facts : Facts) (t : Transfer) (places : Places) (allow : Allow facts t
     pub add-sums : account_rows (sums_of (add_transfer facts t)) facts.accounts ≡ account_rows (with_amount (is_pending t) t.debit_account_id t.credit_account_id t.amount (sums_of facts)) facts.accounts
     add-sums = rows-same _ _ facts.accounts (sums-add facts t added allow.grounded allow.not_expired)
 
-    pub can_add : (entries : List (ℕ × Account)) → entries ≡ account_rows (sums_of facts) facts.accounts → CanAdd entries places (is_pending t) t.amount
-    can_add entries is = adds (sums_of facts) entries (is_pending t) t.amount is (grind (arith, added.debits_fit)) (grind (arith, added.credits_fit))
+    pub can_add : {entries : List (ℕ × Account)} → entries ≡ account_rows (sums_of facts) facts.accounts → CanAdd entries places (is_pending t) t.amount
+    can_add {entries} is = adds (sums_of facts) entries (is_pending t) t.amount is (grind (arith, added.debits_fit)) (grind (arith, added.credits_fit))
 
-    pub can_take : (entries : List (ℕ × Account)) → entries ≡ account_rows (sums_of (add_transfer facts t)) facts.accounts → CanTake entries places (is_pending t) t.amount
-    can_take entries is = takes (sums_of facts) entries (is_pending t) t.amount (is ∙ add-sums)
+    pub can_take : {entries : List (ℕ × Account)} → entries ≡ account_rows (sums_of (add_transfer facts t)) facts.accounts → CanTake entries places (is_pending t) t.amount
+    can_take {entries} is = takes (sums_of facts) entries (is_pending t) t.amount (is ∙ add-sums)
 
     row-added : (y : Transfer) → row_in (add_transfer facts t) y ≡ row_in facts y
     row-added y = ap (λ s. record { transfer = y; status = s }) (status_in-add facts t added y)
@@ -94,8 +73,8 @@ module _ (facts : Facts) (t : Transfer) (places : Places) (allow : Allow facts t
         ap (λ s. record { transfer = t; status = if is_pending t then Some s else None })
         (sym (status-add facts t added t.id ∙ status-fresh facts allow.grounded t.id (find-none t.id facts.transfers added.new) allow.not_expired))
 
-    pub rows-added : (entries : List (ℕ × Row)) → entries ≡ transfer_rows facts facts.transfers ++ (t.id, new_row t) ∷ [] → entries ≡ transfer_rows (add_transfer facts t) (facts.transfers ++ t ∷ [])
-    rows-added entries is =
+    pub rows-added : {entries : List (ℕ × Row)} → entries ≡ transfer_rows facts facts.transfers ++ (t.id, new_row t) ∷ [] → entries ≡ transfer_rows (add_transfer facts t) (facts.transfers ++ t ∷ [])
+    rows-added is =
         is ∙ ap (λ es. es ++ (t.id, new_row t) ∷ []) (map-same (λ (x : Transfer). (x.id, row_in facts x)) (λ (x : Transfer). (x.id, row_in (add_transfer facts t) x)) facts.transfers (λ y. ap (λ r. (y.id, r)) (sym (row-added y))))
         ∙ ap (λ row. transfer_rows (add_transfer facts t) facts.transfers ++ (t.id, row) ∷ []) row-new
         ∙ sym (map-append (λ (x : Transfer). (x.id, row_in (add_transfer facts t) x)) facts.transfers (t ∷ []))
@@ -113,6 +92,9 @@ pub record Settlement : Type 0 where
   pub allow : Allow facts transfer places
   pub pending : ℕ
   pub names : places.pending ≡ Some pending
+
+abbrev pub settlement : {facts : Facts} {transfer : Transfer} {places : Places} {pending : ℕ} → places.pending ≡ Some pending → Allow facts transfer places → Settlement
+settlement {facts} {transfer} {places} {pending} names allow = record { facts = facts; transfer = transfer; places = places; allow = allow; pending = pending; names = names }
 
 module _ (s : Settlement) where
   pub posted : MayPost s.facts s.transfer s.pending
@@ -135,15 +117,13 @@ module _ (s : Settlement) where
       ∙ sym (map-append (λ (x : Transfer). (x.id, row_in s.facts x)) s.facts.transfers (s.transfer ∷ []))
 
   pub at-place : (fs : Facts) (more : List Transfer) (entries : List (ℕ × Row)) → entries ≡ transfer_rows fs (s.facts.transfers ++ more) → slice_get entries s.pending ≡ Some (named.id, row_in fs named)
-  at-place fs more entries is =
-      ap (λ es. slice_get es s.pending) is ∙ slice_get-map (λ (x : Transfer). (x.id, row_in fs x)) (s.facts.transfers ++ more) s.pending
-      ∙ ap (option_map (λ (x : Transfer). (x.id, row_in fs x))) (slice_get-append s.facts.transfers more s.pending named posted.pending_at)
+  at-place fs more entries is = row-placed (λ (x : Transfer). x.id) (row_in fs) (s.facts.transfers ++ more) is s.pending (slice_get-append s.facts.transfers more s.pending named posted.pending_at)
 
-  pub at-pushed : (account_entries : List (ℕ × Account)) (entries : List (ℕ × Row)) → IsPushed s.facts s.transfer s.places account_entries entries → slice_get entries s.pending ≡ Some (named.id, row_in s.facts named)
-  at-pushed account_entries entries is = at-place s.facts (s.transfer ∷ []) entries (pushed-rows entries is.transfers_are)
+  pub at-pushed : {account_entries : List (ℕ × Account)} {entries : List (ℕ × Row)} → IsPushed s.facts s.transfer s.places account_entries entries → slice_get entries s.pending ≡ Some (named.id, row_in s.facts named)
+  at-pushed {entries = entries} is = at-place s.facts (s.transfer ∷ []) entries (pushed-rows entries is.transfers_are)
 
-  pub at-popped : (account_entries : List (ℕ × Account)) (entries : List (ℕ × Row)) → IsPopped s.facts s.transfer s.places account_entries entries → slice_get entries s.pending ≡ Some (named.id, row_in (add_transfer s.facts s.transfer) named)
-  at-popped account_entries entries is = at-place (add_transfer s.facts s.transfer) [] entries (is.transfers_are ∙ ap (transfer_rows (add_transfer s.facts s.transfer)) (sym (append-nil s.facts.transfers)))
+  pub at-popped : {account_entries : List (ℕ × Account)} {entries : List (ℕ × Row)} → IsPopped s.facts s.transfer s.places account_entries entries → slice_get entries s.pending ≡ Some (named.id, row_in (add_transfer s.facts s.transfer) named)
+  at-popped {entries = entries} is = at-place (add_transfer s.facts s.transfer) [] entries (is.transfers_are ∙ ap (transfer_rows (add_transfer s.facts s.transfer)) (sym (append-nil s.facts.transfers)))
 
   others : (y : Transfer) → (y.id == named.id) ≡ false → row_in (add_transfer s.facts s.transfer) y ≡ row_in s.facts y
   others y apart =
@@ -161,18 +141,18 @@ module _ (s : Settlement) where
       ∙ ap (λ b. record { transfer = named; status = if b then Some (status_of s.facts named.id) else None }) (sym posted.may.is_pending_one)
 
   -- the status of what it names, set
-  pub rows-settled : (account_entries : List (ℕ × Account)) (entries : List (ℕ × Row)) → IsPushed s.facts s.transfer s.places account_entries entries → IsDistinct nat_eq (keys_of entries) →
+  pub rows-settled : {account_entries : List (ℕ × Account)} {entries : List (ℕ × Row)} → IsPushed s.facts s.transfer s.places account_entries entries → IsDistinct nat_eq (keys_of entries) →
       set_value_at entries s.pending (record (row_in s.facts named) { status = Some (status_after (is_post s.transfer)) }) ≡ transfer_rows (add_transfer s.facts s.transfer) (s.facts.transfers ++ s.transfer ∷ [])
-  rows-settled account_entries entries pushed apart =
+  rows-settled {entries = entries} pushed apart =
       let is = pushed-rows entries pushed.transfers_are in
       ap (λ es. set_value_at es s.pending (record (row_in s.facts named) { status = Some (status_after (is_post s.transfer)) })) is
       ∙ ap (set_value_at (transfer_rows s.facts (s.facts.transfers ++ s.transfer ∷ [])) s.pending) row-settled
       ∙ rows-set (λ (x : Transfer). x.id) (row_in s.facts) (row_in (add_transfer s.facts s.transfer)) (s.facts.transfers ++ s.transfer ∷ []) s.pending named (slice_get-append s.facts.transfers (s.transfer ∷ []) s.pending named posted.pending_at) (rw is at apart) others
 
   -- and set back
-  pub rows-open : (account_entries : List (ℕ × Account)) (entries : List (ℕ × Row)) → IsPopped s.facts s.transfer s.places account_entries entries → IsDistinct nat_eq (keys_of entries) →
+  pub rows-open : {account_entries : List (ℕ × Account)} {entries : List (ℕ × Row)} → IsPopped s.facts s.transfer s.places account_entries entries → IsDistinct nat_eq (keys_of entries) →
       set_value_at entries s.pending (record (row_in (add_transfer s.facts s.transfer) named) { status = Some Pending }) ≡ transfer_rows s.facts s.facts.transfers
-  rows-open account_entries entries popped apart =
+  rows-open {entries = entries} popped apart =
       let is = popped.transfers_are in
       ap (λ es. set_value_at es s.pending (record (row_in (add_transfer s.facts s.transfer) named) { status = Some Pending })) is
       ∙ ap (set_value_at (transfer_rows (add_transfer s.facts s.transfer) s.facts.transfers) s.pending) row-open
@@ -185,28 +165,25 @@ module _ (s : Settlement) where
   pub post-sums : account_rows (sums_of (add_transfer s.facts s.transfer)) s.facts.accounts ≡ account_rows (posted_if (is_post s.transfer) s.transfer.debit_account_id s.transfer.credit_account_id s.transfer.amount (left s.facts s.transfer posted.may)) s.facts.accounts
   post-sums = rows-same _ _ s.facts.accounts (sums-post s.facts s.transfer posted.may)
 
-  debits_reserved : (sums_of s.facts).debits_pending s.transfer.debit_account_id ≡ (sums_of (add_transfer s.facts s.transfer)).debits_pending s.transfer.debit_account_id + named.amount
-  debits_reserved = reserved-resolve s.facts s.transfer posted.may s.allow.lawful (λ x. x.debit_account_id) posted.may.same_debit s.transfer.debit_account_id ∙ ap (λ n. (sums_of (add_transfer s.facts s.transfer)).debits_pending s.transfer.debit_account_id + n) (here s.transfer.debit_account_id named.amount)
+  reserved : (side : Transfer → ℕ) → side s.transfer ≡ side named → (id : ℕ) → side s.transfer ≡ id → amounts (reserves side s.facts id) s.facts.transfers ≡ amounts (reserves side (add_transfer s.facts s.transfer) id) (s.facts.transfers ++ s.transfer ∷ []) + named.amount
+  reserved side same id own = grind (arith, nat_tests, own, reserved-resolve s.facts s.transfer posted.may s.allow.lawful side same id)
 
-  credits_reserved : (sums_of s.facts).credits_pending s.transfer.credit_account_id ≡ (sums_of (add_transfer s.facts s.transfer)).credits_pending s.transfer.credit_account_id + named.amount
-  credits_reserved = reserved-resolve s.facts s.transfer posted.may s.allow.lawful (λ x. x.credit_account_id) posted.may.same_credit s.transfer.credit_account_id ∙ ap (λ n. (sums_of (add_transfer s.facts s.transfer)).credits_pending s.transfer.credit_account_id + n) (here s.transfer.credit_account_id named.amount)
+  pub can_release : {entries : List (ℕ × Account)} {amount : ℕ} → entries ≡ account_rows (sums_of s.facts) s.facts.accounts → amount ≡ named.amount → CanTake entries s.places true amount
+  can_release {entries} is same = rw same (takes s.allow (left s.facts s.transfer posted.may) entries true named.amount (is ∙ release-sums))
 
-  pub can_release : (entries : List (ℕ × Account)) (amount : ℕ) → entries ≡ account_rows (sums_of s.facts) s.facts.accounts → amount ≡ named.amount → CanTake entries s.places true amount
-  can_release entries amount is same = rw same (takes s.facts s.transfer s.places s.allow (left s.facts s.transfer posted.may) entries true named.amount (is ∙ release-sums))
-
-  pub can_post : (entries : List (ℕ × Account)) → entries ≡ account_rows (left s.facts s.transfer posted.may) s.facts.accounts → CanAdd entries s.places false s.transfer.amount
-  can_post entries is =
+  pub can_post : {entries : List (ℕ × Account)} → entries ≡ account_rows (left s.facts s.transfer posted.may) s.facts.accounts → CanAdd entries s.places false s.transfer.amount
+  can_post {entries} is =
       let debit = s.allow.lawful.debits_fit s.transfer.debit_account_id in
       let credit = s.allow.lawful.credits_fit s.transfer.credit_account_id in
-      adds s.facts s.transfer s.places s.allow (left s.facts s.transfer posted.may) entries false s.transfer.amount is (omega (arith, debits_reserved, posted.may.at_most)) (omega (arith, credits_reserved, posted.may.at_most))
+      adds s.allow (left s.facts s.transfer posted.may) entries false s.transfer.amount is (omega (arith, reserved (λ x. x.debit_account_id) posted.may.same_debit s.transfer.debit_account_id refl, posted.may.at_most)) (omega (arith, reserved (λ x. x.credit_account_id) posted.may.same_credit s.transfer.credit_account_id refl, posted.may.at_most))
 
-  pub can_unpost : (entries : List (ℕ × Account)) → entries ≡ account_rows (sums_of (add_transfer s.facts s.transfer)) s.facts.accounts → is_post s.transfer ≡ true → CanTake entries s.places false s.transfer.amount
-  can_unpost entries is post =
-      takes s.facts s.transfer s.places s.allow (left s.facts s.transfer posted.may) entries false s.transfer.amount
+  pub can_unpost : {entries : List (ℕ × Account)} → entries ≡ account_rows (sums_of (add_transfer s.facts s.transfer)) s.facts.accounts → is_post s.transfer ≡ true → CanTake entries s.places false s.transfer.amount
+  can_unpost {entries} is post =
+      takes s.allow (left s.facts s.transfer posted.may) entries false s.transfer.amount
       (is ∙ post-sums ∙ ap (λ b. account_rows (posted_if b s.transfer.debit_account_id s.transfer.credit_account_id s.transfer.amount (left s.facts s.transfer posted.may)) s.facts.accounts) post)
 
-  pub can_reserve : (entries : List (ℕ × Account)) (amount : ℕ) → entries ≡ account_rows (left s.facts s.transfer posted.may) s.facts.accounts → amount ≡ named.amount → CanAdd entries s.places true amount
-  can_reserve entries amount is same =
+  pub can_reserve : {entries : List (ℕ × Account)} {amount : ℕ} → entries ≡ account_rows (left s.facts s.transfer posted.may) s.facts.accounts → amount ≡ named.amount → CanAdd entries s.places true amount
+  can_reserve {entries} is same =
       let debit = s.allow.lawful.debits_fit s.transfer.debit_account_id in
       let credit = s.allow.lawful.credits_fit s.transfer.credit_account_id in
-      rw same (adds s.facts s.transfer s.places s.allow (left s.facts s.transfer posted.may) entries true named.amount is (omega (arith, debits_reserved)) (omega (arith, credits_reserved)))
+      rw same (adds s.allow (left s.facts s.transfer posted.may) entries true named.amount is (omega (arith, reserved (λ x. x.debit_account_id) posted.may.same_debit s.transfer.debit_account_id refl)) (omega (arith, reserved (λ x. x.credit_account_id) posted.may.same_credit s.transfer.credit_account_id refl)))

@@ -1,31 +1,15 @@
 -- A transfer stored in the tables, and taken back.
-use Rattle.std.proofs.Common.{refl, sym, ap, subst, arith, ◌∙◌, ◌≡◌, ℕ, ◌<◌, Bool, true, false, not, List, [], ◌∷◌, ◌++◌, map, filter, length, append-nil}
-use Rattle.std.specs.Prelude.{if◌then◌else◌, ◌==◌, ◌&&◌, ◌||◌, Option, Some, None}
-use Rattle.std.specs.List.{list_any}
-use Rattle.std.proofs.lemmas.Bool.Decides.{nat_tests}
+use Rattle.std.proofs.Common.{refl, sym, ap, subst, arith, ◌∙◌, ◌≡◌, ℕ, Bool, true, false, not, List, [], ◌∷◌, ◌++◌, map, filter, length, append-nil, if◌then◌else◌, ◌==◌, ◌&&◌, ◌||◌, Option, Some, None, slice_get}
+use Rattle.std.proofs.lemmas.Bool.{eqb-true}
 use Rattle.std.proofs.lemmas.List.Elements.{filter-append}
-use Rattle.tb_layout.specs.declared.account.Account.{Account}
-use Rattle.tb_layout.specs.declared.transfer.Transfer.{Transfer as TransferRecord}
-use Rattle.tb_layout.specs.Transfer.{is_pending, is_resolving}
-use Rattle.tb_tables.specs.Facts.{Facts, transfer_with, is_expired, add_transfer}
-use Rattle.tb_tables.specs.Status.{is_resolved, is_reserving, expires_at}
-use Rattle.tb_tables.specs.History.{with_change}
-use Rattle.tb_tables.specs.Lawful.{IsLawful, has_id}
-use Rattle.tb_tables.specs.Changes.{before}
-use Rattle.tb_tables.specs.Expiries.{same_pair}
-use Rattle.tb_tables.specs.Sums.{AreAt}
-use Rattle.tb_tables.specs.Kept.{Stored, AreGrounded, facts_of, history_in, is_timed, is_pair, AreExpiries, IsSound, AreHeld, Allow, MayStore, WasStored, AreUndoable, AreKept, IsKept, Hold}
-use Rattle.tb_tables.specs.Storing.{new_row, IsPushed, IsStored}
-use Rattle.tb_tables.specs.declared.places.Places.{Places}
-use Rattle.tb_tables.specs.declared.row.Row.{Row}
-use Rattle.tb_tables.specs.declared.change.Change.{Change}
+use Rattle.std.proofs.lemmas.Option.{slice_get_past}
+use Rattle.tb_tables.proofs.Words.{list_any, nat_tests, Account, Transfer as TransferRecord, is_pending, is_resolving, Facts, transfer_with, is_expired, add_transfer, is_resolved, is_reserving, IsLawful, has_id, before, AreAt, Stored, AreGrounded, facts_of, is_pair, AreExpiries, IsSound, AreHeld, Allow, MayStore, WasStored, IsKept, Hold, new_row, IsPushed, IsStored, Places, Row, IsUndoable, KeepsPairs, its_pair}
 use Rattle.tb_tables.specs.declared.change.Change.TheVariants.{Transfer}
-use Rattle.tb_tables.proofs.Sums.{not_and-left, not_and-right}
 use Rattle.tb_tables.proofs.Laws.{find-none, any-push, reserving-same, reserving-other, resolves_nothing, add_transfer_lawful, resolve_lawful}
 use Rattle.tb_tables.proofs.Grounding.{grounded_added, grounded_resolved}
 use Rattle.tb_tables.proofs.Expecting.{slice_get-push, pairs-push, expects-push}
-use Rattle.tb_tables.proofs.Keeping.{keeps, undoable-push, undoable-pop, sound-indexed, undoable-indexed}
-use Rattle.tb_tables.proofs.Histories.{history_of-push, history_of-pop, without_last-push}
+use Rattle.tb_tables.proofs.Keeping.{keeps, sound-indexed}
+use Rattle.tb_tables.proofs.Histories.{without_last-push}
 
 -- the ids of those whose id passes a test
 pub ids-found : (test : ℕ → Bool) (id : ℕ) (xs : List TransferRecord) → list_any (λ other. other == id) (map (λ (t : TransferRecord). t.id) (filter (λ t. test t.id) xs)) ≡ (test id && has_id id xs)
@@ -51,11 +35,10 @@ allows indexed facts t places sound are_at may = record {
 -- ---- the facts stay sound
 
 module _ (facts : Facts) (t : TransferRecord) where
-  abbrev its-pair : ℕ → ℕ → Bool
-  its-pair moment place = is_timed t && same_pair (expires_at t) (length facts.transfers) moment place
-
-  -- none that expired is resolved, and none reserves its amount that didn't
+  -- the facts stay lawful and grounded, none that expired is resolved, and none reserves its amount that didn't
   record Leaves : Type 0 where
+    pub lawful : IsLawful (add_transfer facts t)
+    pub grounded : AreGrounded (add_transfer facts t)
     pub open_ones : (y : TransferRecord) → is_expired facts y.id ≡ true → is_resolved facts y.id ≡ false → is_resolved (add_transfer facts t) y.id ≡ false
     pub less : (y : TransferRecord) → is_reserving (add_transfer facts t) y ≡ true → is_reserving facts y ≡ true
 
@@ -64,16 +47,17 @@ module _ (facts : Facts) (t : TransferRecord) where
     where
       by : (o : Option ℕ) → MayStore facts t o → Leaves
       by None may = record {
+        lawful = add_transfer_lawful facts t may allow.lawful;
+        grounded = grounded_added facts t may allow.grounded;
         open_ones = λ y expired open_one. grind (arith, any-push (λ other. is_resolving other && (other.pending_id == y.id)) facts.transfers t, resolves_nothing facts t may y.id, open_one);
         less = λ y reserves. sym (reserving-same facts t may y) ∙ reserves;
       }
       by (Some place) posted = record {
-        open_ones = λ y expired open_one. resolved-open y expired open_one;
+        lawful = resolve_lawful facts t posted.may allow.lawful;
+        grounded = grounded_resolved facts t posted.may allow.grounded;
+        open_ones = λ y expired open_one. grind (arith, nat_tests, any-push (λ other. is_resolving other && (other.pending_id == y.id)) facts.transfers t, posted.may.unresolved, expired, open_one);
         less = λ y reserves. grind (arith, reserving-other facts t posted.may y, reserves);
       }
-        where
-          resolved-open : (y : TransferRecord) → is_expired facts y.id ≡ true → is_resolved facts y.id ≡ false → is_resolved (add_transfer facts t) y.id ≡ false
-          resolved-open y expired open_one = grind (arith, nat_tests, any-push (λ other. is_resolving other && (other.pending_id == y.id)) facts.transfers t, posted.may.unresolved)
 
   expiries-push : Leaves → is_expired facts t.id ≡ false → AreExpiries facts → AreExpiries (add_transfer facts t)
   expiries-push l fresh old = record {
@@ -88,119 +72,74 @@ module _ (facts : Facts) (t : TransferRecord) where
       by true y at expired was = let same : t ≡ y = cc in let no : true ≡ false = sym expired ∙ ap (λ (x : TransferRecord). is_expired facts x.id) (sym same) ∙ fresh in cc
       by false y at expired was = ((was at expired).0, l.open_ones y expired (was at expired).1)
 
-  pub sound-push : (indexed next : ℕ → ℕ → Bool) (places : Places) → Allow facts t places → IsSound indexed facts → ((m p : ℕ) → next m p ≡ (its-pair m p || indexed m p)) → IsSound next (add_transfer facts t)
+  pub sound-push : (indexed next : ℕ → ℕ → Bool) (places : Places) → Allow facts t places → IsSound indexed facts → ((m p : ℕ) → next m p ≡ (its_pair facts t m p || indexed m p)) → IsSound next (add_transfer facts t)
   sound-push indexed next places allow sound put =
       let l = leaves places allow in
       record {
-        lawful = lawful places.pending allow.may;
-        grounded = grounded places.pending allow.may;
+        lawful = l.lawful;
+        grounded = l.grounded;
         made = sound.made;
         expiries = expiries-push l allow.not_expired sound.expiries;
         paired = λ m p has. grind (arith, put m p, expects-push facts t l.less m p has, sound.paired m p);
       }
-    where
-      lawful : (o : Option ℕ) → MayStore facts t o → IsLawful (add_transfer facts t)
-      lawful None may = add_transfer_lawful facts t may allow.lawful
-      lawful (Some place) posted = resolve_lawful facts t posted.may allow.lawful
-
-      grounded : (o : Option ℕ) → MayStore facts t o → AreGrounded (add_transfer facts t)
-      grounded None may = grounded_added facts t may allow.grounded
-      grounded (Some place) posted = grounded_resolved facts t posted.may allow.grounded
 
   -- ---- one more
 
-  pub held-push : (accounts : List _) (transfers : List (ℕ × Row)) (indexed next : ℕ → ℕ → Bool) (places : Places) → AreHeld accounts transfers indexed facts → (accounts' : List _) (transfers' : List (ℕ × Row)) → IsStored facts t places accounts' transfers' →
-      ((m p : ℕ) → next m p ≡ (its-pair m p || indexed m p)) → AreHeld accounts' transfers' next (add_transfer facts t)
-  held-push accounts transfers indexed next places held accounts' transfers' is put = record {
+  held-push : {accounts accounts' : List (ℕ × Account)} {transfers transfers' : List (ℕ × Row)} {indexed next : ℕ → ℕ → Bool} {places : Places} → AreHeld accounts transfers indexed facts → IsStored facts t places accounts' transfers' →
+      ((m p : ℕ) → next m p ≡ (its_pair facts t m p || indexed m p)) → AreHeld accounts' transfers' next (add_transfer facts t)
+  held-push {indexed = indexed} {next = next} {places = places} held is put = record {
     hold = is.hold;
     timed = λ m p has. grind (arith, pairs-push facts t m p, put m p, held.timed m p);
     sound = sound-push indexed next places is.allow held.sound put;
   }
 
-back : (facts : Facts) (t : TransferRecord) (places : Places) → before (Transfer places) (add_transfer facts t) ≡ facts
+pub back : (facts : Facts) (t : TransferRecord) (places : Places) → before (Transfer places) (add_transfer facts t) ≡ facts
 back facts t places = ap (λ ts. record facts { transfers = ts }) (without_last-push facts.transfers t)
 
 -- where the index has the same pairs
 pub same-held : {accounts : List (ℕ × Account)} {transfers : List (ℕ × Row)} {indexed other : ℕ → ℕ → Bool} {facts : Facts} → ((m p : ℕ) → other m p ≡ indexed m p) → AreHeld accounts transfers indexed facts → AreHeld accounts transfers other facts
 same-held {accounts} {transfers} {indexed} {other} {facts} same held = subst (λ ix. AreHeld accounts transfers ix facts) (λ i. λ m p. sym (same m p) i) held
 
-pub same-index : (old : Stored) → IsKept old → (indexed : ℕ → ℕ → Bool) → ((m p : ℕ) → indexed m p ≡ old.is_indexed m p) → AreKept (record old { is_indexed = indexed }) (facts_of old)
-same-index old kept indexed same = subst (λ ix. AreKept (record old { is_indexed = ix }) (facts_of old)) (λ i. λ m p. sym (same m p) i) kept
-
 module _ (old : Stored) (kept : IsKept old) (t : TransferRecord) (places : Places) (are_at : AreAt (facts_of old).accounts places t.debit_account_id t.credit_account_id) (may : MayStore (facts_of old) t places.pending) where
   pub pushed : (entries : List (ℕ × Row)) → entries ≡ old.transfers ++ (t.id, new_row t) ∷ [] → IsPushed (facts_of old) t places old.accounts entries
   pushed entries is = record {
-    allow = allows old.is_indexed (facts_of old) t places kept.held.sound are_at may;
-    accounts_are = kept.held.hold.accounts_are;
-    transfers_are = is ∙ ap (λ es. es ++ (t.id, new_row t) ∷ []) kept.held.hold.transfers_are;
+    allow = allows old.is_indexed (facts_of old) t places kept.sound are_at may;
+    accounts_are = kept.hold.accounts_are;
+    transfers_are = is ∙ ap (λ es. es ++ (t.id, new_row t) ∷ []) kept.hold.transfers_are;
   }
 
-  pub stored : (new : Stored) → new.failed ≡ old.failed → new.changes ≡ old.changes ++ Transfer places ∷ [] → IsStored (facts_of old) t places new.accounts new.transfers →
-      ((m p : ℕ) → new.is_indexed m p ≡ (its-pair (facts_of old) t m p || old.is_indexed m p)) →
-      IsKept new × (history_in new.changes (facts_of new) ≡ with_change (history_in old.changes (facts_of old)) (add_transfer (facts_of old) t))
-  stored new failed changes is put =
-      let facts = facts_of old in
-      let more : (m p : ℕ) → p < length facts.transfers → old.is_indexed m p ≡ true → new.is_indexed m p ≡ true = λ m p within has. grind (arith, put m p, has) in
-      let sound = sound-indexed old.is_indexed new.is_indexed (length facts.transfers) more facts (omega arith) kept.held.sound in
-      let undoable = undoable-indexed old.is_indexed new.is_indexed (length facts.transfers) more old.changes facts (omega arith) kept.undoable in
-      let made : WasStored places facts (add_transfer facts t) = record { transfer = t; stored = refl; allow = is.allow } in
-      let all = undoable-push new.is_indexed old.changes (Transfer places) facts (add_transfer facts t) (back facts t places) sound made undoable in
-      let k = keeps new (add_transfer facts t) failed (held-push facts t old.accounts old.transfers old.is_indexed new.is_indexed places kept.held new.accounts new.transfers is put)
-      (subst (λ cs. AreUndoable new.is_indexed cs (add_transfer facts t)) (sym changes) all) in
-      (k.0, k.1 ∙ ap (λ cs. history_in cs (add_transfer facts t)) changes ∙ history_of-push before (λ (now : Facts). now) old.changes (Transfer places) facts (add_transfer facts t) (back facts t places))
+pub stored : (old : Stored) → IsKept old → (t : TransferRecord) (places : Places) {accounts : List (ℕ × Account)} {transfers : List (ℕ × Row)} {next : ℕ → ℕ → Bool} → IsStored (facts_of old) t places accounts transfers →
+    ((m p : ℕ) → next m p ≡ (its_pair (facts_of old) t m p || old.is_indexed m p)) → let new : Stored = record old { accounts = accounts; transfers = transfers; is_indexed = next } in IsKept new × (facts_of new ≡ add_transfer (facts_of old) t)
+stored old kept t places is put = keeps (add_transfer (facts_of old) t) (held-push (facts_of old) t kept is put)
 
-  -- put into the index and taken out again
-  pub refused : (indexed : ℕ → ℕ → Bool) → ((m p : ℕ) → indexed m p ≡ (not (its-pair (facts_of old) t m p) && (its-pair (facts_of old) t m p || old.is_indexed m p))) → AreKept (record old { is_indexed = indexed }) (facts_of old)
-  refused indexed is =
-      let facts = facts_of old in
-      let same : (m p : ℕ) → p < length facts.transfers → old.is_indexed m p ≡ true → indexed m p ≡ true = λ m p within has. kept-in m p within has in
-      record {
-        held = record {
-          hold = kept.held.hold;
-          timed = λ m p has. grind (arith, is m p, has, kept.held.timed m p);
-          sound = sound-indexed old.is_indexed indexed (length facts.transfers) same facts (omega arith) kept.held.sound;
-        };
-        undoable = undoable-indexed old.is_indexed indexed (length facts.transfers) same old.changes facts (omega arith) kept.undoable;
-      }
-    where
-      kept-in : (m p : ℕ) → p < length (facts_of old).transfers → old.is_indexed m p ≡ true → indexed m p ≡ true
-      kept-in m p within has = grind (arith, nat_tests, is m p, has)
+-- its pair put into the index and taken out again: it wasn't there
+pub refused : (old : Stored) → IsKept old → (t : TransferRecord) (m p : ℕ) → (not (its_pair (facts_of old) t m p) && (its_pair (facts_of old) t m p || old.is_indexed m p)) ≡ old.is_indexed m p
+refused old kept t m p = by (p == length (facts_of old).transfers) refl
+  where
+    by : (b : Bool) → (p == length (facts_of old).transfers) ≡ b → (not (its_pair (facts_of old) t m p) && (its_pair (facts_of old) t m p || old.is_indexed m p)) ≡ old.is_indexed m p
+    by true is =
+        let none : slice_get (facts_of old).transfers p ≡ None = ap (slice_get (facts_of old).transfers) (eqb-true p (length (facts_of old).transfers) is) ∙ slice_get_past (facts_of old).transfers (length (facts_of old).transfers) (omega arith) in
+        grind (arith, none, kept.timed m p)
+    by false is = grind (arith, nat_tests, is)
 
 -- ---- the last taken back
 
-module _ (old : Stored) (kept : IsKept old) (changes : List (Change Places)) (places : Places) (popped : old.changes ≡ changes ++ Transfer places ∷ []) where
+module _ (old : Stored) (kept : IsKept old) (places : Places) (undoable : IsUndoable old.is_indexed (Transfer places) (facts_of old)) where
   abbrev pub facts : Facts
   facts = before (Transfer places) (facts_of old)
 
-  undone : AreUndoable old.is_indexed changes facts × (IsSound old.is_indexed facts × WasStored places facts (facts_of old))
-  undone = undoable-pop old.is_indexed changes (Transfer places) (facts_of old) (subst (λ cs. AreUndoable old.is_indexed cs (facts_of old)) popped kept.undoable)
-
-  pub was : WasStored places facts (facts_of old)
-  was = undone.1.1
+  abbrev pub was : WasStored places facts (facts_of old)
+  was = undoable.1
 
   pub was-stored : IsStored facts was.transfer places old.accounts old.transfers
-  was-stored = record { allow = was.allow; hold = subst (λ now. Hold now old.accounts old.transfers) was.stored kept.held.hold }
+  was-stored = record { allow = was.allow; hold = subst (λ now. Hold now old.accounts old.transfers) was.stored kept.hold }
 
-  pub taken : (new : Stored) → new.failed ≡ old.failed → new.changes ≡ changes → Hold facts new.accounts new.transfers →
-      ((m p : ℕ) → new.is_indexed m p ≡ (not (its-pair facts was.transfer m p) && old.is_indexed m p)) →
-      IsKept new × (with_change (history_in new.changes (facts_of new)) (facts_of old) ≡ history_in old.changes (facts_of old))
-  taken new failed changes_are hold took =
-      let same : (m p : ℕ) → p < length facts.transfers → old.is_indexed m p ≡ true → new.is_indexed m p ≡ true = kept-in in
-      let held : AreHeld new.accounts new.transfers new.is_indexed facts = record {
-        hold = hold;
-        timed = λ m p has. still m p has (kept.held.timed m p);
-        sound = sound-indexed old.is_indexed new.is_indexed (length facts.transfers) same facts (omega arith) undone.1.0;
-      } in
-      let all = undoable-indexed old.is_indexed new.is_indexed (length facts.transfers) same changes facts (omega arith) undone.0 in
-      let k = keeps new facts failed held (subst (λ cs. AreUndoable new.is_indexed cs facts) (sym changes_are) all) in
-      (k.0, ap (λ h. with_change h (facts_of old)) (k.1 ∙ ap (λ cs. history_in cs facts) changes_are) ∙ history_of-pop before (λ (now : Facts). now) changes (Transfer places) (facts_of old) ∙ ap (λ cs. history_in cs (facts_of old)) (sym popped))
-    where
-      kept-in : (m p : ℕ) → p < length facts.transfers → old.is_indexed m p ≡ true → new.is_indexed m p ≡ true
-      kept-in m p within has = grind (arith, nat_tests, took m p, has)
+  module _ {next : ℕ → ℕ → Bool} (took : (m p : ℕ) → next m p ≡ (not (its_pair facts was.transfer m p) && old.is_indexed m p)) where
+    pub kept-in : KeepsPairs (length facts.transfers) old.is_indexed next
+    kept-in m p within has = grind (arith, nat_tests, took m p, has)
 
-      still : (m p : ℕ) → new.is_indexed m p ≡ true → (old.is_indexed m p ≡ true → is_pair (facts_of old) m p ≡ true) → is_pair facts m p ≡ true
-      still m p has timed =
-          let both = sym (took m p) ∙ has in
-          let on = timed (not_and-right (its-pair facts was.transfer m p) (old.is_indexed m p) both) in
-          sym (ap (λ b. b || is_pair facts m p) (not_and-left (its-pair facts was.transfer m p) (old.is_indexed m p) both)) ∙ sym (pairs-push facts was.transfer m p)
-          ∙ sym (ap (λ now. is_pair now m p) was.stored) ∙ on
+    still : (m p : ℕ) → next m p ≡ true → (old.is_indexed m p ≡ true → is_pair (facts_of old) m p ≡ true) → is_pair facts m p ≡ true
+    still m p has timed = grind (arith, took m p, has, pairs-push facts was.transfer m p, ap (λ now. is_pair now m p) was.stored)
+
+    pub taken : {accounts : List (ℕ × Account)} {transfers : List (ℕ × Row)} → Hold facts accounts transfers → let new : Stored = record old { accounts = accounts; transfers = transfers; is_indexed = next } in IsKept new × (facts_of new ≡ facts)
+    taken hold = keeps facts (record { hold = hold; timed = λ m p has. still m p has (kept.timed m p); sound = sound-indexed old.is_indexed next (length facts.transfers) kept-in facts (omega arith) undoable.0 })

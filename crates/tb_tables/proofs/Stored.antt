@@ -1,15 +1,10 @@
 -- Rows that stand in a map under their keys, in order.
-use Rattle.std.proofs.Common.{refl, sym, ap, subst, ◌∙◌, arith, ◌≡◌, ℕ, false, List, [], ◌∷◌, map, nat_eq, slice_get, get_or, position, zero, suc}
-use Rattle.std.specs.Prelude.{Some, find, ◌==◌}
-use Rattle.std.specs.Option.{option_map}
-use Rattle.std.specs.List.{list_any, AllByRecursion, IsDistinct}
-use Rattle.std.specs.Map.{keys_of, lookup, lookup_key}
-use Rattle.std.proofs.lemmas.Bool.Decides.{nat_tests}
-use Rattle.std.proofs.lemmas.Option.{slice_get-get_or}
+use Rattle.std.proofs.Common.{refl, sym, ap, subst, ◌∙◌, arith, ◌≡◌, ℕ, false, List, [], ◌∷◌, map, nat_eq, slice_get, get_or, position, zero, suc, Some, find, ◌==◌, option_map}
+use Rattle.std.proofs.lemmas.Option.{slice_get-get_or, slice_get-map}
 use Rattle.std.proofs.lemmas.List.{length-map}
 use Rattle.std.proofs.lemmas.Map.Keys.{IsDistinct-head, IsDistinct-tail}
-use Rattle.indexmap.specs.IndexMap.{set_value_at}
 use Rattle.indexmap.proofs.MapLemmas.{Found-position}
+use Rattle.tb_tables.proofs.Words.{list_any, AllByRecursion, IsDistinct, keys_of, lookup, lookup_key, nat_tests, set_value_at}
 use Rattle.tb_tables.proofs.Laws.{==_swap}
 
 -- each under its key, with what is made of it
@@ -25,6 +20,10 @@ pub made-at : {X Y : Type 0} (f : X → Y) (xs : List X) (place : ℕ) (y : Y) �
 made-at f [] place y at = cc
 made-at f (x ∷ xs) zero y at = (x, refl, cc)
 made-at f (x ∷ xs) (suc place) y at = made-at f xs place y at
+
+-- and what stands at a place of the rows
+pub row-placed : {X V : Type 0} (key : X → ℕ) (made : X → V) (xs : List X) {es : List (ℕ × V)} → es ≡ rows key made xs → (place : ℕ) {x : X} → slice_get xs place ≡ Some x → slice_get es place ≡ Some (key x, made x)
+row-placed key made xs is place at = ap (λ es. slice_get es place) is ∙ slice_get-map (λ x. (key x, made x)) xs place ∙ ap (option_map (λ x. (key x, made x))) at
 
 -- a look-up by key finds the first of that key
 pub lookup-rows : {X V : Type 0} (key : X → ℕ) (made : X → V) (id : ℕ) (xs : List X) → lookup (nat_eq id) (rows key made xs) ≡ option_map made (find (λ x. key x == id) xs)

@@ -1,11 +1,7 @@
 -- How the sums of an account change with the facts.
-use Rattle.std.proofs.Common.{refl, sym, ap, ◌∙◌, arith, ◌≡◌, ℕ, ◌+◌, ◌≤◌, Bool, true, false, not, List, [], ◌∷◌, ◌++◌, sum_by, filter}
-use Rattle.std.specs.Prelude.{if◌then◌else◌, ◌==◌, ◌&&◌, ◌||◌, Some, find}
-use Rattle.std.specs.List.{AllByRecursion}
-use Rattle.std.proofs.lemmas.Bool.Decides.{nat_tests}
+use Rattle.std.proofs.Common.{refl, sym, ap, ◌∙◌, arith, ◌≡◌, ℕ, ◌+◌, Bool, true, false, not, List, [], ◌∷◌, ◌++◌, sum_by, filter, if◌then◌else◌, ◌==◌, ◌&&◌, Some, find}
 use Rattle.std.proofs.lemmas.List.Sums.{sum_by-cons, sum_by_push}
-use Rattle.tb_layout.specs.declared.transfer.Transfer.{Transfer}
-use Rattle.tb_tables.specs.Lawful.{has_id, ids_distinct}
+use Rattle.tb_tables.proofs.Words.{nat_tests, Transfer, has_id, ids_distinct}
 
 -- the amount of a transfer, where it passes a test
 abbrev pub amount_if : (Transfer → Bool) → Transfer → ℕ
@@ -27,14 +23,6 @@ pub sum_by-same : {X : Type 0} (f g : X → ℕ) (xs : List X) → ((x : X) → 
 sum_by-same f g [] h = refl
 sum_by-same f g (x ∷ xs) h = sum_by-cons f x xs ∙ ap (λ n. n + sum_by f xs) (h x) ∙ ap (λ n. g x + n) (sum_by-same f g xs h) ∙ sym (sum_by-cons g x xs)
 
-sum_by-most : {X : Type 0} (f g : X → ℕ) (xs : List X) → AllByRecursion (λ x. f x ≤ g x) xs → sum_by f xs ≤ sum_by g xs
-sum_by-most f g [] h = omega arith
-sum_by-most f g (x ∷ xs) h = omega (arith, sum_by-cons f x xs, sum_by-cons g x xs, h.0, sum_by-most f g xs h.1)
-
--- a harder test leaves no more
-pub amounts-most : (easy hard : Transfer → Bool) (xs : List Transfer) → AllByRecursion (λ x. amount_if hard x ≤ amount_if easy x) xs → amounts hard xs ≤ amounts easy xs
-amounts-most easy hard xs h = omega (arith, amounts-each easy xs, amounts-each hard xs, sum_by-most (amount_if hard) (amount_if easy) xs h)
-
 -- one transfer more, where the test stays the same for the others
 pub amounts-push : (old new : Transfer → Bool) (xs : List Transfer) (x : Transfer) → ((y : Transfer) → new y ≡ old y) → amounts new (xs ++ x ∷ []) ≡ amounts old xs + amount_if new x
 amounts-push old new xs x same =
@@ -42,18 +30,6 @@ amounts-push old new xs x same =
     ∙ ap (λ n. n + amount_if new x) (sum_by-same (amount_if new) (amount_if old) xs (λ y. ap (λ b. if b then y.amount else 0) (same y)) ∙ sym (amounts-each old xs))
 
 -- ---- one transfer taken out of a sum, by its id
-
-pub or-left : (a b : Bool) → (a || b) ≡ false → a ≡ false
-or-left a b h = grind arith
-
-pub or-right : (a b : Bool) → (a || b) ≡ false → b ≡ false
-or-right a b h = grind arith
-
-pub not_and-left : (a b : Bool) → (not a && b) ≡ true → a ≡ false
-not_and-left a b h = grind arith
-
-pub not_and-right : (a b : Bool) → (not a && b) ≡ true → b ≡ true
-not_and-right a b h = grind arith
 
 amounts-cons : (test : Transfer → Bool) (x : Transfer) (xs : List Transfer) → amounts test (x ∷ xs) ≡ amount_if test x + amounts test xs
 amounts-cons test x xs = amounts-step (test x) x (filter test xs)

@@ -1,5 +1,5 @@
 -- What stands in the maps, and what it says of the facts.
-use Rattle.std.specs.Prelude.{◌≡◌, ℕ, ◌<◌, ◌^◌, Bool, true, false, ◌&&◌, ◌==◌, not, List, [], ◌∷◌, map, filter, slice_get, Option, Some, None}
+use Rattle.std.specs.Prelude.{◌≡◌, ℕ, ◌<◌, ◌^◌, Bool, true, false, ◌&&◌, ◌==◌, not, List, [], ◌∷◌, map, filter, length, slice_get, Option, Some, None}
 use Rattle.std.specs.List.{list_any, AllByRecursion}
 use Rattle.tb_layout.specs.declared.account.Account.{Account as AccountRecord}
 use Rattle.tb_layout.specs.declared.transfer.Transfer.{Transfer as TransferRecord}
@@ -7,6 +7,7 @@ use Rattle.tb_layout.specs.Transfer.{is_pending, is_resolving}
 use Rattle.tb_tables.specs.Facts.{Facts, is_expired, add_transfer}
 use Rattle.tb_tables.specs.History.{History}
 use Rattle.tb_tables.specs.Status.{status_in, is_resolved, is_reserving, expires_at}
+use Rattle.tb_tables.specs.Expiries.{same_pair}
 use Rattle.tb_tables.specs.Changes.{before, oldest, history_of}
 use Rattle.tb_tables.specs.Conditions.{HasNoBalances, MayAdd, MayResolve}
 use Rattle.tb_tables.specs.Lawful.{IsLawful, has_id}
@@ -18,12 +19,11 @@ use Rattle.tb_tables.specs.declared.status.Status.TheVariants.{Pending, Posted, 
 use Rattle.tb_tables.specs.declared.change.Change.{Change}
 use Rattle.tb_tables.specs.declared.change.Change.TheVariants.{Account, Transfer, Failed}
 
--- the maps' entries, the failed ids, the undo list, and which pairs of moment and place the index has
+-- the maps' entries, the failed ids, and which pairs of moment and place the index has
 pub record Stored : Type 0 where
   pub accounts : List (ℕ × AccountRecord)
   pub transfers : List (ℕ × Row)
   pub failed : List ℕ
-  pub changes : List (Change Places)
   pub is_indexed : ℕ → ℕ → Bool
 
 -- an account as it was made
@@ -47,8 +47,10 @@ facts_of stored =
       failed = stored.failed;
     }
 
-abbrev pub history_in : List (Change Places) → Facts → History
-history_in changes facts = history_of before (λ (now : Facts). now) changes facts
+-- what the maps are seen as: the facts, and the pairs of moment and place that the index has
+pub record Indexed : Type 0 where
+  pub facts : Facts
+  pub pairs : List (ℕ × ℕ)
 
 -- ---- the maps
 
@@ -123,6 +125,13 @@ pub record AreHeld (account_entries : List (ℕ × AccountRecord)) (transfer_ent
   pub timed : (moment place : ℕ) → is_indexed moment place ≡ true → is_pair facts moment place ≡ true
   pub sound : IsSound is_indexed facts
 
+abbrev pub IsKept : Stored → Type 0
+IsKept stored = AreHeld stored.accounts stored.transfers stored.is_indexed (facts_of stored)
+
+-- the pair of a transfer that is stored next
+abbrev pub its_pair : Facts → TransferRecord → ℕ → ℕ → Bool
+its_pair facts transfer moment place = is_timed transfer && same_pair (expires_at transfer) (length facts.transfers) moment place
+
 -- ---- what was owed for a transfer that was stored
 
 pub record MayPost (facts : Facts) (transfer : TransferRecord) (place : ℕ) : Type 0 where
@@ -181,9 +190,13 @@ abbrev pub AreUndoable : (ℕ → ℕ → Bool) → List (Change Places) → Fac
 AreUndoable indexed [] facts = Unit {0}
 AreUndoable indexed (change ∷ changes) facts = IsUndoable indexed change (oldest before changes facts) × AreUndoable indexed changes facts
 
-pub record AreKept (stored : Stored) (facts : Facts) : Type 0 where
-  pub held : AreHeld stored.accounts stored.transfers stored.is_indexed facts
-  pub undoable : AreUndoable stored.is_indexed stored.changes facts
+-- each pair of the places below a count that is in the one index is in the other
+abbrev pub KeepsPairs : ℕ → (ℕ → ℕ → Bool) → (ℕ → ℕ → Bool) → Type 0
+KeepsPairs count old new = (moment place : ℕ) → place < count → old moment place ≡ true → new moment place ≡ true
 
-abbrev pub IsKept : Stored → Type 0
-IsKept stored = AreKept stored (facts_of stored)
+-- what a change resolved is there
+abbrev pub NamesOne : Facts → Change Places → Type 0
+NamesOne facts change = (place : ℕ) → resolves_at place change ≡ true → (transfer : TransferRecord) × (slice_get facts.transfers place ≡ Some transfer)
+
+abbrev pub history_in : List (Change Places) → Facts → History
+history_in changes facts = history_of before (λ (now : Facts). now) changes facts

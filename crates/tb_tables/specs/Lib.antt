@@ -8,7 +8,6 @@ pub mod History
 pub mod Lawful
 pub mod Changes
 pub mod Plain
-pub mod Expiring
 pub mod Sums
 pub mod Expiries
 pub mod Kept

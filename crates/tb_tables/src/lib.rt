@@ -12,7 +12,8 @@
 //! - `balance`, `amounts`: one balance of an account, an amount between two;
 //! - `entries`, `expiries`: one entry of a map, one pair of the index of expiries;
 //! - `storing`, `timeouts`: all that one transfer changes, over facts that the maps hold (`AreHeld`);
-//! - `tables`: the maps, the index and the undo list together, whose invariant is `IsKept`.
+//! - `maps`: the maps and the index together, seen as facts, whose invariant is `IsKept`;
+//! - `tables`: the undo list on top, whose invariant is `AreUndoable`.
 #![tactic(auto)]
 
 mod amounts;
@@ -23,6 +24,7 @@ mod entries;
 mod expiries;
 mod handed;
 mod key;
+mod maps;
 mod mark;
 mod note;
 mod places;

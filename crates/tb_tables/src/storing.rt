@@ -119,6 +119,23 @@ fn unsettle(
     set_status(transfers, pending, Status::Pending);
 }
 
+/// Takes a transfer's amounts out of its accounts, and resolves what it names no more, once it is stored no more.
+fn unapply(
+    accounts: &mut ById<Account>,
+    transfers: &mut ById<Row>,
+    places: Places,
+    transfer: Transfer,
+)
+    requires { (facts : Facts) × IsPopped facts transfer places accounts.old.entries transfers.old.entries }
+    ensures { (facts : Facts) → IsPopped facts transfer places accounts.old.entries transfers.old.entries
+        → Hold facts accounts.new.entries transfers.new.entries }
+{
+    match places.pending {
+        None => take_amount(accounts, places, transfer.is_pending(), transfer.amount),
+        Some(pending) => unsettle(accounts, transfers, places, pending, transfer),
+    }
+}
+
 /// Takes the last transfer off, with what it changed.
 pub fn take_back(
     accounts: &mut ById<Account>,
@@ -134,10 +151,7 @@ pub fn take_back(
 {
     let transfer = pop_transfer(transfers);
     forget(expiries, &transfer, transfers.len());
-    match places.pending {
-        None => take_amount(accounts, places, transfer.is_pending(), transfer.amount),
-        Some(pending) => unsettle(accounts, transfers, places, pending, transfer),
-    }
+    unapply(accounts, transfers, places, transfer);
 }
 
 /// The place of the transfer that a change resolved.

@@ -3,46 +3,34 @@
 ghost use Rattle.std.specs.Prelude.{◌≡◌, ◌<◌, ◌≤◌, Some, None, [], OnOk, OnErr, false, length, slice_get};
 ghost use Rattle.std.specs.Option.{option_map};
 
-use crate::by_id::{ById, Ids};
 use crate::change::Change;
-use crate::entries::{
-    place_of, place_under, pop_account, pop_failed, push_account, push_failed, push_transfer,
-};
 use crate::key::Key;
+use crate::maps::Maps;
 use crate::mark::Mark;
 use crate::note::note;
 use crate::places::Places;
-use crate::row::Row;
 use crate::status::Status;
-use crate::storing::{apply, expect, forget, forget_resolved, take_back};
-use crate::timeouts::expire_all;
 use std::alloc::Global;
-use std::collections::BTreeSet;
-use std::hash::BuildHasherDefault;
 use std::marker::Model;
 use tb_layout::{Account, NoMemory, Transfer};
 
 /// The facts of a ledger: accounts and transfers in order of making, under their ids.
 #[derive(Drop)]
 pub struct Tables {
-    accounts: ById<Account>,
-    transfers: ById<Row>,
-    failed: Ids,
+    maps: Maps,
     changes: Vec<Change<Places>>,
-    expiries: BTreeSet<(u64, usize)>,
 }
 
 impl Model for Tables {
     ghost use Rattle.tb_tables.specs.History.{History};
-    ghost use Rattle.tb_tables.specs.Kept.{facts_of, history_in, IsKept};
+    ghost use Rattle.tb_tables.specs.Expiries.{has_pair};
+    ghost use Rattle.tb_tables.specs.Kept.{history_in, AreUndoable};
 
     ghost Value = { History };
 
-    ghost use Rattle.tb_tables.specs.Held.{stored_in};
+    ghost view = { λ tables. history_in tables.changes.items tables.maps.facts };
 
-    ghost view = { λ tables. history_in tables.changes.items (facts_of (stored_in tables)) };
-
-    ghost invariant = { λ tables. IsKept (stored_in tables) };
+    ghost invariant = { λ tables. AreUndoable (has_pair tables.maps.pairs) tables.changes.items tables.maps.facts };
 }
 
 impl Tables {
@@ -58,11 +46,8 @@ impl Tables {
         ensures { result ≡ record { now = no_facts; past = [] } }
     {
         Tables {
-            accounts: ById::with_hasher(alloc, BuildHasherDefault::new()),
-            transfers: ById::with_hasher(alloc, BuildHasherDefault::new()),
-            failed: Ids::with_hasher(alloc, BuildHasherDefault::new()),
+            maps: Maps::new(alloc),
             changes: Vec::new(alloc),
-            expiries: BTreeSet::new(alloc),
         }
     }
 
@@ -74,7 +59,7 @@ impl Tables {
         ensures err { OnErr result (self.new ≡ self.old) }
     {
         self.changes.reserve(1)?;
-        push_account(&mut self.accounts, account)?;
+        self.maps.add_account(account)?;
         note(&mut self.changes, Change::Account);
         Ok(())
     }
@@ -95,28 +80,22 @@ impl Tables {
         ensures err { OnErr result (self.new ≡ self.old) }
     {
         self.changes.reserve(1)?;
-        push_failed(&mut self.failed, key)?;
+        self.maps.add_failed(key)?;
         note(&mut self.changes, Change::Failed);
         Ok(())
     }
 
     /// Adds a transfer, under its id's key, whose accounts, and whose pending transfer, have these places.
-    fn store(&mut self, key: Key, transfer: Transfer, places: Places) -> Result<(), NoMemory>
-        requires key { key ≡ transfer.id }
-        requires at { HavePlaces self.old.now transfer places }
-        requires may { MayStore self.old.now transfer places.pending }
-        ensures ok { OnOk result (self.new ≡ with_change self.old (with_transfer self.old.now transfer)) }
+    fn store(&mut self, key: Key, transfer: &Transfer, places: Places) -> Result<(), NoMemory>
+        requires key { key ≡ transfer.now.id }
+        requires at { HavePlaces self.old.now transfer.now places }
+        requires may { MayStore self.old.now transfer.now places.pending }
+        ensures ok { OnOk result (self.new ≡ with_change self.old (with_transfer self.old.now transfer.now)) }
         ensures err { OnErr result (self.new ≡ self.old) }
     {
-        let place = self.transfers.len();
         self.changes.reserve(1)?;
-        expect(&mut self.expiries, &transfer, place)?;
-        if let Err(refused) = push_transfer(&mut self.transfers, key, transfer) {
-            forget(&mut self.expiries, &transfer, place);
-            return Err(refused);
-        }
+        self.maps.store(key, transfer, places)?;
         note(&mut self.changes, Change::Transfer(places));
-        apply(&mut self.accounts, &mut self.transfers, places, transfer);
         Ok(())
     }
 
@@ -126,12 +105,8 @@ impl Tables {
         ensures ok { OnOk result (self.new ≡ with_change self.old (with_transfer self.old.now transfer)) }
         ensures err { OnErr result (self.new ≡ self.old) }
     {
-        let places = Places {
-            debit: place_of(&self.accounts, transfer.debit_account_id),
-            credit: place_of(&self.accounts, transfer.credit_account_id),
-            pending: None,
-        };
-        self.store(Key::of(transfer.id), transfer, places)
+        let places = self.maps.places_of(&transfer);
+        self.store(Key::of(transfer.id), &transfer, places)
     }
 
     /// Adds a plain or pending transfer after those that are there, under its id's key and between the accounts at
@@ -152,7 +127,7 @@ impl Tables {
     {
         self.store(
             key,
-            transfer,
+            &transfer,
             Places {
                 debit,
                 credit,
@@ -184,41 +159,36 @@ impl Tables {
         ensures ok { OnOk result (self.new ≡ with_change self.old (with_transfer self.old.now transfer)) }
         ensures err { OnErr result (self.new ≡ self.old) }
     {
-        let places = Places {
-            debit: place_of(&self.accounts, transfer.debit_account_id),
-            credit: place_of(&self.accounts, transfer.credit_account_id),
-            pending: Some(place_under(&self.transfers, pending)),
-        };
-        self.store(key, transfer, places)
+        let places = self.maps.places_resolved(&transfer, pending);
+        self.store(key, &transfer, places)
     }
 
     /// The account with this id, with its balances.
     pub fn account(&self, id: u128) -> Option<Account>
         ensures { result ≡ balanced_account self.now.now id }
     {
-        self.accounts.get(&Key::of(id)).copied()
+        self.maps.account(Key::of(id))
     }
 
     /// The place in the order of making of the account with this id, counted from 0.
     pub fn place(&self, id: u128) -> Option<usize>
         ensures { IsPlaceOf self.now.now id result }
     {
-        self.accounts.get_index_of(&Key::of(id))
+        self.maps.place(Key::of(id))
     }
 
     /// The account at a place in the order of making, counted from 0, with its balances.
     pub fn account_at(&self, place: usize) -> Option<Account>
         ensures { result ≡ option_map (balanced self.now.now) (slice_get self.now.now.accounts place) }
     {
-        let (_, account) = self.accounts.get_index(place)?;
-        Some(*account)
+        self.maps.account_at(place)
     }
 
     /// How many accounts there are.
     pub fn accounts(&self) -> usize
         ensures { result ≡ length self.now.now.accounts }
     {
-        self.accounts.len()
+        self.maps.accounts()
     }
 
     /// The transfer with this id; a post or a void with its resolved fields.
@@ -232,8 +202,7 @@ impl Tables {
     pub fn transfer_under(&self, key: Key) -> Option<Transfer>
         ensures { result ≡ transfer_with self.now.now key }
     {
-        let row = self.transfers.get(&key)?;
-        Some(row.transfer)
+        self.maps.transfer(key)
     }
 
     /// What became of the pending transfer with this id.
@@ -247,7 +216,7 @@ impl Tables {
     pub fn status_under(&self, key: Key) -> Option<Status>
         ensures { result ≡ status_with self.now.now key }
     {
-        self.transfers.get(&key)?.status
+        self.maps.status(key)
     }
 
     /// Whether an id is among those that failed.
@@ -261,7 +230,7 @@ impl Tables {
     pub fn failed_under(&self, key: Key) -> bool
         ensures { result ≡ is_failed self.now.now key }
     {
-        self.failed.contains(&key)
+        self.maps.failed(key)
     }
 
     /// How far `undo_to` can come back to. It is spent by `keep` and by going back past it.
@@ -278,16 +247,7 @@ impl Tables {
     {
         match self.changes.pop() {
             None => {}
-            Some(Change::Account) => pop_account(&mut self.accounts),
-            Some(Change::Transfer(places)) => {
-                take_back(
-                    &mut self.accounts,
-                    &mut self.transfers,
-                    &mut self.expiries,
-                    places,
-                );
-            }
-            Some(Change::Failed) => pop_failed(&mut self.failed),
+            Some(change) => self.maps.undo(change),
         }
     }
 
@@ -305,7 +265,7 @@ impl Tables {
     pub fn keep(&mut self)
         ensures { self.new ≡ without_past self.old }
     {
-        forget_resolved(&mut self.expiries, &self.transfers, self.changes.as_slice());
+        self.maps.forget(self.changes.as_slice());
         self.changes.clear();
     }
 
@@ -315,11 +275,6 @@ impl Tables {
         requires { self.old.past ≡ [] }
         ensures { self.new ≡ record { now = with_due_expired clock self.old.now; past = [] } }
     {
-        expire_all(
-            &mut self.accounts,
-            &mut self.transfers,
-            &mut self.expiries,
-            clock,
-        );
+        self.maps.expire_due(clock);
     }
 }

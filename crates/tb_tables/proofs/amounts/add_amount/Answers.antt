@@ -1,5 +1,5 @@
 use Rattle.std.proofs.Common.{sym, subst, ◌+◌, ◌<◌, ◌^◌}
-use Rattle.tb_tables.specs.Sums.{with_more, debits_in}
+use Rattle.tb_tables.proofs.Words.{with_more, debits_in}
 use Rattle.tb_tables.proofs.Raising.{has_room, credits-kept}
 use Rattle.tb_tables.proofs.amounts.add_amount.Goals as goal
 

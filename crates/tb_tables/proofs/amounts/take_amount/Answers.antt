@@ -1,4 +1,4 @@
-use Rattle.tb_tables.specs.Sums.{with_more, debits_in, credits_in}
+use Rattle.tb_tables.proofs.Words.{with_more, debits_in, credits_in}
 use Rattle.tb_tables.proofs.Raising.{has_amount}
 use Rattle.tb_tables.proofs.amounts.take_amount.Goals as goal
 

@@ -1,5 +1,5 @@
 use Rattle.std.proofs.Common.{ap, ◌∙◌}
-use Rattle.indexmap.specs.IndexMap.{set_value_at}
+use Rattle.tb_tables.proofs.Words.{set_value_at}
 use Rattle.tb_tables.proofs.Raising.{rows-lowered}
 use Rattle.tb_tables.proofs.balance.lower_at.Goals as goal
 

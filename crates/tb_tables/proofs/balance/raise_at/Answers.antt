@@ -1,5 +1,5 @@
 use Rattle.std.proofs.Common.{ap, ◌∙◌}
-use Rattle.indexmap.specs.IndexMap.{set_value_at}
+use Rattle.tb_tables.proofs.Words.{set_value_at}
 use Rattle.tb_tables.proofs.Raising.{rows-raised}
 use Rattle.tb_tables.proofs.balance.raise_at.Goals as goal
 

@@ -1,8 +1,6 @@
-use Rattle.std.proofs.Common.{◌≡◌, ◌∙◌, ap, rules, nat_eq}
-use Rattle.std.specs.Prelude.{unwrap_or}
-use Rattle.indexmap.specs.IndexMap.{insert_entry}
+use Rattle.std.proofs.Common.{◌≡◌, ◌∙◌, ap, rules, nat_eq, unwrap_or}
 use Rattle.indexmap.proofs.CallerLemmas.{insert_entry-new}
-use Rattle.tb_tables.specs.Storing.{new_row}
+use Rattle.tb_tables.proofs.Words.{insert_entry, new_row}
 use Rattle.tb_tables.proofs.entries.push_transfer.Goals as goal
 
 pub returns-clause-ok : goal.returns-clause-ok

@@ -1,5 +1,5 @@
 use Rattle.std.proofs.Common.{◌∙◌}
-use Rattle.tb_tables.proofs.Indexing.{with_pair}
+use Rattle.tb_tables.proofs.Expecting.{with_pair}
 use Rattle.tb_tables.proofs.expiries.put_in.Goals as goal
 
 pub returns-clause-ok : goal.returns-clause-ok

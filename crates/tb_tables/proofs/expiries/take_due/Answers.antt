@@ -1,5 +1,5 @@
 use Rattle.std.proofs.Common.{arith}
-use Rattle.tb_tables.proofs.Indexing.{moment-le}
+use Rattle.tb_tables.proofs.Expecting.{moment-le}
 use Rattle.tb_tables.proofs.expiries.take_due.Goals as goal
 
 pub returns-then-branch-clock-clause-later : goal.returns-then-branch-clock-clause-later

@@ -1,5 +1,5 @@
 use Rattle.std.proofs.Common.{◌∙◌}
-use Rattle.tb_tables.proofs.Indexing.{without_pair}
+use Rattle.tb_tables.proofs.Expecting.{without_pair}
 use Rattle.tb_tables.proofs.expiries.take_out.Goals as goal
 
 pub returns : goal.returns

@@ -3,9 +3,7 @@ use Rattle.tb_tables.proofs.Settling as settling
 use Rattle.tb_tables.proofs.storing.apply.Goals as goal
 
 pub add_amount-requires : goal.add_amount-requires
-add_amount-requires c =
-    let p = c.requires in
-    rw c.is_pending.ensures (settling.can_add p.0 c.args.transfer c.args.places p.1.allow c.in-None.is c.args.accounts.now.entries p.1.accounts_are)
+add_amount-requires c = rw c.is_pending.ensures (settling.can_add c.requires.1.allow c.in-None.is c.requires.1.accounts_are)
 
 pub returns-in-None : goal.returns-in-None
 returns-in-None c = λ facts pushed.
@@ -14,7 +12,7 @@ returns-in-None c = λ facts pushed.
     record {
       allow = pushed.allow;
       hold = record {
-        accounts_are = sums ∙ sym (settling.add-sums facts t c.args.places pushed.allow c.in-None.is);
-        transfers_are = settling.rows-added facts t c.args.places pushed.allow c.in-None.is c.args.transfers.now.entries pushed.transfers_are;
+        accounts_are = sums ∙ sym (settling.add-sums pushed.allow c.in-None.is);
+        transfers_are = settling.rows-added pushed.allow c.in-None.is pushed.transfers_are;
       };
     }

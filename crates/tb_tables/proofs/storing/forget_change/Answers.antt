@@ -1,8 +1,6 @@
-use Rattle.std.proofs.Common.{◌∙◌, ap, sym, refl, not}
-use Rattle.std.specs.Prelude.{◌&&◌}
+use Rattle.std.proofs.Common.{◌∙◌, ap, sym, refl, not, ◌&&◌}
 use Rattle.std.proofs.lemmas.Bool.{eq-eqb}
-use Rattle.tb_tables.specs.Expiries.{is_indexed}
-use Rattle.tb_tables.specs.Kept.{names_place, is_spent}
+use Rattle.tb_tables.proofs.Words.{is_indexed, names_place, is_spent}
 use Rattle.tb_tables.proofs.storing.forget_change.Goals as goal
 
 pub forget_at-requires : goal.forget_at-requires

@@ -1,9 +1,8 @@
-use Rattle.std.proofs.Common.{◌∙◌, ap, not}
-use Rattle.std.specs.Prelude.{◌&&◌}
-use Rattle.tb_tables.specs.Expiries.{is_indexed}
-use Rattle.tb_tables.specs.Kept.{is_resolved_at, is_spent}
+use Rattle.std.proofs.Common.{◌∙◌, ap, not, ◌&&◌}
+use Rattle.std.proofs.lemmas.List.{take_all}
+use Rattle.tb_tables.proofs.Words.{is_indexed, is_resolved_at, is_spent}
 use Rattle.tb_tables.specs.declared.change.Change.TheVariants.{Account}
-use Rattle.tb_tables.proofs.Forgetting.{all-at, forgotten-more, taken-all}
+use Rattle.tb_tables.proofs.Forgetting.{all-at, forgotten-more}
 use Rattle.tb_tables.proofs.storing.forget_resolved.Goals as goal
 
 pub forget_change-requires : goal.forget_change-requires
@@ -17,4 +16,4 @@ loop-change-preserved c = λ facts all m p.
 pub returns : goal.returns
 returns c = λ facts all m p.
     c.loop-change.invariant facts all m p
-    ∙ ap (λ cs. not (is_resolved_at p cs && is_spent facts m p) && is_indexed c.args.expiries.now m p) (taken-all c.args.changes.now c.loop-change.change-index c.loop-change-test.false)
+    ∙ ap (λ cs. not (is_resolved_at p cs && is_spent facts m p) && is_indexed c.args.expiries.now m p) (take_all c.loop-change.change-index c.args.changes.now c.loop-change-test.false)

@@ -1,10 +1,5 @@
-use Rattle.std.proofs.Common.{◌≡◌, ℕ, not, take}
-use Rattle.std.specs.Prelude.{◌&&◌}
-use Rattle.std.specs.List.{AllByRecursion}
-use Rattle.tb_tables.specs.Facts.{Facts}
-use Rattle.tb_tables.specs.Expiries.{is_indexed}
-use Rattle.tb_tables.specs.Kept.{is_resolved_at, is_spent}
-use Rattle.tb_tables.specs.Storing.{CanForget}
+use Rattle.std.proofs.Common.{◌≡◌, ℕ, not, take, ◌&&◌}
+use Rattle.tb_tables.proofs.Words.{AllByRecursion, Facts, is_indexed, is_resolved_at, is_spent, CanForget}
 use Rattle.tb_tables.proofs.storing.forget_resolved.Given as goal
 
 abbrev pub invariant-loop-change : goal.invariant-loop-change

@@ -1,7 +1,5 @@
 use Rattle.std.proofs.Common.{length}
-use Rattle.tb_tables.specs.Facts.{Facts}
-use Rattle.tb_tables.specs.Expiries.{is_indexed}
-use Rattle.tb_tables.specs.Kept.{AreHeld}
+use Rattle.tb_tables.proofs.Words.{Facts, is_indexed, AreHeld}
 use Rattle.tb_tables.proofs.Due.{StillDue}
 use Rattle.tb_tables.proofs.timeouts.expire_all.Given as goal
 

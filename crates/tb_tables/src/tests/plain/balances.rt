@@ -5,19 +5,11 @@ ghost use Rattle.tb_layout.specs.declared.account.Account.{Account as AccountRec
 ghost use Rattle.tb_layout.specs.declared.transfer.Transfer.{Transfer as TransferRecord};
 ghost use Rattle.tb_tables.specs.Facts.{Facts};
 ghost use Rattle.tb_tables.specs.Lawful.{IsLawful};
-ghost use Rattle.tb_tables.specs.Status.{is_reserving as is_reserving_in};
 ghost use Rattle.tb_tables.specs.Balances.{is_posting as is_posting_of, debits_pending as debits_pending_of, debits_posted as debits_posted_of, credits_pending as credits_pending_of, credits_posted as credits_posted_of, with_balances as with_balances_of};
 ghost use Rattle.tb_tables.specs.Plain.{facts_in};
 
-use super::statuses::{is_expired, is_resolved};
+use super::statuses::is_reserving;
 use tb_layout::{Account, Transfer};
-
-/// Whether a transfer still reserves its amount.
-fn is_reserving(rows: &[(Transfer, bool)], transfer: &Transfer) -> bool
-    ensures { result ≡ is_reserving_in (facts_in rows.now) transfer.now }
-{
-    transfer.is_pending() && !is_resolved(rows, transfer.id) && !is_expired(rows, transfer.id)
-}
 
 /// Whether the amount of a transfer counts as posted.
 fn is_posting(transfer: &Transfer) -> bool

@@ -3,10 +3,10 @@
 ghost use Rattle.std.specs.Prelude.{◌≡◌, ◌==◌, ◌<◌, ◌&&◌, ◌||◌, ℕ, not, List, find, length};
 ghost use Rattle.std.specs.List.{list_any};
 ghost use Rattle.tb_layout.specs.declared.transfer.Transfer.{Transfer as TransferRecord};
-ghost use Rattle.tb_layout.specs.Transfer.{is_pending, is_post, is_void, is_resolving};
+ghost use Rattle.tb_layout.specs.Transfer.{is_post, is_void, is_resolving};
 ghost use Rattle.tb_tables.specs.Plain.{transfers_in, expired_in, facts_in};
-ghost use Rattle.tb_tables.specs.Status.{status_of, is_due as is_due_at};
-ghost use Rattle.tb_tables.specs.Expiring.{expires_among, with_expiries};
+ghost use Rattle.tb_tables.specs.Status.{status_of, is_reserving as is_reserving_in, is_due as is_due_at, expire_due as with_due_expired};
+ghost use Rattle.tb_tables.specs.Lawful.{IsLawful};
 
 use crate::status::Status;
 use tb_layout::{NANOSECONDS_PER_SECOND, Transfer};
@@ -80,16 +80,25 @@ fn is_due(clock: u64, transfer: &Transfer) -> bool
     transfer.timeout != 0 && expires_at <= u128::from(clock)
 }
 
-/// Whether a transfer is a pending one that nothing resolved and that is due at a clock.
-fn expires(rows: &[(Transfer, bool)], clock: u64, transfer: &Transfer) -> bool
-    ensures { result ≡ expires_among clock (transfers_in rows.now) transfer.now }
+/// Whether a transfer still reserves its amount.
+pub fn is_reserving(rows: &[(Transfer, bool)], transfer: &Transfer) -> bool
+    ensures { result ≡ is_reserving_in (facts_in rows.now) transfer.now }
 {
-    transfer.is_pending() && !is_resolved(rows, transfer.id) && is_due(clock, transfer)
+    transfer.is_pending() && !is_resolved(rows, transfer.id) && !is_expired(rows, transfer.id)
 }
 
-/// Marks each transfer that expires at a clock.
+/// Whether a transfer expires at a clock.
+fn expires(rows: &[(Transfer, bool)], clock: u64, transfer: &Transfer) -> bool
+    ensures { result ≡ (is_reserving_in (facts_in rows.now) transfer.now && is_due_at clock transfer.now) }
+{
+    is_reserving(rows, transfer) && is_due(clock, transfer)
+}
+
+/// Marks each transfer that reserves its amount and is due at a clock.
 pub fn expire_due(rows: &mut [(Transfer, bool)], clock: u64)
-    ensures rows { rows.new ≡ with_expiries clock (transfers_in rows.old) rows.old }
+    requires { IsLawful (facts_in rows.old) }
+    ensures rows { facts_in rows.new ≡ with_due_expired clock (facts_in rows.old) }
+    ensures lawful { IsLawful (facts_in rows.new) }
     ensures len { length rows.new ≡ length rows.old }
 {
     for place in 0..rows.len() {

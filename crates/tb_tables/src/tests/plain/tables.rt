@@ -1,13 +1,14 @@
 //! The tables.
 
-ghost use Rattle.std.specs.Prelude.{◌≡◌, ◌<◌, ◌≤◌, ◌==◌, None, [], ◌∷◌, ◌++◌, OnOk, OnErr, false, length, slice_get, find, vec_len, vec_capacity};
+ghost use Rattle.std.specs.Prelude.{◌≡◌, ◌<◌, ◌≤◌, ◌==◌, None, [], OnOk, OnErr, false, length, slice_get, find};
 ghost use Rattle.std.specs.Option.{option_map};
-ghost use Rattle.tb_tables.specs.Changes.{without_last};
 
 use super::balances::with_balances;
-use super::statuses::{expire_due, status_in, transfer_in};
+use super::lists::Lists;
+use super::statuses::{status_in, transfer_in};
 use crate::change::Change;
 use crate::mark::Mark;
+use crate::note::note;
 use crate::status::Status;
 use std::alloc::Global;
 use std::marker::Model;
@@ -16,9 +17,7 @@ use tb_layout::{Account, NoMemory, Transfer};
 /// The facts of a ledger, as plain lists.
 #[derive(Drop)]
 pub struct PlainTables {
-    accounts: Vec<Account>,
-    rows: Vec<(Transfer, bool)>,
-    failed: Vec<u128>,
+    lists: Lists,
     changes: Vec<Change<()>>,
 }
 
@@ -29,9 +28,9 @@ impl Model for PlainTables {
 
     ghost Value = { History };
 
-    ghost view = { λ tables. plain_history tables.changes.items (record { accounts = tables.accounts.items; rows = tables.rows.items; failed = tables.failed.items }) };
+    ghost view = { λ tables. plain_history tables.changes.items tables.lists };
 
-    ghost invariant = { λ tables. AreLawful (plain_history tables.changes.items (record { accounts = tables.accounts.items; rows = tables.rows.items; failed = tables.failed.items })) };
+    ghost invariant = { λ tables. AreLawful (plain_history tables.changes.items tables.lists) };
 }
 
 impl PlainTables {
@@ -47,9 +46,7 @@ impl PlainTables {
         ensures { result ≡ record { now = no_facts; past = [] } }
     {
         PlainTables {
-            accounts: Vec::new(alloc),
-            rows: Vec::new(alloc),
-            failed: Vec::new(alloc),
+            lists: Lists::new(alloc),
             changes: Vec::new(alloc),
         }
     }
@@ -62,7 +59,7 @@ impl PlainTables {
         ensures err { OnErr result (self.new ≡ self.old) }
     {
         self.changes.reserve(1)?;
-        self.accounts.push(account)?;
+        self.lists.push_account(account)?;
         note(&mut self.changes, Change::Account);
         Ok(())
     }
@@ -74,7 +71,7 @@ impl PlainTables {
         ensures err { OnErr result (self.new ≡ self.old) }
     {
         self.changes.reserve(1)?;
-        self.rows.push((transfer, false))?;
+        self.lists.push_transfer(transfer)?;
         note(&mut self.changes, Change::Transfer(()));
         Ok(())
     }
@@ -104,7 +101,7 @@ impl PlainTables {
         ensures err { OnErr result (self.new ≡ self.old) }
     {
         self.changes.reserve(1)?;
-        self.failed.push(id)?;
+        self.lists.push_failed(id)?;
         note(&mut self.changes, Change::Failed);
         Ok(())
     }
@@ -113,39 +110,39 @@ impl PlainTables {
     pub fn account(&self, id: u128) -> Option<Account>
         ensures { result ≡ balanced_account self.now.now id }
     {
-        let account = account_in(&self.accounts, id)?;
-        Some(with_balances(&self.rows, account))
+        let account = account_in(self.lists.accounts(), id)?;
+        Some(with_balances(self.lists.rows(), account))
     }
 
     /// The account at a place in the order of making, counted from 0, with its balances.
     pub fn account_at(&self, place: usize) -> Option<Account>
         ensures { result ≡ option_map (balanced self.now.now) (slice_get self.now.now.accounts place) }
     {
-        let account = account_at(&self.accounts, place)?;
-        Some(with_balances(&self.rows, account))
+        let account = account_at(self.lists.accounts(), place)?;
+        Some(with_balances(self.lists.rows(), account))
     }
 
     /// How many accounts there are.
     pub fn accounts(&self) -> usize
         ensures { result ≡ length self.now.now.accounts }
     {
-        self.accounts.as_slice().len()
+        self.lists.accounts().len()
     }
 
     /// The transfer with this id; a post or a void with its resolved fields.
     pub fn transfer(&self, id: u128) -> Option<Transfer>
         ensures { result ≡ transfer_with self.now.now id }
     {
-        transfer_in(&self.rows, id)
+        transfer_in(self.lists.rows(), id)
     }
 
     /// What became of the pending transfer with this id.
     pub fn status(&self, id: u128) -> Option<Status>
         ensures { result ≡ status_with self.now.now id }
     {
-        let transfer = transfer_in(&self.rows, id)?;
+        let transfer = transfer_in(self.lists.rows(), id)?;
         if transfer.is_pending() {
-            Some(status_in(&self.rows, transfer.id))
+            Some(status_in(self.lists.rows(), transfer.id))
         } else {
             None
         }
@@ -155,7 +152,7 @@ impl PlainTables {
     pub fn failed(&self, id: u128) -> bool
         ensures { result ≡ is_failed self.now.now id }
     {
-        self.failed.iter().any(|failed| *failed == id)
+        self.lists.failed().iter().any(|failed| *failed == id)
     }
 
     /// How far `undo_to` can come back to. It is spent by `keep` and by going back past it.
@@ -172,9 +169,7 @@ impl PlainTables {
     {
         match self.changes.pop() {
             None => {}
-            Some(Change::Account) => drop_last(&mut self.accounts),
-            Some(Change::Transfer(())) => drop_last(&mut self.rows),
-            Some(Change::Failed) => drop_last(&mut self.failed),
+            Some(change) => self.lists.cut_back(change),
         }
     }
 
@@ -201,23 +196,8 @@ impl PlainTables {
         requires { self.old.past ≡ [] }
         ensures { self.new ≡ record { now = with_due_expired clock self.old.now; past = [] } }
     {
-        expire_due(self.rows.as_mut_slice(), clock);
+        self.lists.expire_due(clock);
     }
-}
-
-fn drop_last<T: Drop>(items: &mut Vec<T>)
-    ensures { items.new.items ≡ without_last items.old.items }
-{
-    let count = items.as_slice().len();
-    items.truncate(count.saturating_sub(1));
-}
-
-/// Notes a change for which there is room.
-fn note(changes: &mut Vec<Change<()>>, change: Change<()>)
-    requires { vec_len changes.old < vec_capacity changes.old }
-    ensures { changes.new.items ≡ changes.old.items ++ change ∷ [] }
-{
-    changes.push(change).unwrap();
 }
 
 fn account_in(accounts: &[Account], id: u128) -> Option<Account>

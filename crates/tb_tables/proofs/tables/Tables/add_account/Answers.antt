@@ -1,26 +1,12 @@
-use Rattle.std.proofs.Common.{◌∙◌, ap}
-use Rattle.std.specs.Option.{option_map}
-use Rattle.tb_tables.specs.Sums.{with_sums, sums_of}
-use Rattle.tb_tables.specs.Kept.{facts_of}
-use Rattle.tb_tables.specs.Held.{stored_in}
-use Rattle.tb_tables.proofs.Locating.{account-found}
-use Rattle.tb_tables.proofs.Opening.{kept-account}
+use Rattle.tb_tables.proofs.Undoing.{account-made}
 use Rattle.tb_tables.proofs.tables.Tables.add_account.Goals as goal
-
-pub push_account-requires : goal.push_account-requires
-push_account-requires c =
-    let old = stored_in c.self.inside in
-    let none = rw (← c.self.view_is) at c.requires.new in
-    account-found (facts_of old) old.accounts old.transfers c.self.invariant.held.hold c.args.account.id ∙ ap (option_map (with_sums (sums_of (facts_of old)))) none
 
 pub invariant_of-self-2 : goal.invariant_of-self-2
 invariant_of-self-2 c =
-    let old = stored_in c.self.inside in
-    let none = rw (← c.self.view_is) at c.requires.new in
-    rw (c.in_ok-push_account.ensures.ok, c.note.ensures, c.reserve.ensures.items) (kept-account old c.self.invariant c.args.account none c.requires.no_balances).0
+    let o = c.self.inside in
+    rw (c.in_ok-add_account.ensures.ok, c.note.ensures, c.reserve.ensures.items) (account-made o.changes.items o.maps c.self.invariant c.add_account.ensures.sound c.args.account).0
 
 pub returns-clause-ok : goal.returns-clause-ok
 returns-clause-ok c =
-    let old = stored_in c.self.inside in
-    let none = rw (← c.self.view_is) at c.requires.new in
-    rw (← c.self.view_is, c.in_ok-push_account.ensures.ok, c.note.ensures, c.reserve.ensures.items) (kept-account old c.self.invariant c.args.account none c.requires.no_balances).1
+    let o = c.self.inside in
+    rw (← c.self.view_is, c.in_ok-add_account.ensures.ok, c.note.ensures, c.reserve.ensures.items) (account-made o.changes.items o.maps c.self.invariant c.add_account.ensures.sound c.args.account).1

@@ -1,13 +1,12 @@
-use Rattle.tb_tables.specs.Held.{stored_in}
-use Rattle.tb_tables.proofs.Opening.{kept-failed}
+use Rattle.tb_tables.proofs.Undoing.{failed-made}
 use Rattle.tb_tables.proofs.tables.Tables.add_failed_under.Goals as goal
 
 pub invariant_of-self-2 : goal.invariant_of-self-2
 invariant_of-self-2 c =
-    let old = stored_in c.self.inside in
-    rw (c.in_ok-push_failed.ensures.ok, c.note.ensures, c.reserve.ensures.items) (kept-failed old c.self.invariant c.args.key).0
+    let o = c.self.inside in
+    rw (c.in_ok-add_failed.ensures.ok, c.note.ensures, c.reserve.ensures.items) (failed-made o.changes.items o.maps c.self.invariant c.add_failed.ensures.sound c.args.key).0
 
 pub returns-clause-ok : goal.returns-clause-ok
 returns-clause-ok c =
-    let old = stored_in c.self.inside in
-    rw (← c.self.view_is, c.in_ok-push_failed.ensures.ok, c.note.ensures, c.reserve.ensures.items) (kept-failed old c.self.invariant c.args.key).1
+    let o = c.self.inside in
+    rw (← c.self.view_is, c.in_ok-add_failed.ensures.ok, c.note.ensures, c.reserve.ensures.items) (failed-made o.changes.items o.maps c.self.invariant c.add_failed.ensures.sound c.args.key).1

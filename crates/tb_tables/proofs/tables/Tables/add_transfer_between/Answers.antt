@@ -1,4 +1,4 @@
-use Rattle.tb_layout.specs.declared.account.Account.{Account}
+use Rattle.tb_tables.proofs.Words.{Account}
 use Rattle.tb_tables.proofs.Finding.{found-id}
 use Rattle.tb_tables.proofs.tables.Tables.add_transfer_between.Goals as goal
 

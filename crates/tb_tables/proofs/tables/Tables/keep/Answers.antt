@@ -1,16 +1,6 @@
-use Rattle.tb_tables.specs.Expiries.{is_indexed}
-use Rattle.tb_tables.specs.Kept.{facts_of}
-use Rattle.tb_tables.specs.Held.{stored_in}
-use Rattle.tb_tables.proofs.Forgetting.{can-forget, kept-now}
+use Rattle.tb_tables.proofs.Words.{has_pair}
+use Rattle.tb_tables.proofs.Undoing.{names-all}
 use Rattle.tb_tables.proofs.tables.Tables.keep.Goals as goal
 
-pub forget_resolved-requires : goal.forget_resolved-requires
-forget_resolved-requires c =
-    let old = stored_in c.self.inside in
-    rw c.as_slice.ensures.value (facts_of old, can-forget old c.self.invariant)
-
-pub invariant_of-self : goal.invariant_of-self
-invariant_of-self c =
-    let old = stored_in c.self.inside in
-    let gone = rw c.as_slice.ensures.value at c.forget_resolved.ensures in
-    rw c.clear.ensures.items (kept-now old c.self.invariant (is_indexed c.forget_resolved.new.expiries) (gone (facts_of old) (can-forget old c.self.invariant)))
+pub forget-requires : goal.forget-requires
+forget-requires c = rw c.as_slice.ensures.value (names-all (has_pair c.self.inside.maps.pairs) c.self.inside.changes.items c.self.inside.maps.facts c.self.invariant)

@@ -1,5 +1,5 @@
 use Rattle.std.proofs.Common.{rules, arith, sym, ap, ◌∙◌, not}
-use Rattle.std.proofs.lemmas.Bool.Decides.{nat_tests}
+use Rattle.tb_tables.proofs.Words.{nat_tests}
 use Rattle.tb_tables.proofs.Owed.{may_resolve, apart}
 use Rattle.tb_tables.proofs.tests.both.may_resolve.Goals as goal
 

@@ -4,4 +4,4 @@ use Rattle.tb_tables.proofs.tests.plain.tables.PlainTables.account_at.Goals as g
 pub returns : goal.returns
 returns c =
     let found = sym c.account_at.ensures ∙ c.in_ok-account.was in
-    rw (← c.self.view_is, ← c.deref.ensures.value, found, c.with_balances.ensures, c.deref-2.ensures.value) refl
+    rw (← c.self.view_is, ← c.accounts.ensures, found, c.with_balances.ensures, c.rows.ensures) refl

@@ -1,5 +1,5 @@
 use Rattle.std.proofs.Common.{◌≡◌, ◌≤◌}
-use Rattle.tb_tables.specs.History.{mark_of, back_to}
+use Rattle.tb_tables.proofs.Words.{mark_of, back_to}
 use Rattle.tb_tables.proofs.tests.plain.tables.PlainTables.undo_to.Given as goal
 
 abbrev pub invariant-loop-mark : goal.invariant-loop-mark

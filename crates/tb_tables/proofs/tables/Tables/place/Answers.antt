@@ -1,9 +1,0 @@
-use Rattle.tb_tables.specs.Kept.{facts_of}
-use Rattle.tb_tables.specs.Held.{stored_in}
-use Rattle.tb_tables.proofs.Locating.{account-placed}
-use Rattle.tb_tables.proofs.tables.Tables.place.Goals as goal
-
-pub returns : goal.returns
-returns c =
-    let old = stored_in c.self.inside in
-    rw (← c.self.view_is) (account-placed (facts_of old) old.accounts old.transfers c.self.invariant.held.hold c.args.id c.get_index_of.result (rw (c.of.ensures) at c.get_index_of.ensures.index))
