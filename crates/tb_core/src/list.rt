@@ -135,13 +135,14 @@ pub fn run_list(alloc: Global, clock: u64, limit: u32, items: Vec<Item>) -> Resu
     ensures ran { IfOk result (λ listed. Ran clock items.items listed.ledger listed.replies.items) }
     ensures grouping { AreWithin limit (ahead items.items) → IfOk result (λ listed. IsGrouping limit listed.ledger.groups) }
 {
+    let replies = Vec::with_capacity(alloc, items.len())?;
     let Ok(front) = Front::new(alloc, limit, 1) else {
         unreachable!()
     };
     let mut listing = Listing {
         front,
         ledger: Ledger::new(alloc, clock),
-        replies: Vec::new(alloc),
+        replies,
     };
     listing.take_all_and_finish(items)?;
     Ok(Listed {

@@ -25,6 +25,7 @@ use Rattle.tb_script.specs.Script.{Said, is_in_place, with_bytes, with_line}
 use Rattle.tb_script.specs.Event.{field, field_of, sides_of, after_word, after_words, event_of}
 use Rattle.tb_script.specs.Spelling.{NamedNumber, IsOfItsSize, field_word, fields_line, line_of_words, named_of_account, named_of_transfer}
 use Rattle.tb_script.specs.Steps.{◌>>=◌}
+use Rattle.tb_script.proofs.Named.{sides_of_named}
 use Rattle.tb_script.proofs.Spelling.{is_word, is_word_byte, decimal_is_word, length-decimal, number_within-decimal, keyword_line}
 
 -- ---- bytes
@@ -101,18 +102,6 @@ NoneGivenFrom place given = (later : ℕ) → place ≤ later → slice_index_or
 
 fits : (size number : ℕ) → size ≤ 16 → number < 256 ^ size → number < 2 ^ 128
 fits size number small h = omega (arith, h, pow-le-pow_right {n = 256} (omega arith) small)
-
-up_to_equals : (name digits : List ℕ) → list_all (λ byte. not (byte == 61)) name ≡ true → position_or_len (λ byte. byte == 61) (name ++ 61 ∷ digits) ≡ length name
-up_to_equals [] digits h = refl
-up_to_equals (byte ∷ name) digits h =
-    let parts = and_parts (not (byte == 61)) (list_all (λ byte. not (byte == 61)) name) h in
-    rw (parts.0, up_to_equals name digits parts.1) (omega arith)
-
-sides_of_named : (name digits : List ℕ) → list_all (λ byte. not (byte == 61)) name ≡ true → sides_of (name ++ 61 ∷ digits) ≡ Ok (name, digits)
-sides_of_named name digits h =
-    let inside : length name < length (name ++ 61 ∷ digits) = omega (arith, length-append name (61 ∷ digits)) in
-    rw (up_to_equals name digits h, lt-ltb (length name) (length (name ++ 61 ∷ digits)) inside)
-    (rw (take-append_seam name (61 ∷ digits), drop-append-add name (61 ∷ digits) 1) refl)
 
 one_field : (layout : Layout) (place size number : ℕ) (name front : List ℕ) (given : List Bool) → IsFieldAt layout place (length front) size name →
     number < 256 ^ size → slice_index_or given place false ≡ false → length front + size ≤ 128 →
