@@ -49,6 +49,7 @@ impl Front {
     ghost use Rattle.std.specs.Prelude.{Bool, List, replicate};
     ghost use Rattle.tb_batch.specs.Grouping.{IsGroup};
     ghost use Rattle.tb_work.specs.declared.item.Item.{Item as ItemValue};
+    ghost use Rattle.tb_work.specs.declared.item.Item.TheVariants.{Packet as PacketItem};
     ghost use Rattle.tb_work.specs.declared.item.Ticket.{Ticket as TicketValue};
     ghost use Rattle.tb_core.specs.declared.parcel.Parcel.TheVariants as parcel;
     ghost use Rattle.tb_core.specs.Grouping.{AreJoinedParcels};
@@ -134,10 +135,10 @@ impl Front {
         parcels
     }
 
-    /// A packet. It comes back where its growth is refused, and nothing has changed.
-    fn offer(&mut self, job: Job) -> Result<ArrayVec<Parcel, 2>, Job>
+    /// A packet. It comes back as its ticket where its growth is refused, and nothing has changed.
+    fn offer(&mut self, sender: u32, job: Job) -> Result<ArrayVec<Parcel, 2>, Ticket>
         ensures ok { IfOk result (λ parcels. take_result self.new parcels.items ≡ step_of_packet false self.old job) }
-        ensures err { IfErr result (λ back. (back ≡ job) × (self.new ≡ self.old)) }
+        ensures err { IfErr result (λ back. (back.sender ≡ sender) × (back.item ≡ PacketItem job) × (self.new ≡ self.old)) }
         ensures front { IsFront self.old }
     {
         if self.closed {
@@ -153,7 +154,10 @@ impl Front {
                 parcels.push(Parcel::Batch(batch));
                 Ok(parcels)
             }
-            Offered::Refused(job, _refused) => Err(job),
+            Offered::Refused(job, _refused) => Err(Ticket {
+                sender,
+                item: Item::Packet(job),
+            }),
         }
     }
 
@@ -216,13 +220,7 @@ impl Front {
     {
         let Ticket { sender, item } = ticket;
         match item {
-            Item::Packet(job) => match self.offer(job) {
-                Ok(parcels) => Ok(parcels),
-                Err(job) => Err(Ticket {
-                    sender,
-                    item: Item::Packet(job),
-                }),
-            },
+            Item::Packet(job) => self.offer(sender, job),
             Item::Pulse(moment) => Ok(self.pulse(moment)),
             Item::End => Ok(self.end(sender)),
             Item::Close => Ok(self.close(sender)),

@@ -49,9 +49,9 @@ pub found_later : (word name : List ℕ) (f : Field) (rows : List (List ℕ × F
     named word ((name, f) ∷ rows) ≡ named word rows
 found_later word name f rows differs = elim (cases_lt (position_or_len (λ byte. byte == 61) word) (length word)) [
   | inl below ↦
-    let other : bytes_eq (before_first (λ byte. byte == 61) word) name ≡ false =
-    false_from_ne_true _ (λ same. differs (after_first (λ byte. byte == 61) word) (parts_of word below ∙ ap (λ front. front ++ (61 ∷ after_first (λ byte. byte == 61) word)) ((bytes_eq-Decides (before_first (λ byte. byte == 61) word) name).0 same))) in
-    rw (lt-ltb (position_or_len (λ byte. byte == 61) word) (length word) below, other) refl
+      let other : bytes_eq (before_first (λ byte. byte == 61) word) name ≡ false =
+      false_from_ne_true _ (λ same. differs (after_first (λ byte. byte == 61) word) (parts_of word below ∙ ap (λ front. front ++ (61 ∷ after_first (λ byte. byte == 61) word)) ((bytes_eq-Decides (before_first (λ byte. byte == 61) word) name).0 same))) in
+      rw (lt-ltb (position_or_len (λ byte. byte == 61) word) (length word) below, other) refl
   | inr above ↦ rw (le-ltb (position_or_len (λ byte. byte == 61) word) (length word) above) refl
 ]
 

@@ -93,10 +93,7 @@ fn behind_name<'a>(word: &'a [u8], name: &[u8]) -> Option<&'a [u8]>
 /// The field of a table that a word names, and its number. No byte is looked for: the name is compared with those of
 /// the table where it stands.
 #[inline(always)]
-fn named<'a>(
-    mut table: &[(&[u8], Field)],
-    word: &'a [u8],
-) -> Result<(Field, &'a [u8]), Fault>
+fn named<'a>(mut table: &[(&[u8], Field)], word: &'a [u8]) -> Result<(Field, &'a [u8]), Fault>
     requires { All (λ row. IsBare row.0.now) table.now }
     ensures { Tells (λ both. (both.0, both.1.now)) result (named word.now (map (λ row. (row.0.now, row.1)) table.entry.now)) }
 {
