@@ -86,8 +86,12 @@ impl Listing {
         ensures { (clock : ℕ) (limit : ℕ) (items : List ItemValue) → IsRunning clock limit items self.old.front self.old.ledger self.old.replies.items
             → OnOk result (IsRunning clock limit (items ++ item ∷ []) self.new.front self.new.ledger self.new.replies.items) }
     {
-        match self.front.try_take(Ticket { sender: 0, item }) {
-            Ok(parcels) => apply_all(&mut self.ledger, &mut self.replies, parcels),
+        let mut parcels = ArrayVec::new();
+        match self
+            .front
+            .try_take(&mut parcels, Ticket { sender: 0, item })
+        {
+            Ok(()) => apply_all(&mut self.ledger, &mut self.replies, parcels),
             Err(_) => Err(NoMemory),
         }
     }
