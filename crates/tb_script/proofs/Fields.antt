@@ -1,7 +1,7 @@
 -- A line spelled from the fields of an event adds the bytes that are written of it.
 use Rattle.std.proofs.Common.{◌≡◌, ℕ, zero, suc, ◌+◌, ◌-◌, ◌*◌, ◌/◌, ◌%◌, ◌^◌, ◌<◌, ◌≤◌, Bool, true, false, List, [], ◌∷◌, ◌++◌, length, take, drop, replicate, set, refl, sym, ap, ◌∙◌, arith, Some, Ok, Result, length-append, append_assoc, subst, lt-ltb}
 use Rattle.std.specs.Prelude.{◌==◌, ◌&&◌, All, map, codes, decimal, nat_le, nat_lt, slice_index, slice_index_or, is_some, not}
-use Rattle.std.specs.List.{list_all, position_or_len}
+use Rattle.std.specs.List.{list_all}
 use Rattle.std.specs.Int.{byte_at, bytes_low_first, to_le_bytes, w128}
 use Rattle.std.proofs.lemmas.List.{drop-replicate, get_or-set_other}
 use Rattle.std.proofs.lemmas.List.Elements.{All-head, All-tail}
@@ -22,7 +22,7 @@ use Rattle.tb_script.specs.declared.keyword.Keyword.TheVariants as word
 use Rattle.tb_script.specs.Keyword.{keyword_of}
 use Rattle.tb_script.specs.Laws.{Adds, SpelledAccountsAreLaidOut, SpelledTransfersAreLaidOut, SpelledIdsAreLaidOut}
 use Rattle.tb_script.specs.Script.{Said, is_in_place, with_bytes, with_line}
-use Rattle.tb_script.specs.Event.{field, field_of, sides_of, after_word, after_words, event_of}
+use Rattle.tb_script.specs.Event.{field, field_of, after_word, after_words, event_of}
 use Rattle.tb_script.specs.Spelling.{NamedNumber, IsOfItsSize, field_word, fields_line, line_of_words, named_of_account, named_of_transfer}
 use Rattle.tb_script.specs.Steps.{◌>>=◌}
 use Rattle.tb_script.proofs.Named.{sides_of_named}

@@ -1,11 +1,11 @@
 -- The field that a word names, and its number.
-use Rattle.std.proofs.Common.{◌≡◌, ℕ, ◌+◌, ◌<◌, ◌≤◌, Bool, true, false, List, [], ◌∷◌, ◌++◌, length, take, drop, refl, sym, ap, ◌∙◌, arith, ◌-◌, suc, ◌≢◌, Bor, Some, None, Option, Ok, Err, Result, length-append, lt-ltb, le-ltb, inl, inr}
-use Rattle.std.specs.Prelude.{◌==◌, All, map, slice_index_or, not, nat_lt, bytes_eq, get_or, IfOk}
+use Rattle.std.proofs.Common.{rules, ◌≡◌, Decides, cond, ℕ, ◌+◌, ◌<◌, ◌≤◌, Bool, true, false, List, [], ◌∷◌, ◌++◌, length, take, drop, refl, sym, ap, ◌∙◌, arith, ◌-◌, suc, Bor, Some, None, Option, Ok, Err, Result, length-append, lt-ltb, le-ltb, inl, inr}
+use Rattle.std.specs.Prelude.{◌==◌, All, map, slice_index_or, not, bytes_eq, get_or}
 use Rattle.std.specs.List.{list_all, position_or_len, before_first, after_first}
 use Rattle.std.proofs.lemmas.Bool.{and_parts, cases_lt, false_from_ne_true}
 use Rattle.std.proofs.lemmas.Bool.Decides.{Decides-eqb}
 use Rattle.std.proofs.lemmas.List.Sums.{split_at_first, passes_at_first}
-use Rattle.std.proofs.lemmas.List.Elements.{All-head, All-tail}
+use Rattle.std.proofs.lemmas.List.Elements.{All-head, All-tail, All-drop, All-map}
 use Rattle.std.proofs.lemmas.Slice.Eq.{bytes_eq-Decides}
 use Rattle.std.proofs.Math.Seq.{drop-append-add, take-append_seam, get_or-append_seam, split_at}
 use Rattle.std.proofs.lemmas.Grind.{common_steps}
@@ -128,3 +128,38 @@ pub after_word_named : (layout : Layout) (draft : Draft) (word : List ℕ) (both
     after_word layout draft word ≡ told_of draft both
 unfolding after_word field_and_number
 after_word_named layout draft word both e = told_by_sides layout draft (sides_of word) ∙ ap (told_of draft) (sym e)
+
+-- ---- some rows of a table
+
+-- rows that a table has for their names
+abbrev pub AreOwn : List (List ℕ × Field) → List (List ℕ × Field) → Type 0
+AreOwn table rows = All (λ row. look_up row.0 table ≡ Some row.1) rows
+
+own_by : (same : Bool) (table : List (List ℕ × Field)) (row : List ℕ × Field) (name : List ℕ) (f : Field) (others : Option Field) →
+    Decides same (name ≡ row.0) → look_up row.0 table ≡ Some row.1 → (others ≡ Some f → look_up name table ≡ Some f) →
+    cond same (Some row.1) others ≡ Some f → look_up name table ≡ Some f
+own_by true table row name f others decides own later e = ap (λ word. look_up word table) (decides.0 refl) ∙ own ∙ e
+own_by false table row name f others decides own later e = later e
+
+own_row : (table rows : List (List ℕ × Field)) (name : List ℕ) (f : Field) → AreOwn table rows → look_up name rows ≡ Some f → look_up name table ≡ Some f
+own_row table [] name f own e = absurd (search (rules, e))
+own_row table (row ∷ rows) name f own e =
+    own_by (bytes_eq name row.0) table row name f (look_up name rows) (bytes_eq-Decides name row.0) (All-head (λ row. look_up row.0 table ≡ Some row.1) row rows own)
+    (own_row table rows name f (All-tail (λ row. look_up row.0 table ≡ Some row.1) row rows own)) e
+
+told_by_row : (table rows : List (List ℕ × Field)) (name number : List ℕ) (row : Option Field) (both : Field × List ℕ) → row ≡ look_up name rows → AreOwn table rows →
+    (found row >>= λ f. Ok (f, number)) ≡ Ok both → (found (look_up name table) >>= λ f. Ok (f, number)) ≡ Ok both
+told_by_row table rows name number None both e own h = absurd (search (rules, h))
+told_by_row table rows name number (Some f) both e own h = rw (own_row table rows name f own (sym e)) h
+
+told_by_parts : (table rows : List (List ℕ × Field)) (sides : Result (List ℕ × List ℕ) Fault) (both : Field × List ℕ) → AreOwn table rows →
+    (sides >>= λ s. found (look_up s.0 rows) >>= λ f. Ok (f, s.1)) ≡ Ok both → (sides >>= λ s. found (look_up s.0 table) >>= λ f. Ok (f, s.1)) ≡ Ok both
+told_by_parts table rows (Err fault) both own h = h
+told_by_parts table rows (Ok sides) both own h = told_by_row table rows sides.0 sides.1 (look_up sides.0 rows) both refl own h
+
+-- the field that a word names in the rows from a place on is the one that it names in the table
+pub named_from_place : (word : List ℕ) (table : List (Bor (List ℕ) × Field)) (place : ℕ) (both : Field × List ℕ) →
+    All (λ row. look_up row.0.now (map row_of table) ≡ Some row.1) table → named word (map row_of (drop place table)) ≡ Ok both →
+    named word (map row_of table) ≡ Ok both
+named_from_place word table place both own h = told_by_parts (map row_of table) (map row_of (drop place table)) (sides_of word) both
+    (All-map (λ row. look_up row.0 (map row_of table) ≡ Some row.1) row_of (drop place table) (All-drop (λ row. look_up row.0.now (map row_of table) ≡ Some row.1) place table own)) h

@@ -1,10 +1,10 @@
 //! Events from their lines.
 
-ghost use Rattle.std.specs.Prelude.{◌≡◌, ◌≤◌, ◌<◌, ◌+◌, ◌-◌, ◌^◌, ◌⊎◌, ◌++◌, ◌∷◌, ℕ, List, Some, All, map, IfOk};
+ghost use Rattle.std.specs.Prelude.{◌≡◌, ◌≤◌, ◌<◌, ◌+◌, ◌-◌, ◌^◌, ◌⊎◌, ◌++◌, ◌∷◌, ℕ, List, Some, All, length, map, IfOk};
 ghost use Rattle.std.specs.Option.{MatchOption};
 ghost use Rattle.std.specs.Int.{to_le_bytes, w128};
 ghost use Rattle.tb_script.specs.Text.{words_of};
-ghost use Rattle.tb_script.specs.Steps.{Gives, Makes, Tells};
+ghost use Rattle.tb_script.specs.Steps.{Gives, Makes, Tells, look_up};
 ghost use Rattle.tb_script.specs.Event.{Lies, IsBare, named, field_and_number, greatest, new_field, with_number, after_word, after_words, blank, event_of, hex_bytes};
 
 use crate::fault::{Fault, LineError};
@@ -106,15 +106,34 @@ fn named<'a>(mut table: &[(&[u8], Field)], word: &'a [u8]) -> Result<(Field, &'a
     Err(Fault::BadField)
 }
 
-/// The field of an event that a word names, and its number.
+/// The same, looked for among the rows from a place on first: the fields of an event mostly come in the table's order.
+#[inline(always)]
+fn named_from<'a>(
+    table: &[(&[u8], Field)],
+    place: usize,
+    word: &'a [u8],
+) -> Result<(Field, &'a [u8]), Fault>
+    requires place { place ≤ length table.now }
+    requires bare { All (λ row. IsBare row.0.now) table.now }
+    requires own { All (λ row. look_up row.0.now (map (λ row. (row.0.now, row.1)) table.now) ≡ Some row.1) table.now }
+    ensures { Tells (λ both. (both.0, both.1.now)) result (named word.now (map (λ row. (row.0.now, row.1)) table.now)) }
+{
+    match named(&table[place..], word) {
+        Ok(both) => Ok(both),
+        Err(_) => named(table, word),
+    }
+}
+
+/// The field of an event that a word names, and its number. `place` is where the field probably stands.
 #[tactic(auto, unfolding(crate::specs::Event::field_and_number))]
-fn field_and_number(layout: Layout, word: &[u8]) -> Result<(Field, &[u8]), Fault>
+fn field_and_number(layout: Layout, place: usize, word: &[u8]) -> Result<(Field, &[u8]), Fault>
+    requires { place ≤ 13 }
     ensures both { Tells (λ both. (both.0, both.1.now)) result (field_and_number layout word.now) }
     ensures lies { IfOk result (λ both. Lies both.0) }
 {
     match layout {
-        Layout::Account => named(&ACCOUNT_FIELDS, word),
-        Layout::Transfer => named(&TRANSFER_FIELDS, word),
+        Layout::Account => named_from(&ACCOUNT_FIELDS, place, word),
+        Layout::Transfer => named_from(&TRANSFER_FIELDS, place, word),
     }
 }
 
@@ -176,16 +195,18 @@ fn write(draft: &mut Draft, f: Field, n: u128)
     draft.given[f.place] = true;
 }
 
-/// One word NAME=N.
+/// One word NAME=N. `place` is where its field probably stands; the answer is the place behind it.
 #[tactic(auto, using(crate::proofs::Named::after_word_named))]
-fn assign(layout: Layout, draft: &mut Draft, word: &[u8]) -> Result<(), Fault>
-    ensures { Makes result draft.new (after_word layout draft.old word.now) }
+fn assign(layout: Layout, draft: &mut Draft, place: usize, word: &[u8]) -> Result<usize, Fault>
+    requires { place ≤ 13 }
+    ensures draft { Makes result draft.new (after_word layout draft.old word.now) }
+    ensures place { IfOk result (λ behind. behind ≤ 13) }
 {
-    let (named, number) = field_and_number(layout, word)?;
+    let (named, number) = field_and_number(layout, place, word)?;
     let f = new_field(draft, named)?;
     let n = number_within(number, 0, greatest(f.size))?;
     write(draft, f, n);
-    Ok(())
+    Ok(f.place + 1)
 }
 
 /// All words of a line.
@@ -193,8 +214,9 @@ fn assign(layout: Layout, draft: &mut Draft, word: &[u8]) -> Result<(), Fault>
 fn assign_all(layout: Layout, draft: &mut Draft, words: Words) -> Result<(), Fault>
     ensures { Makes result draft.new (after_words layout draft.old (words_of words.entry.rest.now)) }
 {
+    let mut place = 0;
     for word in words {
-        assign(layout, draft, word)?;
+        place = assign(layout, draft, place, word)?;
     }
     Ok(())
 }

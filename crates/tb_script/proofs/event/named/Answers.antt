@@ -1,4 +1,4 @@
-use Rattle.std.proofs.Common.{rules, sym, ap, ◌∙◌}
+use Rattle.std.proofs.Common.{sym, ap, ◌∙◌}
 use Rattle.tb_script.specs.Event.{named}
 use Rattle.tb_script.proofs.Named.{first_row, found_here, found_later}
 use Rattle.tb_script.proofs.event.named.Goals as goal

@@ -12,12 +12,12 @@ pub loop-item-preserved : goal.loop-item-preserved
 loop-item-preserved c = record {
   none = c.in_ok-take.ensures.none;
   runs = λ clock limit run.
-    let way = c.loop-item.invariant.runs clock limit run in
-    record {
-      done = way.done ++ c.in-Some.item ∷ [];
-      parts = way.parts ∙ ap (λ rest. way.done ++ rest) c.in-Some.ensures.steps.0 ∙ sym (append_assoc way.done (c.in-Some.item ∷ []) c.next.new.self.rest.items);
-      run = c.in_ok-take.ensures.runs clock limit way.done way.run;
-    };
+      let way = c.loop-item.invariant.runs clock limit run in
+      record {
+        done = way.done ++ c.in-Some.item ∷ [];
+        parts = way.parts ∙ ap (λ rest. way.done ++ rest) c.in-Some.ensures.steps.0 ∙ sym (append_assoc way.done (c.in-Some.item ∷ []) c.next.new.self.rest.items);
+        run = c.in_ok-take.ensures.runs clock limit way.done way.run;
+      };
 }
 
 pub returns : goal.returns
