@@ -49,6 +49,7 @@ impl Front {
     ghost use Rattle.std.specs.Prelude.{Bool, List, replicate};
     ghost use Rattle.tb_batch.specs.Grouping.{IsGroup};
     ghost use Rattle.tb_work.specs.declared.item.Item.{Item as ItemValue};
+    ghost use Rattle.tb_work.specs.declared.item.Item.TheVariants.{Packet as PacketItem};
     ghost use Rattle.tb_work.specs.declared.item.Ticket.{Ticket as TicketValue};
     ghost use Rattle.tb_core.specs.declared.parcel.Parcel.TheVariants as parcel;
     ghost use Rattle.tb_core.specs.Grouping.{AreJoinedParcels};
@@ -105,142 +106,144 @@ impl Front {
         !self.batcher.is_empty()
     }
 
-    /// The group held, as a parcel.
-    fn seal(&mut self) -> ArrayVec<Parcel, 2>
+    /// Puts the group held into parcels.
+    fn seal(&mut self, parcels: &mut ArrayVec<Parcel, 2>)
+        requires { parcels.old.items ≡ [] }
         ensures left { self.new ≡ with_group self.old [] }
-        ensures sealed { result.items ≡ group_as_batch self.old.held }
+        ensures sealed { parcels.new.items ≡ group_as_batch self.old.held }
     {
-        let mut parcels = ArrayVec::new();
         if let Some(batch) = self.batcher.seal() {
             parcels.push(Parcel::Batch(batch));
         }
-        parcels
     }
 
-    fn seal_before(&mut self, parcel: Parcel) -> ArrayVec<Parcel, 2>
+    fn seal_before(&mut self, parcels: &mut ArrayVec<Parcel, 2>, parcel: Parcel)
+        requires { parcels.old.items ≡ [] }
         ensures left { self.new ≡ with_group self.old [] }
-        ensures sealed { result.items ≡ group_as_batch self.old.held ++ parcel ∷ [] }
+        ensures sealed { parcels.new.items ≡ group_as_batch self.old.held ++ parcel ∷ [] }
     {
-        let mut parcels = self.seal();
+        self.seal(parcels);
         parcels.push(parcel);
-        parcels
     }
 
-    fn hand_back(job: Job, cause: Cause) -> ArrayVec<Parcel, 2>
-        ensures { result.items ≡ parcel.Return job cause ∷ [] }
-    {
-        let mut parcels = ArrayVec::new();
-        parcels.push(Parcel::Return(job, cause));
-        parcels
-    }
-
-    /// A packet. It comes back where its growth is refused, and nothing has changed.
-    fn offer(&mut self, job: Job) -> Result<ArrayVec<Parcel, 2>, Job>
-        ensures ok { IfOk result (λ parcels. take_result self.new parcels.items ≡ step_of_packet false self.old job) }
-        ensures err { IfErr result (λ back. (back ≡ job) × (self.new ≡ self.old)) }
+    /// A packet. It comes back as its ticket where its growth is refused, and nothing has changed.
+    fn offer(
+        &mut self,
+        parcels: &mut ArrayVec<Parcel, 2>,
+        sender: u32,
+        job: Job,
+    ) -> Result<(), Ticket>
+        requires { parcels.old.items ≡ [] }
+        ensures ok { OnOk result (take_result self.new parcels.new.items ≡ step_of_packet false self.old job) }
+        ensures err { IfErr result (λ back. (back.sender ≡ sender) × (back.item ≡ PacketItem job) × (self.new ≡ self.old) × (parcels.new.items ≡ [])) }
         ensures front { IsFront self.old }
     {
         if self.closed {
-            return Ok(Front::hand_back(job, Cause::Shutdown));
+            parcels.push(Parcel::Return(job, Cause::Shutdown));
+            return Ok(());
         }
         if self.stopped {
-            return Ok(Front::hand_back(job, Cause::Stopped));
+            parcels.push(Parcel::Return(job, Cause::Stopped));
+            return Ok(());
         }
-        let mut parcels = ArrayVec::new();
         match self.batcher.offer(job) {
-            Offered::Joined => Ok(parcels),
+            Offered::Joined => Ok(()),
             Offered::Sealed(batch) => {
                 parcels.push(Parcel::Batch(batch));
-                Ok(parcels)
+                Ok(())
             }
-            Offered::Refused(job, _refused) => Err(job),
+            Offered::Refused(job, _refused) => Err(Ticket {
+                sender,
+                item: Item::Packet(job),
+            }),
         }
     }
 
     /// A packet whose growth is refused.
-    fn refuse(&mut self, job: Job) -> ArrayVec<Parcel, 2>
-        ensures took { take_result self.new result.items ≡ step_of_packet true self.old job }
+    fn refuse(&mut self, parcels: &mut ArrayVec<Parcel, 2>, job: Job)
+        requires { parcels.old.items ≡ [] }
+        ensures took { take_result self.new parcels.new.items ≡ step_of_packet true self.old job }
         ensures front { IsFront self.old }
     {
         if self.closed {
-            return Front::hand_back(job, Cause::Shutdown);
+            parcels.push(Parcel::Return(job, Cause::Shutdown));
+            return;
         }
-        if self.stopped {
-            return Front::hand_back(job, Cause::Stopped);
+        if !self.stopped {
+            self.seal(parcels);
+            self.stopped = true;
         }
-        let parcels = self.seal_before(Parcel::Return(job, Cause::Stopped));
-        self.stopped = true;
-        parcels
+        parcels.push(Parcel::Return(job, Cause::Stopped));
     }
 
-    fn pulse(&mut self, moment: Moment) -> ArrayVec<Parcel, 2>
-        ensures took { take_result self.new result.items ≡ step_of_pulse self.old moment }
+    fn pulse(&mut self, parcels: &mut ArrayVec<Parcel, 2>, moment: Moment)
+        requires { parcels.old.items ≡ [] }
+        ensures took { take_result self.new parcels.new.items ≡ step_of_pulse self.old moment }
         ensures front { IsFront self.old }
     {
-        if self.closed || self.stopped {
-            return ArrayVec::new();
+        if !self.closed && !self.stopped {
+            self.seal_before(parcels, Parcel::Pulse(moment));
         }
-        self.seal_before(Parcel::Pulse(moment))
     }
 
-    fn end(&mut self, sender: u32) -> ArrayVec<Parcel, 2>
-        requires { sender ≤ self.old.submitters }
-        ensures took { take_result self.new result.items ≡ step_of_end self.old sender }
+    fn end(&mut self, parcels: &mut ArrayVec<Parcel, 2>, sender: u32)
+        requires sender { sender ≤ self.old.submitters }
+        requires empty { parcels.old.items ≡ [] }
+        ensures took { take_result self.new parcels.new.items ≡ step_of_end self.old sender }
         ensures front { IsFront self.old }
     {
         self.ended[sender as usize] = true;
         if self.finished() {
-            self.seal()
-        } else {
-            ArrayVec::new()
+            self.seal(parcels);
         }
     }
 
-    fn close(&mut self, sender: u32) -> ArrayVec<Parcel, 2>
-        requires { sender ≤ self.old.submitters }
-        ensures took { take_result self.new result.items ≡ step_of_close self.old sender }
+    fn close(&mut self, parcels: &mut ArrayVec<Parcel, 2>, sender: u32)
+        requires sender { sender ≤ self.old.submitters }
+        requires empty { parcels.old.items ≡ [] }
+        ensures took { take_result self.new parcels.new.items ≡ step_of_close self.old sender }
         ensures front { IsFront self.old }
     {
         self.ended[sender as usize] = true;
-        let parcels = self.seal();
+        self.seal(parcels);
         self.closed = true;
-        parcels
     }
 
-    /// One ticket, where its growth isn't refused. Otherwise it comes back, and nothing has changed.
-    pub(crate) fn try_take(&mut self, ticket: Ticket) -> Result<ArrayVec<Parcel, 2>, Ticket>
-        requires { ticket.sender ≤ self.old.submitters }
-        ensures ok { IfOk result (λ parcels. take_result self.new parcels.items ≡ take_step false self.old ticket.sender ticket.item) }
-        ensures err { IfErr result (λ back. (back ≡ ticket) × (self.new ≡ self.old)) }
+    /// One ticket, where its growth isn't refused; what is handed on is put into the parcels. Otherwise the ticket
+    /// comes back, and nothing has changed.
+    pub(crate) fn try_take(
+        &mut self,
+        parcels: &mut ArrayVec<Parcel, 2>,
+        ticket: Ticket,
+    ) -> Result<(), Ticket>
+        requires sender { ticket.sender ≤ self.old.submitters }
+        requires empty { parcels.old.items ≡ [] }
+        ensures ok { OnOk result (take_result self.new parcels.new.items ≡ take_step false self.old ticket.sender ticket.item) }
+        ensures err { IfErr result (λ back. (back ≡ ticket) × (self.new ≡ self.old) × (parcels.new.items ≡ [])) }
         ensures front { IsFront self.old }
     {
         let Ticket { sender, item } = ticket;
         match item {
-            Item::Packet(job) => match self.offer(job) {
-                Ok(parcels) => Ok(parcels),
-                Err(job) => Err(Ticket {
-                    sender,
-                    item: Item::Packet(job),
-                }),
-            },
-            Item::Pulse(moment) => Ok(self.pulse(moment)),
-            Item::End => Ok(self.end(sender)),
-            Item::Close => Ok(self.close(sender)),
+            Item::Packet(job) => self.offer(parcels, sender, job),
+            Item::Pulse(moment) => Ok(self.pulse(parcels, moment)),
+            Item::End => Ok(self.end(parcels, sender)),
+            Item::Close => Ok(self.close(parcels, sender)),
         }
     }
 
     /// One ticket, whose growth is refused.
-    fn step_refused(&mut self, ticket: Ticket) -> ArrayVec<Parcel, 2>
-        requires { ticket.sender ≤ self.old.submitters }
-        ensures took { take_result self.new result.items ≡ take_step true self.old ticket.sender ticket.item }
+    fn step_refused(&mut self, parcels: &mut ArrayVec<Parcel, 2>, ticket: Ticket)
+        requires sender { ticket.sender ≤ self.old.submitters }
+        requires empty { parcels.old.items ≡ [] }
+        ensures took { take_result self.new parcels.new.items ≡ take_step true self.old ticket.sender ticket.item }
         ensures front { IsFront self.old }
     {
         let Ticket { sender, item } = ticket;
         match item {
-            Item::Packet(job) => self.refuse(job),
-            Item::Pulse(moment) => self.pulse(moment),
-            Item::End => self.end(sender),
-            Item::Close => self.close(sender),
+            Item::Packet(job) => self.refuse(parcels, job),
+            Item::Pulse(moment) => self.pulse(parcels, moment),
+            Item::End => self.end(parcels, sender),
+            Item::Close => self.close(parcels, sender),
         }
     }
 
@@ -254,7 +257,9 @@ impl Front {
         ensures ends { (queue : List TicketValue) → KnowsEnds queue self.old → KnowsEnds (queue ++ ticket ∷ []) self.new }
         ensures same { (self.new.limit ≡ self.old.limit) × (self.new.submitters ≡ self.old.submitters) }
     {
-        self.step_refused(ticket)
+        let mut parcels = ArrayVec::new();
+        self.step_refused(&mut parcels, ticket);
+        parcels
     }
 
     /// One ticket. A packet joins the group held, or has that sealed and begins the next one; a pulse, a
@@ -270,9 +275,13 @@ impl Front {
         ensures ends { (queue : List TicketValue) → KnowsEnds queue self.old → KnowsEnds (queue ++ ticket ∷ []) self.new }
         ensures same { (self.new.limit ≡ self.old.limit) × (self.new.submitters ≡ self.old.submitters) }
     {
-        match self.try_take(ticket) {
-            Ok(parcels) => parcels,
-            Err(ticket) => self.step_refused(ticket),
+        let mut parcels = ArrayVec::new();
+        match self.try_take(&mut parcels, ticket) {
+            Ok(()) => parcels,
+            Err(ticket) => {
+                self.step_refused(&mut parcels, ticket);
+                parcels
+            }
         }
     }
 }

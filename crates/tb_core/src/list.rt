@@ -17,6 +17,7 @@ use crate::outcomes::Outcomes;
 use crate::parcel::Parcel;
 use arrayvec::ArrayVec;
 use std::alloc::Global;
+use std::mem;
 use tb_layout::NoMemory;
 use tb_work::{Item, Reply, Ticket};
 
@@ -57,16 +58,20 @@ fn apply(ledger: &mut Ledger, replies: &mut Vec<Reply>, parcel: Parcel) -> Resul
     put(outcomes, replies)
 }
 
-/// Applies parcels in order.
+/// Applies parcels in order, and leaves none.
 fn apply_all(
     ledger: &mut Ledger,
     replies: &mut Vec<Reply>,
-    parcels: ArrayVec<Parcel, 2>,
+    parcels: &mut ArrayVec<Parcel, 2>,
 ) -> Result<(), NoMemory>
-    ensures { (clock : ℕ) (limit : ℕ) (sent : List Passage) → AreJoinedParcels limit parcels.items → GoesOn clock limit sent ledger.old replies.old.items
-        → OnOk result (GoesOn clock limit (sent ++ all_passages_in parcels.items) ledger.new replies.new.items) }
+    ensures none { OnOk result (parcels.new.items ≡ []) }
+    ensures applied { (clock : ℕ) (limit : ℕ) (sent : List Passage) → AreJoinedParcels limit parcels.old.items → GoesOn clock limit sent ledger.old replies.old.items
+        → OnOk result (GoesOn clock limit (sent ++ all_passages_in parcels.old.items) ledger.new replies.new.items) }
 {
-    for parcel in parcels {
+    if parcels.is_empty() {
+        return Ok(());
+    }
+    for parcel in mem::replace(parcels, ArrayVec::new()) {
         apply(ledger, replies, parcel)?;
     }
     Ok(())
@@ -81,15 +86,18 @@ struct Listing {
 }
 
 impl Listing {
-    /// Takes one item. Its sender doesn't matter: whether all have ended isn't asked.
-    fn take(&mut self, item: Item) -> Result<(), NoMemory>
-        ensures { (clock : ℕ) (limit : ℕ) (items : List ItemValue) → IsRunning clock limit items self.old.front self.old.ledger self.old.replies.items
+    /// Takes one item, with room for its parcels. Its sender doesn't matter: whether all have ended isn't asked.
+    fn take(&mut self, parcels: &mut ArrayVec<Parcel, 2>, item: Item) -> Result<(), NoMemory>
+        requires { parcels.old.items ≡ [] }
+        ensures none { OnOk result (parcels.new.items ≡ []) }
+        ensures runs { (clock : ℕ) (limit : ℕ) (items : List ItemValue) → IsRunning clock limit items self.old.front self.old.ledger self.old.replies.items
             → OnOk result (IsRunning clock limit (items ++ item ∷ []) self.new.front self.new.ledger self.new.replies.items) }
     {
-        match self.front.try_take(Ticket { sender: 0, item }) {
-            Ok(parcels) => apply_all(&mut self.ledger, &mut self.replies, parcels),
-            Err(_) => Err(NoMemory),
-        }
+        let ticket = Ticket { sender: 0, item };
+        let Ok(()) = self.front.try_take(parcels, ticket) else {
+            return Err(NoMemory);
+        };
+        apply_all(&mut self.ledger, &mut self.replies, parcels)
     }
 
     /// Takes items in order.
@@ -97,8 +105,9 @@ impl Listing {
         ensures { (clock : ℕ) (limit : ℕ) → IsRunning clock limit [] self.old.front self.old.ledger self.old.replies.items
             → OnOk result (IsRunning clock limit items.items self.new.front self.new.ledger self.new.replies.items) }
     {
+        let mut parcels = ArrayVec::new();
         for item in items {
-            self.take(item)?;
+            self.take(&mut parcels, item)?;
         }
         Ok(())
     }
@@ -135,13 +144,14 @@ pub fn run_list(alloc: Global, clock: u64, limit: u32, items: Vec<Item>) -> Resu
     ensures ran { IfOk result (λ listed. Ran clock items.items listed.ledger listed.replies.items) }
     ensures grouping { AreWithin limit (ahead items.items) → IfOk result (λ listed. IsGrouping limit listed.ledger.groups) }
 {
+    let replies = Vec::with_capacity(alloc, items.len())?;
     let Ok(front) = Front::new(alloc, limit, 1) else {
         unreachable!()
     };
     let mut listing = Listing {
         front,
         ledger: Ledger::new(alloc, clock),
-        replies: Vec::new(alloc),
+        replies,
     };
     listing.take_all_and_finish(items)?;
     Ok(Listed {

@@ -182,11 +182,8 @@ impl World {
             self.parcels = self.front.take_as_refused(ticket);
             return Ok(true);
         }
-        match self.front.try_take(ticket) {
-            Ok(parcels) => {
-                self.parcels = parcels;
-                Ok(true)
-            }
+        match self.front.try_take(&mut self.parcels, ticket) {
+            Ok(()) => Ok(true),
             Err(ticket) => {
                 self.queue.push_front_reserved(ticket);
                 Err(NoMemory)

@@ -1,7 +1,7 @@
 -- A line spelled from the fields of an event adds the bytes that are written of it.
 use Rattle.std.proofs.Common.{◌≡◌, ℕ, zero, suc, ◌+◌, ◌-◌, ◌*◌, ◌/◌, ◌%◌, ◌^◌, ◌<◌, ◌≤◌, Bool, true, false, List, [], ◌∷◌, ◌++◌, length, take, drop, replicate, set, refl, sym, ap, ◌∙◌, arith, Some, Ok, Result, length-append, append_assoc, subst, lt-ltb}
 use Rattle.std.specs.Prelude.{◌==◌, ◌&&◌, All, map, codes, decimal, nat_le, nat_lt, slice_index, slice_index_or, is_some, not}
-use Rattle.std.specs.List.{list_all, position_or_len}
+use Rattle.std.specs.List.{list_all}
 use Rattle.std.specs.Int.{byte_at, bytes_low_first, to_le_bytes, w128}
 use Rattle.std.proofs.lemmas.List.{drop-replicate, get_or-set_other}
 use Rattle.std.proofs.lemmas.List.Elements.{All-head, All-tail}
@@ -22,9 +22,10 @@ use Rattle.tb_script.specs.declared.keyword.Keyword.TheVariants as word
 use Rattle.tb_script.specs.Keyword.{keyword_of}
 use Rattle.tb_script.specs.Laws.{Adds, SpelledAccountsAreLaidOut, SpelledTransfersAreLaidOut, SpelledIdsAreLaidOut}
 use Rattle.tb_script.specs.Script.{Said, is_in_place, with_bytes, with_line}
-use Rattle.tb_script.specs.Event.{field, field_of, sides_of, after_word, after_words, event_of}
+use Rattle.tb_script.specs.Event.{field, field_of, after_word, after_words, event_of}
 use Rattle.tb_script.specs.Spelling.{NamedNumber, IsOfItsSize, field_word, fields_line, line_of_words, named_of_account, named_of_transfer}
 use Rattle.tb_script.specs.Steps.{◌>>=◌}
+use Rattle.tb_script.proofs.Named.{sides_of_named}
 use Rattle.tb_script.proofs.Spelling.{is_word, is_word_byte, decimal_is_word, length-decimal, number_within-decimal, keyword_line}
 
 -- ---- bytes
@@ -101,18 +102,6 @@ NoneGivenFrom place given = (later : ℕ) → place ≤ later → slice_index_or
 
 fits : (size number : ℕ) → size ≤ 16 → number < 256 ^ size → number < 2 ^ 128
 fits size number small h = omega (arith, h, pow-le-pow_right {n = 256} (omega arith) small)
-
-up_to_equals : (name digits : List ℕ) → list_all (λ byte. not (byte == 61)) name ≡ true → position_or_len (λ byte. byte == 61) (name ++ 61 ∷ digits) ≡ length name
-up_to_equals [] digits h = refl
-up_to_equals (byte ∷ name) digits h =
-    let parts = and_parts (not (byte == 61)) (list_all (λ byte. not (byte == 61)) name) h in
-    rw (parts.0, up_to_equals name digits parts.1) (omega arith)
-
-sides_of_named : (name digits : List ℕ) → list_all (λ byte. not (byte == 61)) name ≡ true → sides_of (name ++ 61 ∷ digits) ≡ Ok (name, digits)
-sides_of_named name digits h =
-    let inside : length name < length (name ++ 61 ∷ digits) = omega (arith, length-append name (61 ∷ digits)) in
-    rw (up_to_equals name digits h, lt-ltb (length name) (length (name ++ 61 ∷ digits)) inside)
-    (rw (take-append_seam name (61 ∷ digits), drop-append-add name (61 ∷ digits) 1) refl)
 
 one_field : (layout : Layout) (place size number : ℕ) (name front : List ℕ) (given : List Bool) → IsFieldAt layout place (length front) size name →
     number < 256 ^ size → slice_index_or given place false ≡ false → length front + size ≤ 128 →

@@ -1,6 +1,6 @@
 -- The bytes of an event, from its line.
-use Rattle.std.specs.Prelude.{◌≡◌, ◌<◌, ◌≤◌, ◌⊎◌, ℕ, ◌+◌, ◌-◌, ◌^◌, ◌==◌, false, true, List, [], ◌∷◌, ◌++◌, length, take, drop, replicate, set, Option, Some, None, Result, Ok, Err, codes, slice_index_or, if◌then◌else◌, nat_lt}
-use Rattle.std.specs.List.{before_first, after_first, position_or_len}
+use Rattle.std.specs.Prelude.{◌≡◌, ◌<◌, ◌≤◌, ◌⊎◌, ℕ, ◌+◌, ◌-◌, ◌^◌, ◌==◌, not, false, true, List, [], ◌∷◌, ◌++◌, length, take, drop, replicate, set, Option, Some, None, Result, Ok, Err, codes, slice_index_or, if◌then◌else◌, nat_lt}
+use Rattle.std.specs.List.{before_first, after_first, position_or_len, list_all}
 use Rattle.std.specs.Int.{w128, to_le_bytes}
 use Rattle.hex.specs.Hex.{decode_of}
 use Rattle.tb_script.specs.declared.fault.Fault.{Fault}
@@ -89,6 +89,24 @@ sides_of word =
     if nat_lt (position_or_len (λ byte. byte == 61) word) (length word)
     then Ok (before_first (λ byte. byte == 61) word, after_first (λ byte. byte == 61) word)
     else Err BadField
+
+-- no byte of a name is `=`
+abbrev pub IsBare : List ℕ → Type 0
+IsBare name = list_all (λ byte. not (byte == 61)) name ≡ true
+
+abbrev pub found : {Value : Type 0} → Option Value → Result Value Fault
+found None = Err BadField
+found (Some value) = Ok value
+
+-- the field of a table that a word names, and what stands behind the `=`
+abbrev pub named : List ℕ → List (List ℕ × Field) → Result (Field × List ℕ) Fault
+named word rows = do
+  sides ← sides_of word
+  field ← found (look_up sides.0 rows)
+  Ok (field, sides.1)
+
+unfoldable pub field_and_number : Layout → List ℕ → Result (Field × List ℕ) Fault
+field_and_number layout word = named word (fields_of layout)
 
 -- one word NAME=N
 unfoldable pub after_word : Layout → Draft → List ℕ → Result Draft Fault

@@ -1,15 +1,15 @@
 //! Events from their lines.
 
-ghost use Rattle.std.specs.Prelude.{◌≡◌, ◌≤◌, ◌<◌, ◌+◌, ◌-◌, ◌^◌, ◌⊎◌, IfSome, IfOk};
+ghost use Rattle.std.specs.Prelude.{◌≡◌, ◌≤◌, ◌<◌, ◌+◌, ◌-◌, ◌^◌, ◌⊎◌, ◌++◌, ◌∷◌, ℕ, List, Some, All, length, map, IfOk};
+ghost use Rattle.std.specs.Option.{MatchOption};
 ghost use Rattle.std.specs.Int.{to_le_bytes, w128};
 ghost use Rattle.tb_script.specs.Text.{words_of};
-ghost use Rattle.tb_script.specs.Steps.{Gives, Makes, Tells};
-ghost use Rattle.tb_script.specs.Event.{Lies, field_of, greatest, sides_of, new_field, with_number, after_word, after_words, blank, event_of, hex_bytes};
+ghost use Rattle.tb_script.specs.Steps.{Gives, Makes, Tells, look_up};
+ghost use Rattle.tb_script.specs.Event.{Lies, IsBare, named, field_and_number, greatest, new_field, with_number, after_word, after_words, blank, event_of, hex_bytes};
 
 use crate::fault::{Fault, LineError};
 use crate::number::number_within;
-use crate::table::look_up;
-use crate::text::{Words, length_before};
+use crate::text::Words;
 use hex::FromHexError;
 use std::alloc::Global;
 
@@ -78,14 +78,62 @@ const TRANSFER_FIELDS: [(&[u8], Field); 13] = [
     (b"timestamp", lying_at!(12, 120, 8)),
 ];
 
-#[tactic(auto, unfolding(crate::specs::Event::field_of))]
-fn field_of(layout: Layout, name: &[u8]) -> Option<Field>
-    ensures row { result ≡ field_of layout name.now }
-    ensures lies { IfSome result Lies }
+/// What stands behind a name and its `=`, where the word begins with these.
+fn behind_name<'a>(word: &'a [u8], name: &[u8]) -> Option<&'a [u8]>
+    ensures { MatchOption result ((number : List ℕ) → word.now ≡ name.now ++ 61 ∷ number → ⊥) (λ number. word.now ≡ name.now ++ 61 ∷ number.now) }
+{
+    let end = name.len();
+    if end < word.len() && word[end] == b'=' && &word[..end] == name {
+        Some(&word[end + 1..])
+    } else {
+        None
+    }
+}
+
+/// The field of a table that a word names, and its number. No byte is looked for: the name is compared with those of
+/// the table where it stands.
+#[inline(always)]
+fn named<'a>(mut table: &[(&[u8], Field)], word: &'a [u8]) -> Result<(Field, &'a [u8]), Fault>
+    requires { All (λ row. IsBare row.0.now) table.now }
+    ensures { Tells (λ both. (both.0, both.1.now)) result (named word.now (map (λ row. (row.0.now, row.1)) table.entry.now)) }
+{
+    while let [(name, field), rest @ ..] = table {
+        if let Some(number) = behind_name(word, name) {
+            return Ok((*field, number));
+        }
+        table = rest;
+    }
+    Err(Fault::BadField)
+}
+
+/// The same, looked for among the rows from a place on first: the fields of an event mostly come in the table's order.
+#[inline(always)]
+fn named_from<'a>(
+    table: &[(&[u8], Field)],
+    place: usize,
+    word: &'a [u8],
+) -> Result<(Field, &'a [u8]), Fault>
+    requires place { place ≤ length table.now }
+    requires bare { All (λ row. IsBare row.0.now) table.now }
+    requires own { All (λ row. look_up row.0.now (map (λ row. (row.0.now, row.1)) table.now) ≡ Some row.1) table.now }
+    ensures { Tells (λ both. (both.0, both.1.now)) result (named word.now (map (λ row. (row.0.now, row.1)) table.now)) }
+{
+    match named(&table[place..], word) {
+        Ok(both) => Ok(both),
+        Err(_) => named(table, word),
+    }
+}
+
+/// The field of an event that a word names, and its number. `place` is where the field probably stands.
+#[tactic(auto, unfolding(crate::specs::Event::field_and_number))]
+fn field_and_number(layout: Layout, place: usize, word: &[u8]) -> Result<(Field, &[u8]), Fault>
+    requires { place ≤ 13 }
+    ensures both { Tells (λ both. (both.0, both.1.now)) result (field_and_number layout word.now) }
+    ensures lies { IfOk result (λ both. Lies both.0) }
 {
     match layout {
-        Layout::Account => look_up(&ACCOUNT_FIELDS, name),
-        Layout::Transfer => look_up(&TRANSFER_FIELDS, name),
+        Layout::Account => named_from(&ACCOUNT_FIELDS, place, word),
+        Layout::Transfer => named_from(&TRANSFER_FIELDS, place, word),
     }
 }
 
@@ -106,14 +154,15 @@ fn greatest(size: usize) -> u128
 }
 
 /// A field that wasn't given before.
-fn new_field(draft: &Draft, found: Option<Field>) -> Result<Field, Fault>
-    requires { IfSome found Lies }
-    ensures field { result ≡ new_field draft.now found }
+fn new_field(draft: &Draft, f: Field) -> Result<Field, Fault>
+    requires { Lies f }
+    ensures field { result ≡ new_field draft.now (Some f) }
     ensures lies { IfOk result Lies }
 {
-    match found {
-        Some(f) if !draft.given[f.place] => Ok(f),
-        _ => Err(Fault::BadField),
+    if draft.given[f.place] {
+        Err(Fault::BadField)
+    } else {
+        Ok(f)
     }
 }
 
@@ -146,28 +195,18 @@ fn write(draft: &mut Draft, f: Field, n: u128)
     draft.given[f.place] = true;
 }
 
-/// The name before the first `=`, and the number behind it.
-fn sides_of(word: &[u8]) -> Result<(&[u8], &[u8]), Fault>
-    ensures { Tells (λ sides. (sides.0.now, sides.1.now)) result (sides_of word.now) }
+/// One word NAME=N. `place` is where its field probably stands; the answer is the place behind it.
+#[tactic(auto, using(crate::proofs::Named::after_word_named))]
+fn assign(layout: Layout, draft: &mut Draft, place: usize, word: &[u8]) -> Result<usize, Fault>
+    requires { place ≤ 13 }
+    ensures draft { Makes result draft.new (after_word layout draft.old word.now) }
+    ensures place { IfOk result (λ behind. behind ≤ 13) }
 {
-    let end = length_before(word, 61);
-    if end < word.len() {
-        Ok((&word[..end], &word[end + 1..]))
-    } else {
-        Err(Fault::BadField)
-    }
-}
-
-/// One word NAME=N.
-#[tactic(auto, unfolding(crate::specs::Event::after_word))]
-fn assign(layout: Layout, draft: &mut Draft, word: &[u8]) -> Result<(), Fault>
-    ensures { Makes result draft.new (after_word layout draft.old word.now) }
-{
-    let (name, number) = sides_of(word)?;
-    let f = new_field(draft, field_of(layout, name))?;
+    let (named, number) = field_and_number(layout, place, word)?;
+    let f = new_field(draft, named)?;
     let n = number_within(number, 0, greatest(f.size))?;
     write(draft, f, n);
-    Ok(())
+    Ok(f.place + 1)
 }
 
 /// All words of a line.
@@ -175,8 +214,9 @@ fn assign(layout: Layout, draft: &mut Draft, word: &[u8]) -> Result<(), Fault>
 fn assign_all(layout: Layout, draft: &mut Draft, words: Words) -> Result<(), Fault>
     ensures { Makes result draft.new (after_words layout draft.old (words_of words.entry.rest.now)) }
 {
+    let mut place = 0;
     for word in words {
-        assign(layout, draft, word)?;
+        place = assign(layout, draft, place, word)?;
     }
     Ok(())
 }

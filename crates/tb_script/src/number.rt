@@ -51,14 +51,11 @@ fn short_number(word: &[u8]) -> Option<u64>
     Some(number)
 }
 
-/// The number that a word spells, if it fits.
-fn fitting_number(word: &[u8]) -> Option<u128>
+/// The number that a word spells, if it fits, of any length.
+#[inline(never)]
+fn long_number(word: &[u8]) -> Option<u128>
     ensures { result ≡ fitting (number_of word.now) }
 {
-    if word.len() < 20 {
-        let number = short_number(word)?;
-        return Some(u128::from(number));
-    }
     if word.len() >= 40 {
         return None;
     }
@@ -66,6 +63,18 @@ fn fitting_number(word: &[u8]) -> Option<u128>
         return None;
     }
     text_of(word).parse::<u128>().ok()
+}
+
+/// The number that a word spells, if it fits.
+#[inline(always)]
+fn fitting_number(word: &[u8]) -> Option<u128>
+    ensures { result ≡ fitting (number_of word.now) }
+{
+    if word.len() < 20 {
+        let number = short_number(word)?;
+        return Some(u128::from(number));
+    }
+    long_number(word)
 }
 
 /// The number that a word spells in 1 to 39 digits, if it is in bounds.

@@ -32,14 +32,15 @@ impl Model for Plan {
 }
 
 impl Plan {
-    fn new(alloc: Global) -> Plan
-        ensures { result ≡ record { queue = []; lines = [] } }
+    /// Nothing is planned yet, but there is room for so many items.
+    fn with_capacity(alloc: Global, items: usize) -> Result<Plan, NoMemory>
+        ensures { IfOk result (λ plan. plan ≡ record { queue = []; lines = [] }) }
     {
-        Plan {
-            queue: Vec::new(alloc),
-            lines: Vec::new(alloc),
+        Ok(Plan {
+            queue: Vec::with_capacity(alloc, items)?,
+            lines: Vec::with_capacity(alloc, items)?,
             numbers: [0; 16],
-        }
+        })
     }
 
     /// Queues a packet with its submitter's next number.
@@ -136,7 +137,7 @@ pub fn plan_all(alloc: Global, limit: u32, items: Vec<Item>) -> Result<Plan, NoM
     requires { limit ≤ batch_max }
     ensures { IfOk result (λ plan. plan ≡ halves_of (plan_behind limit [] items.items)) }
 {
-    let mut plan = Plan::new(alloc);
+    let mut plan = Plan::with_capacity(alloc, items.len())?;
     for item in items {
         plan.add(alloc, limit, item)?;
     }

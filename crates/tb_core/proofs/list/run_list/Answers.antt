@@ -13,7 +13,7 @@ done c = c.in_ok-take_all_and_finish.ensures c.args.clock c.args.limit (record {
   under = ap (λ (f : FrontState). f.limit) c.in-Ok.ensures.front;
   passed = c.in-Ok.ensures.passes;
   goes_on = record {
-    commits = subst (Commits c.args.clock [] c.new-2.result) (sym c.new-3.ensures.items) c.new-2.ensures.commits;
+    commits = subst (Commits c.args.clock [] c.new-2.result) (sym c.in_ok-replies.ensures.items) c.new-2.ensures.commits;
     unmarked = ap (λ (l : LedgerState). l.stopped) c.new-2.ensures.ledger;
     joined = rw c.new-2.ensures.ledger tt;
   };

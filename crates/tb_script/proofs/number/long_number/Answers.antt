@@ -1,6 +1,6 @@
 use Rattle.std.proofs.Common.{arith, rules, ◌∙◌, refl}
 use Rattle.tb_script.proofs.Numbers.{too_long, no_digits, parsed}
-use Rattle.tb_script.proofs.number.fitting_number.Goals as goal
+use Rattle.tb_script.proofs.number.long_number.Goals as goal
 
 pub returns-then-word-ge40 : goal.returns-then-word-ge40
 returns-then-word-ge40 c = rw (too_long c.args.word.now c.if-word-ge40.true) refl
