@@ -1,4 +1,4 @@
--- A transfer stored in the tables, and taken back.
+-- A transfer stored in the maps, and taken back.
 use Rattle.std.proofs.Common.{refl, sym, ap, subst, arith, ◌∙◌, ◌≡◌, ℕ, Bool, true, false, not, List, [], ◌∷◌, ◌++◌, map, filter, length, append-nil, if◌then◌else◌, ◌==◌, ◌&&◌, ◌||◌, Option, Some, None, slice_get}
 use Rattle.std.proofs.lemmas.Bool.{eqb-true}
 use Rattle.std.proofs.lemmas.List.Elements.{filter-append}
