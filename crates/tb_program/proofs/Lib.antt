@@ -1,2 +1,3 @@
 pub mod Printing
 mod Noting
+mod Sharing

@@ -1,5 +1,11 @@
 //! What each thread is to queue.
 
+ghost use Rattle.std.specs.Prelude.{◌≡◌, ◌++◌, ◌∷◌, [], List, false, ◌||◌, length, OnOk, IfOk};
+ghost use Rattle.tb_program.specs.Plan.{packet_of};
+ghost use Rattle.tb_program.specs.Sharing.{AreDealt, is_shut, moment_in, moments_in, shuts_in};
+ghost use Rattle.tb_script.specs.declared.item.Item.{Item as ItemValue};
+ghost use Rattle.tb_script.specs.declared.item.Item.TheVariants.{Packet as PacketItem};
+
 use std::alloc::Global;
 use tb_drive::ControlLines;
 use tb_layout::NoMemory;
@@ -13,7 +19,9 @@ pub struct Shares {
     pub lines: ControlLines,
 }
 
-fn packet_of(submission: Submission) -> Packet {
+fn packet_of(submission: Submission) -> Packet
+    ensures { result ≡ packet_of submission }
+{
     Packet {
         operation: submission.operation,
         bytes: Bytes::from_vec(submission.bytes.into_vec()),
@@ -22,7 +30,11 @@ fn packet_of(submission: Submission) -> Packet {
 }
 
 impl Shares {
-    fn new(alloc: Global, submitters: u32) -> Result<Shares, NoMemory> {
+    fn new(alloc: Global, submitters: u32) -> Result<Shares, NoMemory>
+        ensures number { IfOk result (λ shares. length shares.packets.items ≡ submitters) }
+        ensures packets { IfOk result (λ shares. AreDealt 0 shares.packets.items []) }
+        ensures lines { IfOk result (λ shares. (shares.lines.moments.items ≡ []) × (shares.lines.shuts ≡ false)) }
+    {
         let mut packets = Vec::new(alloc);
         for _ in 0..submitters {
             packets.push(Vec::new(alloc))?;
@@ -34,7 +46,11 @@ impl Shares {
     }
 
     /// The script's line was faulty had its submitter not been there.
-    fn add_packet(&mut self, submission: Submission) -> Result<(), NoMemory> {
+    fn add_packet(&mut self, submission: Submission) -> Result<(), NoMemory>
+        ensures number { length self.new.packets.items ≡ length self.old.packets.items }
+        ensures packets { (items : List ItemValue) → AreDealt 0 self.old.packets.items items → OnOk result (AreDealt 0 self.new.packets.items (items ++ PacketItem submission ∷ [])) }
+        ensures lines { self.new.lines ≡ self.old.lines }
+    {
         let submitter = submission.submitter.get() as usize;
         if let Some(packets) = self.packets.get_mut(submitter) {
             packets.push(packet_of(submission))?;
@@ -42,7 +58,12 @@ impl Shares {
         Ok(())
     }
 
-    fn add(&mut self, item: Item) -> Result<(), NoMemory> {
+    fn add(&mut self, item: Item) -> Result<(), NoMemory>
+        ensures number { length self.new.packets.items ≡ length self.old.packets.items }
+        ensures packets { (items : List ItemValue) → AreDealt 0 self.old.packets.items items → OnOk result (AreDealt 0 self.new.packets.items (items ++ item ∷ [])) }
+        ensures moments { OnOk result (self.new.lines.moments.items ≡ self.old.lines.moments.items ++ moment_in item) }
+        ensures shuts { OnOk result (self.new.lines.shuts ≡ (self.old.lines.shuts || is_shut item)) }
+    {
         match item {
             Item::Packet(submission) => self.add_packet(submission)?,
             Item::Pulse(moment) => self.lines.moments.push(moment)?,
@@ -53,7 +74,12 @@ impl Shares {
 }
 
 /// Deals the items of a script out. No byte of a packet is copied.
-pub fn share_out(alloc: Global, submitters: u32, items: Vec<Item>) -> Result<Shares, NoMemory> {
+pub fn share_out(alloc: Global, submitters: u32, items: Vec<Item>) -> Result<Shares, NoMemory>
+    ensures number { IfOk result (λ shares. length shares.packets.items ≡ submitters) }
+    ensures packets { IfOk result (λ shares. AreDealt 0 shares.packets.items items.items) }
+    ensures moments { IfOk result (λ shares. shares.lines.moments.items ≡ moments_in items.items) }
+    ensures shuts { IfOk result (λ shares. shares.lines.shuts ≡ shuts_in items.items) }
+{
     let mut shares = Shares::new(alloc, submitters)?;
     for item in items {
         shares.add(item)?;

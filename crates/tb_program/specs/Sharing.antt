@@ -1,0 +1,38 @@
+-- What each thread of a script's run is to queue.
+use Rattle.std.specs.Prelude.{◌≡◌, ℕ, suc, ◌==◌, Bool, true, false, List, [], ◌∷◌, Vec, if◌then◌else◌, ⊤}
+use Rattle.std.specs.List.{flat_map, list_any}
+use Rattle.std.specs.declared.alloc.Global.{Global}
+use Rattle.tb_work.specs.declared.packet.Packet as packets
+use Rattle.tb_script.specs.declared.item.Item.{Item}
+use Rattle.tb_script.specs.declared.item.Item.TheVariants.{Packet, Pulse, Shut}
+use Rattle.tb_program.specs.Plan.{packet_of}
+
+abbrev pub packet_by : ℕ → Item → List packets.Packet
+packet_by submitter (Packet submission) = if submission.submitter == submitter then packet_of submission ∷ [] else []
+packet_by submitter (Pulse moment) = []
+packet_by submitter Shut = []
+
+-- the packets of a submitter, in the order of the script
+abbrev pub packets_by : ℕ → List Item → List packets.Packet
+packets_by submitter items = flat_map (packet_by submitter) items
+
+abbrev pub moment_in : Item → List ℕ
+moment_in (Packet submission) = []
+moment_in (Pulse moment) = moment ∷ []
+moment_in Shut = []
+
+abbrev pub moments_in : List Item → List ℕ
+moments_in items = flat_map moment_in items
+
+abbrev pub is_shut : Item → Bool
+is_shut (Packet submission) = false
+is_shut (Pulse moment) = false
+is_shut Shut = true
+
+abbrev pub shuts_in : List Item → Bool
+shuts_in items = list_any is_shut items
+
+-- the submitters from a number on have their packets
+abbrev pub AreDealt : ℕ → List (Vec packets.Packet Global) → List Item → Type 0
+AreDealt submitter [] items = ⊤
+AreDealt submitter (packets ∷ others) items = (packets.items ≡ packets_by submitter items) × AreDealt (suc submitter) others items
