@@ -1,17 +1,24 @@
 -- What the control queues of its lines.
 use Rattle.std.specs.Prelude.{ℕ, nat_lt, Bool, true, false, List, [], ◌∷◌, ◌++◌, if◌then◌else◌}
-use Rattle.std.specs.List.{flat_map}
+use Rattle.std.specs.List.{count_by, flat_map}
 use Rattle.tb_layout.specs.Limits.{moment_max}
 use Rattle.tb_submit.specs.Ends.{SenderState}
 use Rattle.tb_work.specs.declared.item.Item.{Item}
 use Rattle.tb_work.specs.declared.item.Item.TheVariants as item
 
--- a pulse, unless its moment is out of range and it is refused
+-- a pulse is refused where its moment is out of range
+abbrev pub is_refused : ℕ → Bool
+is_refused moment = nat_lt moment_max moment
+
 abbrev pub pulse_of : ℕ → List Item
-pulse_of moment = if nat_lt moment_max moment then [] else item.Pulse moment ∷ []
+pulse_of moment = if is_refused moment then [] else item.Pulse moment ∷ []
 
 abbrev pub pulses_of : List ℕ → List Item
 pulses_of moments = flat_map pulse_of moments
+
+-- how many of them are refused
+abbrev pub refused_of : List ℕ → ℕ
+refused_of moments = count_by is_refused moments
 
 -- what it ends by
 abbrev pub last_item : Bool → Item

@@ -1,10 +1,11 @@
 -- What the threads of the senders bring back.
-use Rattle.std.specs.Prelude.{◌≡◌, Option, IfSome, List, ◌++◌}
+use Rattle.std.specs.Prelude.{◌≡◌, ℕ, Option, IfSome, List, ◌++◌}
 use Rattle.std.specs.declared.thread.PromisedHandle.{PromisedHandle}
-use Rattle.tb_submit.specs.Ends.{Origin, SubmitterState, SenderState, EndedState, end_origin, origin_of}
+use Rattle.tb_submit.specs.Ends.{Origin, SubmitterState, EndedState, end_origin, origin_of}
 use Rattle.tb_work.specs.declared.item.Item.{Item}
-use Rattle.tb_drive.specs.Lines.{lines_of, with_items}
+use Rattle.tb_drive.specs.Lines.{lines_of, refused_of, with_items}
 use Rattle.tb_drive.specs.declared.controlling.ControlDriver.{ControlDriver}
+use Rattle.tb_drive.specs.declared.controlling.ControlLeft.{ControlLeft}
 use Rattle.tb_drive.specs.declared.controlling.EndOfControl.{EndOfControl}
 use Rattle.tb_drive.specs.declared.submitting.EndOfSubmitter.{EndOfSubmitter}
 
@@ -22,16 +23,19 @@ started_origin handle = origin_of handle.promise.submitter.value
 abbrev pub items_to_queue : ControlDriver → List Item
 items_to_queue driver = driver.control.queued ++ lines_of driver.lines.moments.items driver.lines.shuts
 
--- the control's end, if there is one, is its own, and its lines are queued
-abbrev pub IsControlEnd : ControlDriver → Option SenderState → Type 0
-IsControlEnd driver end = IfSome end (λ left. left ≡ with_items driver.control (lines_of driver.lines.moments.items driver.lines.shuts))
+-- what the control's thread leaves, if anything, is its own end, its lines queued, and how many of its pulses were refused
+abbrev pub IsControlEnd : ControlDriver → Option ControlLeft → Type 0
+IsControlEnd driver left = IfSome left (λ l. (l.end ≡ with_items driver.control (lines_of driver.lines.moments.items driver.lines.shuts)) × (l.refused ≡ refused_of driver.lines.moments.items))
 
 -- the same of what a thread promises
 abbrev pub items_promised : EndOfControl → List Item
 items_promised promise = promise.control.value.queued ++ lines_of promise.moments.value.items promise.shuts
 
-abbrev pub IsEndPromised : EndOfControl → SenderState → Type 0
-IsEndPromised promise end = end ≡ with_items promise.control.value (lines_of promise.moments.value.items promise.shuts)
+abbrev pub refused_promised : EndOfControl → ℕ
+refused_promised promise = refused_of promise.moments.value.items
+
+abbrev pub IsEndPromised : EndOfControl → ControlLeft → Type 0
+IsEndPromised promise left = (left.end ≡ with_items promise.control.value (lines_of promise.moments.value.items promise.shuts)) × (left.refused ≡ refused_promised promise)
 
 abbrev pub IsPromiseOf : ControlDriver → EndOfControl → Type 0
 IsPromiseOf driver promise = (promise.control.value ≡ driver.control) × (promise.moments.value ≡ driver.lines.moments) × (promise.shuts ≡ driver.lines.shuts)

@@ -1,9 +1,9 @@
 //! The control's thread.
 
-ghost use Rattle.std.specs.Prelude.{◌≡◌, ◌∷◌, ◌++◌, [], ◌⊎◌, false, IfErr, IfSome, OnOk, OnSome};
+ghost use Rattle.std.specs.Prelude.{◌≡◌, ◌∷◌, ◌++◌, [], ◌⊎◌, true, false, IfErr, IfSome, OnOk, OnSome};
 ghost use Rattle.tb_submit.specs.Ends.{sender_with};
 ghost use Rattle.tb_work.specs.declared.refusal.Refusal.TheVariants as refusal;
-ghost use Rattle.tb_drive.specs.Lines.{last_item, pulse_of, pulses_of, with_items};
+ghost use Rattle.tb_drive.specs.Lines.{is_refused, last_item, pulse_of, pulses_of, refused_of, with_items};
 ghost use Rattle.tb_drive.specs.Threads.{IsControlEnd, IsPromiseOf};
 
 use crossbeam_utils::Backoff;
@@ -47,15 +47,15 @@ pub(crate) struct ControlDriver {
     pub(crate) lines: ControlLines,
 }
 
-/// What the control's thread leaves: the control's end, unless it was told to stop first, and how many pulses were
-/// refused.
+/// What the control's thread leaves: the control's end, and how many pulses were refused.
 #[derive(Drop)]
-pub(crate) struct ControlDriven {
-    pub(crate) end: Option<ControlEnd>,
+pub(crate) struct ControlLeft {
+    pub(crate) end: ControlEnd,
     pub(crate) refused: u64,
 }
 
-/// The end that comes back is that of the control that was handed over, and its lines are queued.
+/// The end that comes back, unless the thread was told to stop, is that of the control that was handed over, and its lines
+/// are queued but for the pulses that were refused, which are counted.
 #[derive(Drop)]
 pub(crate) struct EndOfControl {
     control: Snapshot<Control>,
@@ -63,17 +63,17 @@ pub(crate) struct EndOfControl {
     shuts: bool,
 }
 
-impl Promise<ControlDriven> for EndOfControl {
+impl Promise<Option<ControlLeft>> for EndOfControl {
     ghost use Rattle.std.specs.Prelude.{IfSome};
     ghost use Rattle.tb_drive.specs.Threads.{IsEndPromised};
 
-    ghost kept_by = { λ p r. IfSome r.end (λ end. IsEndPromised p end) };
+    ghost kept_by = { λ p r. IfSome r (λ left. IsEndPromised p left) };
 }
 
 /// Queues a pulse once.
 fn pulse_once<R: Wait>(rt: &R, control: &mut Control, moment: u64) -> Result<(), Refusal>
-    ensures ok { OnOk result (control.new ≡ with_items control.old (pulse_of moment)) }
-    ensures refused { IfErr result (λ why. (control.new ≡ control.old) × ((why ≡ refusal.Full) ⊎ (pulse_of moment ≡ []))) }
+    ensures ok { OnOk result ((control.new ≡ with_items control.old (pulse_of moment)) × (is_refused moment ≡ false)) }
+    ensures refused { IfErr result (λ why. (control.new ≡ control.old) × ((why ≡ refusal.Full) ⊎ (is_refused moment ≡ true))) }
 {
     if control.queued() >= MOST_QUEUED {
         return Err(Refusal::Full);
@@ -84,7 +84,8 @@ fn pulse_once<R: Wait>(rt: &R, control: &mut Control, moment: u64) -> Result<(),
 /// Queues a pulse, and while the queue is full tries again. Answers whether it is refused, or None where it is told to
 /// stop.
 fn pulse<R: Wait>(rt: &R, control: &mut Control, moment: u64, stop: &AtomicBool) -> Option<bool>
-    ensures { OnSome result (control.new ≡ with_items control.old (pulse_of moment)) }
+    ensures queued { OnSome result (control.new ≡ with_items control.old (pulse_of moment)) }
+    ensures refused { IfSome result (λ refused. refused ≡ is_refused moment) }
 {
     let backoff = Backoff::new();
     for _ in rt.forever() {
@@ -108,12 +109,13 @@ fn pulse_all<R: Wait>(
     moments: Vec<u64>,
     stop: &AtomicBool,
 ) -> Option<u64>
-    ensures { OnSome result (control.new ≡ with_items control.old (pulses_of moments.items)) }
+    ensures queued { OnSome result (control.new ≡ with_items control.old (pulses_of moments.items)) }
+    ensures refused { IfSome result (λ refused. refused ≡ refused_of moments.items) }
 {
     let mut refused = 0u64;
     for moment in moments {
         if pulse(rt, control, moment, stop)? {
-            refused = refused.saturating_add(1);
+            refused += 1;
         }
     }
     Some(refused)
@@ -155,18 +157,13 @@ impl ControlDriver {
         }
     }
 
-    /// Queues the lines and then the control's end, unless it is told to stop.
-    pub(crate) fn drive<R: Wait>(self, rt: &R, stop: &AtomicBool) -> ControlDriven
-        ensures { IsControlEnd self result.end }
+    /// Queues the lines and then the control's end. None where it is told to stop.
+    pub(crate) fn drive<R: Wait>(self, rt: &R, stop: &AtomicBool) -> Option<ControlLeft>
+        ensures { IsControlEnd self result }
     {
         let ControlDriver { mut control, lines } = self;
-        let Some(refused) = pulse_all(rt, &mut control, lines.moments, stop) else {
-            return ControlDriven {
-                end: None,
-                refused: 0,
-            };
-        };
-        let end = end(rt, control, lines.shuts, stop);
-        ControlDriven { end, refused }
+        let refused = pulse_all(rt, &mut control, lines.moments, stop)?;
+        let end = end(rt, control, lines.shuts, stop)?;
+        Some(ControlLeft { end, refused })
     }
 }

@@ -5,12 +5,12 @@ ghost use Rattle.tb_submit.specs.Ends.{Origin, SubmitterState, control_seat, end
 ghost use Rattle.tb_submit.specs.Refusals.{IsRefusal, submit_refusal};
 ghost use Rattle.tb_work.specs.declared.refusal.Refusal.TheVariants as refusal;
 ghost use Rattle.tb_drive.specs.Ahead.{with_packet};
-ghost use Rattle.tb_drive.specs.Lines.{lines_of};
+ghost use Rattle.tb_drive.specs.Lines.{lines_of, refused_of};
 ghost use Rattle.tb_drive.specs.Seen.{HaveSeen};
 ghost use Rattle.tb_drive.specs.Reported.{AreTogether, HasReported};
-ghost use Rattle.tb_drive.specs.Threads.{IsControlEnd, IsEnd, IsEndPromised, IsPromiseOf, items_promised, items_to_queue, started_origin};
+ghost use Rattle.tb_drive.specs.Threads.{IsControlEnd, IsEnd, IsEndPromised, IsPromiseOf, items_promised, items_to_queue, refused_promised, started_origin};
 
-use crate::controlling::{ControlDriven, ControlDriver, ControlLines, EndOfControl};
+use crate::controlling::{ControlDriver, ControlLeft, ControlLines, EndOfControl};
 use crate::driver::Driver;
 use crate::submitting::{Driven, EndOfSubmitter, Seated, submit_once};
 use std::alloc::{AllocError, AllocFailed, Global};
@@ -21,7 +21,7 @@ use std::sync::atomic::{AtomicBool, Ordering};
 use std::thread;
 use std::thread::{PromisedHandle, Scope, Threads};
 use tb_pipe::{Open, Opened, Pipeline, Report, Served, settle};
-use tb_submit::{ControlEnd, Ended, Submitter};
+use tb_submit::{Ended, Submitter};
 use tb_work::{Packet, Refusal};
 
 /// A run that has ended: its report, the drivers in the order of their submitters, and how many pulses were refused.
@@ -82,7 +82,7 @@ impl<D: Driver> Model for Left<D> {
 
 type Started<D> = PromisedHandle<Driven<D>, EndOfSubmitter>;
 
-type StartedControl = PromisedHandle<ControlDriven, EndOfControl>;
+type StartedControl = PromisedHandle<Option<ControlLeft>, EndOfControl>;
 
 impl<D: Driver> Left<D> {
     /// Nothing yet, with room for what so many threads leave.
@@ -188,8 +188,8 @@ fn start_control<'s, E, R: Wait + Sync>(
 {
     let started = scope.spawn_with(
         control_driver.promise(),
-        move || -> ControlDriven
-            ensures { IsControlEnd control_driver result.end }
+        move || -> Option<ControlLeft>
+            ensures { IsControlEnd control_driver result }
         { control_driver.drive(rt, stop) },
     );
     match started {
@@ -245,34 +245,30 @@ fn join_all<D: Driver, R: Threads>(
     Ok(left)
 }
 
-/// Joins the control's thread: the control's end, and how many pulses were refused.
-fn join_control<R: Threads>(rt: &R, handle: StartedControl) -> Result<(ControlEnd, u64), DriveFault>
-    ensures { IfOk result (λ both. IsEndPromised handle.promise both.0) }
+/// Joins the control's thread.
+fn join_control<R: Threads>(rt: &R, handle: StartedControl) -> Result<ControlLeft, DriveFault>
+    ensures { IfOk result (λ left. IsEndPromised handle.promise left) }
 {
-    let ControlDriven { end, refused } = handle.join(rt);
-    match end {
-        Some(end) => Ok((end, refused)),
+    match handle.join(rt) {
+        Some(left) => Ok(left),
         None => Err(DriveFault::NoThread),
     }
 }
 
 /// Settles with the ends of all senders.
-fn settle_left<D: Driver>(
-    served: Served,
-    left: Left<D>,
-    end: ControlEnd,
-    refused_pulses: u64,
-) -> Finished<D>
+fn settle_left<D: Driver>(served: Served, left: Left<D>, control: ControlLeft) -> Finished<D>
     requires own { map end_origin left ≡ served.submitters }
-    requires control { end.seat ≡ control_seat served.intake }
+    requires control { control.end.seat ≡ control_seat served.intake }
     requires number { length served.submitters ≡ served.intake.submitters }
-    ensures { HasReported D.has_seen served.clock served.intake.limit served.intake.submitters end.queued result.drivers.items result.report.ledger result.report.ends.items }
+    ensures reported { HasReported D.has_seen served.clock served.intake.limit served.intake.submitters control.end.queued result.drivers.items result.report.ledger result.report.ends.items }
+    ensures refused { result.refused_pulses ≡ control.refused }
 {
     let Left { ends, drivers } = left;
+    let ControlLeft { end, refused } = control;
     Finished {
         report: settle(served, ends, end),
         drivers,
-        refused_pulses,
+        refused_pulses: refused,
     }
 }
 
@@ -286,7 +282,8 @@ fn finish<D: Driver, R: Threads>(
     requires control { running.control.promise.control.value.seat ≡ control_seat served.intake }
     requires number { length served.submitters ≡ served.intake.submitters }
     requires room { running.room ≡ [] }
-    ensures { IfOk result (λ finished. HasReported D.has_seen served.clock served.intake.limit served.intake.submitters (items_promised running.control.promise) finished.drivers.items finished.report.ledger finished.report.ends.items) }
+    ensures reported { IfOk result (λ finished. HasReported D.has_seen served.clock served.intake.limit served.intake.submitters (items_promised running.control.promise) finished.drivers.items finished.report.ledger finished.report.ends.items) }
+    ensures refused { IfOk result (λ finished. finished.refused_pulses ≡ refused_promised running.control.promise) }
 {
     let Running {
         submitters,
@@ -294,8 +291,8 @@ fn finish<D: Driver, R: Threads>(
         room,
     } = running;
     let left = join_all(rt, submitters, room)?;
-    let (end, refused_pulses) = join_control(rt, control)?;
-    Ok(settle_left(served, left, end, refused_pulses))
+    let control = join_control(rt, control)?;
+    Ok(settle_left(served, left, control))
 }
 
 /// Serves while the threads run, joins them and settles.
@@ -308,7 +305,8 @@ fn serve<D: Driver, R: Threads + Wait + Sync>(
     requires control { running.control.promise.control.value.seat ≡ control_seat pipeline.intake }
     requires number { length pipeline.submitters ≡ pipeline.intake.submitters }
     requires room { running.room ≡ [] }
-    ensures { IfOk result (λ finished. HasReported D.has_seen pipeline.clock pipeline.intake.limit pipeline.intake.submitters (items_promised running.control.promise) finished.drivers.items finished.report.ledger finished.report.ends.items) }
+    ensures reported { IfOk result (λ finished. HasReported D.has_seen pipeline.clock pipeline.intake.limit pipeline.intake.submitters (items_promised running.control.promise) finished.drivers.items finished.report.ledger finished.report.ends.items) }
+    ensures refused { IfOk result (λ finished. finished.refused_pulses ≡ refused_promised running.control.promise) }
 {
     match pipeline.serve(rt, &Open) {
         Ok(served) => finish(rt, served, running),
@@ -329,7 +327,8 @@ fn run_all<'s, E, D: Driver + Send + 's, R: Threads + Wait + Sync>(
     requires own { map origin_of all.items ≡ pipeline.submitters }
     requires control { control_driver.control.seat ≡ control_seat pipeline.intake }
     requires number { length pipeline.submitters ≡ pipeline.intake.submitters }
-    ensures { IfOk result (λ finished. HasReported D.has_seen pipeline.clock pipeline.intake.limit pipeline.intake.submitters (items_to_queue control_driver) finished.drivers.items finished.report.ledger finished.report.ends.items) }
+    ensures reported { IfOk result (λ finished. HasReported D.has_seen pipeline.clock pipeline.intake.limit pipeline.intake.submitters (items_to_queue control_driver) finished.drivers.items finished.report.ledger finished.report.ends.items) }
+    ensures refused { IfOk result (λ finished. finished.refused_pulses ≡ refused_of control_driver.lines.moments.items) }
 {
     match start(scope, rt, alloc, stop, all, control_driver) {
         Ok(running) => serve(rt, pipeline, running),
@@ -348,7 +347,8 @@ fn run_in_scope<D: Driver + Send, R: Threads + Wait + Sync>(
     requires own { map origin_of all.items ≡ pipeline.submitters }
     requires control { control_driver.control.seat ≡ control_seat pipeline.intake }
     requires number { length pipeline.submitters ≡ pipeline.intake.submitters }
-    ensures { IfOk result (λ finished. HasReported D.has_seen pipeline.clock pipeline.intake.limit pipeline.intake.submitters (items_to_queue control_driver) finished.drivers.items finished.report.ledger finished.report.ends.items) }
+    ensures reported { IfOk result (λ finished. HasReported D.has_seen pipeline.clock pipeline.intake.limit pipeline.intake.submitters (items_to_queue control_driver) finished.drivers.items finished.report.ledger finished.report.ends.items) }
+    ensures refused { IfOk result (λ finished. finished.refused_pulses ≡ refused_of control_driver.lines.moments.items) }
 {
     let flag = AtomicBool::new(false);
     let stop = &flag;
@@ -359,7 +359,8 @@ fn run_in_scope<D: Driver + Send, R: Threads + Wait + Sync>(
             requires own { map origin_of all.items ≡ pipeline.submitters }
             requires control { control_driver.control.seat ≡ control_seat pipeline.intake }
             requires number { length pipeline.submitters ≡ pipeline.intake.submitters }
-            ensures { IfOk result (λ finished. HasReported D.has_seen pipeline.clock pipeline.intake.limit pipeline.intake.submitters (items_to_queue control_driver) finished.drivers.items finished.report.ledger finished.report.ends.items) }
+            ensures reported { IfOk result (λ finished. HasReported D.has_seen pipeline.clock pipeline.intake.limit pipeline.intake.submitters (items_to_queue control_driver) finished.drivers.items finished.report.ledger finished.report.ends.items) }
+            ensures refused { IfOk result (λ finished. finished.refused_pulses ≡ refused_of control_driver.lines.moments.items) }
         {
             let finished = run_all(scope, rt, alloc, stop, pipeline, all, control_driver);
             if finished.is_err() {
@@ -413,7 +414,8 @@ pub fn drive_all<D: Driver + Send, R: Threads + Wait + Sync>(
     requires together { AreTogether opened.pipeline opened.submitters.items opened.control }
     requires number { length drivers.items ≡ length opened.pipeline.submitters }
     requires seen { HaveSeen D.has_seen drivers.items opened.submitters.items }
-    ensures { IfOk result (λ finished. HasReported D.has_seen opened.pipeline.clock opened.pipeline.intake.limit opened.pipeline.intake.submitters (opened.control.queued ++ lines_of lines.moments.items lines.shuts) finished.drivers.items finished.report.ledger finished.report.ends.items) }
+    ensures reported { IfOk result (λ finished. HasReported D.has_seen opened.pipeline.clock opened.pipeline.intake.limit opened.pipeline.intake.submitters (opened.control.queued ++ lines_of lines.moments.items lines.shuts) finished.drivers.items finished.report.ledger finished.report.ends.items) }
+    ensures refused { IfOk result (λ finished. finished.refused_pulses ≡ refused_of lines.moments.items) }
 {
     let Opened {
         pipeline,

@@ -5,8 +5,8 @@ use Rattle.tb_drive.proofs.Control.{queued_by_control}
 use Rattle.tb_drive.proofs.Seen.{once_settled}
 use Rattle.tb_drive.proofs.driving.settle_left.Goals as goal
 
-pub returns : goal.returns
-returns g c =
+pub returns-clause-reported : goal.returns-clause-reported
+returns-clause-reported g c =
     let served = c.args.served in
     let ends = c.left.inside.ends.items in
     let drivers = c.left.inside.drivers.items in
@@ -15,12 +15,12 @@ returns g c =
     let long : length ends ≡ served.intake.submitters = sym (length-map ends end_origin) ∙ ap length own ∙ c.requires.number in
     record {
       queue = served.intake.taken;
-      queued = queued_by ends c.args.end;
-      control = queued_by_control ends c.args.end served.intake.submitters served.submitters own c.requires.number;
+      queued = queued_by ends c.args.control.end;
+      control = queued_by_control ends c.args.control.end served.intake.submitters served.submitters own c.requires.number;
       report = settled.report;
       grouping = settled.grouping;
       pulses = settled.pulses;
       number = settled.long;
       driven = c.left.invariant.0 ∙ long;
-      seen = once_settled g.D.Driver.has_seen drivers ends _ c.args.end (settled.long ∙ sym long) settled.read c.left.invariant.1;
+      seen = once_settled g.D.Driver.has_seen drivers ends _ c.args.control.end (settled.long ∙ sym long) settled.read c.left.invariant.1;
     }
