@@ -83,10 +83,8 @@ fn run_opened<T: Threads + Wait + Sync>(
     requires fresh { AreFresh opened.submitters.items }
     requires new { AreNew drivers.items }
 {
-    match drive_all(rt, alloc, opened, drivers, lines) {
-        Ok(finished) => Ok(text_of(alloc, finished)?),
-        Err(fault) => Err(ProgramFault::from(fault)),
-    }
+    let finished = drive_all(rt, alloc, opened, drivers, lines)?;
+    Ok(text_of(alloc, finished)?)
 }
 
 /// The output for a script that has no fault.
