@@ -1,5 +1,5 @@
 -- Transfers expire: one, and all that are due.
-use Rattle.std.proofs.Common.{refl, sym, ap, subst, ◌∙◌, arith, ◌≡◌, ℕ, ◌<◌, ◌≤◌, Bool, true, false, not, List, nat_eq, slice_get, true≢false, ◌&&◌, Option, Some, None, ◌+◌, [], ◌∷◌, map, filter, suc, if◌then◌else◌, ◌==◌, ◌||◌}
+use Rattle.std.proofs.Common.{refl, sym, ap, subst, ◌∙◌, arith, ◌≡◌, ℕ, ◌<◌, ◌≤◌, Bool, true, false, not, List, nat_eq, slice_get, true≢false, ◌&&◌, Option, Some, None, ◌+◌, [], ◌∷◌, map, filter, suc, if◌then◌else◌, ◌==◌, ◌||◌, append-nil}
 use Rattle.tb_tables.proofs.Words.{IsDistinct, keys_of, nat_tests, set_value_at, Account, Transfer, Facts, expire_due, is_reserving, is_due, expires_at, same_pair, sums_of, with_amount, account_rows, AreAt, CanTake, row_in, transfer_rows, is_timed, is_pair_of, expects, IsGrounded, Hold, IsSound, AreHeld, is_open_status, CanExpire, expire_one, Places, Row, Expired, is_expired, is_resolved, is_pending, IsLawful, reserves_at}
 use Rattle.tb_tables.proofs.Laws.{resolved_either, ==_swap, reserves}
 use Rattle.tb_tables.proofs.Stored.{row-placed, rows-set}
@@ -70,10 +70,8 @@ module _ (facts : Facts) (x : Transfer) (place : ℕ) (at : slice_get facts.tran
   row-expired : record (row_in facts x) { status = Some Expired } ≡ row_in after x
   row-expired = grind (arith, nat_tests, reserving, resolved_either x.id facts.transfers, more x.id)
 
-  pub rows-after : (entries : List (ℕ × Row)) → entries ≡ transfer_rows facts facts.transfers → IsDistinct nat_eq (keys_of entries) → set_value_at entries place (record (row_in facts x) { status = Some Expired }) ≡ transfer_rows after facts.transfers
-  rows-after entries is apart =
-      ap (λ es. set_value_at es place (record (row_in facts x) { status = Some Expired })) is ∙ ap (set_value_at (transfer_rows facts facts.transfers) place) row-expired
-      ∙ rows-set (λ (t : Transfer). t.id) (row_in facts) (row_in after) facts.transfers place x at (rw is at apart) row-other
+  pub rows-after : {entries : List (ℕ × Row)} → entries ≡ transfer_rows facts facts.transfers → IsDistinct nat_eq (keys_of entries) → set_value_at entries place (record (row_in facts x) { status = Some Expired }) ≡ transfer_rows after facts.transfers
+  rows-after is apart = rows-set (λ (t : Transfer). t.id) (row_in facts) (row_in after) [] facts.transfers place x at row-expired row-other (is ∙ sym (append-nil _)) apart ∙ append-nil _
 
   -- ---- what it does to sound facts and to the index
 
@@ -150,7 +148,7 @@ module _ {facts : Facts} {accounts : List (ℕ × Account)} {transfers : List (�
   })
 
   pub expired-row : IsDistinct nat_eq (keys_of transfers) → set_value_at transfers place (record (row_in facts can.transfer) { status = Some Expired }) ≡ transfer_rows (expire_one can.transfer.id facts) facts.transfers
-  expired-row apart = rows-after facts can.transfer place can.at can.lawful can.reserves can.ordered transfers can.hold.transfers_are apart
+  expired-row apart = rows-after facts can.transfer place can.at can.lawful can.reserves can.ordered can.hold.transfers_are apart
 
 -- ---- the loop
 

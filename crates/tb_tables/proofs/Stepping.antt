@@ -3,13 +3,15 @@ use Rattle.std.proofs.Common.{refl, sym, ap, subst, arith, ◌∙◌, ◌≡◌,
 use Rattle.std.proofs.lemmas.Bool.{eqb-true}
 use Rattle.std.proofs.lemmas.List.Elements.{filter-append}
 use Rattle.std.proofs.lemmas.Option.{slice_get_past}
-use Rattle.tb_tables.proofs.Words.{list_any, nat_tests, Account, Transfer as TransferRecord, is_pending, is_resolving, Facts, transfer_with, is_expired, add_transfer, is_resolved, is_reserving, IsLawful, has_id, before, AreAt, Stored, AreGrounded, facts_of, is_pair, AreExpiries, IsSound, AreHeld, Allow, MayStore, WasStored, IsKept, Hold, new_row, IsPushed, IsStored, Places, Row, IsUndoable, KeepsPairs, its_pair}
+use Rattle.tb_tables.proofs.Words.{list_any, nat_tests, Account, Transfer as TransferRecord, is_pending, is_resolving, Facts, transfer_with, is_expired, add_transfer, is_resolved, is_reserving, IsLawful, has_id, before, AreAt, Stored, AreGrounded, facts_of, is_pair, AreExpiries, IsSound, AreHeld, Allow, MayStore, WasStored, IsKept, Hold, new_row, Step, IsBefore, IsAfter, HavePlaces, IsStored, row_in, transfer_rows, Places, Row, IsUndoable, KeepsPairs, its_pair}
 use Rattle.tb_tables.specs.declared.change.Change.TheVariants.{Transfer}
 use Rattle.tb_tables.proofs.Laws.{find-none, any-push, reserving-same, reserving-other, resolves_nothing, add_transfer_lawful, resolve_lawful}
 use Rattle.tb_tables.proofs.Grounding.{grounded_added, grounded_resolved}
 use Rattle.tb_tables.proofs.Expecting.{slice_get-push, pairs-push, expects-push}
 use Rattle.tb_tables.proofs.Keeping.{keeps, sound-indexed}
 use Rattle.tb_tables.proofs.Histories.{without_last-push}
+use Rattle.tb_tables.proofs.Settling.{row-new}
+use Rattle.std.proofs.lemmas.List.{map_push}
 
 -- the ids of those whose id passes a test
 pub ids-found : (test : ℕ → Bool) (id : ℕ) (xs : List TransferRecord) → list_any (λ other. other == id) (map (λ (t : TransferRecord). t.id) (filter (λ t. test t.id) xs)) ≡ (test id && has_id id xs)
@@ -85,12 +87,12 @@ module _ (facts : Facts) (t : TransferRecord) where
 
   -- ---- one more
 
-  held-push : {accounts accounts' : List (ℕ × Account)} {transfers transfers' : List (ℕ × Row)} {indexed next : ℕ → ℕ → Bool} {places : Places} → AreHeld accounts transfers indexed facts → IsStored facts t places accounts' transfers' →
+  held-push : {accounts accounts' : List (ℕ × Account)} {transfers transfers' : List (ℕ × Row)} {indexed next : ℕ → ℕ → Bool} {places : Places} → AreHeld accounts transfers indexed facts → Allow facts t places → Hold (add_transfer facts t) accounts' transfers' →
       ((m p : ℕ) → next m p ≡ (its_pair facts t m p || indexed m p)) → AreHeld accounts' transfers' next (add_transfer facts t)
-  held-push {indexed = indexed} {next = next} {places = places} held is put = record {
-    hold = is.hold;
+  held-push {indexed = indexed} {next = next} {places = places} held allow hold put = record {
+    hold = hold;
     timed = λ m p has. grind (arith, pairs-push facts t m p, put m p, held.timed m p);
-    sound = sound-push indexed next places is.allow held.sound put;
+    sound = sound-push indexed next places allow held.sound put;
   }
 
 pub back : (facts : Facts) (t : TransferRecord) (places : Places) → before (Transfer places) (add_transfer facts t) ≡ facts
@@ -100,17 +102,25 @@ back facts t places = ap (λ ts. record facts { transfers = ts }) (without_last-
 pub same-held : {accounts : List (ℕ × Account)} {transfers : List (ℕ × Row)} {indexed other : ℕ → ℕ → Bool} {facts : Facts} → ((m p : ℕ) → other m p ≡ indexed m p) → AreHeld accounts transfers indexed facts → AreHeld accounts transfers other facts
 same-held {accounts} {transfers} {indexed} {other} {facts} same held = subst (λ ix. AreHeld accounts transfers ix facts) (λ i. λ m p. sym (same m p) i) held
 
-module _ (old : Stored) (kept : IsKept old) (t : TransferRecord) (places : Places) (are_at : AreAt (facts_of old).accounts places t.debit_account_id t.credit_account_id) (may : MayStore (facts_of old) t places.pending) where
-  pub pushed : (entries : List (ℕ × Row)) → entries ≡ old.transfers ++ (t.id, new_row t) ∷ [] → IsPushed (facts_of old) t places old.accounts entries
-  pushed entries is = record {
-    allow = allows old.is_indexed (facts_of old) t places kept.sound are_at may;
-    accounts_are = kept.hold.accounts_are;
-    transfers_are = is ∙ ap (λ es. es ++ (t.id, new_row t) ∷ []) kept.hold.transfers_are;
-  }
+-- its row is there, and with the rest of it the maps are kept
+pub record IsPushed (old : Stored) (t : TransferRecord) (places : Places) (entries : List (ℕ × Row)) : Type 0 where
+  pub step : Step t places
+  pub before : IsBefore step old.accounts entries
+  pub stored : {accounts : List (ℕ × Account)} {transfers : List (ℕ × Row)} {next : ℕ → ℕ → Bool} → IsAfter step accounts transfers → ((m p : ℕ) → next m p ≡ (its_pair (facts_of old) t m p || old.is_indexed m p)) →
+      let new : Stored = record old { accounts = accounts; transfers = transfers; is_indexed = next } in IsKept new × (facts_of new ≡ add_transfer (facts_of old) t)
 
-pub stored : (old : Stored) → IsKept old → (t : TransferRecord) (places : Places) {accounts : List (ℕ × Account)} {transfers : List (ℕ × Row)} {next : ℕ → ℕ → Bool} → IsStored (facts_of old) t places accounts transfers →
-    ((m p : ℕ) → next m p ≡ (its_pair (facts_of old) t m p || old.is_indexed m p)) → let new : Stored = record old { accounts = accounts; transfers = transfers; is_indexed = next } in IsKept new × (facts_of new ≡ add_transfer (facts_of old) t)
-stored old kept t places is put = keeps (add_transfer (facts_of old) t) (held-push (facts_of old) t kept is put)
+pub pushed : (old : Stored) → IsKept old → (t : TransferRecord) (places : Places) → HavePlaces (facts_of old) t places → MayStore (facts_of old) t places.pending → {entries : List (ℕ × Row)} → entries ≡ old.transfers ++ (t.id, new_row t) ∷ [] → IsPushed old t places entries
+pushed old kept t places at may is =
+    let new : Facts = add_transfer (facts_of old) t in
+    let step : Step t places = record { facts = facts_of old; more = (t.id, new_row t) ∷ []; allow = allows old.is_indexed (facts_of old) t places kept.sound at.are_at may } in
+    record {
+      step = step;
+      before = record { accounts_are = kept.hold.accounts_are; transfers_are = is ∙ ap (λ es. es ++ (t.id, new_row t) ∷ []) kept.hold.transfers_are };
+      stored = λ after put. keeps new (held-push (facts_of old) t kept step.allow (record {
+        accounts_are = after.accounts_are;
+        transfers_are = after.transfers_are ∙ ap (λ row. transfer_rows new (facts_of old).transfers ++ (t.id, row) ∷ []) (row-new step) ∙ sym (map_push (λ (x : TransferRecord). (x.id, row_in new x)) (facts_of old).transfers t);
+      }) put);
+    }
 
 -- its pair put into the index and taken out again: it wasn't there
 pub refused : (old : Stored) → IsKept old → (t : TransferRecord) (m p : ℕ) → (not (its_pair (facts_of old) t m p) && (its_pair (facts_of old) t m p || old.is_indexed m p)) ≡ old.is_indexed m p

@@ -118,15 +118,17 @@ pub fn pop_transfer(transfers: &mut ById<Row>) -> Transfer
     row.transfer
 }
 
-/// Sets the status of the transfer at a place.
-pub fn set_status(transfers: &mut ById<Row>, place: usize, status: Status)
+/// Sets the status of the transfer at a place, and gives that transfer.
+pub fn set_status(transfers: &mut ById<Row>, place: usize, status: Status) -> Transfer
     requires { IsSome (slice_get transfers.old.entries place) }
+    ensures transfer { (id : ℕ) (row : RowRecord) → slice_get transfers.old.entries place ≡ Some (id, row) → result ≡ row.transfer }
     ensures entries { (id : ℕ) (row : RowRecord) → slice_get transfers.old.entries place ≡ Some (id, row)
         → transfers.new.entries ≡ set_value_at transfers.old.entries place (record row { status = Some status }) }
     ensures unique { IsUnique nat_eq transfers.old }
 {
     let (_, row) = transfers.pair_mut(place);
     row.status = Some(status);
+    row.transfer
 }
 
 /// The status of what a post or a void names.

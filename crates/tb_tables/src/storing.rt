@@ -9,7 +9,7 @@ ghost use Rattle.tb_tables.specs.Facts.{Facts};
 ghost use Rattle.tb_tables.specs.Status.{expires_at as expires_at_of};
 ghost use Rattle.tb_tables.specs.Expiries.{is_indexed, same_pair};
 ghost use Rattle.tb_tables.specs.Kept.{is_timed as is_timed_of, named_by as named_by_of, resolves_at, is_resolved_at, is_spent, Hold};
-ghost use Rattle.tb_tables.specs.Storing.{IsPushed, IsStored, IsPopped, IsForgettable, CanForget};
+ghost use Rattle.tb_tables.specs.Storing.{Step, IsBefore, IsAfter, IsStored, IsForgettable, CanForget};
 
 use crate::amounts::{add_amount, post_if, take_amount, unpost_if};
 use crate::by_id::ById;
@@ -73,14 +73,12 @@ fn settle(
     transfer: Transfer,
 )
     requires names { places.pending ≡ Some pending }
-    requires pushed { (facts : Facts) × IsPushed facts transfer places accounts.old.entries transfers.old.entries }
-    ensures { (facts : Facts) → IsPushed facts transfer places accounts.old.entries transfers.old.entries
-        → IsStored facts transfer places accounts.new.entries transfers.new.entries }
+    requires before { (step : Step transfer places) × IsBefore step accounts.old.entries transfers.old.entries }
+    ensures { (step : Step transfer places) → IsBefore step accounts.old.entries transfers.old.entries → IsAfter step accounts.new.entries transfers.new.entries }
 {
-    let reserved = transfer_at(transfers, pending).amount;
+    let reserved = set_status(transfers, pending, settled_status(transfer.is_post())).amount;
     take_amount(accounts, places, true, reserved);
     post_if(accounts, places, transfer.is_post(), transfer.amount);
-    set_status(transfers, pending, settled_status(transfer.is_post()));
 }
 
 /// Adds a stored transfer's amounts to its accounts, and resolves what it names.
@@ -90,9 +88,8 @@ pub fn apply(
     places: Places,
     transfer: Transfer,
 )
-    requires { (facts : Facts) × IsPushed facts transfer places accounts.old.entries transfers.old.entries }
-    ensures { (facts : Facts) → IsPushed facts transfer places accounts.old.entries transfers.old.entries
-        → IsStored facts transfer places accounts.new.entries transfers.new.entries }
+    requires { (step : Step transfer places) × IsBefore step accounts.old.entries transfers.old.entries }
+    ensures { (step : Step transfer places) → IsBefore step accounts.old.entries transfers.old.entries → IsAfter step accounts.new.entries transfers.new.entries }
 {
     match places.pending {
         None => add_amount(accounts, places, transfer.is_pending(), transfer.amount),
@@ -109,14 +106,12 @@ fn unsettle(
     transfer: Transfer,
 )
     requires names { places.pending ≡ Some pending }
-    requires popped { (facts : Facts) × IsPopped facts transfer places accounts.old.entries transfers.old.entries }
-    ensures { (facts : Facts) → IsPopped facts transfer places accounts.old.entries transfers.old.entries
-        → Hold facts accounts.new.entries transfers.new.entries }
+    requires after { (step : Step transfer places) × IsAfter step accounts.old.entries transfers.old.entries }
+    ensures { (step : Step transfer places) → IsAfter step accounts.old.entries transfers.old.entries → IsBefore step accounts.new.entries transfers.new.entries }
 {
-    let reserved = transfer_at(transfers, pending).amount;
+    let reserved = set_status(transfers, pending, Status::Pending).amount;
     unpost_if(accounts, places, transfer.is_post(), transfer.amount);
     add_amount(accounts, places, true, reserved);
-    set_status(transfers, pending, Status::Pending);
 }
 
 /// Takes a transfer's amounts out of its accounts, and resolves what it names no more, once it is stored no more.
@@ -126,9 +121,8 @@ fn unapply(
     places: Places,
     transfer: Transfer,
 )
-    requires { (facts : Facts) × IsPopped facts transfer places accounts.old.entries transfers.old.entries }
-    ensures { (facts : Facts) → IsPopped facts transfer places accounts.old.entries transfers.old.entries
-        → Hold facts accounts.new.entries transfers.new.entries }
+    requires { (step : Step transfer places) × IsAfter step accounts.old.entries transfers.old.entries }
+    ensures { (step : Step transfer places) → IsAfter step accounts.old.entries transfers.old.entries → IsBefore step accounts.new.entries transfers.new.entries }
 {
     match places.pending {
         None => take_amount(accounts, places, transfer.is_pending(), transfer.amount),
