@@ -4,7 +4,8 @@ use Rattle.tb_tables.proofs.Words.{IsDistinct, keys_of, nat_tests, set_value_at,
 use Rattle.tb_tables.proofs.Laws.{resolved_either, ==_swap, reserves}
 use Rattle.tb_tables.proofs.Stored.{row-placed, rows-set}
 use Rattle.tb_tables.proofs.Added.{rows-same, AreSame}
-use Rattle.tb_tables.proofs.Forgetting.{all-there}
+use Rattle.tb_tables.proofs.Grounding.{all-there}
+use Rattle.tb_tables.proofs.Keeping.{held-by}
 use Rattle.std.proofs.lemmas.Bool.{eqb-true}
 use Rattle.std.proofs.lemmas.List.Elements.{filter_agree}
 use Rattle.tb_tables.proofs.Sums.{amount_if, amounts, amounts-each, sum_by-same, but_for, but_for-found}
@@ -210,20 +211,11 @@ module _ {accounts : List (ℕ × Account)} {transfers : List (ℕ × Row)} {ind
 
     -- it reserves nothing any more
     pub passed-over : {old : Facts} → is_open_status (row_in facts pair.transfer).status ≡ false → expire_due clock facts ≡ expire_due clock old → StillDue clock old accounts transfers next
-    passed-over closed same =
-        let s = held.sound in
-        record {
-          now = facts;
-          held = record {
-            hold = held.hold;
-            timed = λ m p h. held.timed m p (grind (arith, took m p, h));
-            sound = record { lawful = s.lawful; grounded = s.grounded; made = s.made; expiries = s.expiries; paired = λ m p h. stays m p h (s.paired m p h) };
-          };
-          same = same;
-        }
-      where
-        stays : (m p : ℕ) → expects facts m p ≡ true → indexed m p ≡ true → next m p ≡ true
-        stays m p h was = grind (arith, nat_tests, took m p, pair.at, closed, resolved_either pair.transfer.id facts.transfers)
+    passed-over closed same = record {
+      now = facts;
+      held = held-by held (λ m p h. grind (arith, took m p, h)) (λ m p h was. grind (arith, nat_tests, took m p, pair.at, closed, h, was, resolved_either pair.transfer.id facts.transfers));
+      same = same;
+    }
 
 -- where no pair is due, nothing that reserves its amount is
 none-due : (clock : ℕ) (indexed : ℕ → ℕ → Bool) (facts : Facts) → IsSound indexed facts → ((m p : ℕ) → indexed m p ≡ true → clock < m) → (p : ℕ) (y : Transfer) → slice_get facts.transfers p ≡ Some y →

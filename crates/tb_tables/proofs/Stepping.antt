@@ -8,7 +8,7 @@ use Rattle.tb_tables.specs.declared.change.Change.TheVariants.{Transfer}
 use Rattle.tb_tables.proofs.Laws.{find-none, any-push, reserving-same, reserving-other, resolves_nothing, add_transfer_lawful, resolve_lawful}
 use Rattle.tb_tables.proofs.Grounding.{grounded_added, grounded_resolved}
 use Rattle.tb_tables.proofs.Expecting.{slice_get-push, pairs-push, expects-push}
-use Rattle.tb_tables.proofs.Keeping.{keeps, sound-indexed}
+use Rattle.tb_tables.proofs.Keeping.{keeps, sound-indexed, held-by}
 use Rattle.tb_tables.proofs.Histories.{without_last-push}
 use Rattle.tb_tables.proofs.Settling.{row-new}
 use Rattle.std.proofs.lemmas.List.{map_push}
@@ -100,7 +100,7 @@ back facts t places = ap (λ ts. record facts { transfers = ts }) (without_last-
 
 -- where the index has the same pairs
 pub same-held : {accounts : List (ℕ × Account)} {transfers : List (ℕ × Row)} {indexed other : ℕ → ℕ → Bool} {facts : Facts} → ((m p : ℕ) → other m p ≡ indexed m p) → AreHeld accounts transfers indexed facts → AreHeld accounts transfers other facts
-same-held {accounts} {transfers} {indexed} {other} {facts} same held = subst (λ ix. AreHeld accounts transfers ix facts) (λ i. λ m p. sym (same m p) i) held
+same-held same held = held-by held (λ m p has. sym (same m p) ∙ has) (λ m p needed was. same m p ∙ was)
 
 -- its row is there, and with the rest of it the maps are kept
 pub record IsPushed (old : Stored) (t : TransferRecord) (places : Places) (entries : List (ℕ × Row)) : Type 0 where

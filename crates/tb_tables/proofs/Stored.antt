@@ -4,7 +4,7 @@ use Rattle.std.proofs.lemmas.Option.{slice_get-get_or, slice_get-map}
 use Rattle.std.proofs.lemmas.List.{length-map}
 use Rattle.std.proofs.lemmas.Map.Keys.{IsDistinct-head, IsDistinct-tail}
 use Rattle.indexmap.proofs.MapLemmas.{Found-position}
-use Rattle.tb_tables.proofs.Words.{list_any, AllByRecursion, IsDistinct, keys_of, lookup, lookup_key, nat_tests, set_value_at}
+use Rattle.tb_tables.proofs.Words.{list_any, AllByRecursion, IsDistinct, position_or_len, keys_of, lookup, lookup_key, nat_tests, set_value_at}
 use Rattle.tb_tables.proofs.Laws.{==_swap}
 
 -- each under its key, with what is made of it
@@ -25,7 +25,19 @@ made-at f (x ∷ xs) (suc place) y at = made-at f xs place y at
 pub row-placed : {X V : Type 0} (key : X → ℕ) (made : X → V) (xs : List X) {es : List (ℕ × V)} → es ≡ rows key made xs → (place : ℕ) {x : X} → slice_get xs place ≡ Some x → slice_get es place ≡ Some (key x, made x)
 row-placed key made xs is place at = ap (λ es. slice_get es place) is ∙ slice_get-map (λ x. (key x, made x)) xs place ∙ ap (option_map (λ x. (key x, made x))) at
 
--- a look-up by key finds the first of that key
+keys-rows : {X V : Type 0} (key : X → ℕ) (made : X → V) (xs : List X) → keys_of (rows key made xs) ≡ map key xs
+keys-rows key made [] = refl
+keys-rows key made (x ∷ xs) = ap (λ ks. key x ∷ ks) (keys-rows key made xs)
+
+-- or under the key that stands at a place
+pub key-placed : {X V : Type 0} (key : X → ℕ) (made : X → V) (xs : List X) {es : List (ℕ × V)} → es ≡ rows key made xs → (place : ℕ) {id : ℕ} → slice_get (keys_of es) place ≡ Some id → (x : X) × (slice_get xs place ≡ Some x) × (key x ≡ id)
+key-placed key made xs is place {id} at = made-at key xs place id (sym (ap (λ ks. slice_get ks place) (ap keys_of is ∙ keys-rows key made xs)) ∙ at)
+
+-- where the first of a key stands, and what a look-up by key finds: the first of that key
+pub first-of-key : {X V : Type 0} (key : X → ℕ) (made : X → V) (id : ℕ) (xs : List X) → position_or_len (nat_eq id) (keys_of (rows key made xs)) ≡ position_or_len (λ x. key x == id) xs
+first-of-key key made id [] = refl
+first-of-key key made id (x ∷ xs) = grind (arith, ==_swap id (key x), first-of-key key made id xs)
+
 pub lookup-rows : {X V : Type 0} (key : X → ℕ) (made : X → V) (id : ℕ) (xs : List X) → lookup (nat_eq id) (rows key made xs) ≡ option_map made (find (λ x. key x == id) xs)
 lookup-rows key made id [] = refl
 lookup-rows key made id (x ∷ xs) = grind (arith, ==_swap id (key x), lookup-rows key made id xs)
