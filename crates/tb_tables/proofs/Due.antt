@@ -8,7 +8,7 @@ use Rattle.tb_tables.proofs.Grounding.{all-there}
 use Rattle.tb_tables.proofs.Keeping.{held-by}
 use Rattle.std.proofs.lemmas.Bool.{eqb-true}
 use Rattle.std.proofs.lemmas.List.Elements.{filter_agree}
-use Rattle.tb_tables.proofs.Sums.{amount_if, amounts, amounts-each, sum_by-same, but_for, but_for-found}
+use Rattle.tb_tables.proofs.Sums.{amount_if, amounts, amounts-same, but_for, but_for-found}
 use Rattle.tb_tables.proofs.Expecting.{find-at, has_id-at, one-transfer}
 use Rattle.tb_tables.proofs.Stepping.{ids-found, expired-is}
 
@@ -26,9 +26,6 @@ none-left clock facts ordered none =
     λ i. record facts { expired = (ap (map (λ (t : Transfer). t.id)) (filter-at (expires clock facts) (λ (t : Transfer). is_expired facts t.id) facts.transfers (λ p y at. grind (arith, none p y at))) ∙ sym ordered) i }
 
 -- ---- one transfer more has expired
-
-amounts-same : (test other : Transfer → Bool) (xs : List Transfer) → ((y : Transfer) → test y ≡ other y) → amounts test xs ≡ amounts other xs
-amounts-same test other xs same = amounts-each test xs ∙ sum_by-same (amount_if test) (amount_if other) xs (λ y. ap (λ b. if b then y.amount else 0) (same y)) ∙ sym (amounts-each other xs)
 
 module _ (facts : Facts) (x : Transfer) (place : ℕ) (at : slice_get facts.transfers place ≡ Some x) (lawful : IsLawful facts) (reserving : is_reserving facts x ≡ true)
     (ordered : facts.expired ≡ map (λ (t : Transfer). t.id) (filter (λ t. is_expired facts t.id) facts.transfers)) where

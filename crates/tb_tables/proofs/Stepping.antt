@@ -5,7 +5,8 @@ use Rattle.std.proofs.lemmas.List.Elements.{filter-append}
 use Rattle.std.proofs.lemmas.Option.{slice_get_past}
 use Rattle.tb_tables.proofs.Words.{list_any, nat_tests, Account, Transfer as TransferRecord, is_pending, is_resolving, Facts, transfer_with, is_expired, add_transfer, is_resolved, is_reserving, IsLawful, has_id, before, AreAt, Stored, AreGrounded, facts_of, is_pair, AreExpiries, IsSound, AreHeld, Allow, MayStore, WasStored, IsKept, Hold, new_row, Step, IsBefore, IsAfter, HavePlaces, IsStored, row_in, transfer_rows, Places, Row, IsUndoable, KeepsPairs, its_pair}
 use Rattle.tb_tables.specs.declared.change.Change.TheVariants.{Transfer}
-use Rattle.tb_tables.proofs.Laws.{find-none, any-push, reserving-same, reserving-other, resolves_nothing, add_transfer_lawful, resolve_lawful}
+use Rattle.tb_tables.proofs.Laws.{find-none, any-push, reserving-same, reserving-other, resolves_nothing, add_transfer_lawful}
+use Rattle.tb_tables.proofs.Added.{resolve_lawful}
 use Rattle.tb_tables.proofs.Grounding.{grounded_added, grounded_resolved}
 use Rattle.tb_tables.proofs.Expecting.{slice_get-push, pairs-push, expects-push}
 use Rattle.tb_tables.proofs.Keeping.{keeps, sound-indexed, held-by}
