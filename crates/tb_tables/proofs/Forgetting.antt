@@ -17,16 +17,9 @@ module _ {facts : Facts} {t : Transfer} {entries : List (ℕ × Row)} {place : �
   pub fits : is_timed t ≡ true → expires_at t < 2 ^ 64
   fits timed = can.expiry_fits (grind (arith, timed))
 
-  -- its pair leaves, where it has one and its status isn't pending
-  pub spent-gone : is_timed t ≡ true → is_open_status (row_in facts t).status ≡ false → (m p : ℕ) → same_pair (expires_at t) place m p ≡ ((place == p) && is_spent facts m p)
-  spent-gone timed closed m p = grind (arith, nat_tests, can.at, timed, closed, resolved_either t.id facts.transfers)
-
-  -- and else none does
-  pub untimed-stays : is_timed t ≡ false → (m p : ℕ) → ((place == p) && is_spent facts m p) ≡ false
-  untimed-stays untimed m p = grind (arith, nat_tests, can.at, untimed)
-
-  pub open-stays : is_open_status (row_in facts t).status ≡ true → (m p : ℕ) → ((place == p) && is_spent facts m p) ≡ false
-  open-stays open_one m p = grind (arith, nat_tests, can.at, open_one, resolved_either t.id facts.transfers)
+  -- its pair is spent, where it has one and its status isn't pending
+  pub spent-is : (m p : ℕ) → ((place == p) && is_spent facts m p) ≡ (is_timed t && not (is_open_status (row_in facts t).status) && same_pair (expires_at t) place m p)
+  spent-is m p = grind (arith, nat_tests, can.at, resolved_either t.id facts.transfers)
 
 -- ---- all that some changes resolved
 

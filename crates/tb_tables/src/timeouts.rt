@@ -9,7 +9,7 @@ ghost use Rattle.tb_tables.specs.Storing.{CanExpire, expire_one};
 
 use crate::amounts::take_amount;
 use crate::by_id::ById;
-use crate::entries::{is_open, place_of, set_status};
+use crate::entries::{place_of, row_at, set_status};
 use crate::expiries::take_due;
 use crate::places::Places;
 use crate::row::Row;
@@ -44,7 +44,7 @@ pub fn expire_all(
         → AreHeld accounts.new.entries transfers.new.entries (is_indexed expiries.new) (expire_due clock facts) }
 {
     while let Some(place) = take_due(expiries, clock) {
-        if is_open(transfers, place) {
+        if row_at(transfers, place).is_open() {
             expire(accounts, transfers, place);
         }
     }
