@@ -135,22 +135,23 @@ refused old kept t m p = by (p == length (facts_of old).transfers) refl
 
 -- ---- the last taken back
 
-module _ (old : Stored) (kept : IsKept old) (places : Places) (undoable : IsUndoable old.is_indexed (Transfer places) (facts_of old)) where
-  abbrev pub facts : Facts
-  facts = before (Transfer places) (facts_of old)
+-- it can be taken back, to the facts before it, and without it the maps are kept
+pub record CanPop (old : Stored) (places : Places) (facts : Facts) : Type 0 where
+  pub transfer : TransferRecord
+  pub stored : IsStored facts transfer places old.accounts old.transfers
+  pub popped : {accounts : List (ℕ × Account)} {transfers : List (ℕ × Row)} {next : ℕ → ℕ → Bool} → Hold facts accounts transfers → ((m p : ℕ) → next m p ≡ (not (its_pair facts transfer m p) && old.is_indexed m p)) →
+      let new : Stored = record old { accounts = accounts; transfers = transfers; is_indexed = next } in IsKept new × (facts_of new ≡ facts) × KeepsPairs (length facts.transfers) old.is_indexed next
 
-  abbrev pub was : WasStored places facts (facts_of old)
-  was = undoable.1
-
-  pub was-stored : IsStored facts was.transfer places old.accounts old.transfers
-  was-stored = record { allow = was.allow; hold = subst (λ now. Hold now old.accounts old.transfers) was.stored kept.hold }
-
-  module _ {next : ℕ → ℕ → Bool} (took : (m p : ℕ) → next m p ≡ (not (its_pair facts was.transfer m p) && old.is_indexed m p)) where
-    pub kept-in : KeepsPairs (length facts.transfers) old.is_indexed next
-    kept-in m p within has = grind (arith, nat_tests, took m p, has)
-
-    still : (m p : ℕ) → next m p ≡ true → (old.is_indexed m p ≡ true → is_pair (facts_of old) m p ≡ true) → is_pair facts m p ≡ true
-    still m p has timed = grind (arith, took m p, has, pairs-push facts was.transfer m p, ap (λ now. is_pair now m p) was.stored)
-
-    pub taken : {accounts : List (ℕ × Account)} {transfers : List (ℕ × Row)} → Hold facts accounts transfers → let new : Stored = record old { accounts = accounts; transfers = transfers; is_indexed = next } in IsKept new × (facts_of new ≡ facts)
-    taken hold = keeps facts (record { hold = hold; timed = λ m p has. still m p has (kept.timed m p); sound = sound-indexed old.is_indexed next (length facts.transfers) kept-in facts (omega arith) undoable.0 })
+pub can-pop : (old : Stored) → IsKept old → (places : Places) → IsUndoable old.is_indexed (Transfer places) (facts_of old) → CanPop old places (before (Transfer places) (facts_of old))
+can-pop old kept places undoable =
+    let facts : Facts = before (Transfer places) (facts_of old) in
+    let t : TransferRecord = undoable.1.transfer in
+    record {
+      transfer = t;
+      stored = record { allow = undoable.1.allow; hold = subst (λ now. Hold now old.accounts old.transfers) undoable.1.stored kept.hold };
+      popped = λ {accounts} {transfers} {next} hold took.
+          let others : KeepsPairs (length facts.transfers) old.is_indexed next = λ m p within has. grind (arith, nat_tests, took m p, has) in
+          let timed : (m p : ℕ) → next m p ≡ true → is_pair facts m p ≡ true = λ m p has. grind (arith, took m p, has, kept.timed m p, pairs-push facts t m p, ap (λ now. is_pair now m p) undoable.1.stored) in
+          let is = keeps facts (record { hold = hold; timed = timed; sound = sound-indexed old.is_indexed next (length facts.transfers) others facts (omega arith) undoable.0 }) in
+          (is.0, is.1, others);
+    }
