@@ -9,7 +9,7 @@ use Rattle.tb_tables.proofs.Keeping.{held-by}
 use Rattle.std.proofs.lemmas.Bool.{eqb-true}
 use Rattle.std.proofs.lemmas.List.Elements.{filter_agree}
 use Rattle.tb_tables.proofs.Sums.{amount_if, amounts, amounts-same, but_for, but_for-found}
-use Rattle.tb_tables.proofs.Expecting.{find-at, has_id-at, one-transfer}
+use Rattle.tb_tables.proofs.Expecting.{find-at, has_id-at, one-place, one-transfer}
 use Rattle.tb_tables.proofs.Stepping.{ids-found, expired-is}
 
 pub filter-at : (f g : Transfer → Bool) (xs : List Transfer) → ((place : ℕ) (x : Transfer) → slice_get xs place ≡ Some x → f x ≡ g x) → filter f xs ≡ filter g xs
@@ -81,13 +81,7 @@ module _ (facts : Facts) (x : Transfer) (place : ℕ) (at : slice_get facts.tran
     where
       by : (o : Option Transfer) → slice_get facts.transfers p ≡ o → (is_pair_of m o && reserves_at after o) ≡ true → ((is_pair_of m o && reserves_at facts o) ≡ true) × ((place == p) ≡ false)
       by None at' h = grind arith
-      by (Some y) at' h = (grind (arith, reserving-after y), elsewhere (place == p) refl)
-        where
-          elsewhere : (b : Bool) → (place == p) ≡ b → b ≡ false
-          elsewhere false is = refl
-          elsewhere true is =
-              let here : x ≡ y = cc (at, at', ap (slice_get facts.transfers) (eqb-true place p is)) in
-              grind (arith, nat_tests, reserving-after y, here)
+      by (Some y) at' h = let one = one-place facts.transfers place p x y lawful.distinct at at' in (grind (arith, reserving-after y, h), grind (arith, reserving-after y, one, h))
 
   pub sound-after : (indexed next : ℕ → ℕ → Bool) → ((m p : ℕ) → next m p ≡ (not (same_pair (expires_at x) place m p) && indexed m p)) → IsSound indexed facts → IsSound next after
   sound-after indexed next is sound = record {
@@ -96,15 +90,13 @@ module _ (facts : Facts) (x : Transfer) (place : ℕ) (at : slice_get facts.tran
     made = sound.made;
     expiries = record {
       ordered = ap (map (λ (t : Transfer). t.id)) (filter_agree (λ (t : Transfer). is_expired facts t.id || (x.id == t.id)) (λ (t : Transfer). is_expired after t.id) (λ t. sym (more t.id)) facts.transfers);
-      open_ones = λ p y at' expired. by (x.id == y.id) p refl y at' (sym (more y.id) ∙ expired) (sound.expiries.open_ones p y at') (same p y at');
+      open_ones = λ p y at' expired.
+          let one = same p y at' in
+          let was = sound.expiries.open_ones p y at' in
+          (grind (arith, more y.id, expired, reserving, one, was), grind (arith, more y.id, expired, reserving, one, was));
     };
     paired = λ m p has. grind (arith, is m p, expects-after m p has, sound.paired m p);
   }
-    where
-      by : (b : Bool) (p : ℕ) {c : Bool} → c ≡ b → (y : Transfer) → slice_get facts.transfers p ≡ Some y → (is_expired facts y.id || c) ≡ true →
-          (is_expired facts y.id ≡ true → (is_pending y ≡ true) × (is_resolved facts y.id ≡ false)) → (c ≡ true → x ≡ y) → (is_pending y ≡ true) × (is_resolved facts y.id ≡ false)
-      by true p e y at' h old one = subst (λ z. (is_pending z ≡ true) × (is_resolved facts z.id ≡ false)) (one e) (grind (arith, reserving))
-      by false p e y at' h old one = old (grind (arith, h, e))
 
   -- ---- and to what is due
 
@@ -113,11 +105,7 @@ module _ (facts : Facts) (x : Transfer) (place : ℕ) (at : slice_get facts.tran
       λ i. record facts { expired = map (λ (t : Transfer). t.id) (filter-at (expires clock after) (expires clock facts) facts.transfers each i) }
     where
       each : (p : ℕ) (y : Transfer) → slice_get facts.transfers p ≡ Some y → expires clock after y ≡ expires clock facts y
-      each p y at' = by (x.id == y.id) refl
-        where
-          by : (b : Bool) → (x.id == y.id) ≡ b → expires clock after y ≡ expires clock facts y
-          by true is = let one = same p y at' is in grind (arith, more y.id, reserving-after y, reserving, due, one)
-          by false is = grind (arith, more y.id, reserving-after y, is)
+      each p y at' = let one = same p y at' in grind (arith, more y.id, reserving-after y, reserving, due, one)
 
 -- the entry of the transfer at a place
 row-at : {facts : Facts} {accounts : List (ℕ × Account)} {transfers : List (ℕ × Row)} → Hold facts accounts transfers → (place : ℕ) {t : Transfer} → slice_get facts.transfers place ≡ Some t → slice_get transfers place ≡ Some (t.id, row_in facts t)
@@ -215,15 +203,9 @@ module _ {accounts : List (ℕ × Account)} {transfers : List (ℕ × Row)} {ind
     }
 
 -- where no pair is due, nothing that reserves its amount is
-none-due : (clock : ℕ) (indexed : ℕ → ℕ → Bool) (facts : Facts) → IsSound indexed facts → ((m p : ℕ) → indexed m p ≡ true → clock < m) → (p : ℕ) (y : Transfer) → slice_get facts.transfers p ≡ Some y →
-    (b : Bool) → (is_reserving facts y && is_due clock y) ≡ b → b ≡ false
-none-due clock indexed facts sound later p y at false e = refl
-none-due clock indexed facts sound later p y at true e =
-    let expected : expects facts (expires_at y) p ≡ true = grind (arith, nat_tests, at, e) in
-    let after = later (expires_at y) p (sound.paired (expires_at y) p expected) in
-    let due : expires_at y ≤ clock = grind (arith, nat_tests, e) in
-    absurd (omega arith)
+none-due : (clock : ℕ) (indexed : ℕ → ℕ → Bool) (facts : Facts) → IsSound indexed facts → ((m p : ℕ) → indexed m p ≡ true → clock < m) → (p : ℕ) (y : Transfer) → slice_get facts.transfers p ≡ Some y → (is_reserving facts y && is_due clock y) ≡ false
+none-due clock indexed facts sound later p y at = grind (arith, nat_tests, at, sound.paired (expires_at y) p, later (expires_at y) p)
 
 pub all-due : {clock : ℕ} {facts : Facts} {accounts : List (ℕ × Account)} {transfers : List (ℕ × Row)} {indexed : ℕ → ℕ → Bool} → StillDue clock facts accounts transfers indexed → ((m p : ℕ) → indexed m p ≡ true → clock < m) →
     AreHeld accounts transfers indexed (expire_due clock facts)
-all-due {clock} {facts} {accounts} {transfers} {indexed} due later = subst (AreHeld accounts transfers indexed) (sym (none-left clock due.now due.held.sound.expiries.ordered (λ p y at. none-due clock indexed due.now due.held.sound later p y at _ refl)) ∙ due.same) due.held
+all-due {clock} {facts} {accounts} {transfers} {indexed} due later = subst (AreHeld accounts transfers indexed) (sym (none-left clock due.now due.held.sound.expiries.ordered (none-due clock indexed due.now due.held.sound later)) ∙ due.same) due.held

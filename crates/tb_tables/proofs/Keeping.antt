@@ -1,6 +1,6 @@
 -- What the maps hold is what is seen, and facts stay sound with another index that has their pairs.
 use Rattle.std.proofs.Common.{refl, sym, ap, subst, arith, ◌∙◌, ◌≡◌, ℕ, ◌<◌, ◌≤◌, Bool, true, List, [], ◌∷◌, map, filter, length, slice_get, suc, true≢false, ◌&&◌, Option, Some, None}
-use Rattle.std.proofs.lemmas.Option.{slice_get_within}
+use Rattle.std.proofs.lemmas.Option.{slice_get_cases}
 use Rattle.tb_tables.proofs.Words.{AllByRecursion, Account as AccountRecord, Transfer as TransferRecord, Facts, is_expired, status_in, HasNoBalances, Sums, sums_of, with_sums, account_rows, Stored, account_made, has_expired, facts_of, transfer_rows, is_pair_of, expects, reserves_at, IsSound, AreHeld, IsKept, Row, KeepsPairs}
 use Rattle.tb_tables.proofs.Laws.{resolved_either}
 
@@ -55,8 +55,4 @@ held-by held fewer enough = record { hold = held.hold; timed = λ m p has. held.
 
 -- which has the same pairs of the places that there are
 pub sound-indexed : (indexed other : ℕ → ℕ → Bool) (count : ℕ) → KeepsPairs count indexed other → (facts : Facts) → length facts.transfers ≤ count → IsSound indexed facts → IsSound other facts
-sound-indexed indexed other count same facts short = sound-by (λ m p has. same m p (within m p (slice_get facts.transfers p) refl has))
-  where
-    within : (m p : ℕ) (o : Option TransferRecord) → slice_get facts.transfers p ≡ o → (is_pair_of m o && reserves_at facts o) ≡ true → p < count
-    within m p None at has = absurd (true≢false (sym has))
-    within m p (Some t) at has = omega (arith, slice_get_within facts.transfers p t at)
+sound-indexed indexed other count same facts short = sound-by (λ m p has. same m p (grind (arith, slice_get_cases facts.transfers p, short, has)))

@@ -67,13 +67,12 @@ module _ (facts : Facts) (t : TransferRecord) where
     ordered =
         let last : filter (λ (y : TransferRecord). is_expired facts y.id) (t ∷ []) ≡ [] = grind (arith, fresh) in
         old.ordered ∙ ap (map (λ (y : TransferRecord). y.id)) (sym (filter-append (λ (y : TransferRecord). is_expired facts y.id) facts.transfers (t ∷ []) ∙ ap (λ ys. filter (λ (y : TransferRecord). is_expired facts y.id) facts.transfers ++ ys) last ∙ append-nil _));
-    open_ones = λ place y at expired. by (place == length facts.transfers) y (sym (slice_get-push facts.transfers t place) ∙ at) expired (old.open_ones place y);
+    open_ones = λ place y at expired.
+        let which = sym (slice_get-push facts.transfers t place) ∙ at in
+        let was = old.open_ones place y in
+        let still = l.open_ones y in
+        (grind (arith, which, expired, fresh, was), grind (arith, which, expired, fresh, was, still));
   }
-    where
-      by : (b : Bool) (y : TransferRecord) {o : Option TransferRecord} → (if b then Some t else o) ≡ Some y → is_expired facts y.id ≡ true → (o ≡ Some y → is_expired facts y.id ≡ true → (is_pending y ≡ true) × (is_resolved facts y.id ≡ false)) →
-          (is_pending y ≡ true) × (is_resolved (add_transfer facts t) y.id ≡ false)
-      by true y at expired was = let same : t ≡ y = cc in let no : true ≡ false = sym expired ∙ ap (λ (x : TransferRecord). is_expired facts x.id) (sym same) ∙ fresh in cc
-      by false y at expired was = ((was at expired).0, l.open_ones y expired (was at expired).1)
 
   pub sound-push : (indexed next : ℕ → ℕ → Bool) (places : Places) → Allow facts t places → IsSound indexed facts → ((m p : ℕ) → next m p ≡ (its_pair facts t m p || indexed m p)) → IsSound next (add_transfer facts t)
   sound-push indexed next places allow sound put =
@@ -125,13 +124,7 @@ pushed old kept t places at may is =
 
 -- its pair put into the index and taken out again: it wasn't there
 pub refused : (old : Stored) → IsKept old → (t : TransferRecord) (m p : ℕ) → (not (its_pair (facts_of old) t m p) && (its_pair (facts_of old) t m p || old.is_indexed m p)) ≡ old.is_indexed m p
-refused old kept t m p = by (p == length (facts_of old).transfers) refl
-  where
-    by : (b : Bool) → (p == length (facts_of old).transfers) ≡ b → (not (its_pair (facts_of old) t m p) && (its_pair (facts_of old) t m p || old.is_indexed m p)) ≡ old.is_indexed m p
-    by true is =
-        let none : slice_get (facts_of old).transfers p ≡ None = ap (slice_get (facts_of old).transfers) (eqb-true p (length (facts_of old).transfers) is) ∙ slice_get_past (facts_of old).transfers (length (facts_of old).transfers) (omega arith) in
-        grind (arith, none, kept.timed m p)
-    by false is = grind (arith, nat_tests, is)
+refused old kept t m p = grind (arith, nat_tests, kept.timed m p, slice_get_past (facts_of old).transfers p)
 
 -- ---- the last taken back
 
