@@ -2,7 +2,7 @@
 use Rattle.std.proofs.Common.{find, refl, sym, ap, ◌∙◌, arith, ◌≡◌, ℕ, Bool, true, false, List, [], ◌∷◌, ◌++◌, length, slice_get, zero, suc, if◌then◌else◌, ◌==◌, ◌&&◌, ◌||◌, Option, Some, None, ◌≤◌, not, cond, is_eq, is_gt}
 use Rattle.std.proofs.lemmas.Bool.{eqb-true}
 use Rattle.std.proofs.lemmas.Option.{slice_get_past}
-use Rattle.tb_tables.proofs.Words.{its_pair, nat_tests, Transfer, Facts, add_transfer, is_reserving, has_id, ids_distinct, is_pair_of, is_pair, reserves_at, expects, list_any, pair_cmp, is_indexed, same_pair}
+use Rattle.tb_tables.proofs.Words.{its_pair, nat_tests, Transfer, Facts, add_transfer, is_reserving, has_id, ids_distinct, is_pair, expects, list_any, pair_cmp, is_indexed, same_pair}
 use Rattle.std.specs.BTreeSet.{BTreeSet}
 
 pair-eq : (moment place m p : ℕ) → is_eq (pair_cmp (moment, place) (m, p)) ≡ same_pair moment place m p

@@ -1,5 +1,5 @@
 -- The pairs of resolved transfers leave the index.
-use Rattle.std.proofs.Common.{sym, ap, subst, ◌∙◌, arith, ◌≡◌, ℕ, ◌+◌, ◌<◌, ◌^◌, Bool, true, false, not, List, [], ◌∷◌, ◌++◌, take, length, get_or, slice_get, zero, suc, ◌==◌, ◌&&◌, ◌||◌, Some}
+use Rattle.std.proofs.Common.{sym, ap, ◌∙◌, arith, ◌≡◌, ℕ, ◌+◌, ◌<◌, ◌^◌, Bool, true, not, List, [], ◌∷◌, ◌++◌, take, length, get_or, slice_get, suc, ◌==◌, ◌&&◌, ◌||◌, Some}
 use Rattle.std.proofs.lemmas.List.Folds.{list_any-append}
 use Rattle.std.proofs.Math.Seq.{take-suc}
 use Rattle.tb_tables.proofs.Words.{NamesOne, AllByRecursion, nat_tests, Transfer, Facts, expires_at, same_pair, Stored, facts_of, row_in, is_timed, is_spent, IsGrounded, IsKept, resolves_at, is_resolved_at, is_open_status, IsForgettable, CanForget, Places, Row, Change}

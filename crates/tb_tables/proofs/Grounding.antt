@@ -1,5 +1,5 @@
 -- Transfers stay grounded with each change.
-use Rattle.std.proofs.Common.{refl, sym, ap, subst, ◌∙◌, ◌≡◌, Bool, true, false, cond, append-nil, arith, List, [], ◌∷◌, ◌++◌, true≢false, ◌==◌, ◌||◌, Some, IsSome, find, ℕ, slice_get}
+use Rattle.std.proofs.Common.{refl, sym, ap, subst, ◌∙◌, ◌≡◌, Bool, true, append-nil, arith, List, [], ◌∷◌, ◌++◌, true≢false, ◌==◌, ◌||◌, Some, IsSome, find, ℕ, slice_get}
 use Rattle.std.proofs.lemmas.List.Elements.{All-from_recursion}
 use Rattle.std.proofs.lemmas.List.Folds.{find_at, list_any-append}
 use Rattle.std.proofs.lemmas.Option.{get_or_from_slice_get, slice_get_within}

@@ -2,9 +2,9 @@
 use Rattle.std.proofs.Common.{refl, ap, ◌∙◌, arith, ◌≡◌, ℕ, ◌+◌, ◌<◌, ◌≤◌, ◌^◌, Bool, true, false, not, List, [], ◌∷◌, ◌++◌, if◌then◌else◌, ◌==◌, ◌&&◌, ◌||◌, None, find}
 use Rattle.std.proofs.Math.Bool.{or-false}
 use Rattle.std.proofs.lemmas.List.Folds.{list_any-append}
-use Rattle.tb_tables.proofs.Words.{list_any, nat_tests, Transfer, is_pending, is_post, is_void, is_resolving, Facts, is_expired, add_transfer, is_posted, is_voided, is_resolved, is_reserving, Pending, Posted, Voided, Expired, is_posting, MayAdd, MayResolve, IsLawful, has_id, ids_distinct}
+use Rattle.tb_tables.proofs.Words.{list_any, nat_tests, Transfer, is_post, is_void, is_resolving, Facts, add_transfer, is_reserving, is_posting, MayAdd, MayResolve, IsLawful, has_id, ids_distinct}
 use Rattle.tb_tables.proofs.Finding.{found-id}
-use Rattle.tb_tables.proofs.Sums.{amount_if, amounts, amounts-push, but_for, but_for-found}
+use Rattle.tb_tables.proofs.Sums.{amounts, amounts-push, but_for}
 
 -- which transfers reserve, or have posted, an amount at an account; `side` is the account that is debited, or credited
 abbrev pub reserves : (Transfer → ℕ) → Facts → ℕ → Transfer → Bool

@@ -1,8 +1,7 @@
 -- Look-ups in the maps.
-use Rattle.std.proofs.Common.{refl, sym, ap, subst, ◌∙◌, ◌≡◌, ℕ, Bool, true, false, cond, List, [], ◌∷◌, map, nat_eq, slice_get, length, suc, arith, ◌+◌, ◌<◌, lt-ltb, le-ltb, not, ◌==◌, Option, Some, None, IsSome, find, nat_lt, option_map}
+use Rattle.std.proofs.Common.{refl, sym, ap, subst, ◌∙◌, ◌≡◌, ℕ, true, List, [], ◌∷◌, nat_eq, slice_get, length, arith, ◌==◌, Option, Some, None, IsSome, find, option_map}
 use Rattle.std.proofs.lemmas.List.{length-map}
-use Rattle.tb_tables.proofs.Words.{position, position_or_len, keys_of, lookup, Account, Transfer, Facts, account_with, IsPlaceOf, transfer_with, status_with, MayResolve, IsLawful, sums_of, with_sums, AreAt, Hold, AreGrounded, row_in, MayPost, Places, Row, Status, has_account, IsGrounded}
-use Rattle.tb_tables.proofs.Laws.{==_swap}
+use Rattle.tb_tables.proofs.Words.{position, position_or_len, keys_of, lookup, Account, Transfer, Facts, account_with, IsPlaceOf, transfer_with, MayResolve, IsLawful, sums_of, with_sums, AreAt, Hold, AreGrounded, row_in, MayPost, Places, Row, has_account, IsGrounded}
 use Rattle.tb_tables.proofs.Stored.{lookup-rows, key-placed, key-of-position, first-of-key}
 use Rattle.indexmap.proofs.MapLemmas.{Found-position, Missing-position}
 use Rattle.std.proofs.lemmas.List.Folds.{find_at}

@@ -1,9 +1,8 @@
 -- A transfer stored in the maps, and taken back.
-use Rattle.std.proofs.Common.{refl, sym, ap, subst, arith, ◌∙◌, ◌≡◌, ℕ, Bool, true, false, not, List, [], ◌∷◌, ◌++◌, map, filter, length, append-nil, if◌then◌else◌, ◌==◌, ◌&&◌, ◌||◌, Option, Some, None, slice_get}
-use Rattle.std.proofs.lemmas.Bool.{eqb-true}
+use Rattle.std.proofs.Common.{sym, ap, subst, arith, ◌∙◌, ◌≡◌, ℕ, Bool, true, false, not, List, [], ◌∷◌, ◌++◌, map, filter, length, append-nil, ◌==◌, ◌&&◌, ◌||◌, Option, Some, None}
 use Rattle.std.proofs.lemmas.List.Elements.{filter-append}
 use Rattle.std.proofs.lemmas.Option.{slice_get_past}
-use Rattle.tb_tables.proofs.Words.{list_any, nat_tests, Account, Transfer as TransferRecord, is_pending, is_resolving, Facts, transfer_with, is_expired, add_transfer, is_resolved, is_reserving, IsLawful, has_id, before, AreAt, Stored, AreGrounded, facts_of, is_pair, AreExpiries, IsSound, AreHeld, Allow, MayStore, WasStored, IsKept, Hold, new_row, Step, IsBefore, IsAfter, HavePlaces, IsStored, row_in, transfer_rows, Places, Row, IsUndoable, KeepsPairs, its_pair}
+use Rattle.tb_tables.proofs.Words.{list_any, nat_tests, Account, Transfer as TransferRecord, is_resolving, Facts, transfer_with, is_expired, add_transfer, is_resolved, is_reserving, IsLawful, has_id, before, AreAt, Stored, AreGrounded, facts_of, is_pair, AreExpiries, IsSound, AreHeld, Allow, MayStore, IsKept, Hold, new_row, Step, IsBefore, IsAfter, HavePlaces, IsStored, row_in, transfer_rows, Places, Row, IsUndoable, KeepsPairs, its_pair}
 use Rattle.tb_tables.specs.declared.change.Change.TheVariants.{Transfer}
 use Rattle.tb_tables.proofs.Laws.{find-none, any-push, reserving-same, reserving-other, resolves_nothing, add_transfer_lawful}
 use Rattle.tb_tables.proofs.Added.{resolve_lawful}

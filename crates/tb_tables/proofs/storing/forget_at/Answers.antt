@@ -1,5 +1,4 @@
-use Rattle.std.proofs.Common.{arith, ap, refl}
-use Rattle.tb_tables.proofs.Words.{Row}
+use Rattle.std.proofs.Common.{arith, refl}
 use Rattle.tb_tables.proofs.Forgetting.{row-there, fits, spent-is}
 use Rattle.tb_tables.proofs.storing.forget_at.Goals as goal
 

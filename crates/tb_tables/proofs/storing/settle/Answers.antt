@@ -1,4 +1,4 @@
-use Rattle.std.proofs.Common.{◌∙◌, ap, sym, refl, ◌≡◌, ℕ}
+use Rattle.std.proofs.Common.{◌∙◌, ap, sym, refl}
 use Rattle.tb_tables.proofs.Words.{Transfer}
 use Rattle.tb_tables.proofs.Settling as settling
 use Rattle.tb_tables.proofs.storing.settle.Goals as goal
