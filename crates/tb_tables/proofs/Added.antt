@@ -1,6 +1,7 @@
 -- What one transfer more changes of sums and statuses.
 use Rattle.std.proofs.Common.{refl, ap, arith, ◌≡◌, ℕ, ◌+◌, ◌≤◌, Bool, true, false, not, List, [], ◌∷◌, if◌then◌else◌, ◌==◌, ◌&&◌, Some, None}
-use Rattle.tb_tables.proofs.Words.{list_any, AllByRecursion, nat_tests, Account, Transfer, is_pending, is_post, is_resolving, Facts, is_expired, add_transfer, is_resolved, is_reserving, status_of, status_in, MayAdd, has_id, Sums, sums_of, with_sums, with_amount, account_rows, IsGrounded, AreGrounded, Pending, MayResolve, IsLawful, status_after, posted_if}
+use Rattle.tb_tables.proofs.Words.{list_any, AllByRecursion, nat_tests, Account, Transfer, is_pending, is_post, is_resolving, Facts, is_expired, add_transfer, is_resolved, is_reserving, status_of, status_in, MayAdd, has_id, Sums, sums_of, with_sums, with_amount, phase_of, account_rows, IsGrounded, AreGrounded, Pending, MayResolve, IsLawful, status_after, posted_if}
+use Rattle.tb_tables.specs.declared.amounts.Phase.TheVariants as phase
 use Rattle.tb_tables.proofs.Stored.{map-same}
 use Rattle.tb_tables.proofs.Sums.{amounts, amounts-push, but_for, but_for-found}
 use Rattle.tb_tables.proofs.Laws.{find-none, reserves, posts, any-push, resolved_either, reserving-same, reserves-same, reserving, reserves-but_for, total, distinct-push}
@@ -57,13 +58,13 @@ module _ (facts : Facts) (t : Transfer) (may : MayAdd facts t) where
     pub posted-add : (side : Transfer → ℕ) (id : ℕ) → amounts (posts side id) (add_transfer facts t).transfers ≡ amounts (posts side id) facts.transfers + (if not (is_pending t) && (side t == id) then t.amount else 0)
     posted-add side id = grind (arith, amounts-push (posts side id) (posts side id) facts.transfers t (λ y. refl), may.not_void)
 
-    pub sums-add : AreSame (sums_of (add_transfer facts t)) (with_amount (is_pending t) t.debit_account_id t.credit_account_id t.amount (sums_of facts))
+    pub sums-add : AreSame (sums_of (add_transfer facts t)) (with_amount (phase_of t) t.debit_account_id t.credit_account_id t.amount (sums_of facts))
     sums-add = by (is_pending t) (reserved-add (λ x. x.debit_account_id)) (posted-add (λ x. x.debit_account_id)) (reserved-add (λ x. x.credit_account_id)) (posted-add (λ x. x.credit_account_id))
       where
         by : (b : Bool) → let new = sums_of (add_transfer facts t) in let old = sums_of facts in
             More t.amount b new.debits_pending old.debits_pending t.debit_account_id → More t.amount (not b) new.debits_posted old.debits_posted t.debit_account_id →
             More t.amount b new.credits_pending old.credits_pending t.credit_account_id → More t.amount (not b) new.credits_posted old.credits_posted t.credit_account_id →
-            AreSame new (with_amount b t.debit_account_id t.credit_account_id t.amount old)
+            AreSame new (with_amount (if b then phase.Pending else phase.Posted) t.debit_account_id t.credit_account_id t.amount old)
         by true dp dpo cp cpo = record { debits_pending = dp; debits_posted = λ id. omega (arith, dpo id); credits_pending = cp; credits_posted = λ id. omega (arith, cpo id) }
         by false dp dpo cp cpo = record { debits_pending = λ id. omega (arith, dp id); debits_posted = dpo; credits_pending = λ id. omega (arith, cp id); credits_posted = cpo }
 
@@ -100,7 +101,7 @@ module _ (facts : Facts) (t : Transfer) (may : MayResolve facts t) where
   abbrev pub left : Sums
   left = record (sums_of facts) { debits_pending = (sums_of (add_transfer facts t)).debits_pending; credits_pending = (sums_of (add_transfer facts t)).credits_pending }
 
-  pub sums-release : IsLawful facts → AreSame (sums_of facts) (with_amount true t.debit_account_id t.credit_account_id may.pending.amount left)
+  pub sums-release : IsLawful facts → AreSame (sums_of facts) (with_amount phase.Pending t.debit_account_id t.credit_account_id may.pending.amount left)
   sums-release lawful = record {
     debits_pending = λ id. reserved-resolve lawful (λ x. x.debit_account_id) may.same_debit id;
     debits_posted = λ id. refl;

@@ -1,6 +1,7 @@
 -- Transfers expire: one, and all that are due.
 use Rattle.std.proofs.Common.{refl, sym, ap, subst, ◌∙◌, arith, ◌≡◌, ℕ, ◌<◌, ◌≤◌, Bool, true, false, not, List, nat_eq, slice_get, true≢false, ◌&&◌, Option, Some, None, ◌+◌, [], ◌∷◌, map, filter, suc, if◌then◌else◌, ◌==◌, ◌||◌, append-nil}
 use Rattle.tb_tables.proofs.Words.{IsDistinct, keys_of, nat_tests, set_value_at, Account, Transfer, Facts, expire_due, is_reserving, is_due, expires_at, same_pair, sums_of, with_amount, account_rows, AreAt, CanTake, row_in, transfer_rows, is_timed, is_pair_of, expects, IsGrounded, Hold, IsSound, AreHeld, is_open_status, CanExpire, expire_one, Places, Row, Expired, is_expired, IsLawful, reserves_at}
+use Rattle.tb_tables.specs.declared.amounts.Phase.TheVariants as phase
 use Rattle.tb_tables.proofs.Laws.{resolved_either, ==_swap, reserves}
 use Rattle.tb_tables.proofs.Stored.{row-placed, rows-set}
 use Rattle.tb_tables.proofs.Added.{rows-same, AreSame}
@@ -46,7 +47,7 @@ module _ (facts : Facts) (x : Transfer) (place : ℕ) (at : slice_get facts.tran
       ∙ ap (λ n. n + amount_if (reserves side facts id) x) (sym (amounts-same (reserves side after id) (but_for x.id (reserves side facts id)) facts.transfers (reserves-after side id)))
       ∙ ap (λ b. amounts (reserves side after id) facts.transfers + (if b && (side x == id) then x.amount else 0)) reserving
 
-  pub sums-after : AreSame (sums_of facts) (with_amount true x.debit_account_id x.credit_account_id x.amount (sums_of after))
+  pub sums-after : AreSame (sums_of facts) (with_amount phase.Pending x.debit_account_id x.credit_account_id x.amount (sums_of after))
   sums-after = record {
     debits_pending = reserved-after (λ t. t.debit_account_id);
     debits_posted = λ id. refl;
@@ -119,10 +120,10 @@ module _ {facts : Facts} {accounts : List (ℕ × Account)} {transfers : List (�
   pub there : slice_get transfers place ≡ Some (can.transfer.id, row_in facts can.transfer)
   there = row-at can.hold place can.at
 
-  pub released : accounts ≡ account_rows (with_amount true can.transfer.debit_account_id can.transfer.credit_account_id can.transfer.amount (sums_of (expire_one can.transfer.id facts))) facts.accounts
+  pub released : accounts ≡ account_rows (with_amount phase.Pending can.transfer.debit_account_id can.transfer.credit_account_id can.transfer.amount (sums_of (expire_one can.transfer.id facts))) facts.accounts
   released = can.hold.accounts_are ∙ rows-same _ _ facts.accounts (sums-after facts can.transfer place can.at can.lawful can.reserves can.ordered)
 
-  pub can-take : {places : Places} {amount : ℕ} → AreAt facts.accounts places can.transfer.debit_account_id can.transfer.credit_account_id → amount ≡ can.transfer.amount → CanTake accounts places true amount
+  pub can-take : {places : Places} {amount : ℕ} → AreAt facts.accounts places can.transfer.debit_account_id can.transfer.credit_account_id → amount ≡ can.transfer.amount → CanTake accounts places phase.Pending amount
   can-take are_at same = rw same (record {
     sums = sums_of (expire_one can.transfer.id facts);
     accounts = facts.accounts;

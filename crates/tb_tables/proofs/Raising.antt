@@ -1,6 +1,6 @@
 -- A balance of one account raised or lowered among the accounts' rows.
-use Rattle.std.proofs.Common.{refl, sym, ap, ◌∙◌, arith, ◌≡◌, ℕ, ◌+◌, ◌<◌, ◌≤◌, ◌^◌, Bool, false, List, [], nat_eq, slice_get, Some, ◌==◌, append-nil}
-use Rattle.tb_tables.proofs.Words.{IsDistinct, keys_of, nat_tests, set_value_at, Account, Sums, HasRoom, HasAmount, debits_in, credits_in, balance_of, with_more, raise_balance, lower_balance, with_sums, account_rows, Balance}
+use Rattle.std.proofs.Common.{refl, sym, ap, ◌∙◌, arith, ◌≡◌, ℕ, ◌+◌, ◌<◌, ◌≤◌, ◌^◌, false, List, [], nat_eq, slice_get, Some, ◌==◌, append-nil}
+use Rattle.tb_tables.proofs.Words.{IsDistinct, keys_of, nat_tests, set_value_at, Account, Sums, HasRoom, HasAmount, debits_in, credits_in, balance_of, with_more, raise_balance, lower_balance, with_sums, account_rows, Balance, Phase}
 use Rattle.tb_tables.proofs.Stored.{made-at, row-placed, rows-set}
 
 raised-here : (balance : Balance) (amount : ℕ) (sums : Sums) (account : Account) → with_sums (with_more balance account.id amount sums) account ≡ raise_balance balance amount (with_sums sums account)
@@ -50,5 +50,5 @@ has_amount sums accounts place account balance amount entries at is =
     rw is (record { row = (account.id, with_sums (with_more balance account.id amount sums) account); there = row-placed (λ (a : Account). a.id) (with_sums (with_more balance account.id amount sums)) accounts refl place at; has = contains balance amount sums account })
 
 -- a raised debit leaves the credits
-pub credits-kept : (pending : Bool) (id amount : ℕ) (sums : Sums) (account : Account) → balance_of (credits_in pending) (with_sums (with_more (debits_in pending) id amount sums) account) ≡ balance_of (credits_in pending) (with_sums sums account)
-credits-kept pending id amount sums account = grind arith
+pub credits-kept : (phase : Phase) (id amount : ℕ) (sums : Sums) (account : Account) → balance_of (credits_in phase) (with_sums (with_more (debits_in phase) id amount sums) account) ≡ balance_of (credits_in phase) (with_sums sums account)
+credits-kept phase id amount sums account = grind arith

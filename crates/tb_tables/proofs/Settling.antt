@@ -1,7 +1,8 @@
 -- A transfer stored and taken back: balances, and the status of what it names.
 use Rattle.std.proofs.Common.{refl, sym, ap, subst, ◌∙◌, arith, ◌≡◌, ℕ, ◌+◌, ◌<◌, ◌≤◌, ◌^◌, Bool, true, false, List, [], ◌∷◌, ◌++◌, nat_eq, slice_get, length, length-append, append-nil, true≢false, zero, suc, if◌then◌else◌, ◌==◌, Option, Some, None}
 use Rattle.std.proofs.lemmas.List.{map_push, length-map}
-use Rattle.tb_tables.proofs.Words.{IsDistinct, keys_of, set_value_at, Account, Transfer, is_pending, is_post, Facts, add_transfer, status_of, expires_at, MayAdd, Sums, sums_of, with_amount, posted_if, account_rows, CanAdd, CanTake, row_in, transfer_rows, MayPost, MayStore, new_row, status_after, Step, AreOf, IsBefore, IsAfter, IsStored, Hold, Places, Row, Status, Pending, nat_tests}
+use Rattle.tb_tables.proofs.Words.{IsDistinct, keys_of, set_value_at, Account, Transfer, is_pending, is_post, Facts, add_transfer, status_of, expires_at, MayAdd, Sums, sums_of, with_sums, balance_of, debits_in, credits_in, Phase, phase_of, with_amount, posted_if, account_rows, CanAdd, CanTake, row_in, transfer_rows, MayPost, MayStore, new_row, status_after, Step, AreOf, IsBefore, IsAfter, IsStored, Hold, Places, Row, Status, Pending, nat_tests}
+use Rattle.tb_tables.specs.declared.amounts.Phase.TheVariants as phase
 use Rattle.tb_tables.proofs.Finding.{found-id}
 use Rattle.tb_tables.proofs.Stored.{rows-set, map-same, row-placed}
 use Rattle.tb_tables.proofs.Sums.{amounts}
@@ -51,9 +52,8 @@ module _ {t : Transfer} {places : Places} (s : Step t places) where
   after = add_transfer s.facts t
 
   -- an amount can be added where both balances have room for it, and taken out of sums that it was added to
-  adds : (sums : Sums) {entries : List (ℕ × Account)} (kind : Bool) {amount : ℕ} → entries ≡ account_rows sums s.facts.accounts →
-      (if kind then sums.debits_pending t.debit_account_id else sums.debits_posted t.debit_account_id) + amount < 2 ^ 128 →
-      (if kind then sums.credits_pending t.credit_account_id else sums.credits_posted t.credit_account_id) + amount < 2 ^ 128 → CanAdd entries places kind amount
+  adds : (sums : Sums) {entries : List (ℕ × Account)} (kind : Phase) {amount : ℕ} → entries ≡ account_rows sums s.facts.accounts →
+      balance_of (debits_in kind) (with_sums sums s.allow.are_at.debit_account) + amount < 2 ^ 128 → balance_of (credits_in kind) (with_sums sums s.allow.are_at.credit_account) + amount < 2 ^ 128 → CanAdd entries places kind amount
   adds sums kind is debit credit = record {
     sums = sums;
     accounts = s.facts.accounts;
@@ -61,11 +61,11 @@ module _ {t : Transfer} {places : Places} (s : Step t places) where
     credit = t.credit_account_id;
     are_at = s.allow.are_at;
     are = is;
-    debit_fits = grind (arith, s.allow.are_at.debit_is, debit);
-    credit_fits = grind (arith, s.allow.are_at.credit_is, credit);
+    debit_fits = debit;
+    credit_fits = credit;
   }
 
-  pub takes : (sums : Sums) {entries : List (ℕ × Account)} {kind : Bool} {amount : ℕ} → entries ≡ account_rows (with_amount kind t.debit_account_id t.credit_account_id amount sums) s.facts.accounts → CanTake entries places kind amount
+  pub takes : (sums : Sums) {entries : List (ℕ × Account)} {kind : Phase} {amount : ℕ} → entries ≡ account_rows (with_amount kind t.debit_account_id t.credit_account_id amount sums) s.facts.accounts → CanTake entries places kind amount
   takes sums is = record { sums = sums; accounts = s.facts.accounts; debit = t.debit_account_id; credit = t.credit_account_id; are_at = s.allow.are_at; are = is }
 
   -- its own row is new
@@ -84,11 +84,11 @@ module _ {t : Transfer} {places : Places} (s : Step t places) where
     added : MayAdd s.facts t
     added = subst (MayStore s.facts t) none s.allow.may
 
-    pub add-sums : account_rows (sums_of after) s.facts.accounts ≡ account_rows (with_amount (is_pending t) t.debit_account_id t.credit_account_id t.amount (sums_of s.facts)) s.facts.accounts
+    pub add-sums : account_rows (sums_of after) s.facts.accounts ≡ account_rows (with_amount (phase_of t) t.debit_account_id t.credit_account_id t.amount (sums_of s.facts)) s.facts.accounts
     add-sums = rows-same _ _ s.facts.accounts (sums-add s.facts t added s.allow.grounded s.allow.not_expired)
 
-    pub can_add : {entries : List (ℕ × Account)} → entries ≡ account_rows (sums_of s.facts) s.facts.accounts → CanAdd entries places (is_pending t) t.amount
-    can_add is = adds (sums_of s.facts) (is_pending t) is (grind (arith, added.debits_fit)) (grind (arith, added.credits_fit))
+    pub can_add : {entries : List (ℕ × Account)} → entries ≡ account_rows (sums_of s.facts) s.facts.accounts → CanAdd entries places (phase_of t) t.amount
+    can_add is = adds (sums_of s.facts) (phase_of t) is (grind (arith, s.allow.are_at.debit_is, added.debits_fit)) (grind (arith, s.allow.are_at.credit_is, added.credits_fit))
 
     pub rows-kept : transfer_rows after s.facts.transfers ≡ transfer_rows s.facts s.facts.transfers
     rows-kept = map-same (λ (x : Transfer). (x.id, row_in after x)) (λ (x : Transfer). (x.id, row_in s.facts x)) s.facts.transfers (λ y. ap (λ status. (y.id, record { transfer = y; status = status })) (status_in-add s.facts t added y))
@@ -132,7 +132,7 @@ module _ {t : Transfer} {places : Places} (s : Step t places) where
     rows-open are = rows-set (λ (x : Transfer). x.id) (row_in after) (row_in s.facts) s.more s.facts.transfers pending named posted.pending_at (row-is s.facts _ posted.may.unresolved) (λ y apart. sym (others y apart)) are.transfers_are
 
     -- what was reserved is among the balances, and so there is room to post it or a part of it
-    pub release-sums : {amount : ℕ} → amount ≡ named.amount → account_rows (sums_of s.facts) s.facts.accounts ≡ account_rows (with_amount true t.debit_account_id t.credit_account_id amount between) s.facts.accounts
+    pub release-sums : {amount : ℕ} → amount ≡ named.amount → account_rows (sums_of s.facts) s.facts.accounts ≡ account_rows (with_amount phase.Pending t.debit_account_id t.credit_account_id amount between) s.facts.accounts
     release-sums same = rw same (rows-same _ _ s.facts.accounts (sums-release s.facts t posted.may s.allow.lawful))
 
     pub post-sums : {is : Bool} → is ≡ is_post t → account_rows (sums_of after) s.facts.accounts ≡ account_rows (posted_if is t.debit_account_id t.credit_account_id t.amount between) s.facts.accounts
@@ -141,8 +141,12 @@ module _ {t : Transfer} {places : Places} (s : Step t places) where
     reserved : (side : Transfer → ℕ) → side t ≡ side named → amounts (reserves side s.facts (side t)) s.facts.transfers ≡ amounts (reserves side after (side t)) after.transfers + named.amount
     reserved side same = grind (arith, nat_tests, reserved-resolve s.facts t posted.may s.allow.lawful side same (side t))
 
-    pub can_return : (kind : Bool) {entries : List (ℕ × Account)} {amount : ℕ} → amount ≤ named.amount → entries ≡ account_rows between s.facts.accounts → CanAdd entries places kind amount
-    can_return kind most is =
-        let debit = s.allow.lawful.debits_fit t.debit_account_id in
-        let credit = s.allow.lawful.credits_fit t.credit_account_id in
-        adds between kind is (grind (arith, reserved (λ x. x.debit_account_id) posted.may.same_debit, debit, most)) (grind (arith, reserved (λ x. x.credit_account_id) posted.may.same_credit, credit, most))
+    debits-left : between.debits_pending s.allow.are_at.debit_account.id + between.debits_posted s.allow.are_at.debit_account.id + named.amount < 2 ^ 128
+    debits-left = grind (arith, s.allow.are_at.debit_is, reserved (λ x. x.debit_account_id) posted.may.same_debit, s.allow.lawful.debits_fit t.debit_account_id)
+
+    credits-left : between.credits_pending s.allow.are_at.credit_account.id + between.credits_posted s.allow.are_at.credit_account.id + named.amount < 2 ^ 128
+    credits-left = grind (arith, s.allow.are_at.credit_is, reserved (λ x. x.credit_account_id) posted.may.same_credit, s.allow.lawful.credits_fit t.credit_account_id)
+
+    pub can_return : (kind : Phase) {entries : List (ℕ × Account)} {amount : ℕ} → amount ≤ named.amount → entries ≡ account_rows between s.facts.accounts → CanAdd entries places kind amount
+    can_return phase.Pending most is = adds between phase.Pending is (omega (arith, debits-left, most)) (omega (arith, credits-left, most))
+    can_return phase.Posted most is = adds between phase.Posted is (omega (arith, debits-left, most)) (omega (arith, credits-left, most))

@@ -11,7 +11,7 @@ ghost use Rattle.tb_tables.specs.Expiries.{is_indexed, same_pair};
 ghost use Rattle.tb_tables.specs.Kept.{is_timed as is_timed_of, named_by as named_by_of, resolves_at, is_resolved_at, is_spent as is_spent_at, Hold};
 ghost use Rattle.tb_tables.specs.Storing.{Step, IsBefore, IsAfter, IsStored, IsForgettable, CanForget, is_open_status};
 
-use crate::amounts::{add_amount, post_if, take_amount, unpost_if};
+use crate::amounts::{Phase, add_amount, phase_of, post_if, take_amount, unpost_if};
 use crate::by_id::ById;
 use crate::change::Change;
 use crate::entries::{pop_transfer, row_at, set_status, settled_status};
@@ -77,7 +77,7 @@ fn settle(
     ensures { (step : Step transfer places) → IsBefore step accounts.old.entries transfers.old.entries → IsAfter step accounts.new.entries transfers.new.entries }
 {
     let reserved = set_status(transfers, pending, settled_status(transfer.is_post())).amount;
-    take_amount(accounts, places, true, reserved);
+    take_amount(accounts, places, Phase::Pending, reserved);
     post_if(accounts, places, transfer.is_post(), transfer.amount);
 }
 
@@ -92,7 +92,7 @@ pub fn apply(
     ensures { (step : Step transfer places) → IsBefore step accounts.old.entries transfers.old.entries → IsAfter step accounts.new.entries transfers.new.entries }
 {
     match places.pending {
-        None => add_amount(accounts, places, transfer.is_pending(), transfer.amount),
+        None => add_amount(accounts, places, phase_of(&transfer), transfer.amount),
         Some(pending) => settle(accounts, transfers, places, pending, transfer),
     }
 }
@@ -111,7 +111,7 @@ fn unsettle(
 {
     let reserved = set_status(transfers, pending, Status::Pending).amount;
     unpost_if(accounts, places, transfer.is_post(), transfer.amount);
-    add_amount(accounts, places, true, reserved);
+    add_amount(accounts, places, Phase::Pending, reserved);
 }
 
 /// Takes a transfer's amounts out of its accounts, and resolves what it names no more, once it is stored no more.
@@ -125,7 +125,7 @@ fn unapply(
     ensures { (step : Step transfer places) → IsAfter step accounts.old.entries transfers.old.entries → IsBefore step accounts.new.entries transfers.new.entries }
 {
     match places.pending {
-        None => take_amount(accounts, places, transfer.is_pending(), transfer.amount),
+        None => take_amount(accounts, places, phase_of(&transfer), transfer.amount),
         Some(pending) => unsettle(accounts, transfers, places, pending, transfer),
     }
 }

@@ -7,7 +7,7 @@ ghost use Rattle.tb_tables.specs.Kept.{Hold, AreHeld};
 ghost use Rattle.tb_tables.specs.Status.{expire_due};
 ghost use Rattle.tb_tables.specs.Storing.{CanExpire, expire_one};
 
-use crate::amounts::take_amount;
+use crate::amounts::{Phase, take_amount};
 use crate::by_id::ById;
 use crate::entries::{place_of, row_at, set_status};
 use crate::expiries::take_due;
@@ -29,7 +29,7 @@ fn expire(accounts: &mut ById<Account>, transfers: &mut ById<Row>, place: usize)
         credit: place_of(accounts, transfer.credit_account_id),
         pending: None,
     };
-    take_amount(accounts, places, true, transfer.amount);
+    take_amount(accounts, places, Phase::Pending, transfer.amount);
 }
 
 /// Lets each transfer expire that still reserves its amount and whose pair is due at a clock. Costs as much as what expires.
