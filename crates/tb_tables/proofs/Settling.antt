@@ -32,13 +32,15 @@ module _ {facts : Facts} {t : Transfer} {places : Places} {account_entries : Lis
 
   pub popped : {rest : List (ℕ × Row)} {result : Transfer} → ((id : ℕ) (row : Row) (others : List (ℕ × Row)) → entries ≡ others ++ (id, row) ∷ [] → (result ≡ row.transfer) × (rest ≡ others)) → (result ≡ t) × IsOff facts places result account_entries rest
   popped off =
-      let o = off t.id (row_in (add_transfer facts t) t) (transfer_rows (add_transfer facts t) facts.transfers) last-row in
-      (o.0, rw o.0 (record {
-        count = ap length o.1 ∙ length-map facts.transfers _;
-        step = record { facts = facts; more = []; allow = stored.allow };
-        after = record { accounts_are = stored.hold.accounts_are; transfers_are = o.1 ∙ sym (append-nil _) };
-        back = λ before. record { accounts_are = before.accounts_are; transfers_are = before.transfers_are ∙ append-nil _ };
-      }))
+      let o = off t.id (row_in (add_transfer facts t) t) (transfer_rows (add_transfer facts t) facts.transfers) last-row in (
+        o.0,
+        rw o.0 (record {
+          count = ap length o.1 ∙ length-map facts.transfers _;
+          step = record { facts = facts; more = []; allow = stored.allow };
+          after = record { accounts_are = stored.hold.accounts_are; transfers_are = o.1 ∙ sym (append-nil _) };
+          back = λ before. record { accounts_are = before.accounts_are; transfers_are = before.transfers_are ∙ append-nil _ };
+        }),
+      )
 
   pub expiry-fits : is_pending t ≡ true → expires_at t < 2 ^ 64
   expiry-fits pending = by places.pending stored.allow.may
