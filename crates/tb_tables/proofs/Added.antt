@@ -1,9 +1,10 @@
 -- What one transfer more changes of sums and statuses.
-use Rattle.std.proofs.Common.{refl, ap, arith, ◌≡◌, ℕ, ◌+◌, Bool, true, false, not, List, [], ◌∷◌, if◌then◌else◌, ◌==◌, ◌&&◌, Some, None}
-use Rattle.tb_tables.proofs.Words.{list_any, AllByRecursion, nat_tests, Account, Transfer, is_pending, is_post, is_void, is_resolving, Facts, is_expired, add_transfer, is_resolved, is_reserving, status_of, status_in, MayAdd, has_id, Sums, sums_of, with_sums, with_amount, account_rows, IsGrounded, AreGrounded, Pending, MayResolve, IsLawful, status_after, posted_if}
+use Rattle.std.proofs.Common.{refl, ap, arith, ◌≡◌, ℕ, ◌+◌, ◌≤◌, Bool, true, false, not, List, [], ◌∷◌, if◌then◌else◌, ◌==◌, ◌&&◌, Some, None}
+use Rattle.tb_tables.proofs.Words.{list_any, AllByRecursion, nat_tests, Account, Transfer, is_pending, is_post, is_resolving, Facts, is_expired, add_transfer, is_resolved, is_reserving, status_of, status_in, MayAdd, has_id, Sums, sums_of, with_sums, with_amount, phase_of, account_rows, IsGrounded, AreGrounded, Pending, MayResolve, IsLawful, status_after, posted_if}
+use Rattle.tb_tables.specs.declared.amounts.Phase.TheVariants as phase
 use Rattle.tb_tables.proofs.Stored.{map-same}
 use Rattle.tb_tables.proofs.Sums.{amounts, amounts-push, but_for, but_for-found}
-use Rattle.tb_tables.proofs.Laws.{find-none, reserves, posts, any-push, resolved_either, reserving-same, reserves-same, reserving, reserves-but_for, reserves_nothing}
+use Rattle.tb_tables.proofs.Laws.{find-none, reserves, posts, any-push, resolved_either, reserving-same, reserves-same, reserving, reserves-but_for, total, distinct-push}
 
 -- the same four sums
 pub record AreSame (sums others : Sums) : Type 0 where
@@ -41,10 +42,7 @@ module _ (facts : Facts) (grounded : AreGrounded facts) (id : ℕ) (fresh : has_
 
 module _ (facts : Facts) (t : Transfer) (may : MayAdd facts t) where
   pub status-add : (id : ℕ) → status_of (add_transfer facts t) id ≡ status_of facts id
-  status-add id =
-      let posted = any-push (λ other. is_post other && (other.pending_id == id)) facts.transfers t in
-      let voided = any-push (λ other. is_void other && (other.pending_id == id)) facts.transfers t in
-      grind (arith, posted, voided, may.not_post, may.not_void)
+  status-add id = grind (arith, any-push, may.not_post, may.not_void)
 
   pub status_in-add : (y : Transfer) → status_in (add_transfer facts t) y ≡ status_in facts y
   status_in-add y = ap (λ s. if is_pending y then Some s else None) (status-add y.id)
@@ -60,47 +58,50 @@ module _ (facts : Facts) (t : Transfer) (may : MayAdd facts t) where
     pub posted-add : (side : Transfer → ℕ) (id : ℕ) → amounts (posts side id) (add_transfer facts t).transfers ≡ amounts (posts side id) facts.transfers + (if not (is_pending t) && (side t == id) then t.amount else 0)
     posted-add side id = grind (arith, amounts-push (posts side id) (posts side id) facts.transfers t (λ y. refl), may.not_void)
 
-    pub sums-add : AreSame (sums_of (add_transfer facts t)) (with_amount (is_pending t) t.debit_account_id t.credit_account_id t.amount (sums_of facts))
+    pub sums-add : AreSame (sums_of (add_transfer facts t)) (with_amount (phase_of t) t.debit_account_id t.credit_account_id t.amount (sums_of facts))
     sums-add = by (is_pending t) (reserved-add (λ x. x.debit_account_id)) (posted-add (λ x. x.debit_account_id)) (reserved-add (λ x. x.credit_account_id)) (posted-add (λ x. x.credit_account_id))
       where
         by : (b : Bool) → let new = sums_of (add_transfer facts t) in let old = sums_of facts in
             More t.amount b new.debits_pending old.debits_pending t.debit_account_id → More t.amount (not b) new.debits_posted old.debits_posted t.debit_account_id →
             More t.amount b new.credits_pending old.credits_pending t.credit_account_id → More t.amount (not b) new.credits_posted old.credits_posted t.credit_account_id →
-            AreSame new (with_amount b t.debit_account_id t.credit_account_id t.amount old)
+            AreSame new (with_amount (if b then phase.Pending else phase.Posted) t.debit_account_id t.credit_account_id t.amount old)
         by true dp dpo cp cpo = record { debits_pending = dp; debits_posted = λ id. omega (arith, dpo id); credits_pending = cp; credits_posted = λ id. omega (arith, cpo id) }
         by false dp dpo cp cpo = record { debits_pending = λ id. omega (arith, dp id); debits_posted = dpo; credits_pending = λ id. omega (arith, cp id); credits_posted = cpo }
 
 module _ (facts : Facts) (t : Transfer) (may : MayResolve facts t) where
   pub status-other : (id : ℕ) → (t.pending_id == id) ≡ false → status_of (add_transfer facts t) id ≡ status_of facts id
-  status-other id apart =
-      let posted = any-push (λ other. is_post other && (other.pending_id == id)) facts.transfers t in
-      let voided = any-push (λ other. is_void other && (other.pending_id == id)) facts.transfers t in
-      grind (arith, posted, voided, apart)
+  status-other id apart = grind (arith, any-push, apart)
 
   pub status-named : status_of (add_transfer facts t) t.pending_id ≡ status_after (is_post t)
-  status-named =
-      let id = t.pending_id in
-      let posted = any-push (λ other. is_post other && (other.pending_id == id)) facts.transfers t in
-      let voided = any-push (λ other. is_void other && (other.pending_id == id)) facts.transfers t in
-      grind (arith, nat_tests, posted, voided, may.unresolved, may.post_or_void)
+  status-named = grind (arith, nat_tests, any-push, may.unresolved, may.post_or_void)
 
   pub reserved-resolve : IsLawful facts → (side : Transfer → ℕ) → side t ≡ side may.pending → (id : ℕ) →
       amounts (reserves side facts id) facts.transfers ≡ amounts (reserves side (add_transfer facts t) id) (add_transfer facts t).transfers + (if side t == id then may.pending.amount else 0)
   reserved-resolve lawful side same id =
       let reserved = amounts-push (but_for t.pending_id (reserves side facts id)) (reserves side (add_transfer facts t) id) facts.transfers t (reserves-but_for facts t may side id) in
-      let nothing = reserves_nothing facts t may (is_pending t) (not (is_resolved (add_transfer facts t) t.id)) (not (is_expired facts t.id)) (side t == id) t.amount may.not_pending in
       let found = but_for-found (reserves side facts id) t.pending_id facts.transfers may.pending lawful.distinct may.named in
-      grind (arith, reserved, nothing, found, reserving facts t may, same)
+      grind (arith, reserved, found, reserving facts t may, same, may.not_pending)
 
   pub posted-resolve : (side : Transfer → ℕ) (id : ℕ) → amounts (posts side id) (add_transfer facts t).transfers ≡ amounts (posts side id) facts.transfers + (if is_post t && (side t == id) then t.amount else 0)
   posted-resolve side id =
       grind (arith, amounts-push (posts side id) (posts side id) facts.transfers t (λ y. refl), may.not_pending, may.post_or_void)
 
+  -- it posts at most what it releases
+  total-resolve : (side : Transfer → ℕ) → side t ≡ side may.pending → IsLawful facts → (id : ℕ) → total side (add_transfer facts t) id ≤ total side facts id
+  total-resolve side same lawful id = grind (arith, reserved-resolve lawful side same id, posted-resolve side id, may.at_most)
+
+  pub resolve_lawful : IsLawful facts → IsLawful (add_transfer facts t)
+  resolve_lawful lawful = record {
+    distinct = distinct-push facts.transfers t (find-none t.id facts.transfers may.new) lawful.distinct;
+    debits_fit = λ id. omega (arith, total-resolve (λ x. x.debit_account_id) may.same_debit lawful id, lawful.debits_fit id);
+    credits_fit = λ id. omega (arith, total-resolve (λ x. x.credit_account_id) may.same_credit lawful id, lawful.credits_fit id);
+  }
+
   -- between the release of what was reserved and the post of another amount
   abbrev pub left : Sums
   left = record (sums_of facts) { debits_pending = (sums_of (add_transfer facts t)).debits_pending; credits_pending = (sums_of (add_transfer facts t)).credits_pending }
 
-  pub sums-release : IsLawful facts → AreSame (sums_of facts) (with_amount true t.debit_account_id t.credit_account_id may.pending.amount left)
+  pub sums-release : IsLawful facts → AreSame (sums_of facts) (with_amount phase.Pending t.debit_account_id t.credit_account_id may.pending.amount left)
   sums-release lawful = record {
     debits_pending = λ id. reserved-resolve lawful (λ x. x.debit_account_id) may.same_debit id;
     debits_posted = λ id. refl;

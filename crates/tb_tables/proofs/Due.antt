@@ -1,14 +1,15 @@
 -- Transfers expire: one, and all that are due.
-use Rattle.std.proofs.Common.{refl, sym, ap, subst, ◌∙◌, arith, ◌≡◌, ℕ, ◌<◌, ◌≤◌, Bool, true, false, not, List, nat_eq, slice_get, true≢false, ◌&&◌, Option, Some, None, ◌+◌, [], ◌∷◌, map, filter, suc, if◌then◌else◌, ◌==◌, ◌||◌}
-use Rattle.tb_tables.proofs.Words.{IsDistinct, keys_of, nat_tests, set_value_at, Account, Transfer, Facts, expire_due, is_reserving, is_due, expires_at, same_pair, sums_of, with_amount, account_rows, AreAt, CanTake, row_in, transfer_rows, is_timed, is_pair_of, expects, IsGrounded, Hold, IsSound, AreHeld, is_open_status, CanExpire, expire_one, Places, Row, Expired, is_expired, is_resolved, is_pending, IsLawful, reserves_at}
+use Rattle.std.proofs.Common.{refl, sym, ap, subst, ◌∙◌, arith, ◌≡◌, ℕ, ◌<◌, ◌≤◌, Bool, true, false, not, List, nat_eq, slice_get, true≢false, ◌&&◌, Option, Some, None, ◌+◌, [], ◌∷◌, map, filter, suc, if◌then◌else◌, ◌==◌, ◌||◌, append-nil}
+use Rattle.tb_tables.proofs.Words.{IsDistinct, keys_of, nat_tests, set_value_at, Account, Transfer, Facts, expire_due, is_reserving, is_due, expires_at, same_pair, sums_of, with_amount, account_rows, AreAt, CanTake, row_in, transfer_rows, is_timed, is_pair_of, expects, IsGrounded, Hold, IsSound, AreHeld, is_open_status, CanExpire, expire_one, Places, Row, Expired, is_expired, IsLawful, reserves_at}
+use Rattle.tb_tables.specs.declared.amounts.Phase.TheVariants as phase
 use Rattle.tb_tables.proofs.Laws.{resolved_either, ==_swap, reserves}
 use Rattle.tb_tables.proofs.Stored.{row-placed, rows-set}
 use Rattle.tb_tables.proofs.Added.{rows-same, AreSame}
-use Rattle.tb_tables.proofs.Forgetting.{all-there}
-use Rattle.std.proofs.lemmas.Bool.{eqb-true}
+use Rattle.tb_tables.proofs.Grounding.{all-there}
+use Rattle.tb_tables.proofs.Keeping.{held-by}
 use Rattle.std.proofs.lemmas.List.Elements.{filter_agree}
-use Rattle.tb_tables.proofs.Sums.{amount_if, amounts, amounts-each, sum_by-same, but_for, but_for-found}
-use Rattle.tb_tables.proofs.Expecting.{find-at, has_id-at, one-transfer}
+use Rattle.tb_tables.proofs.Sums.{amount_if, amounts, amounts-same, but_for, but_for-found}
+use Rattle.tb_tables.proofs.Expecting.{find-at, has_id-at, one-place, one-transfer}
 use Rattle.tb_tables.proofs.Stepping.{ids-found, expired-is}
 
 pub filter-at : (f g : Transfer → Bool) (xs : List Transfer) → ((place : ℕ) (x : Transfer) → slice_get xs place ≡ Some x → f x ≡ g x) → filter f xs ≡ filter g xs
@@ -25,9 +26,6 @@ none-left clock facts ordered none =
     λ i. record facts { expired = (ap (map (λ (t : Transfer). t.id)) (filter-at (expires clock facts) (λ (t : Transfer). is_expired facts t.id) facts.transfers (λ p y at. grind (arith, none p y at))) ∙ sym ordered) i }
 
 -- ---- one transfer more has expired
-
-amounts-same : (test other : Transfer → Bool) (xs : List Transfer) → ((y : Transfer) → test y ≡ other y) → amounts test xs ≡ amounts other xs
-amounts-same test other xs same = amounts-each test xs ∙ sum_by-same (amount_if test) (amount_if other) xs (λ y. ap (λ b. if b then y.amount else 0) (same y)) ∙ sym (amounts-each other xs)
 
 module _ (facts : Facts) (x : Transfer) (place : ℕ) (at : slice_get facts.transfers place ≡ Some x) (lawful : IsLawful facts) (reserving : is_reserving facts x ≡ true)
     (ordered : facts.expired ≡ map (λ (t : Transfer). t.id) (filter (λ t. is_expired facts t.id) facts.transfers)) where
@@ -49,7 +47,7 @@ module _ (facts : Facts) (x : Transfer) (place : ℕ) (at : slice_get facts.tran
       ∙ ap (λ n. n + amount_if (reserves side facts id) x) (sym (amounts-same (reserves side after id) (but_for x.id (reserves side facts id)) facts.transfers (reserves-after side id)))
       ∙ ap (λ b. amounts (reserves side after id) facts.transfers + (if b && (side x == id) then x.amount else 0)) reserving
 
-  pub sums-after : AreSame (sums_of facts) (with_amount true x.debit_account_id x.credit_account_id x.amount (sums_of after))
+  pub sums-after : AreSame (sums_of facts) (with_amount phase.Pending x.debit_account_id x.credit_account_id x.amount (sums_of after))
   sums-after = record {
     debits_pending = reserved-after (λ t. t.debit_account_id);
     debits_posted = λ id. refl;
@@ -70,10 +68,8 @@ module _ (facts : Facts) (x : Transfer) (place : ℕ) (at : slice_get facts.tran
   row-expired : record (row_in facts x) { status = Some Expired } ≡ row_in after x
   row-expired = grind (arith, nat_tests, reserving, resolved_either x.id facts.transfers, more x.id)
 
-  pub rows-after : (entries : List (ℕ × Row)) → entries ≡ transfer_rows facts facts.transfers → IsDistinct nat_eq (keys_of entries) → set_value_at entries place (record (row_in facts x) { status = Some Expired }) ≡ transfer_rows after facts.transfers
-  rows-after entries is apart =
-      ap (λ es. set_value_at es place (record (row_in facts x) { status = Some Expired })) is ∙ ap (set_value_at (transfer_rows facts facts.transfers) place) row-expired
-      ∙ rows-set (λ (t : Transfer). t.id) (row_in facts) (row_in after) facts.transfers place x at (rw is at apart) row-other
+  pub rows-after : {entries : List (ℕ × Row)} → entries ≡ transfer_rows facts facts.transfers → IsDistinct nat_eq (keys_of entries) → set_value_at entries place (record (row_in facts x) { status = Some Expired }) ≡ transfer_rows after facts.transfers
+  rows-after is apart = rows-set (λ (t : Transfer). t.id) (row_in facts) (row_in after) [] facts.transfers place x at row-expired row-other (is ∙ sym (append-nil _)) apart ∙ append-nil _
 
   -- ---- what it does to sound facts and to the index
 
@@ -85,13 +81,7 @@ module _ (facts : Facts) (x : Transfer) (place : ℕ) (at : slice_get facts.tran
     where
       by : (o : Option Transfer) → slice_get facts.transfers p ≡ o → (is_pair_of m o && reserves_at after o) ≡ true → ((is_pair_of m o && reserves_at facts o) ≡ true) × ((place == p) ≡ false)
       by None at' h = grind arith
-      by (Some y) at' h = (grind (arith, reserving-after y), elsewhere (place == p) refl)
-        where
-          elsewhere : (b : Bool) → (place == p) ≡ b → b ≡ false
-          elsewhere false is = refl
-          elsewhere true is =
-              let here : x ≡ y = cc (at, at', ap (slice_get facts.transfers) (eqb-true place p is)) in
-              grind (arith, nat_tests, reserving-after y, here)
+      by (Some y) at' h = let one = one-place facts.transfers place p x y lawful.distinct at at' in (grind (arith, reserving-after y, h), grind (arith, reserving-after y, one, h))
 
   pub sound-after : (indexed next : ℕ → ℕ → Bool) → ((m p : ℕ) → next m p ≡ (not (same_pair (expires_at x) place m p) && indexed m p)) → IsSound indexed facts → IsSound next after
   sound-after indexed next is sound = record {
@@ -100,15 +90,13 @@ module _ (facts : Facts) (x : Transfer) (place : ℕ) (at : slice_get facts.tran
     made = sound.made;
     expiries = record {
       ordered = ap (map (λ (t : Transfer). t.id)) (filter_agree (λ (t : Transfer). is_expired facts t.id || (x.id == t.id)) (λ (t : Transfer). is_expired after t.id) (λ t. sym (more t.id)) facts.transfers);
-      open_ones = λ p y at' expired. by (x.id == y.id) p refl y at' (sym (more y.id) ∙ expired) (sound.expiries.open_ones p y at') (same p y at');
+      open_ones = λ p y at' expired.
+          let one = same p y at' in
+          let was = sound.expiries.open_ones p y at' in
+          (grind (arith, more y.id, expired, reserving, one, was), grind (arith, more y.id, expired, reserving, one, was));
     };
     paired = λ m p has. grind (arith, is m p, expects-after m p has, sound.paired m p);
   }
-    where
-      by : (b : Bool) (p : ℕ) {c : Bool} → c ≡ b → (y : Transfer) → slice_get facts.transfers p ≡ Some y → (is_expired facts y.id || c) ≡ true →
-          (is_expired facts y.id ≡ true → (is_pending y ≡ true) × (is_resolved facts y.id ≡ false)) → (c ≡ true → x ≡ y) → (is_pending y ≡ true) × (is_resolved facts y.id ≡ false)
-      by true p e y at' h old one = subst (λ z. (is_pending z ≡ true) × (is_resolved facts z.id ≡ false)) (one e) (grind (arith, reserving))
-      by false p e y at' h old one = old (grind (arith, h, e))
 
   -- ---- and to what is due
 
@@ -117,11 +105,7 @@ module _ (facts : Facts) (x : Transfer) (place : ℕ) (at : slice_get facts.tran
       λ i. record facts { expired = map (λ (t : Transfer). t.id) (filter-at (expires clock after) (expires clock facts) facts.transfers each i) }
     where
       each : (p : ℕ) (y : Transfer) → slice_get facts.transfers p ≡ Some y → expires clock after y ≡ expires clock facts y
-      each p y at' = by (x.id == y.id) refl
-        where
-          by : (b : Bool) → (x.id == y.id) ≡ b → expires clock after y ≡ expires clock facts y
-          by true is = let one = same p y at' is in grind (arith, more y.id, reserving-after y, reserving, due, one)
-          by false is = grind (arith, more y.id, reserving-after y, is)
+      each p y at' = let one = same p y at' in grind (arith, more y.id, reserving-after y, reserving, due, one)
 
 -- the entry of the transfer at a place
 row-at : {facts : Facts} {accounts : List (ℕ × Account)} {transfers : List (ℕ × Row)} → Hold facts accounts transfers → (place : ℕ) {t : Transfer} → slice_get facts.transfers place ≡ Some t → slice_get transfers place ≡ Some (t.id, row_in facts t)
@@ -136,10 +120,10 @@ module _ {facts : Facts} {accounts : List (ℕ × Account)} {transfers : List (�
   pub there : slice_get transfers place ≡ Some (can.transfer.id, row_in facts can.transfer)
   there = row-at can.hold place can.at
 
-  pub released : accounts ≡ account_rows (with_amount true can.transfer.debit_account_id can.transfer.credit_account_id can.transfer.amount (sums_of (expire_one can.transfer.id facts))) facts.accounts
+  pub released : accounts ≡ account_rows (with_amount phase.Pending can.transfer.debit_account_id can.transfer.credit_account_id can.transfer.amount (sums_of (expire_one can.transfer.id facts))) facts.accounts
   released = can.hold.accounts_are ∙ rows-same _ _ facts.accounts (sums-after facts can.transfer place can.at can.lawful can.reserves can.ordered)
 
-  pub can-take : {places : Places} {amount : ℕ} → AreAt facts.accounts places can.transfer.debit_account_id can.transfer.credit_account_id → amount ≡ can.transfer.amount → CanTake accounts places true amount
+  pub can-take : {places : Places} {amount : ℕ} → AreAt facts.accounts places can.transfer.debit_account_id can.transfer.credit_account_id → amount ≡ can.transfer.amount → CanTake accounts places phase.Pending amount
   can-take are_at same = rw same (record {
     sums = sums_of (expire_one can.transfer.id facts);
     accounts = facts.accounts;
@@ -150,7 +134,7 @@ module _ {facts : Facts} {accounts : List (ℕ × Account)} {transfers : List (�
   })
 
   pub expired-row : IsDistinct nat_eq (keys_of transfers) → set_value_at transfers place (record (row_in facts can.transfer) { status = Some Expired }) ≡ transfer_rows (expire_one can.transfer.id facts) facts.transfers
-  expired-row apart = rows-after facts can.transfer place can.at can.lawful can.reserves can.ordered transfers can.hold.transfers_are apart
+  expired-row apart = rows-after facts can.transfer place can.at can.lawful can.reserves can.ordered can.hold.transfers_are apart
 
 -- ---- the loop
 
@@ -212,31 +196,16 @@ module _ {accounts : List (ℕ × Account)} {transfers : List (ℕ × Row)} {ind
 
     -- it reserves nothing any more
     pub passed-over : {old : Facts} → is_open_status (row_in facts pair.transfer).status ≡ false → expire_due clock facts ≡ expire_due clock old → StillDue clock old accounts transfers next
-    passed-over closed same =
-        let s = held.sound in
-        record {
-          now = facts;
-          held = record {
-            hold = held.hold;
-            timed = λ m p h. held.timed m p (grind (arith, took m p, h));
-            sound = record { lawful = s.lawful; grounded = s.grounded; made = s.made; expiries = s.expiries; paired = λ m p h. stays m p h (s.paired m p h) };
-          };
-          same = same;
-        }
-      where
-        stays : (m p : ℕ) → expects facts m p ≡ true → indexed m p ≡ true → next m p ≡ true
-        stays m p h was = grind (arith, nat_tests, took m p, pair.at, closed, resolved_either pair.transfer.id facts.transfers)
+    passed-over closed same = record {
+      now = facts;
+      held = held-by held (λ m p h. grind (arith, took m p, h)) (λ m p h was. grind (arith, nat_tests, took m p, pair.at, closed, h, was, resolved_either pair.transfer.id facts.transfers));
+      same = same;
+    }
 
 -- where no pair is due, nothing that reserves its amount is
-none-due : (clock : ℕ) (indexed : ℕ → ℕ → Bool) (facts : Facts) → IsSound indexed facts → ((m p : ℕ) → indexed m p ≡ true → clock < m) → (p : ℕ) (y : Transfer) → slice_get facts.transfers p ≡ Some y →
-    (b : Bool) → (is_reserving facts y && is_due clock y) ≡ b → b ≡ false
-none-due clock indexed facts sound later p y at false e = refl
-none-due clock indexed facts sound later p y at true e =
-    let expected : expects facts (expires_at y) p ≡ true = grind (arith, nat_tests, at, e) in
-    let after = later (expires_at y) p (sound.paired (expires_at y) p expected) in
-    let due : expires_at y ≤ clock = grind (arith, nat_tests, e) in
-    absurd (omega arith)
+none-due : (clock : ℕ) (indexed : ℕ → ℕ → Bool) (facts : Facts) → IsSound indexed facts → ((m p : ℕ) → indexed m p ≡ true → clock < m) → (p : ℕ) (y : Transfer) → slice_get facts.transfers p ≡ Some y → (is_reserving facts y && is_due clock y) ≡ false
+none-due clock indexed facts sound later p y at = grind (arith, nat_tests, at, sound.paired (expires_at y) p, later (expires_at y) p)
 
 pub all-due : {clock : ℕ} {facts : Facts} {accounts : List (ℕ × Account)} {transfers : List (ℕ × Row)} {indexed : ℕ → ℕ → Bool} → StillDue clock facts accounts transfers indexed → ((m p : ℕ) → indexed m p ≡ true → clock < m) →
     AreHeld accounts transfers indexed (expire_due clock facts)
-all-due {clock} {facts} {accounts} {transfers} {indexed} due later = subst (AreHeld accounts transfers indexed) (sym (none-left clock due.now due.held.sound.expiries.ordered (λ p y at. none-due clock indexed due.now due.held.sound later p y at _ refl)) ∙ due.same) due.held
+all-due {clock} {facts} {accounts} {transfers} {indexed} due later = subst (AreHeld accounts transfers indexed) (sym (none-left clock due.now due.held.sound.expiries.ordered (none-due clock indexed due.now due.held.sound later)) ∙ due.same) due.held

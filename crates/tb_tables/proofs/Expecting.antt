@@ -2,7 +2,7 @@
 use Rattle.std.proofs.Common.{find, refl, sym, ap, ◌∙◌, arith, ◌≡◌, ℕ, Bool, true, false, List, [], ◌∷◌, ◌++◌, length, slice_get, zero, suc, if◌then◌else◌, ◌==◌, ◌&&◌, ◌||◌, Option, Some, None, ◌≤◌, not, cond, is_eq, is_gt}
 use Rattle.std.proofs.lemmas.Bool.{eqb-true}
 use Rattle.std.proofs.lemmas.Option.{slice_get_past}
-use Rattle.tb_tables.proofs.Words.{its_pair, nat_tests, Transfer, Facts, add_transfer, is_reserving, has_id, ids_distinct, is_pair_of, is_pair, reserves_at, expects, list_any, pair_cmp, is_indexed, same_pair}
+use Rattle.tb_tables.proofs.Words.{its_pair, nat_tests, Transfer, Facts, add_transfer, is_reserving, has_id, ids_distinct, is_pair, expects, list_any, pair_cmp, is_indexed, same_pair}
 use Rattle.std.specs.BTreeSet.{BTreeSet}
 
 pair-eq : (moment place m p : ℕ) → is_eq (pair_cmp (moment, place) (m, p)) ≡ same_pair moment place m p
@@ -53,20 +53,12 @@ one-transfer xs i j x y distinct at at' same = cc (at, at', ap (slice_get xs) (e
 
 module _ (facts : Facts) (t : Transfer) where
   pub pairs-push : (moment place : ℕ) → is_pair (add_transfer facts t) moment place ≡ (its_pair facts t moment place || is_pair facts moment place)
-  pairs-push moment place = ap (is_pair_of moment) (slice_get-push facts.transfers t place) ∙ by (place == length facts.transfers) refl
-    where
-      by : (b : Bool) → (place == length facts.transfers) ≡ b → is_pair_of moment (if b then Some t else slice_get facts.transfers place) ≡ (its_pair facts t moment place || is_pair facts moment place)
-      by true is =
-          let none : slice_get facts.transfers place ≡ None = ap (slice_get facts.transfers) (eqb-true place (length facts.transfers) is) ∙ slice_get_past facts.transfers (length facts.transfers) (omega arith) in
-          grind (arith, nat_tests, none, is)
-      by false is = grind (arith, nat_tests, is)
+  pairs-push moment place = grind (arith, nat_tests, slice_get-push facts.transfers t place, slice_get_past facts.transfers place)
 
   -- where none reserves its amount that didn't before
   pub expects-push : ((y : Transfer) → is_reserving (add_transfer facts t) y ≡ true → is_reserving facts y ≡ true) → (moment place : ℕ) → expects (add_transfer facts t) moment place ≡ true → (its_pair facts t moment place || expects facts moment place) ≡ true
-  expects-push less moment place has = by (place == length facts.transfers) refl (slice_get facts.transfers place) refl (sym (ap (λ o. is_pair_of moment o && reserves_at (add_transfer facts t) o) (slice_get-push facts.transfers t place)) ∙ has)
+  expects-push less moment place has = by (slice_get facts.transfers place) refl
     where
-      by : (b : Bool) → (place == length facts.transfers) ≡ b → (o : Option Transfer) → slice_get facts.transfers place ≡ o →
-          (is_pair_of moment (if b then Some t else o) && reserves_at (add_transfer facts t) (if b then Some t else o)) ≡ true → (its_pair facts t moment place || expects facts moment place) ≡ true
-      by true is o at h = grind (arith, nat_tests, is)
-      by false is None at h = grind arith
-      by false is (Some y) at h = grind (arith, at, less y)
+      by : (o : Option Transfer) → slice_get facts.transfers place ≡ o → (its_pair facts t moment place || expects facts moment place) ≡ true
+      by None at = grind (arith, nat_tests, slice_get-push facts.transfers t place, at, has)
+      by (Some y) at = grind (arith, nat_tests, slice_get-push facts.transfers t place, at, has, less y)

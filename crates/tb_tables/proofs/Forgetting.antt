@@ -1,10 +1,12 @@
 -- The pairs of resolved transfers leave the index.
-use Rattle.std.proofs.Common.{sym, ap, subst, ◌∙◌, arith, ◌≡◌, ℕ, ◌+◌, ◌<◌, ◌^◌, Bool, true, false, not, List, [], ◌∷◌, ◌++◌, take, length, get_or, slice_get, zero, suc, ◌==◌, ◌&&◌, ◌||◌, Some}
+use Rattle.std.proofs.Common.{sym, ap, ◌∙◌, arith, ◌≡◌, ℕ, ◌+◌, ◌<◌, ◌^◌, Bool, true, not, List, [], ◌∷◌, ◌++◌, take, length, get_or, slice_get, suc, ◌==◌, ◌&&◌, ◌||◌, Some}
 use Rattle.std.proofs.lemmas.List.Folds.{list_any-append}
 use Rattle.std.proofs.Math.Seq.{take-suc}
 use Rattle.tb_tables.proofs.Words.{NamesOne, AllByRecursion, nat_tests, Transfer, Facts, expires_at, same_pair, Stored, facts_of, row_in, is_timed, is_spent, IsGrounded, IsKept, resolves_at, is_resolved_at, is_open_status, IsForgettable, CanForget, Places, Row, Change}
 use Rattle.tb_tables.proofs.Laws.{resolved_either}
 use Rattle.tb_tables.proofs.Stored.{row-placed}
+use Rattle.tb_tables.proofs.Grounding.{all-there}
+use Rattle.tb_tables.proofs.Keeping.{held-by}
 
 -- ---- one transfer
 
@@ -15,23 +17,11 @@ module _ {facts : Facts} {t : Transfer} {entries : List (ℕ × Row)} {place : �
   pub fits : is_timed t ≡ true → expires_at t < 2 ^ 64
   fits timed = can.expiry_fits (grind (arith, timed))
 
-  -- its pair leaves, where it has one and its status isn't pending
-  pub spent-gone : is_timed t ≡ true → is_open_status (row_in facts t).status ≡ false → (m p : ℕ) → same_pair (expires_at t) place m p ≡ ((place == p) && is_spent facts m p)
-  spent-gone timed closed m p = grind (arith, nat_tests, can.at, timed, closed, resolved_either t.id facts.transfers)
-
-  -- and else none does
-  pub untimed-stays : is_timed t ≡ false → (m p : ℕ) → ((place == p) && is_spent facts m p) ≡ false
-  untimed-stays untimed m p = grind (arith, nat_tests, can.at, untimed)
-
-  pub open-stays : is_open_status (row_in facts t).status ≡ true → (m p : ℕ) → ((place == p) && is_spent facts m p) ≡ false
-  open-stays open_one m p = grind (arith, nat_tests, can.at, open_one, resolved_either t.id facts.transfers)
+  -- its pair is spent, where it has one and its status isn't pending
+  pub spent-is : (m p : ℕ) → ((place == p) && is_spent facts m p) ≡ (is_timed t && not (is_open_status (row_in facts t).status) && same_pair (expires_at t) place m p)
+  spent-is m p = grind (arith, nat_tests, can.at, resolved_either t.id facts.transfers)
 
 -- ---- all that some changes resolved
-
-pub all-at : {X : Type 0} (P : X → Type 0) (xs : List X) (k : ℕ) (d : X) → AllByRecursion P xs → k < length xs → P (get_or xs k d)
-all-at P [] k d all h = absurd (omega arith)
-all-at P (x ∷ xs) zero d all h = all.0
-all-at P (x ∷ xs) (suc k) d all h = all-at P xs k d all.1 (omega arith)
 
 resolved-push : (place : ℕ) (changes : List (Change Places)) (change : Change Places) → is_resolved_at place (changes ++ change ∷ []) ≡ (is_resolved_at place changes || resolves_at place change)
 resolved-push place changes change = grind (arith, list_any-append (resolves_at place) changes (change ∷ []))
@@ -48,11 +38,6 @@ forgotten-more changes k d p pair had now next h was is =
     bits : (a r now : Bool) → now ≡ (not (a && pair) && had) → (not (r && pair) && now) ≡ (not ((a || r) && pair) && had)
     bits a r now was = grind arith
 
-pub all-there : {X : Type 0} (P : X → Type 0) (xs : List X) (place : ℕ) (x : X) → AllByRecursion P xs → slice_get xs place ≡ Some x → P x
-all-there P [] place x all at = cc
-all-there P (y ∷ xs) zero x all at = let same : y ≡ x = cc in subst P same all.0
-all-there P (y ∷ xs) (suc place) x all at = all-there P xs place x all.1 at
-
 -- ---- in the maps
 
 module _ (old : Stored) (kept : IsKept old) where
@@ -66,10 +51,4 @@ module _ (old : Stored) (kept : IsKept old) where
           (named.0, record { transfers_are = kept.hold.transfers_are; at = named.1; expiry_fits = (all-there (IsGrounded (facts_of old).accounts (facts_of old).transfers) (facts_of old).transfers place named.0 kept.sound.grounded named.1).expiry_fits })
 
   pub kept-now : (changes : List (Change Places)) (indexed : ℕ → ℕ → Bool) → ((m p : ℕ) → indexed m p ≡ (not (is_resolved_at p changes && is_spent (facts_of old) m p) && old.is_indexed m p)) → IsKept (record old { is_indexed = indexed })
-  kept-now changes indexed is =
-      let s = kept.sound in
-      record {
-        hold = kept.hold;
-        timed = λ m p has. grind (arith, is m p, has, kept.timed m p);
-        sound = record { lawful = s.lawful; grounded = s.grounded; made = s.made; expiries = s.expiries; paired = λ m p has. grind (arith, is m p, has, s.paired m p) };
-      }
+  kept-now changes indexed is = held-by kept (λ m p has. grind (arith, is m p, has)) (λ m p has was. grind (arith, is m p, has, was))

@@ -1,7 +1,9 @@
 -- Transfers stay grounded with each change.
-use Rattle.std.proofs.Common.{refl, sym, ap, subst, ◌∙◌, ◌≡◌, Bool, true, false, cond, append-nil, arith, List, [], ◌∷◌, ◌++◌, true≢false, ◌==◌, ◌||◌, Some, IsSome, find}
-use Rattle.std.proofs.lemmas.List.Folds.{list_any-append}
-use Rattle.tb_tables.proofs.Words.{list_any, AllByRecursion, Account, Transfer, Facts, add_account, add_transfer, MayAdd, MayResolve, has_account, IsGrounded, AreGrounded}
+use Rattle.std.proofs.Common.{refl, sym, ap, subst, ◌∙◌, ◌≡◌, Bool, true, append-nil, arith, List, [], ◌∷◌, ◌++◌, true≢false, ◌==◌, ◌||◌, Some, IsSome, find, ℕ, slice_get}
+use Rattle.std.proofs.lemmas.List.Elements.{All-from_recursion}
+use Rattle.std.proofs.lemmas.List.Folds.{find_at, list_any-append}
+use Rattle.std.proofs.lemmas.Option.{get_or_from_slice_get, slice_get_within}
+use Rattle.tb_tables.proofs.Words.{list_any, position_or_len, AllByRecursion, Account, Transfer, Facts, add_account, add_transfer, MayAdd, MayResolve, has_account, IsGrounded, AreGrounded}
 use Rattle.tb_tables.proofs.Histories.{all_push}
 
 any-more : {X : Type 0} (test : X → Bool) (xs ys : List X) → list_any test xs ≡ true → list_any test (xs ++ ys) ≡ true
@@ -11,13 +13,11 @@ any-found : {X : Type 0} (test : X → Bool) (xs : List X) → IsSome (find test
 any-found test [] h = absurd (true≢false (sym h))
 any-found test (x ∷ xs) h = grind (arith, any-found test xs)
 
+pub all-there : {X : Type 0} (P : X → Type 0) (xs : List X) (place : ℕ) (x : X) → AllByRecursion P xs → slice_get xs place ≡ Some x → P x
+all-there P xs place x all at = subst P (get_or_from_slice_get xs place x x at) (All-from_recursion P xs all place x (slice_get_within xs place x at))
+
 pub all-found : {X : Type 0} (P : X → Type 0) (test : X → Bool) (xs : List X) (x : X) → AllByRecursion P xs → find test xs ≡ Some x → P x
-all-found P test [] x all h = cc
-all-found {X} P test (y ∷ xs) x all h = by (test y) (all-found P test xs x all.1) h
-  where
-    by : (b : Bool) → (find test xs ≡ Some x → P x) → cond b (Some y) (find test xs) ≡ Some x → P x
-    by true rest h = let same : y ≡ x = cc in subst P same all.0
-    by false rest h = rest h
+all-found P test xs x all found = all-there P xs (position_or_len test xs) x all (sym (find_at test xs) ∙ found)
 
 module _ (accounts more_accounts : List Account) (transfers more_transfers : List Transfer) where
   grounded-more : (xs : List Transfer) → AllByRecursion (IsGrounded accounts transfers) xs → AllByRecursion (IsGrounded (accounts ++ more_accounts) (transfers ++ more_transfers)) xs

@@ -1,7 +1,7 @@
 -- What the maps hold is what is seen, and facts stay sound with another index that has their pairs.
-use Rattle.std.proofs.Common.{refl, sym, ap, subst, arith, ◌∙◌, ◌≡◌, ℕ, ◌<◌, ◌≤◌, Bool, true, List, [], ◌∷◌, map, filter, length, slice_get, suc, true≢false, ◌&&◌, Option, Some, None}
-use Rattle.std.proofs.lemmas.Option.{slice_get_within}
-use Rattle.tb_tables.proofs.Words.{AllByRecursion, Account as AccountRecord, Transfer as TransferRecord, Facts, is_expired, status_in, HasNoBalances, Sums, sums_of, with_sums, account_rows, Stored, account_made, has_expired, facts_of, transfer_rows, is_pair_of, reserves_at, IsSound, AreHeld, IsKept, Row, KeepsPairs}
+use Rattle.std.proofs.Common.{refl, sym, ap, subst, arith, ◌∙◌, ◌≡◌, ℕ, ◌≤◌, Bool, true, List, [], ◌∷◌, map, filter, length, slice_get, suc, Some}
+use Rattle.std.proofs.lemmas.Option.{slice_get_cases}
+use Rattle.tb_tables.proofs.Words.{AllByRecursion, Account as AccountRecord, Transfer as TransferRecord, Facts, is_expired, status_in, HasNoBalances, Sums, sums_of, with_sums, account_rows, Stored, account_made, has_expired, facts_of, transfer_rows, expects, IsSound, AreHeld, IsKept, Row, KeepsPairs}
 use Rattle.tb_tables.proofs.Laws.{resolved_either}
 
 -- ---- facts that the maps hold are those that they are seen as
@@ -39,18 +39,20 @@ keeps {accounts} {transfers} {indexed} facts held =
     let is = seen (record { accounts = accounts; transfers = transfers; failed = facts.failed; is_indexed = indexed }) facts refl held in
     (subst (AreHeld accounts transfers indexed) (sym is) held, is)
 
--- ---- the same with another index, which has the same pairs of the places that there are
+-- ---- the same with another index
 
-module _ (indexed other : ℕ → ℕ → Bool) (count : ℕ) (same : KeepsPairs count indexed other) where
-  pub sound-indexed : (facts : Facts) → length facts.transfers ≤ count → IsSound indexed facts → IsSound other facts
-  sound-indexed facts short sound = record {
-    lawful = sound.lawful;
-    grounded = sound.grounded;
-    made = sound.made;
-    expiries = sound.expiries;
-    paired = λ moment place has. same moment place (within moment place (slice_get facts.transfers place) refl has) (sound.paired moment place has);
-  }
-    where
-      within : (moment place : ℕ) (o : Option TransferRecord) → slice_get facts.transfers place ≡ o → (is_pair_of moment o && reserves_at facts o) ≡ true → place < count
-      within moment place None at has = absurd (true≢false (sym has))
-      within moment place (Some t) at has = omega (arith, slice_get_within facts.transfers place t at)
+pub sound-by : {indexed next : ℕ → ℕ → Bool} {facts : Facts} → ((m p : ℕ) → expects facts m p ≡ true → indexed m p ≡ true → next m p ≡ true) → IsSound indexed facts → IsSound next facts
+sound-by enough sound = record {
+  lawful = sound.lawful;
+  grounded = sound.grounded;
+  made = sound.made;
+  expiries = sound.expiries;
+  paired = λ m p has. enough m p has (sound.paired m p has);
+}
+
+pub held-by : {accounts : List (ℕ × AccountRecord)} {transfers : List (ℕ × Row)} {indexed next : ℕ → ℕ → Bool} {facts : Facts} → AreHeld accounts transfers indexed facts → ((m p : ℕ) → next m p ≡ true → indexed m p ≡ true) → ((m p : ℕ) → expects facts m p ≡ true → indexed m p ≡ true → next m p ≡ true) → AreHeld accounts transfers next facts
+held-by held fewer enough = record { hold = held.hold; timed = λ m p has. held.timed m p (fewer m p has); sound = sound-by enough held.sound }
+
+-- which has the same pairs of the places that there are
+pub sound-indexed : (indexed other : ℕ → ℕ → Bool) (count : ℕ) → KeepsPairs count indexed other → (facts : Facts) → length facts.transfers ≤ count → IsSound indexed facts → IsSound other facts
+sound-indexed indexed other count same facts short = sound-by (λ m p has. same m p (grind (arith, slice_get_cases facts.transfers p, short, has)))

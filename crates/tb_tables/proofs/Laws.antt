@@ -2,9 +2,9 @@
 use Rattle.std.proofs.Common.{refl, ap, ◌∙◌, arith, ◌≡◌, ℕ, ◌+◌, ◌<◌, ◌≤◌, ◌^◌, Bool, true, false, not, List, [], ◌∷◌, ◌++◌, if◌then◌else◌, ◌==◌, ◌&&◌, ◌||◌, None, find}
 use Rattle.std.proofs.Math.Bool.{or-false}
 use Rattle.std.proofs.lemmas.List.Folds.{list_any-append}
-use Rattle.tb_tables.proofs.Words.{list_any, nat_tests, Transfer, is_pending, is_post, is_void, is_resolving, Facts, is_expired, add_transfer, is_posted, is_voided, is_resolved, is_reserving, Pending, Posted, Voided, Expired, is_posting, MayAdd, MayResolve, IsLawful, has_id, ids_distinct}
+use Rattle.tb_tables.proofs.Words.{list_any, nat_tests, Transfer, is_post, is_void, is_resolving, Facts, add_transfer, is_reserving, is_posting, MayAdd, MayResolve, IsLawful, has_id, ids_distinct}
 use Rattle.tb_tables.proofs.Finding.{found-id}
-use Rattle.tb_tables.proofs.Sums.{amount_if, amounts, amounts-push, but_for, but_for-found}
+use Rattle.tb_tables.proofs.Sums.{amounts, amounts-push, but_for}
 
 -- which transfers reserve, or have posted, an amount at an account; `side` is the account that is debited, or credited
 abbrev pub reserves : (Transfer → ℕ) → Facts → ℕ → Transfer → Bool
@@ -47,14 +47,11 @@ module _ (facts : Facts) (t : Transfer) (may : MayAdd facts t) where
   reserves-same side id y = ap (λ b. b && (side y == id)) (reserving-same y)
 
   -- either it reserves its amount, or it has posted it
-  once : (p r e v s : Bool) (n : ℕ) → (if (p && not r && not e) && s then n else 0) + (if (not p && not v) && s then n else 0) ≤ (if s then n else 0)
-  once p r e v s n = grind arith
-
   total-push : (side : Transfer → ℕ) (id : ℕ) → total side (add_transfer facts t) id ≤ total side facts id + (if side t == id then t.amount else 0)
   total-push side id =
       let reserved = amounts-push (reserves side facts id) (reserves side (add_transfer facts t) id) facts.transfers t (reserves-same side id) in
       let posted = amounts-push (posts side id) (posts side id) facts.transfers t (λ y. refl) in
-      omega (arith, once (is_pending t) (is_resolved (add_transfer facts t) t.id) (is_expired facts t.id) (is_void t) (side t == id) t.amount)
+      grind (arith, reserved, posted)
 
   total-fits : (side : Transfer → ℕ) → total side facts (side t) + t.amount < 2 ^ 128 → (id : ℕ) → total side facts id < 2 ^ 128 → total side (add_transfer facts t) id < 2 ^ 128
   total-fits side more id fits = grind (arith, nat_tests, total-push side id)
@@ -73,20 +70,13 @@ pub resolved_either : (id : ℕ) (xs : List Transfer) →
 resolved_either id [] = refl
 resolved_either id (x ∷ xs) = grind (arith, resolved_either id xs)
 
-pub pending_is : (a b e : Bool) → (if a then Posted else if b then Voided else if e then Expired else Pending) ≡ Pending → ((a || b) ≡ false) × (e ≡ false)
-pending_is a b e h = grind arith
-
 module _ (facts : Facts) (t : Transfer) (may : MayResolve facts t) where
   pub resolves : is_resolving t ≡ true
   resolves = grind (arith, may.post_or_void)
 
   -- the transfer that it names reserves its amount
   pub reserving : is_reserving facts may.pending ≡ true
-  reserving =
-      let s = pending_is (is_posted facts t.pending_id) (is_voided facts t.pending_id) (is_expired facts t.pending_id) may.unresolved in
-      let open_one : is_resolved facts t.pending_id ≡ false = resolved_either t.pending_id facts.transfers ∙ s.0 in
-      ap (λ id. is_pending may.pending && not (is_resolved facts id) && not (is_expired facts id)) (found-id (λ (x : Transfer). x.id) t.pending_id facts.transfers may.pending may.named)
-      ∙ cc (may.is_pending_one, open_one, s.1)
+  reserving = grind (arith, found-id (λ (x : Transfer). x.id) t.pending_id facts.transfers may.pending may.named, may.is_pending_one, may.unresolved, resolved_either t.pending_id facts.transfers)
 
   pub reserving-other : (y : Transfer) → is_reserving (add_transfer facts t) y ≡ (is_reserving facts y && not (t.pending_id == y.id))
   reserving-other y = grind (arith, any-push (λ other. is_resolving other && (other.pending_id == y.id)) facts.transfers t, resolves)
@@ -94,27 +84,3 @@ module _ (facts : Facts) (t : Transfer) (may : MayResolve facts t) where
   -- it takes the amount of the one that it names from what is reserved, and nothing else
   pub reserves-but_for : (side : Transfer → ℕ) (id : ℕ) (y : Transfer) → reserves side (add_transfer facts t) id y ≡ but_for t.pending_id (reserves side facts id) y
   reserves-but_for side id y = grind (arith, reserving-other y, ==_swap t.pending_id y.id)
-
-  pub reserves_nothing : (p r e s : Bool) (n : ℕ) → p ≡ false → (if (p && r && e) && s then n else 0) ≡ 0
-  reserves_nothing p r e s n h = grind arith
-
-  at_most_it : (p v s r : Bool) (n m : ℕ) → n ≤ m → r ≡ true → (if (p && v) && s then n else 0) ≤ (if r && s then m else 0)
-  at_most_it p v s r n m h k = grind arith
-
-  total-resolve : (side : Transfer → ℕ) → side t ≡ side may.pending → IsLawful facts → (id : ℕ) → total side (add_transfer facts t) id ≤ total side facts id
-  total-resolve side same lawful id =
-      let reserved = amounts-push (but_for t.pending_id (reserves side facts id)) (reserves side (add_transfer facts t) id) facts.transfers t (reserves-but_for side id) in
-      let nothing = reserves_nothing (is_pending t) (not (is_resolved (add_transfer facts t) t.id)) (not (is_expired facts t.id)) (side t == id) t.amount may.not_pending in
-      let found = but_for-found (reserves side facts id) t.pending_id facts.transfers may.pending lawful.distinct may.named in
-      let posted = amounts-push (posts side id) (posts side id) facts.transfers t (λ y. refl) in
-      let more = at_most_it (not (is_pending t)) (not (is_void t)) (side t == id) (is_reserving facts may.pending) t.amount may.pending.amount may.at_most reserving in
-      let there : (if is_reserving facts may.pending && (side t == id) then may.pending.amount else 0) ≡ amount_if (reserves side facts id) may.pending =
-      ap (λ k. if is_reserving facts may.pending && (k == id) then may.pending.amount else 0) same in
-      omega arith
-
-  pub resolve_lawful : IsLawful facts → IsLawful (add_transfer facts t)
-  resolve_lawful lawful = record {
-    distinct = distinct-push facts.transfers t (find-none t.id facts.transfers may.new) lawful.distinct;
-    debits_fit = λ id. omega (arith, total-resolve (λ x. x.debit_account_id) may.same_debit lawful id, lawful.debits_fit id);
-    credits_fit = λ id. omega (arith, total-resolve (λ x. x.credit_account_id) may.same_credit lawful id, lawful.credits_fit id);
-  }

@@ -4,7 +4,6 @@ pub mod Finding
 mod Sums
 mod Laws
 mod Rows
-mod Owed
 pub mod Stored
 pub mod Raising
 pub mod Added

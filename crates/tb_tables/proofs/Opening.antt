@@ -1,7 +1,7 @@
 -- Accounts and failed ids, added and taken back.
 use Rattle.std.proofs.Common.{arith, refl, sym, ap, ◌∙◌, ◌≡◌, ℕ, ◌-◌, Bool, true, false, List, [], ◌∷◌, ◌++◌, map, take, length, ◌==◌, ◌&&◌, None, find}
 use Rattle.std.proofs.lemmas.List.{map-append, length-map, take-map}
-use Rattle.tb_tables.proofs.Words.{AllByRecursion, nat_tests, Account as AccountRecord, Transfer as TransferRecord, Facts, account_with, add_account, is_reserving, is_posting, HasNoBalances, without_last, before, sums_of, with_sums, account_rows, Stored, facts_of, has_account, IsGrounded, AreGrounded, AreHeld, IsKept, Places, Row, IsUndoable}
+use Rattle.tb_tables.proofs.Words.{AllByRecursion, nat_tests, Account as AccountRecord, Transfer as TransferRecord, Facts, account_with, add_account, is_reserving, is_posting, HasNoBalances, without_last, before, sums_of, with_sums, account_rows, Stored, facts_of, has_account, IsGrounded, AreGrounded, AreHeld, IsKept, IsSound, Places, Row, IsUndoable}
 use Rattle.tb_tables.specs.declared.change.Change.TheVariants.{Account}
 use Rattle.tb_tables.proofs.Sums.{amounts}
 use Rattle.tb_tables.proofs.Grounding.{grounded_account}
@@ -31,21 +31,22 @@ module _ (facts : Facts) (grounded : AreGrounded facts) (account : AccountRecord
       let cpo = none.credits_posted ∙ credits is_posting in
       λ i. record account { debits_pending = dp i; debits_posted = dpo i; credits_pending = cp i; credits_posted = cpo i }
 
--- the failed ids are nothing to what the maps hold
+-- what holds of the transfers stays with other accounts and failed ids
+sound-with : {indexed : ℕ → ℕ → Bool} (facts : Facts) (accounts : List AccountRecord) (failed : List ℕ) → IsSound indexed facts → AreGrounded (record facts { accounts = accounts }) → AllByRecursion HasNoBalances accounts → IsSound indexed (record facts { accounts = accounts; failed = failed })
+sound-with facts accounts failed s grounded made = record {
+  lawful = record { distinct = s.lawful.distinct; debits_fit = s.lawful.debits_fit; credits_fit = s.lawful.credits_fit };
+  grounded = grounded;
+  made = made;
+  expiries = record { ordered = s.expiries.ordered; open_ones = s.expiries.open_ones };
+  paired = s.paired;
+}
+
 pub held-failed : {accounts : List (ℕ × AccountRecord)} {transfers : List (ℕ × Row)} {indexed : ℕ → ℕ → Bool} (facts : Facts) (failed : List ℕ) → AreHeld accounts transfers indexed facts → AreHeld accounts transfers indexed (record facts { failed = failed })
-held-failed facts failed held =
-    let s = held.sound in
-    record {
-      hold = record { accounts_are = held.hold.accounts_are; transfers_are = held.hold.transfers_are };
-      timed = held.timed;
-      sound = record {
-        lawful = record { distinct = s.lawful.distinct; debits_fit = s.lawful.debits_fit; credits_fit = s.lawful.credits_fit };
-        grounded = s.grounded;
-        made = s.made;
-        expiries = record { ordered = s.expiries.ordered; open_ones = s.expiries.open_ones };
-        paired = s.paired;
-      };
-    }
+held-failed facts failed held = record {
+  hold = record { accounts_are = held.hold.accounts_are; transfers_are = held.hold.transfers_are };
+  timed = held.timed;
+  sound = sound-with facts facts.accounts failed held.sound held.sound.grounded held.sound.made;
+}
 
 module _ (old : Stored) (kept : IsKept old) where
   -- ---- one account more
@@ -63,23 +64,12 @@ module _ (old : Stored) (kept : IsKept old) where
         ∙ ap (λ a. account_rows (sums_of (facts_of old)) (facts_of old).accounts ++ (account.id, a) ∷ []) (new-account (facts_of old) kept.sound.grounded account fresh none)
         ∙ sym (map-append (λ (a : AccountRecord). (a.id, with_sums (sums_of (facts_of old)) a)) (facts_of old).accounts (account ∷ []))
 
-    held : AreHeld with_account.accounts old.transfers old.is_indexed facts_with
-    held =
-        let s = kept.sound in
-        record {
-          hold = record { accounts_are = rows-are; transfers_are = kept.hold.transfers_are };
-          timed = kept.timed;
-          sound = record {
-            lawful = record { distinct = s.lawful.distinct; debits_fit = s.lawful.debits_fit; credits_fit = s.lawful.credits_fit };
-            grounded = grounded_account (facts_of old) account s.grounded;
-            made = all_push HasNoBalances (facts_of old).accounts account s.made none;
-            expiries = record { ordered = s.expiries.ordered; open_ones = s.expiries.open_ones };
-            paired = s.paired;
-          };
-        }
-
     pub kept-account : IsKept with_account × (facts_of with_account ≡ facts_with)
-    kept-account = keeps facts_with held
+    kept-account = keeps facts_with (record {
+      hold = record { accounts_are = rows-are; transfers_are = kept.hold.transfers_are };
+      timed = kept.timed;
+      sound = sound-with (facts_of old) facts_with.accounts old.failed kept.sound (grounded_account (facts_of old) account kept.sound.grounded) (all_push HasNoBalances (facts_of old).accounts account kept.sound.made none);
+    })
 
   -- ---- an account taken back
 

@@ -1,6 +1,6 @@
 -- A balance of one account raised or lowered among the accounts' rows.
-use Rattle.std.proofs.Common.{refl, sym, ap, ◌∙◌, arith, ◌≡◌, ℕ, ◌+◌, ◌<◌, ◌≤◌, ◌^◌, Bool, false, List, nat_eq, slice_get, Some, ◌==◌}
-use Rattle.tb_tables.proofs.Words.{IsDistinct, keys_of, nat_tests, set_value_at, Account, Sums, HasRoom, HasAmount, debits_in, credits_in, balance_of, with_more, raise_balance, lower_balance, with_sums, account_rows, Balance}
+use Rattle.std.proofs.Common.{refl, sym, ap, ◌∙◌, arith, ◌≡◌, ℕ, ◌+◌, ◌<◌, ◌≤◌, ◌^◌, false, List, [], nat_eq, slice_get, Some, ◌==◌, append-nil}
+use Rattle.tb_tables.proofs.Words.{IsDistinct, keys_of, nat_tests, set_value_at, Account, Sums, HasRoom, HasAmount, debits_in, credits_in, balance_of, with_more, raise_balance, lower_balance, with_sums, account_rows, Balance, Phase}
 use Rattle.tb_tables.proofs.Stored.{made-at, row-placed, rows-set}
 
 raised-here : (balance : Balance) (amount : ℕ) (sums : Sums) (account : Account) → with_sums (with_more balance account.id amount sums) account ≡ raise_balance balance amount (with_sums sums account)
@@ -23,8 +23,8 @@ row-changed : (f : Account → Account) (old new : Sums) (accounts : List Accoun
     ((other : Account) → (other.id == account.id) ≡ false → with_sums new other ≡ with_sums old other) → (entries : List (ℕ × Account)) (row : ℕ × Account) → slice_get entries place ≡ Some row → IsDistinct nat_eq (keys_of entries) → entries ≡ account_rows old accounts →
     set_value_at entries place (f row.1) ≡ account_rows new accounts
 row-changed f old new accounts place account at here elsewhere entries row there apart is =
-    ap (λ es. set_value_at es place (f row.1)) is ∙ ap (set_value_at (account_rows old accounts) place) (ap f (row-is old accounts place account row at (rw is at there)) ∙ here)
-    ∙ rows-set (λ (a : Account). a.id) (with_sums old) (with_sums new) accounts place account at (rw is at apart) elsewhere
+    let value = ap f (row-is old accounts place account row at (rw is at there)) ∙ here in
+    rows-set (λ (a : Account). a.id) (with_sums old) (with_sums new) [] accounts place account at value elsewhere (is ∙ sym (append-nil _)) apart ∙ append-nil _
 
 module _ (balance : Balance) (amount : ℕ) (sums : Sums) (accounts : List Account) (place : ℕ) (account : Account) (at : slice_get accounts place ≡ Some account) where
   pub rows-raised : (entries : List (ℕ × Account)) (row : ℕ × Account) → slice_get entries place ≡ Some row → IsDistinct nat_eq (keys_of entries) → entries ≡ account_rows sums accounts →
@@ -50,5 +50,5 @@ has_amount sums accounts place account balance amount entries at is =
     rw is (record { row = (account.id, with_sums (with_more balance account.id amount sums) account); there = row-placed (λ (a : Account). a.id) (with_sums (with_more balance account.id amount sums)) accounts refl place at; has = contains balance amount sums account })
 
 -- a raised debit leaves the credits
-pub credits-kept : (pending : Bool) (id amount : ℕ) (sums : Sums) (account : Account) → balance_of (credits_in pending) (with_sums (with_more (debits_in pending) id amount sums) account) ≡ balance_of (credits_in pending) (with_sums sums account)
-credits-kept pending id amount sums account = grind arith
+pub credits-kept : (phase : Phase) (id amount : ℕ) (sums : Sums) (account : Account) → balance_of (credits_in phase) (with_sums (with_more (debits_in phase) id amount sums) account) ≡ balance_of (credits_in phase) (with_sums sums account)
+credits-kept phase id amount sums account = grind arith

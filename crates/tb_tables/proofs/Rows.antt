@@ -1,12 +1,11 @@
 -- The plain lists: their history, and which of their rows are marked as expired.
-use Rattle.std.proofs.Common.{sym, ap, subst, ◌∙◌, ◌≡◌, ℕ, Bool, false, List, [], ◌∷◌, ◌++◌, map, append-nil, refl, arith, ◌<◌, ◌≤◌, ◌+◌, true, not, filter, slice_get, get_or, set, length, zero, suc, ◌==◌, ◌&&◌, ◌||◌, Some}
+use Rattle.std.proofs.Common.{sym, ap, subst, ◌∙◌, ◌≡◌, ℕ, Bool, false, List, [], ◌∷◌, ◌++◌, map, append-nil, refl, arith, ◌<◌, ◌≤◌, ◌+◌, true, filter, slice_get, get_or, set, length, zero, suc, ◌==◌, ◌&&◌, ◌||◌, Some}
 use Rattle.std.proofs.lemmas.List.{map-append, length-map, length-set}
 use Rattle.std.proofs.lemmas.List.Elements.{filter-append}
 use Rattle.tb_tables.proofs.Words.{Account as AccountRecord, Transfer as TransferRecord, Facts, add_account, add_transfer, add_failed, with_change, IsLawful, AreLawful, Change, list_any, nat_tests, is_expired, is_reserving, is_due, expire_due, has_id, ids_distinct, expire_one}
 use Rattle.tb_tables.specs.Plain.{Lists, facts_of, expired_in, cut_back, plain_history, facts_in, transfers_in}
 use Rattle.tb_tables.specs.declared.change.Change.TheVariants.{Account, Transfer, Failed}
 use Rattle.tb_tables.proofs.Histories.{history_of-push, lawful_push, without_last-push}
-use Rattle.std.proofs.lemmas.Bool.{eqb-true}
 use Rattle.std.proofs.lemmas.Option.{slice_get-get_or, slice_get_within}
 use Rattle.tb_tables.proofs.Expecting.{has_id-at, one-place}
 use Rattle.tb_tables.proofs.Due.{reserving-after, lawful-after, due-after, none-left}
@@ -116,18 +115,11 @@ module _ (clock : ℕ) (old now : Rows) (place : ℕ) (d : TransferRecord × Boo
       done p t below at' =
           let after = reserving-after (facts_in now) x place at are.lawful reserving (ordered now are.lawful) t in
           let here = one-place (transfers_in now) place p x t are.lawful.distinct at at' in
-          by (place == p) refl after here
-        where
-          by : (b : Bool) → (place == p) ≡ b → is_reserving (expire_one x.id (facts_in now)) t ≡ (is_reserving (facts_in now) t && not (x.id == t.id)) → (x.id == t.id) ≡ (place == p) → (is_reserving (expire_one x.id (facts_in now)) t && is_due clock t) ≡ false
-          by true e after here = grind (arith, after, here, e)
-          by false e after here = let less : p < place = grind (arith, nat_tests, e) in grind (arith, after, are.done p t less at')
+          let was = are.done p t in
+          grind (arith, nat_tests, after, here, was, at', below)
 
   pub passed : (is_reserving (facts_in now) x && is_due clock x) ≡ false → AreMarked clock old now (place + 1)
-  passed not_due = record { lawful = are.lawful; same = are.same; len = are.len; done = λ p t below at'. by p t below at' (place == p) refl }
-    where
-      by : (p : ℕ) (t : TransferRecord) → p < place + 1 → slice_get (transfers_in now) p ≡ Some t → (b : Bool) → (place == p) ≡ b → (is_reserving (facts_in now) t && is_due clock t) ≡ false
-      by p t below at' true e = let same : x ≡ t = cc (at, at', ap (slice_get (transfers_in now)) (eqb-true place p e)) in ap (λ y. is_reserving (facts_in now) y && is_due clock y) (sym same) ∙ not_due
-      by p t below at' false e = are.done p t (grind (arith, nat_tests, e)) at'
+  passed not_due = record { lawful = are.lawful; same = are.same; len = are.len; done = λ p t below at'. let was = are.done p t in grind (arith, nat_tests, not_due, was, at, at', below) }
 
 pub all-marked : (clock : ℕ) (old now : Rows) (place : ℕ) → length old ≤ place → AreMarked clock old now place → facts_in now ≡ expire_due clock (facts_in old)
 all-marked clock old now place past are =

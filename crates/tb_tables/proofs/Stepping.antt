@@ -1,15 +1,17 @@
 -- A transfer stored in the maps, and taken back.
-use Rattle.std.proofs.Common.{refl, sym, ap, subst, arith, ◌∙◌, ◌≡◌, ℕ, Bool, true, false, not, List, [], ◌∷◌, ◌++◌, map, filter, length, append-nil, if◌then◌else◌, ◌==◌, ◌&&◌, ◌||◌, Option, Some, None, slice_get}
-use Rattle.std.proofs.lemmas.Bool.{eqb-true}
+use Rattle.std.proofs.Common.{sym, ap, subst, arith, ◌∙◌, ◌≡◌, ℕ, Bool, true, false, not, List, [], ◌∷◌, ◌++◌, map, filter, length, append-nil, ◌==◌, ◌&&◌, ◌||◌, Option, Some, None}
 use Rattle.std.proofs.lemmas.List.Elements.{filter-append}
 use Rattle.std.proofs.lemmas.Option.{slice_get_past}
-use Rattle.tb_tables.proofs.Words.{list_any, nat_tests, Account, Transfer as TransferRecord, is_pending, is_resolving, Facts, transfer_with, is_expired, add_transfer, is_resolved, is_reserving, IsLawful, has_id, before, AreAt, Stored, AreGrounded, facts_of, is_pair, AreExpiries, IsSound, AreHeld, Allow, MayStore, WasStored, IsKept, Hold, new_row, IsPushed, IsStored, Places, Row, IsUndoable, KeepsPairs, its_pair}
+use Rattle.tb_tables.proofs.Words.{list_any, nat_tests, Account, Transfer as TransferRecord, is_resolving, Facts, transfer_with, is_expired, add_transfer, is_resolved, is_reserving, IsLawful, has_id, before, AreAt, Stored, AreGrounded, facts_of, is_pair, AreExpiries, IsSound, AreHeld, Allow, MayStore, IsKept, Hold, new_row, Step, IsBefore, IsAfter, HavePlaces, IsStored, row_in, transfer_rows, Places, Row, IsUndoable, KeepsPairs, its_pair}
 use Rattle.tb_tables.specs.declared.change.Change.TheVariants.{Transfer}
-use Rattle.tb_tables.proofs.Laws.{find-none, any-push, reserving-same, reserving-other, resolves_nothing, add_transfer_lawful, resolve_lawful}
+use Rattle.tb_tables.proofs.Laws.{find-none, any-push, reserving-same, reserving-other, resolves_nothing, add_transfer_lawful}
+use Rattle.tb_tables.proofs.Added.{resolve_lawful}
 use Rattle.tb_tables.proofs.Grounding.{grounded_added, grounded_resolved}
 use Rattle.tb_tables.proofs.Expecting.{slice_get-push, pairs-push, expects-push}
-use Rattle.tb_tables.proofs.Keeping.{keeps, sound-indexed}
+use Rattle.tb_tables.proofs.Keeping.{keeps, sound-indexed, held-by}
 use Rattle.tb_tables.proofs.Histories.{without_last-push}
+use Rattle.tb_tables.proofs.Settling.{row-new}
+use Rattle.std.proofs.lemmas.List.{map_push}
 
 -- the ids of those whose id passes a test
 pub ids-found : (test : ℕ → Bool) (id : ℕ) (xs : List TransferRecord) → list_any (λ other. other == id) (map (λ (t : TransferRecord). t.id) (filter (λ t. test t.id) xs)) ≡ (test id && has_id id xs)
@@ -64,13 +66,12 @@ module _ (facts : Facts) (t : TransferRecord) where
     ordered =
         let last : filter (λ (y : TransferRecord). is_expired facts y.id) (t ∷ []) ≡ [] = grind (arith, fresh) in
         old.ordered ∙ ap (map (λ (y : TransferRecord). y.id)) (sym (filter-append (λ (y : TransferRecord). is_expired facts y.id) facts.transfers (t ∷ []) ∙ ap (λ ys. filter (λ (y : TransferRecord). is_expired facts y.id) facts.transfers ++ ys) last ∙ append-nil _));
-    open_ones = λ place y at expired. by (place == length facts.transfers) y (sym (slice_get-push facts.transfers t place) ∙ at) expired (old.open_ones place y);
+    open_ones = λ place y at expired.
+        let which = sym (slice_get-push facts.transfers t place) ∙ at in
+        let was = old.open_ones place y in
+        let still = l.open_ones y in
+        (grind (arith, which, expired, fresh, was), grind (arith, which, expired, fresh, was, still));
   }
-    where
-      by : (b : Bool) (y : TransferRecord) {o : Option TransferRecord} → (if b then Some t else o) ≡ Some y → is_expired facts y.id ≡ true → (o ≡ Some y → is_expired facts y.id ≡ true → (is_pending y ≡ true) × (is_resolved facts y.id ≡ false)) →
-          (is_pending y ≡ true) × (is_resolved (add_transfer facts t) y.id ≡ false)
-      by true y at expired was = let same : t ≡ y = cc in let no : true ≡ false = sym expired ∙ ap (λ (x : TransferRecord). is_expired facts x.id) (sym same) ∙ fresh in cc
-      by false y at expired was = ((was at expired).0, l.open_ones y expired (was at expired).1)
 
   pub sound-push : (indexed next : ℕ → ℕ → Bool) (places : Places) → Allow facts t places → IsSound indexed facts → ((m p : ℕ) → next m p ≡ (its_pair facts t m p || indexed m p)) → IsSound next (add_transfer facts t)
   sound-push indexed next places allow sound put =
@@ -85,12 +86,12 @@ module _ (facts : Facts) (t : TransferRecord) where
 
   -- ---- one more
 
-  held-push : {accounts accounts' : List (ℕ × Account)} {transfers transfers' : List (ℕ × Row)} {indexed next : ℕ → ℕ → Bool} {places : Places} → AreHeld accounts transfers indexed facts → IsStored facts t places accounts' transfers' →
+  held-push : {accounts accounts' : List (ℕ × Account)} {transfers transfers' : List (ℕ × Row)} {indexed next : ℕ → ℕ → Bool} {places : Places} → AreHeld accounts transfers indexed facts → Allow facts t places → Hold (add_transfer facts t) accounts' transfers' →
       ((m p : ℕ) → next m p ≡ (its_pair facts t m p || indexed m p)) → AreHeld accounts' transfers' next (add_transfer facts t)
-  held-push {indexed = indexed} {next = next} {places = places} held is put = record {
-    hold = is.hold;
+  held-push {indexed = indexed} {next = next} {places = places} held allow hold put = record {
+    hold = hold;
     timed = λ m p has. grind (arith, pairs-push facts t m p, put m p, held.timed m p);
-    sound = sound-push indexed next places is.allow held.sound put;
+    sound = sound-push indexed next places allow held.sound put;
   }
 
 pub back : (facts : Facts) (t : TransferRecord) (places : Places) → before (Transfer places) (add_transfer facts t) ≡ facts
@@ -98,48 +99,51 @@ back facts t places = ap (λ ts. record facts { transfers = ts }) (without_last-
 
 -- where the index has the same pairs
 pub same-held : {accounts : List (ℕ × Account)} {transfers : List (ℕ × Row)} {indexed other : ℕ → ℕ → Bool} {facts : Facts} → ((m p : ℕ) → other m p ≡ indexed m p) → AreHeld accounts transfers indexed facts → AreHeld accounts transfers other facts
-same-held {accounts} {transfers} {indexed} {other} {facts} same held = subst (λ ix. AreHeld accounts transfers ix facts) (λ i. λ m p. sym (same m p) i) held
+same-held same held = held-by held (λ m p has. sym (same m p) ∙ has) (λ m p needed was. same m p ∙ was)
 
-module _ (old : Stored) (kept : IsKept old) (t : TransferRecord) (places : Places) (are_at : AreAt (facts_of old).accounts places t.debit_account_id t.credit_account_id) (may : MayStore (facts_of old) t places.pending) where
-  pub pushed : (entries : List (ℕ × Row)) → entries ≡ old.transfers ++ (t.id, new_row t) ∷ [] → IsPushed (facts_of old) t places old.accounts entries
-  pushed entries is = record {
-    allow = allows old.is_indexed (facts_of old) t places kept.sound are_at may;
-    accounts_are = kept.hold.accounts_are;
-    transfers_are = is ∙ ap (λ es. es ++ (t.id, new_row t) ∷ []) kept.hold.transfers_are;
-  }
+-- its row is there, and with the rest of it the maps are kept
+pub record IsPushed (old : Stored) (t : TransferRecord) (places : Places) (entries : List (ℕ × Row)) : Type 0 where
+  pub step : Step t places
+  pub before : IsBefore step old.accounts entries
+  pub stored : {accounts : List (ℕ × Account)} {transfers : List (ℕ × Row)} {next : ℕ → ℕ → Bool} → IsAfter step accounts transfers → ((m p : ℕ) → next m p ≡ (its_pair (facts_of old) t m p || old.is_indexed m p)) →
+      let new : Stored = record old { accounts = accounts; transfers = transfers; is_indexed = next } in IsKept new × (facts_of new ≡ add_transfer (facts_of old) t)
 
-pub stored : (old : Stored) → IsKept old → (t : TransferRecord) (places : Places) {accounts : List (ℕ × Account)} {transfers : List (ℕ × Row)} {next : ℕ → ℕ → Bool} → IsStored (facts_of old) t places accounts transfers →
-    ((m p : ℕ) → next m p ≡ (its_pair (facts_of old) t m p || old.is_indexed m p)) → let new : Stored = record old { accounts = accounts; transfers = transfers; is_indexed = next } in IsKept new × (facts_of new ≡ add_transfer (facts_of old) t)
-stored old kept t places is put = keeps (add_transfer (facts_of old) t) (held-push (facts_of old) t kept is put)
+pub pushed : (old : Stored) → IsKept old → (t : TransferRecord) (places : Places) → HavePlaces (facts_of old) t places → MayStore (facts_of old) t places.pending → {entries : List (ℕ × Row)} → entries ≡ old.transfers ++ (t.id, new_row t) ∷ [] → IsPushed old t places entries
+pushed old kept t places at may is =
+    let new : Facts = add_transfer (facts_of old) t in
+    let step : Step t places = record { facts = facts_of old; more = (t.id, new_row t) ∷ []; allow = allows old.is_indexed (facts_of old) t places kept.sound at.are_at may } in
+    record {
+      step = step;
+      before = record { accounts_are = kept.hold.accounts_are; transfers_are = is ∙ ap (λ es. es ++ (t.id, new_row t) ∷ []) kept.hold.transfers_are };
+      stored = λ after put. keeps new (held-push (facts_of old) t kept step.allow (record {
+        accounts_are = after.accounts_are;
+        transfers_are = after.transfers_are ∙ ap (λ row. transfer_rows new (facts_of old).transfers ++ (t.id, row) ∷ []) (row-new step) ∙ sym (map_push (λ (x : TransferRecord). (x.id, row_in new x)) (facts_of old).transfers t);
+      }) put);
+    }
 
 -- its pair put into the index and taken out again: it wasn't there
 pub refused : (old : Stored) → IsKept old → (t : TransferRecord) (m p : ℕ) → (not (its_pair (facts_of old) t m p) && (its_pair (facts_of old) t m p || old.is_indexed m p)) ≡ old.is_indexed m p
-refused old kept t m p = by (p == length (facts_of old).transfers) refl
-  where
-    by : (b : Bool) → (p == length (facts_of old).transfers) ≡ b → (not (its_pair (facts_of old) t m p) && (its_pair (facts_of old) t m p || old.is_indexed m p)) ≡ old.is_indexed m p
-    by true is =
-        let none : slice_get (facts_of old).transfers p ≡ None = ap (slice_get (facts_of old).transfers) (eqb-true p (length (facts_of old).transfers) is) ∙ slice_get_past (facts_of old).transfers (length (facts_of old).transfers) (omega arith) in
-        grind (arith, none, kept.timed m p)
-    by false is = grind (arith, nat_tests, is)
+refused old kept t m p = grind (arith, nat_tests, kept.timed m p, slice_get_past (facts_of old).transfers p)
 
 -- ---- the last taken back
 
-module _ (old : Stored) (kept : IsKept old) (places : Places) (undoable : IsUndoable old.is_indexed (Transfer places) (facts_of old)) where
-  abbrev pub facts : Facts
-  facts = before (Transfer places) (facts_of old)
+-- it can be taken back, to the facts before it, and without it the maps are kept
+pub record CanPop (old : Stored) (places : Places) (facts : Facts) : Type 0 where
+  pub transfer : TransferRecord
+  pub stored : IsStored facts transfer places old.accounts old.transfers
+  pub popped : {accounts : List (ℕ × Account)} {transfers : List (ℕ × Row)} {next : ℕ → ℕ → Bool} → Hold facts accounts transfers → ((m p : ℕ) → next m p ≡ (not (its_pair facts transfer m p) && old.is_indexed m p)) →
+      let new : Stored = record old { accounts = accounts; transfers = transfers; is_indexed = next } in IsKept new × (facts_of new ≡ facts) × KeepsPairs (length facts.transfers) old.is_indexed next
 
-  abbrev pub was : WasStored places facts (facts_of old)
-  was = undoable.1
-
-  pub was-stored : IsStored facts was.transfer places old.accounts old.transfers
-  was-stored = record { allow = was.allow; hold = subst (λ now. Hold now old.accounts old.transfers) was.stored kept.hold }
-
-  module _ {next : ℕ → ℕ → Bool} (took : (m p : ℕ) → next m p ≡ (not (its_pair facts was.transfer m p) && old.is_indexed m p)) where
-    pub kept-in : KeepsPairs (length facts.transfers) old.is_indexed next
-    kept-in m p within has = grind (arith, nat_tests, took m p, has)
-
-    still : (m p : ℕ) → next m p ≡ true → (old.is_indexed m p ≡ true → is_pair (facts_of old) m p ≡ true) → is_pair facts m p ≡ true
-    still m p has timed = grind (arith, took m p, has, pairs-push facts was.transfer m p, ap (λ now. is_pair now m p) was.stored)
-
-    pub taken : {accounts : List (ℕ × Account)} {transfers : List (ℕ × Row)} → Hold facts accounts transfers → let new : Stored = record old { accounts = accounts; transfers = transfers; is_indexed = next } in IsKept new × (facts_of new ≡ facts)
-    taken hold = keeps facts (record { hold = hold; timed = λ m p has. still m p has (kept.timed m p); sound = sound-indexed old.is_indexed next (length facts.transfers) kept-in facts (omega arith) undoable.0 })
+pub can-pop : (old : Stored) → IsKept old → (places : Places) → IsUndoable old.is_indexed (Transfer places) (facts_of old) → CanPop old places (before (Transfer places) (facts_of old))
+can-pop old kept places undoable =
+    let facts : Facts = before (Transfer places) (facts_of old) in
+    let t : TransferRecord = undoable.1.transfer in
+    record {
+      transfer = t;
+      stored = record { allow = undoable.1.allow; hold = subst (λ now. Hold now old.accounts old.transfers) undoable.1.stored kept.hold };
+      popped = λ {accounts} {transfers} {next} hold took.
+          let others : KeepsPairs (length facts.transfers) old.is_indexed next = λ m p within has. grind (arith, nat_tests, took m p, has) in
+          let timed : (m p : ℕ) → next m p ≡ true → is_pair facts m p ≡ true = λ m p has. grind (arith, took m p, has, kept.timed m p, pairs-push facts t m p, ap (λ now. is_pair now m p) undoable.1.stored) in
+          let is = keeps facts (record { hold = hold; timed = timed; sound = sound-indexed old.is_indexed next (length facts.transfers) others facts (omega arith) undoable.0 }) in
+          (is.0, is.1, others);
+    }

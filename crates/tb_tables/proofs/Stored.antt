@@ -1,10 +1,10 @@
 -- Rows that stand in a map under their keys, in order.
-use Rattle.std.proofs.Common.{refl, sym, ap, subst, ◌∙◌, arith, ◌≡◌, ℕ, false, List, [], ◌∷◌, map, nat_eq, slice_get, get_or, position, zero, suc, Some, find, ◌==◌, option_map}
+use Rattle.std.proofs.Common.{refl, sym, ap, subst, ◌∙◌, arith, ◌≡◌, ℕ, false, List, [], ◌∷◌, ◌++◌, map, nat_eq, slice_get, get_or, position, zero, suc, Some, find, ◌==◌, option_map}
 use Rattle.std.proofs.lemmas.Option.{slice_get-get_or, slice_get-map}
 use Rattle.std.proofs.lemmas.List.{length-map}
 use Rattle.std.proofs.lemmas.Map.Keys.{IsDistinct-head, IsDistinct-tail}
 use Rattle.indexmap.proofs.MapLemmas.{Found-position}
-use Rattle.tb_tables.proofs.Words.{list_any, AllByRecursion, IsDistinct, keys_of, lookup, lookup_key, nat_tests, set_value_at}
+use Rattle.tb_tables.proofs.Words.{list_any, AllByRecursion, IsDistinct, position_or_len, keys_of, lookup, lookup_key, nat_tests, set_value_at}
 use Rattle.tb_tables.proofs.Laws.{==_swap}
 
 -- each under its key, with what is made of it
@@ -25,33 +25,51 @@ made-at f (x ∷ xs) (suc place) y at = made-at f xs place y at
 pub row-placed : {X V : Type 0} (key : X → ℕ) (made : X → V) (xs : List X) {es : List (ℕ × V)} → es ≡ rows key made xs → (place : ℕ) {x : X} → slice_get xs place ≡ Some x → slice_get es place ≡ Some (key x, made x)
 row-placed key made xs is place at = ap (λ es. slice_get es place) is ∙ slice_get-map (λ x. (key x, made x)) xs place ∙ ap (option_map (λ x. (key x, made x))) at
 
--- a look-up by key finds the first of that key
+keys-rows : {X V : Type 0} (key : X → ℕ) (made : X → V) (xs : List X) → keys_of (rows key made xs) ≡ map key xs
+keys-rows key made [] = refl
+keys-rows key made (x ∷ xs) = ap (λ ks. key x ∷ ks) (keys-rows key made xs)
+
+-- or under the key that stands at a place
+pub key-placed : {X V : Type 0} (key : X → ℕ) (made : X → V) (xs : List X) {es : List (ℕ × V)} → es ≡ rows key made xs → (place : ℕ) {id : ℕ} → slice_get (keys_of es) place ≡ Some id → (x : X) × (slice_get xs place ≡ Some x) × (key x ≡ id)
+key-placed key made xs is place {id} at = made-at key xs place id (sym (ap (λ ks. slice_get ks place) (ap keys_of is ∙ keys-rows key made xs)) ∙ at)
+
+-- where the first of a key stands, and what a look-up by key finds: the first of that key
+pub first-of-key : {X V : Type 0} (key : X → ℕ) (made : X → V) (id : ℕ) (xs : List X) → position_or_len (nat_eq id) (keys_of (rows key made xs)) ≡ position_or_len (λ x. key x == id) xs
+first-of-key key made id [] = refl
+first-of-key key made id (x ∷ xs) = grind (arith, ==_swap id (key x), first-of-key key made id xs)
+
 pub lookup-rows : {X V : Type 0} (key : X → ℕ) (made : X → V) (id : ℕ) (xs : List X) → lookup (nat_eq id) (rows key made xs) ≡ option_map made (find (λ x. key x == id) xs)
 lookup-rows key made id [] = refl
 lookup-rows key made id (x ∷ xs) = grind (arith, ==_swap id (key x), lookup-rows key made id xs)
 
--- a key that stands further back differs from the first
-key-apart : {X V : Type 0} (key : X → ℕ) (made : X → V) (k : ℕ) (xs : List X) (place : ℕ) (x : X) → AllByRecursion (λ y. nat_eq k y ≡ false) (keys_of (rows key made xs)) → slice_get xs place ≡ Some x → (k == key x) ≡ false
-key-apart key made k [] place x all at = cc
-key-apart key made k (y ∷ xs) zero x all at = let same : y ≡ x = cc in ap (λ z. k == key z) (sym same) ∙ all.0
-key-apart key made k (y ∷ xs) (suc place) x all at = key-apart key made k xs place x all.1 at
+-- ---- a write at a place, where the others stay what they are; what stands behind stays too
 
-others-same : {X V : Type 0} (key : X → ℕ) (old new : X → V) (k : ℕ) (xs : List X) → AllByRecursion (λ y. nat_eq k y ≡ false) (keys_of (rows key old xs)) →
-    ((y : X) → (key y == k) ≡ false → new y ≡ old y) → rows key old xs ≡ rows key new xs
-others-same key old new k [] all same = refl
-others-same key old new k (x ∷ xs) all same = cc (same x (==_swap (key x) k ∙ all.0), others-same key old new k xs all.1 same)
+module _ {X V : Type 0} (key : X → ℕ) (old new : X → V) (more : List (ℕ × V)) where
+  -- a key that stands further back differs from the first
+  key-apart : (k : ℕ) (xs : List X) (place : ℕ) (x : X) → AllByRecursion (λ y. nat_eq k y ≡ false) (keys_of (rows key old xs ++ more)) → slice_get xs place ≡ Some x → (k == key x) ≡ false
+  key-apart k [] place x all at = cc
+  key-apart k (y ∷ xs) zero x all at = let same : y ≡ x = cc in ap (λ z. k == key z) (sym same) ∙ all.0
+  key-apart k (y ∷ xs) (suc place) x all at = key-apart k xs place x all.1 at
 
--- a write at a place, where the others stay what they are
-pub rows-set : {X V : Type 0} (key : X → ℕ) (old new : X → V) (xs : List X) (place : ℕ) (x : X) → slice_get xs place ≡ Some x → IsDistinct nat_eq (keys_of (rows key old xs)) →
-    ((y : X) → (key y == key x) ≡ false → new y ≡ old y) → set_value_at (rows key old xs) place (new x) ≡ rows key new xs
-rows-set key old new [] place x at apart same = cc
-rows-set key old new (y ∷ xs) zero x at apart same =
-    let first : y ≡ x = cc in
-    let all = subst (λ z. AllByRecursion (λ k. nat_eq (key z) k ≡ false) (keys_of (rows key old xs))) first (IsDistinct-head nat_eq (key y) (keys_of (rows key old xs)) apart) in
-    cc (first, others-same key old new (key x) xs all same)
-rows-set key old new (y ∷ xs) (suc place) x at apart same =
-    let differs = key-apart key old (key y) xs place x (IsDistinct-head nat_eq (key y) (keys_of (rows key old xs)) apart) at in
-    cc (same y differs, rows-set key old new xs place x at (IsDistinct-tail nat_eq (key y) (keys_of (rows key old xs)) apart) same)
+  others-same : (k : ℕ) (xs : List X) → AllByRecursion (λ y. nat_eq k y ≡ false) (keys_of (rows key old xs ++ more)) → ((y : X) → (key y == k) ≡ false → new y ≡ old y) → rows key old xs ++ more ≡ rows key new xs ++ more
+  others-same k [] all same = refl
+  others-same k (x ∷ xs) all same = cc (same x (==_swap (key x) k ∙ all.0), others-same k xs all.1 same)
+
+  row-set : (xs : List X) (place : ℕ) (x : X) → slice_get xs place ≡ Some x → IsDistinct nat_eq (keys_of (rows key old xs ++ more)) → ((y : X) → (key y == key x) ≡ false → new y ≡ old y) →
+      set_value_at (rows key old xs ++ more) place (new x) ≡ rows key new xs ++ more
+  row-set [] place x at apart same = cc
+  row-set (y ∷ xs) zero x at apart same =
+      let first : y ≡ x = cc in
+      let all = subst (λ z. AllByRecursion (λ k. nat_eq (key z) k ≡ false) (keys_of (rows key old xs ++ more))) first (IsDistinct-head nat_eq (key y) (keys_of (rows key old xs ++ more)) apart) in
+      cc (first, others-same (key x) xs all same)
+  row-set (y ∷ xs) (suc place) x at apart same =
+      let differs = key-apart (key y) xs place x (IsDistinct-head nat_eq (key y) (keys_of (rows key old xs ++ more)) apart) at in
+      cc (same y differs, row-set xs place x at (IsDistinct-tail nat_eq (key y) (keys_of (rows key old xs ++ more)) apart) same)
+
+-- as entries of a map, and with what is written given
+pub rows-set : {X V : Type 0} (key : X → ℕ) (old new : X → V) (more : List (ℕ × V)) {es : List (ℕ × V)} (xs : List X) (place : ℕ) (x : X) {v : V} → slice_get xs place ≡ Some x → v ≡ new x → ((y : X) → (key y == key x) ≡ false → new y ≡ old y) →
+    es ≡ rows key old xs ++ more → IsDistinct nat_eq (keys_of es) → set_value_at es place v ≡ rows key new xs ++ more
+rows-set key old new more xs place x at value same is apart = rw (is, value) (row-set key old new more xs place x at (rw is at apart) same)
 
 pub any-swap : (id : ℕ) (ids : List ℕ) → list_any (nat_eq id) ids ≡ list_any (λ other. other == id) ids
 any-swap id [] = refl

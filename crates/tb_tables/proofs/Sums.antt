@@ -1,6 +1,7 @@
 -- How the sums of an account change with the facts.
-use Rattle.std.proofs.Common.{refl, sym, ap, ◌∙◌, arith, ◌≡◌, ℕ, ◌+◌, Bool, true, false, not, List, [], ◌∷◌, ◌++◌, sum_by, filter, if◌then◌else◌, ◌==◌, ◌&&◌, Some, find}
-use Rattle.std.proofs.lemmas.List.Sums.{sum_by-cons, sum_by_push}
+use Rattle.std.proofs.Common.{refl, ap, ◌∙◌, arith, ◌≡◌, ℕ, ◌+◌, Bool, true, false, not, List, [], ◌∷◌, ◌++◌, sum_by, filter, if◌then◌else◌, ◌==◌, ◌&&◌, Some, find}
+use Rattle.std.proofs.lemmas.List.Elements.{filter-append, filter_agree}
+use Rattle.std.proofs.lemmas.List.Sums.{sum_by-append, sum_by-cons}
 use Rattle.tb_tables.proofs.Words.{nat_tests, Transfer, has_id, ids_distinct}
 
 -- the amount of a transfer, where it passes a test
@@ -11,28 +12,23 @@ amount_if test transfer = if test transfer then transfer.amount else 0
 abbrev pub amounts : (Transfer → Bool) → List Transfer → ℕ
 amounts test transfers = sum_by (λ transfer. transfer.amount) (filter test transfers)
 
-amounts-step : (b : Bool) (x : Transfer) (xs : List Transfer) → sum_by (λ (t : Transfer). t.amount) (if b then x ∷ xs else xs) ≡ (if b then x.amount else 0) + sum_by (λ (t : Transfer). t.amount) xs
-amounts-step true x xs = sum_by-cons (λ (t : Transfer). t.amount) x xs
-amounts-step false x xs = omega arith
+amounts-cons : (test : Transfer → Bool) (x : Transfer) (xs : List Transfer) → amounts test (x ∷ xs) ≡ amount_if test x + amounts test xs
+amounts-cons test x xs = by (test x)
+  where
+    by : (b : Bool) → sum_by (λ (t : Transfer). t.amount) (if b then x ∷ filter test xs else filter test xs) ≡ (if b then x.amount else 0) + amounts test xs
+    by true = sum_by-cons (λ (t : Transfer). t.amount) x (filter test xs)
+    by false = omega arith
 
-pub amounts-each : (test : Transfer → Bool) (xs : List Transfer) → amounts test xs ≡ sum_by (amount_if test) xs
-amounts-each test [] = refl
-amounts-each test (x ∷ xs) = amounts-step (test x) x (filter test xs) ∙ ap (λ n. amount_if test x + n) (amounts-each test xs) ∙ sym (sum_by-cons (amount_if test) x xs)
-
-pub sum_by-same : {X : Type 0} (f g : X → ℕ) (xs : List X) → ((x : X) → f x ≡ g x) → sum_by f xs ≡ sum_by g xs
-sum_by-same f g [] h = refl
-sum_by-same f g (x ∷ xs) h = sum_by-cons f x xs ∙ ap (λ n. n + sum_by f xs) (h x) ∙ ap (λ n. g x + n) (sum_by-same f g xs h) ∙ sym (sum_by-cons g x xs)
+pub amounts-same : (test other : Transfer → Bool) (xs : List Transfer) → ((x : Transfer) → test x ≡ other x) → amounts test xs ≡ amounts other xs
+amounts-same test other xs same = ap (sum_by (λ (t : Transfer). t.amount)) (filter_agree test other same xs)
 
 -- one transfer more, where the test stays the same for the others
 pub amounts-push : (old new : Transfer → Bool) (xs : List Transfer) (x : Transfer) → ((y : Transfer) → new y ≡ old y) → amounts new (xs ++ x ∷ []) ≡ amounts old xs + amount_if new x
 amounts-push old new xs x same =
-    amounts-each new (xs ++ x ∷ []) ∙ sum_by_push (amount_if new) xs x
-    ∙ ap (λ n. n + amount_if new x) (sum_by-same (amount_if new) (amount_if old) xs (λ y. ap (λ b. if b then y.amount else 0) (same y)) ∙ sym (amounts-each old xs))
+    let split = ap (sum_by (λ (t : Transfer). t.amount)) (filter-append new xs (x ∷ [])) ∙ sum_by-append (λ (t : Transfer). t.amount) (filter new xs) (filter new (x ∷ [])) in
+    omega (arith, split, amounts-same new old xs same, amounts-cons new x [])
 
 -- ---- one transfer taken out of a sum, by its id
-
-amounts-cons : (test : Transfer → Bool) (x : Transfer) (xs : List Transfer) → amounts test (x ∷ xs) ≡ amount_if test x + amounts test xs
-amounts-cons test x xs = amounts-step (test x) x (filter test xs)
 
 -- the test, but for the transfer with an id
 abbrev pub but_for : ℕ → (Transfer → Bool) → Transfer → Bool

@@ -1,5 +1,5 @@
 -- What is told of a transfer while it is stored, taken back, forgotten, or expires.
-use Rattle.std.specs.Prelude.{◌≡◌, ℕ, Bool, true, false, ◌<◌, ◌^◌, ◌||◌, ◌==◌, List, [], ◌∷◌, ◌++◌, map, filter, slice_get, Option, Some, None, if◌then◌else◌}
+use Rattle.std.specs.Prelude.{◌≡◌, ℕ, Bool, true, false, ◌<◌, ◌^◌, ◌||◌, ◌==◌, List, ◌++◌, map, filter, slice_get, Option, Some, None, if◌then◌else◌}
 use Rattle.tb_layout.specs.declared.account.Account.{Account}
 use Rattle.tb_layout.specs.declared.transfer.Transfer.{Transfer}
 use Rattle.tb_layout.specs.Transfer.{is_pending}
@@ -18,22 +18,28 @@ use Rattle.tb_tables.specs.declared.status.Status.TheVariants.{Pending, Posted, 
 abbrev pub new_row : Transfer → Row
 new_row transfer = record { transfer = transfer; status = if is_pending transfer then Some Pending else None }
 
--- its row is there, and nothing else is done
-pub record IsPushed (facts : Facts) (transfer : Transfer) (places : Places) (account_entries : List (ℕ × Account)) (transfer_entries : List (ℕ × Row)) : Type 0 where
+-- a transfer that the facts allow, on its way in or out, and the rows that stand behind those of the others
+pub record Step (transfer : Transfer) (places : Places) : Type 0 where
+  pub facts : Facts
+  pub more : List (ℕ × Row)
   pub allow : Allow facts transfer places
-  pub accounts_are : account_entries ≡ account_rows (sums_of facts) facts.accounts
-  pub transfers_are : transfer_entries ≡ transfer_rows facts facts.transfers ++ (transfer.id, new_row transfer) ∷ []
+
+-- the balances, and the statuses of the others, are what some facts say
+pub record AreOf (now : Facts) (facts : Facts) (more : List (ℕ × Row)) (account_entries : List (ℕ × Account)) (transfer_entries : List (ℕ × Row)) : Type 0 where
+  pub accounts_are : account_entries ≡ account_rows (sums_of now) facts.accounts
+  pub transfers_are : transfer_entries ≡ transfer_rows now facts.transfers ++ more
+
+-- nothing that it changes is changed, or all of it is
+abbrev pub IsBefore : {transfer : Transfer} {places : Places} → Step transfer places → List (ℕ × Account) → List (ℕ × Row) → Type 0
+IsBefore step = AreOf step.facts step.facts step.more
+
+abbrev pub IsAfter : {transfer : Transfer} {places : Places} → Step transfer places → List (ℕ × Account) → List (ℕ × Row) → Type 0
+IsAfter {transfer} step = AreOf (add_transfer step.facts transfer) step.facts step.more
 
 -- it is stored, with the balances and the status that it changes
 pub record IsStored (facts : Facts) (transfer : Transfer) (places : Places) (account_entries : List (ℕ × Account)) (transfer_entries : List (ℕ × Row)) : Type 0 where
   pub allow : Allow facts transfer places
   pub hold : Hold (add_transfer facts transfer) account_entries transfer_entries
-
--- its row is off again, and nothing else is done
-pub record IsPopped (facts : Facts) (transfer : Transfer) (places : Places) (account_entries : List (ℕ × Account)) (transfer_entries : List (ℕ × Row)) : Type 0 where
-  pub allow : Allow facts transfer places
-  pub accounts_are : account_entries ≡ account_rows (sums_of (add_transfer facts transfer)) facts.accounts
-  pub transfers_are : transfer_entries ≡ transfer_rows (add_transfer facts transfer) facts.transfers
 
 -- the status of what a post or a void names
 abbrev pub status_after : Bool → Status

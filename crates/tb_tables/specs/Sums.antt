@@ -1,8 +1,12 @@
 -- The balances of all accounts.
 use Rattle.std.specs.Prelude.{◌≡◌, ℕ, Bool, true, false, ◌+◌, ◌-◌, ◌^◌, ◌<◌, ◌≤◌, ◌==◌, List, map, slice_get, Some, if◌then◌else◌}
 use Rattle.tb_layout.specs.declared.account.Account.{Account}
+use Rattle.tb_layout.specs.declared.transfer.Transfer.{Transfer}
+use Rattle.tb_layout.specs.Transfer.{is_pending}
 use Rattle.tb_tables.specs.Facts.{Facts}
 use Rattle.tb_tables.specs.Balances.{debits_pending as debits_pending_of, debits_posted as debits_posted_of, credits_pending as credits_pending_of, credits_posted as credits_posted_of}
+use Rattle.tb_tables.specs.declared.amounts.Phase.{Phase}
+use Rattle.tb_tables.specs.declared.amounts.Phase.TheVariants.{Pending, Posted}
 use Rattle.tb_tables.specs.declared.balance.Balance.{Balance}
 use Rattle.tb_tables.specs.declared.places.Places.{Places}
 use Rattle.tb_tables.specs.declared.balance.Balance.TheVariants.{DebitsPending, DebitsPosted, CreditsPending, CreditsPosted}
@@ -67,20 +71,23 @@ abbrev pub account_rows : Sums → List Account → List (ℕ × Account)
 account_rows sums accounts = map (λ account. (account.id, with_sums sums account)) accounts
 
 -- which balances an amount goes to: what is pending, or what is posted
-abbrev pub debits_in : Bool → Balance
-debits_in true = DebitsPending
-debits_in false = DebitsPosted
+abbrev pub phase_of : Transfer → Phase
+phase_of transfer = if is_pending transfer then Pending else Posted
 
-abbrev pub credits_in : Bool → Balance
-credits_in true = CreditsPending
-credits_in false = CreditsPosted
+abbrev pub debits_in : Phase → Balance
+debits_in Pending = DebitsPending
+debits_in Posted = DebitsPosted
+
+abbrev pub credits_in : Phase → Balance
+credits_in Pending = CreditsPending
+credits_in Posted = CreditsPosted
 
 -- an amount more between two accounts
-abbrev pub with_amount : Bool → ℕ → ℕ → ℕ → Sums → Sums
-with_amount pending debit credit amount sums = with_more (credits_in pending) credit amount (with_more (debits_in pending) debit amount sums)
+abbrev pub with_amount : Phase → ℕ → ℕ → ℕ → Sums → Sums
+with_amount phase debit credit amount sums = with_more (credits_in phase) credit amount (with_more (debits_in phase) debit amount sums)
 
 abbrev pub posted_if : Bool → ℕ → ℕ → ℕ → Sums → Sums
-posted_if true debit credit amount sums = with_amount false debit credit amount sums
+posted_if true debit credit amount sums = with_amount Posted debit credit amount sums
 posted_if false debit credit amount sums = sums
 
 -- a place has an account whose balance has room for an amount, or contains it
@@ -104,20 +111,20 @@ pub record AreAt (accounts : List Account) (places : Places) (debit credit : ℕ
   pub credit_is : credit_account.id ≡ credit
 
 -- an amount can be added between the accounts at two places, or taken out again
-pub record CanAdd (rows : List (ℕ × Account)) (places : Places) (pending : Bool) (amount : ℕ) : Type 0 where
+pub record CanAdd (rows : List (ℕ × Account)) (places : Places) (phase : Phase) (amount : ℕ) : Type 0 where
   pub sums : Sums
   pub accounts : List Account
   pub debit : ℕ
   pub credit : ℕ
   pub are_at : AreAt accounts places debit credit
   pub are : rows ≡ account_rows sums accounts
-  pub debit_fits : balance_of (debits_in pending) (with_sums sums are_at.debit_account) + amount < 2 ^ 128
-  pub credit_fits : balance_of (credits_in pending) (with_sums sums are_at.credit_account) + amount < 2 ^ 128
+  pub debit_fits : balance_of (debits_in phase) (with_sums sums are_at.debit_account) + amount < 2 ^ 128
+  pub credit_fits : balance_of (credits_in phase) (with_sums sums are_at.credit_account) + amount < 2 ^ 128
 
-pub record CanTake (rows : List (ℕ × Account)) (places : Places) (pending : Bool) (amount : ℕ) : Type 0 where
+pub record CanTake (rows : List (ℕ × Account)) (places : Places) (phase : Phase) (amount : ℕ) : Type 0 where
   pub sums : Sums
   pub accounts : List Account
   pub debit : ℕ
   pub credit : ℕ
   pub are_at : AreAt accounts places debit credit
-  pub are : rows ≡ account_rows (with_amount pending debit credit amount sums) accounts
+  pub are : rows ≡ account_rows (with_amount phase debit credit amount sums) accounts

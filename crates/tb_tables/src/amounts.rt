@@ -1,72 +1,89 @@
 //! Amounts between two accounts.
 
-ghost use Rattle.std.specs.Prelude.{◌≡◌, ℕ, List, true, false};
+ghost use Rattle.std.specs.Prelude.{◌≡◌, ℕ, List, true};
 ghost use Rattle.tb_layout.specs.declared.account.Account.{Account as AccountRecord};
-ghost use Rattle.tb_tables.specs.Sums.{Sums, AreAt, CanAdd, CanTake, with_amount, posted_if, account_rows, debits_in as debits_of, credits_in as credits_of};
+ghost use Rattle.tb_tables.specs.Sums.{Sums, AreAt, CanAdd, CanTake, with_amount, posted_if, account_rows, phase_of, debits_in as debits_of, credits_in as credits_of};
+ghost use Rattle.tb_tables.specs.declared.amounts.Phase.TheVariants.{Posted};
 
 use crate::balance::{Balance, lower_at, raise_at};
 use crate::by_id::ById;
 use crate::places::Places;
-use tb_layout::Account;
+use tb_layout::{Account, Transfer};
 
-fn debits_in(pending: bool) -> Balance
-    ensures { result ≡ debits_of pending }
+/// What an amount is among the sums of its accounts.
+#[derive(Clone, Copy)]
+pub enum Phase {
+    Pending,
+    Posted,
+}
+
+/// What the amount of a plain or pending transfer is.
+pub fn phase_of(transfer: &Transfer) -> Phase
+    ensures { result ≡ phase_of transfer.now }
 {
-    if pending {
-        Balance::DebitsPending
+    if transfer.is_pending() {
+        Phase::Pending
     } else {
-        Balance::DebitsPosted
+        Phase::Posted
     }
 }
 
-fn credits_in(pending: bool) -> Balance
-    ensures { result ≡ credits_of pending }
+fn debits_in(phase: Phase) -> Balance
+    ensures { result ≡ debits_of phase }
 {
-    if pending {
-        Balance::CreditsPending
-    } else {
-        Balance::CreditsPosted
+    match phase {
+        Phase::Pending => Balance::DebitsPending,
+        Phase::Posted => Balance::DebitsPosted,
+    }
+}
+
+fn credits_in(phase: Phase) -> Balance
+    ensures { result ≡ credits_of phase }
+{
+    match phase {
+        Phase::Pending => Balance::CreditsPending,
+        Phase::Posted => Balance::CreditsPosted,
     }
 }
 
 /// Adds an amount to what is pending, or to what is posted.
-pub fn add_amount(accounts: &mut ById<Account>, places: Places, pending: bool, amount: u128)
-    requires { CanAdd accounts.old.entries places pending amount }
+pub fn add_amount(accounts: &mut ById<Account>, places: Places, phase: Phase, amount: u128)
+    requires { CanAdd accounts.old.entries places phase amount }
     ensures { (sums : Sums) (records : List AccountRecord) (debit credit : ℕ) → AreAt records places debit credit
-        → accounts.old.entries ≡ account_rows sums records → accounts.new.entries ≡ account_rows (with_amount pending debit credit amount sums) records }
+        → accounts.old.entries ≡ account_rows sums records → accounts.new.entries ≡ account_rows (with_amount phase debit credit amount sums) records }
 {
-    raise_at(accounts, places.debit, debits_in(pending), amount);
-    raise_at(accounts, places.credit, credits_in(pending), amount);
+    raise_at(accounts, places.debit, debits_in(phase), amount);
+    raise_at(accounts, places.credit, credits_in(phase), amount);
 }
 
 /// Takes an amount out again.
-pub fn take_amount(accounts: &mut ById<Account>, places: Places, pending: bool, amount: u128)
-    requires { CanTake accounts.old.entries places pending amount }
+pub fn take_amount(accounts: &mut ById<Account>, places: Places, phase: Phase, amount: u128)
+    requires { CanTake accounts.old.entries places phase amount }
     ensures { (sums : Sums) (records : List AccountRecord) (debit credit : ℕ) → AreAt records places debit credit
-        → accounts.old.entries ≡ account_rows (with_amount pending debit credit amount sums) records → accounts.new.entries ≡ account_rows sums records }
+        → accounts.old.entries ≡ account_rows (with_amount phase debit credit amount sums) records → accounts.new.entries ≡ account_rows sums records }
 {
-    lower_at(accounts, places.credit, credits_in(pending), amount);
-    lower_at(accounts, places.debit, debits_in(pending), amount);
+    lower_at(accounts, places.credit, credits_in(phase), amount);
+    lower_at(accounts, places.debit, debits_in(phase), amount);
 }
 
 /// Adds what a post posts, where it is a post.
 pub fn post_if(accounts: &mut ById<Account>, places: Places, is_post: bool, amount: u128)
-    requires { is_post ≡ true → CanAdd accounts.old.entries places false amount }
+    requires { is_post ≡ true → CanAdd accounts.old.entries places Posted amount }
     ensures { (sums : Sums) (records : List AccountRecord) (debit credit : ℕ) → AreAt records places debit credit
         → accounts.old.entries ≡ account_rows sums records → accounts.new.entries ≡ account_rows (posted_if is_post debit credit amount sums) records }
 {
     if is_post {
-        add_amount(accounts, places, false, amount);
+        add_amount(accounts, places, Phase::Posted, amount);
     }
 }
 
 /// Takes out what a post posted, where it is a post.
 pub fn unpost_if(accounts: &mut ById<Account>, places: Places, is_post: bool, amount: u128)
-    requires { is_post ≡ true → CanTake accounts.old.entries places false amount }
+    requires { is_post ≡ true → CanTake accounts.old.entries places Posted amount }
     ensures { (sums : Sums) (records : List AccountRecord) (debit credit : ℕ) → AreAt records places debit credit
         → accounts.old.entries ≡ account_rows (posted_if is_post debit credit amount sums) records → accounts.new.entries ≡ account_rows sums records }
 {
     if is_post {
-        take_amount(accounts, places, false, amount);
+        take_amount(accounts, places, Phase::Posted, amount);
     }
 }

@@ -5,7 +5,7 @@ ghost use Rattle.std.specs.List.{list_any};
 ghost use Rattle.indexmap.specs.IndexMap.{get, keys, index_map_len, set_value_at, IsUnique};
 ghost use Rattle.tb_tables.specs.declared.row.Row.{Row as RowRecord};
 ghost use Rattle.tb_tables.specs.Changes.{without_last};
-ghost use Rattle.tb_tables.specs.Storing.{new_row, status_after, is_open_status};
+ghost use Rattle.tb_tables.specs.Storing.{new_row, status_after};
 
 use crate::by_id::{ById, Ids};
 use crate::key::Key;
@@ -90,22 +90,13 @@ pub fn place_under<V: Drop>(entries: &ById<V>, key: Key) -> usize
     entries.get_index_of(&key).unwrap()
 }
 
-/// The transfer at a place.
-pub fn transfer_at(transfers: &ById<Row>, place: usize) -> Transfer
+/// The row of the transfer at a place.
+pub fn row_at(transfers: &ById<Row>, place: usize) -> &Row
     requires { IsSome (slice_get transfers.now.entries place) }
-    ensures { (id : ℕ) (row : RowRecord) → slice_get transfers.now.entries place ≡ Some (id, row) → result ≡ row.transfer }
+    ensures { (id : ℕ) (row : RowRecord) → slice_get transfers.now.entries place ≡ Some (id, row) → result.now ≡ row }
 {
     let (_, row) = transfers.get_index(place).unwrap();
-    row.transfer
-}
-
-/// Whether the transfer at a place still reserves its amount.
-pub fn is_open(transfers: &ById<Row>, place: usize) -> bool
-    requires { IsSome (slice_get transfers.now.entries place) }
-    ensures { (id : ℕ) (row : RowRecord) → slice_get transfers.now.entries place ≡ Some (id, row) → result ≡ is_open_status row.status }
-{
-    let (_, row) = transfers.get_index(place).unwrap();
-    matches!(row.status, Some(Status::Pending))
+    row
 }
 
 /// Takes the last transfer off.
@@ -118,15 +109,17 @@ pub fn pop_transfer(transfers: &mut ById<Row>) -> Transfer
     row.transfer
 }
 
-/// Sets the status of the transfer at a place.
-pub fn set_status(transfers: &mut ById<Row>, place: usize, status: Status)
+/// Sets the status of the transfer at a place, and gives that transfer.
+pub fn set_status(transfers: &mut ById<Row>, place: usize, status: Status) -> Transfer
     requires { IsSome (slice_get transfers.old.entries place) }
+    ensures transfer { (id : ℕ) (row : RowRecord) → slice_get transfers.old.entries place ≡ Some (id, row) → result ≡ row.transfer }
     ensures entries { (id : ℕ) (row : RowRecord) → slice_get transfers.old.entries place ≡ Some (id, row)
         → transfers.new.entries ≡ set_value_at transfers.old.entries place (record row { status = Some status }) }
     ensures unique { IsUnique nat_eq transfers.old }
 {
     let (_, row) = transfers.pair_mut(place);
     row.status = Some(status);
+    row.transfer
 }
 
 /// The status of what a post or a void names.

@@ -206,15 +206,14 @@ impl Maps {
     pub fn transfer(&self, key: Key) -> Option<Transfer>
         ensures { result ≡ transfer_with self.now.facts key }
     {
-        let row = self.transfers.get(&key)?;
-        Some(row.transfer)
+        self.transfers.get(&key).map(|row| row.transfer)
     }
 
     /// What became of the pending transfer under a key.
     pub fn status(&self, key: Key) -> Option<Status>
         ensures { result ≡ status_with self.now.facts key }
     {
-        self.transfers.get(&key)?.status
+        self.transfers.get(&key).and_then(|row| row.status)
     }
 
     /// Whether an id, here its key, is among those that failed.

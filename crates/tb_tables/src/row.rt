@@ -1,5 +1,7 @@
 //! What stands under the id of a transfer.
 
+ghost use Rattle.std.specs.Prelude.{◌≡◌};
+
 use crate::status::Status;
 use tb_layout::Transfer;
 
@@ -8,4 +10,15 @@ use tb_layout::Transfer;
 pub struct Row {
     pub transfer: Transfer,
     pub status: Option<Status>,
+}
+
+impl Row {
+    ghost use Rattle.tb_tables.specs.Storing.{is_open_status};
+
+    /// Whether the transfer still reserves its amount.
+    pub fn is_open(&self) -> bool
+        ensures { result ≡ is_open_status self.now.status }
+    {
+        matches!(self.status, Some(Status::Pending))
+    }
 }

@@ -8,13 +8,13 @@ ghost use Rattle.tb_layout.specs.Transfer.{is_pending};
 ghost use Rattle.tb_tables.specs.Facts.{Facts};
 ghost use Rattle.tb_tables.specs.Status.{expires_at as expires_at_of};
 ghost use Rattle.tb_tables.specs.Expiries.{is_indexed, same_pair};
-ghost use Rattle.tb_tables.specs.Kept.{is_timed as is_timed_of, named_by as named_by_of, resolves_at, is_resolved_at, is_spent, Hold};
-ghost use Rattle.tb_tables.specs.Storing.{IsPushed, IsStored, IsPopped, IsForgettable, CanForget};
+ghost use Rattle.tb_tables.specs.Kept.{is_timed as is_timed_of, named_by as named_by_of, resolves_at, is_resolved_at, is_spent as is_spent_at, Hold};
+ghost use Rattle.tb_tables.specs.Storing.{Step, IsBefore, IsAfter, IsStored, IsForgettable, CanForget, is_open_status};
 
-use crate::amounts::{add_amount, post_if, take_amount, unpost_if};
+use crate::amounts::{Phase, add_amount, phase_of, post_if, take_amount, unpost_if};
 use crate::by_id::ById;
 use crate::change::Change;
-use crate::entries::{is_open, pop_transfer, set_status, settled_status, transfer_at};
+use crate::entries::{pop_transfer, row_at, set_status, settled_status};
 use crate::expiries::{put_in, take_out};
 use crate::places::Places;
 use crate::row::Row;
@@ -73,14 +73,12 @@ fn settle(
     transfer: Transfer,
 )
     requires names { places.pending ≡ Some pending }
-    requires pushed { (facts : Facts) × IsPushed facts transfer places accounts.old.entries transfers.old.entries }
-    ensures { (facts : Facts) → IsPushed facts transfer places accounts.old.entries transfers.old.entries
-        → IsStored facts transfer places accounts.new.entries transfers.new.entries }
+    requires before { (step : Step transfer places) × IsBefore step accounts.old.entries transfers.old.entries }
+    ensures { (step : Step transfer places) → IsBefore step accounts.old.entries transfers.old.entries → IsAfter step accounts.new.entries transfers.new.entries }
 {
-    let reserved = transfer_at(transfers, pending).amount;
-    take_amount(accounts, places, true, reserved);
+    let reserved = set_status(transfers, pending, settled_status(transfer.is_post())).amount;
+    take_amount(accounts, places, Phase::Pending, reserved);
     post_if(accounts, places, transfer.is_post(), transfer.amount);
-    set_status(transfers, pending, settled_status(transfer.is_post()));
 }
 
 /// Adds a stored transfer's amounts to its accounts, and resolves what it names.
@@ -90,12 +88,11 @@ pub fn apply(
     places: Places,
     transfer: Transfer,
 )
-    requires { (facts : Facts) × IsPushed facts transfer places accounts.old.entries transfers.old.entries }
-    ensures { (facts : Facts) → IsPushed facts transfer places accounts.old.entries transfers.old.entries
-        → IsStored facts transfer places accounts.new.entries transfers.new.entries }
+    requires { (step : Step transfer places) × IsBefore step accounts.old.entries transfers.old.entries }
+    ensures { (step : Step transfer places) → IsBefore step accounts.old.entries transfers.old.entries → IsAfter step accounts.new.entries transfers.new.entries }
 {
     match places.pending {
-        None => add_amount(accounts, places, transfer.is_pending(), transfer.amount),
+        None => add_amount(accounts, places, phase_of(&transfer), transfer.amount),
         Some(pending) => settle(accounts, transfers, places, pending, transfer),
     }
 }
@@ -109,14 +106,12 @@ fn unsettle(
     transfer: Transfer,
 )
     requires names { places.pending ≡ Some pending }
-    requires popped { (facts : Facts) × IsPopped facts transfer places accounts.old.entries transfers.old.entries }
-    ensures { (facts : Facts) → IsPopped facts transfer places accounts.old.entries transfers.old.entries
-        → Hold facts accounts.new.entries transfers.new.entries }
+    requires after { (step : Step transfer places) × IsAfter step accounts.old.entries transfers.old.entries }
+    ensures { (step : Step transfer places) → IsAfter step accounts.old.entries transfers.old.entries → IsBefore step accounts.new.entries transfers.new.entries }
 {
-    let reserved = transfer_at(transfers, pending).amount;
+    let reserved = set_status(transfers, pending, Status::Pending).amount;
     unpost_if(accounts, places, transfer.is_post(), transfer.amount);
-    add_amount(accounts, places, true, reserved);
-    set_status(transfers, pending, Status::Pending);
+    add_amount(accounts, places, Phase::Pending, reserved);
 }
 
 /// Takes a transfer's amounts out of its accounts, and resolves what it names no more, once it is stored no more.
@@ -126,12 +121,11 @@ fn unapply(
     places: Places,
     transfer: Transfer,
 )
-    requires { (facts : Facts) × IsPopped facts transfer places accounts.old.entries transfers.old.entries }
-    ensures { (facts : Facts) → IsPopped facts transfer places accounts.old.entries transfers.old.entries
-        → Hold facts accounts.new.entries transfers.new.entries }
+    requires { (step : Step transfer places) × IsAfter step accounts.old.entries transfers.old.entries }
+    ensures { (step : Step transfer places) → IsAfter step accounts.old.entries transfers.old.entries → IsBefore step accounts.new.entries transfers.new.entries }
 {
     match places.pending {
-        None => take_amount(accounts, places, transfer.is_pending(), transfer.amount),
+        None => take_amount(accounts, places, phase_of(&transfer), transfer.amount),
         Some(pending) => unsettle(accounts, transfers, places, pending, transfer),
     }
 }
@@ -164,15 +158,22 @@ fn named_by(change: &Change<Places>) -> Option<usize>
     }
 }
 
+/// Whether a transfer has a pair, and reserves nothing any more.
+fn is_spent(row: &Row) -> bool
+    ensures { result ≡ (is_timed_of row.now.transfer && not (is_open_status row.now.status)) }
+{
+    is_timed(&row.transfer) && !row.is_open()
+}
+
 /// Takes the pair of the transfer at a place out of the index, where it reserves nothing any more.
 fn forget_at(expiries: &mut BTreeSet<(u64, usize)>, transfers: &ById<Row>, place: usize)
     requires { (facts : Facts) × (transfer : TransferRecord) × IsForgettable facts transfer transfers.now.entries place }
     ensures { (facts : Facts) (transfer : TransferRecord) → IsForgettable facts transfer transfers.now.entries place → (m p : ℕ)
-        → is_indexed expiries.new m p ≡ (not ((place == p) && is_spent facts m p) && is_indexed expiries.old m p) }
+        → is_indexed expiries.new m p ≡ (not ((place == p) && is_spent_at facts m p) && is_indexed expiries.old m p) }
 {
-    let transfer = transfer_at(transfers, place);
-    if is_timed(&transfer) && !is_open(transfers, place) {
-        take_out(expiries, expires_at(&transfer), place);
+    let row = row_at(transfers, place);
+    if is_spent(row) {
+        take_out(expiries, expires_at(&row.transfer), place);
     }
 }
 
@@ -184,7 +185,7 @@ fn forget_change(
 )
     requires { (facts : Facts) × CanForget facts change.now transfers.now.entries }
     ensures { (facts : Facts) → CanForget facts change.now transfers.now.entries → (m p : ℕ)
-        → is_indexed expiries.new m p ≡ (not (resolves_at p change.now && is_spent facts m p) && is_indexed expiries.old m p) }
+        → is_indexed expiries.new m p ≡ (not (resolves_at p change.now && is_spent_at facts m p) && is_indexed expiries.old m p) }
 {
     if let Some(place) = named_by(change) {
         forget_at(expiries, transfers, place);
@@ -199,7 +200,7 @@ pub fn forget_resolved(
 )
     requires { (facts : Facts) × AllByRecursion (λ change. CanForget facts change transfers.now.entries) changes.now }
     ensures { (facts : Facts) → AllByRecursion (λ change. CanForget facts change transfers.now.entries) changes.now → (m p : ℕ)
-        → is_indexed expiries.new m p ≡ (not (is_resolved_at p changes.now && is_spent facts m p) && is_indexed expiries.old m p) }
+        → is_indexed expiries.new m p ≡ (not (is_resolved_at p changes.now && is_spent_at facts m p) && is_indexed expiries.old m p) }
 {
     for change in changes {
         forget_change(expiries, transfers, change);

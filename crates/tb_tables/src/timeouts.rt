@@ -7,9 +7,9 @@ ghost use Rattle.tb_tables.specs.Kept.{Hold, AreHeld};
 ghost use Rattle.tb_tables.specs.Status.{expire_due};
 ghost use Rattle.tb_tables.specs.Storing.{CanExpire, expire_one};
 
-use crate::amounts::take_amount;
+use crate::amounts::{Phase, take_amount};
 use crate::by_id::ById;
-use crate::entries::{is_open, place_of, set_status, transfer_at};
+use crate::entries::{place_of, row_at, set_status};
 use crate::expiries::take_due;
 use crate::places::Places;
 use crate::row::Row;
@@ -23,14 +23,13 @@ fn expire(accounts: &mut ById<Account>, transfers: &mut ById<Row>, place: usize)
     ensures { (facts : Facts) (can : CanExpire facts accounts.old.entries transfers.old.entries place)
         → Hold (expire_one can.transfer.id facts) accounts.new.entries transfers.new.entries }
 {
-    let transfer = transfer_at(transfers, place);
+    let transfer = set_status(transfers, place, Status::Expired);
     let places = Places {
         debit: place_of(accounts, transfer.debit_account_id),
         credit: place_of(accounts, transfer.credit_account_id),
         pending: None,
     };
-    take_amount(accounts, places, true, transfer.amount);
-    set_status(transfers, place, Status::Expired);
+    take_amount(accounts, places, Phase::Pending, transfer.amount);
 }
 
 /// Lets each transfer expire that still reserves its amount and whose pair is due at a clock. Costs as much as what expires.
@@ -45,7 +44,7 @@ pub fn expire_all(
         → AreHeld accounts.new.entries transfers.new.entries (is_indexed expiries.new) (expire_due clock facts) }
 {
     while let Some(place) = take_due(expiries, clock) {
-        if is_open(transfers, place) {
+        if row_at(transfers, place).is_open() {
             expire(accounts, transfers, place);
         }
     }

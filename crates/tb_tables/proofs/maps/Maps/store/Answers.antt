@@ -21,22 +21,20 @@ invariant_of-self-in-Err c =
 
 pub apply-requires : goal.apply-requires
 apply-requires c =
-    let old = stored_in c.self.inside in
     let r = rw (← c.self.view_is) at c.requires in
-    (facts_of old, stepping.pushed old c.self.invariant c.args.transfer.now c.args.places r.at.are_at r.may c.push_transfer.new.transfers.entries c.in_default.ensures.ok)
+    let pushed = stepping.pushed (stored_in c.self.inside) c.self.invariant c.args.transfer.now c.args.places r.at r.may c.in_default.ensures.ok in
+    (pushed.step, pushed.before)
 
 pub invariant_of-self-2 : goal.invariant_of-self-2
 invariant_of-self-2 c =
-    let old = stored_in c.self.inside in
     let r = rw (← c.self.view_is) at c.requires in
-    let pushed = stepping.pushed old c.self.invariant c.args.transfer.now c.args.places r.at.are_at r.may c.push_transfer.new.transfers.entries c.in_default.ensures.ok in
+    let pushed = stepping.pushed (stored_in c.self.inside) c.self.invariant c.args.transfer.now c.args.places r.at r.may c.in_default.ensures.ok in
     let put = rw (c.len-place.ensures.len ∙ transfers-length c.self.invariant.hold) at c.in_ok-expect.ensures.ok in
-    (stepping.stored old c.self.invariant c.args.transfer.now c.args.places (c.apply.ensures _ pushed) put).0
+    (pushed.stored (c.apply.ensures pushed.step pushed.before) put).0
 
 pub returns-clause-ok : goal.returns-clause-ok
 returns-clause-ok c =
-    let old = stored_in c.self.inside in
     let r = rw (← c.self.view_is) at c.requires in
-    let pushed = stepping.pushed old c.self.invariant c.args.transfer.now c.args.places r.at.are_at r.may c.push_transfer.new.transfers.entries c.in_default.ensures.ok in
+    let pushed = stepping.pushed (stored_in c.self.inside) c.self.invariant c.args.transfer.now c.args.places r.at r.may c.in_default.ensures.ok in
     let put = rw (c.len-place.ensures.len ∙ transfers-length c.self.invariant.hold) at c.in_ok-expect.ensures.ok in
-    rw (← c.self.view_is) (stepping.stored old c.self.invariant c.args.transfer.now c.args.places (c.apply.ensures _ pushed) put).1
+    rw (← c.self.view_is) (pushed.stored (c.apply.ensures pushed.step pushed.before) put).1

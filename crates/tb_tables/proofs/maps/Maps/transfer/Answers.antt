@@ -1,14 +1,6 @@
-use Rattle.std.proofs.Common.{◌∙◌, sym, ap, option_copied, option_map}
-use Rattle.tb_tables.proofs.Words.{Row}
-use Rattle.tb_tables.proofs.Locating.{transfer-found}
+use Rattle.std.proofs.Common.{arith}
+use Rattle.tb_tables.proofs.Locating.{row-found}
 use Rattle.tb_tables.proofs.maps.Maps.transfer.Goals as goal
 
-pub returns-in_err-row : goal.returns-in_err-row
-returns-in_err-row c =
-    let none = sym c.get.ensures.value ∙ ap option_copied c.in_err-row.was in
-    rw (← c.self.view_is) (c.from_residual.ensures ∙ sym (transfer-found c.self.invariant.hold c.args.key ∙ ap (option_map (λ (row : Row). row.transfer)) none))
-
 pub returns : goal.returns
-returns c =
-    let some = sym c.get.ensures.value ∙ ap option_copied c.in_ok-row.was in
-    rw (← c.self.view_is) (sym (transfer-found c.self.invariant.hold c.args.key ∙ ap (option_map (λ (row : Row). row.transfer)) some))
+returns c = rw (← c.self.view_is) (grind (arith, row-found c.self.invariant.hold c.args.key, c.get.ensures.value, c.map.ensures.cases, c.map.ensures.variant))

@@ -1,6 +1,6 @@
 use Rattle.tb_tables.proofs.Words.{stored_in}
 use Rattle.tb_tables.proofs.Opening.{kept-unaccount}
-use Rattle.tb_tables.proofs.Stepping.{was-stored, taken, kept-in}
+use Rattle.tb_tables.proofs.Stepping.{can-pop}
 use Rattle.tb_tables.proofs.maps.Maps.undo.Goals as goal
 
 pub invariant_of-self : goal.invariant_of-self
@@ -11,21 +11,11 @@ returns-in-Account-clause-facts c = rw (← c.self.view_is, c.in-Account.is, c.p
 
 pub invariant_of-self-in-Transfer : goal.invariant_of-self-in-Transfer
 invariant_of-self-in-Transfer c =
-    let old = stored_in c.self.inside in
-    let undoable = rw (← c.self.view_is, c.in-Transfer.is) at c.requires in
-    let stored = was-stored old c.self.invariant c.in-Transfer.places undoable in
-    (taken old c.self.invariant c.in-Transfer.places undoable (c.take_back.ensures.index _ _ stored) (c.take_back.ensures.maps _ _ stored)).0
+    let can = can-pop (stored_in c.self.inside) c.self.invariant c.in-Transfer.places (rw (← c.self.view_is, c.in-Transfer.is) at c.requires) in
+    (can.popped (c.take_back.ensures.maps _ can.transfer can.stored) (c.take_back.ensures.index _ can.transfer can.stored)).0
 
-pub returns-in-Transfer-clause-facts : goal.returns-in-Transfer-clause-facts
-returns-in-Transfer-clause-facts c =
-    let old = stored_in c.self.inside in
-    let undoable = rw (← c.self.view_is, c.in-Transfer.is) at c.requires in
-    let stored = was-stored old c.self.invariant c.in-Transfer.places undoable in
-    rw (← c.self.view_is, c.in-Transfer.is) (taken old c.self.invariant c.in-Transfer.places undoable (c.take_back.ensures.index _ _ stored) (c.take_back.ensures.maps _ _ stored)).1
-
-pub returns-in-Transfer-clause-pairs : goal.returns-in-Transfer-clause-pairs
-returns-in-Transfer-clause-pairs c =
-    let old = stored_in c.self.inside in
-    let undoable = rw (← c.self.view_is, c.in-Transfer.is) at c.requires in
-    let stored = was-stored old c.self.invariant c.in-Transfer.places undoable in
-    rw (← c.self.view_is, c.in-Transfer.is) (kept-in old c.self.invariant c.in-Transfer.places undoable (c.take_back.ensures.index _ _ stored))
+pub returns-in-Transfer : goal.returns-in-Transfer
+returns-in-Transfer c =
+    let can = can-pop (stored_in c.self.inside) c.self.invariant c.in-Transfer.places (rw (← c.self.view_is, c.in-Transfer.is) at c.requires) in
+    let popped = can.popped (c.take_back.ensures.maps _ can.transfer can.stored) (c.take_back.ensures.index _ can.transfer can.stored) in
+    rw (← c.self.view_is, c.in-Transfer.is) (record { facts = popped.1; pairs = popped.2 })

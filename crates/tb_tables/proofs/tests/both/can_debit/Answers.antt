@@ -1,8 +1,7 @@
-use Rattle.std.proofs.Common.{sym, subst, ◌∙◌, ◌+◌, ◌<◌, ◌^◌}
-use Rattle.tb_tables.proofs.Owed.{has_sums}
+use Rattle.std.proofs.Common.{arith}
+use Rattle.tb_tables.proofs.Words.{Account}
+use Rattle.tb_tables.proofs.Finding.{found-id}
 use Rattle.tb_tables.proofs.tests.both.can_debit.Goals as goal
 
 pub returns-in-Some-clause-fits : goal.returns-in-Some-clause-fits
-returns-in-Some-clause-fits c = λ can.
-    let sums = has_sums c.args.tables.now.now c.args.id c.in-Some.account (sym c.account.ensures ∙ c.in-Some.is) in
-    subst (λ sum. sum + c.args.amount < 2 ^ 128) sums.debits_are (c.fits.ensures can)
+returns-in-Some-clause-fits c = λ can. grind (arith, found-id (λ (a : Account). a.id) c.args.id c.args.tables.now.now.accounts, c.account.ensures, c.in-Some.is, c.fits.ensures can)

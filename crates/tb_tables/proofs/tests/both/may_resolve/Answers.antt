@@ -1,10 +1,22 @@
-use Rattle.std.proofs.Common.{rules, arith, sym, ap, ◌∙◌, not}
-use Rattle.tb_tables.proofs.Words.{nat_tests}
-use Rattle.tb_tables.proofs.Owed.{may_resolve, apart}
+use Rattle.std.proofs.Common.{rules, arith, ◌≡◌, Some}
+use Rattle.tb_tables.proofs.Words.{nat_tests, Transfer, Pending, status_with}
+use Rattle.tb_tables.proofs.Finding.{found-id}
 use Rattle.tb_tables.proofs.tests.both.may_resolve.Goals as goal
 
 pub returns : goal.returns
 returns c = λ most.
-    let kind = sym c.is_void.ensures ∙ apart c.is_void.result c.is_post.result c.if-is_void-is_post.false ∙ ap not c.is_post.ensures in
-    may_resolve c.args.tables.now.now c.args.transfer.now c.in-Some.pending (search rules) kind (search rules) (sym c.transfer.ensures ∙ c.in-Some.is) (search rules) (search rules)
-    c.if-transfer-pending.false c.if-transfer-pending-2.false (grind (arith, nat_tests, most))
+    let facts = c.args.tables.now.now in
+    let id = c.args.transfer.now.pending_id in
+    let status : status_with facts id ≡ Some Pending = search rules in
+    record {
+      new = search rules;
+      post_or_void = grind (arith, c.is_void.ensures, c.is_post.ensures, c.if-is_void-is_post.false);
+      not_pending = search rules;
+      pending = c.in-Some.pending;
+      named = search rules;
+      is_pending_one = search rules;
+      unresolved = grind (arith, found-id (λ (t : Transfer). t.id) id facts.transfers, status, c.transfer.ensures, c.in-Some.is);
+      same_debit = c.if-transfer-pending.false;
+      same_credit = c.if-transfer-pending-2.false;
+      at_most = grind (arith, nat_tests, most);
+    }

@@ -1,4 +1,4 @@
-use Rattle.tb_tables.proofs.Laws.{resolve_lawful}
+use Rattle.tb_tables.proofs.Added.{resolve_lawful}
 use Rattle.tb_tables.proofs.tests.plain.tables.PlainTables.resolve.Goals as goal
 
 pub add_row-requires : goal.add_row-requires
