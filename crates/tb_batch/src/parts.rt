@@ -42,8 +42,8 @@ impl Parts {
         }
     }
 
-    /// Makes room for the jobs and failures of the first few small packets. Data and stubs stay in the journal, and
-    /// have no more room than they need.
+    /// Makes room for the jobs and failures of the first few small packets. Data and stubs stay in the journal: theirs
+    /// grows as they do.
     pub(crate) fn reserve_first(&mut self) -> Result<(), NoMemory>
         requires { (self.old.failures.items ≡ []) × (self.old.accounts.items ≡ []) }
         ensures operation { self.new.operation ≡ self.old.operation }
