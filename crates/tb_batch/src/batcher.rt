@@ -130,6 +130,10 @@ impl Batcher {
         ensures none { IfNone result (self.old.jobs ≡ []) }
         ensures lawful { IsGroup self.old.limit self.old.jobs }
     {
+        // A group is large: where none is held, none is moved.
+        if self.held.is_none() {
+            return None;
+        }
         match self.held.take() {
             Some(held) => Some(held.seal()),
             None => None,

@@ -50,10 +50,13 @@ impl Group {
     {
         let mut parts = Parts::new(alloc, job.packet().operation);
         let events = job.stub().count;
+        let shares = can_share(&job);
+        if shares && parts.reserve_first().is_err() {
+            return Err((job, NoMemory));
+        }
         if parts.reserve_for(&job, events).is_err() {
             return Err((job, NoMemory));
         }
-        let shares = can_share(&job);
         parts.append(job);
         Ok(Group {
             parts,

@@ -10,6 +10,9 @@ use std::alloc::Global;
 use tb_layout::{Account, Failure, LOOKUP_ACCOUNTS, NoMemory};
 use tb_work::{Job, Stub};
 
+/// So many small packets join a group before its jobs and failures need more room.
+const FIRST_PACKETS: usize = 16;
+
 /// The parts of a batch: its packets' data one behind the other, its jobs with their stubs, and an
 /// empty answer with room for all of it: failures, or for a lookup accounts.
 #[derive(Drop)]
@@ -37,6 +40,19 @@ impl Parts {
             failures: Vec::new(alloc),
             accounts: Vec::new(alloc),
         }
+    }
+
+    /// Makes room for the jobs and failures of the first few small packets. Data and stubs stay in the journal: theirs
+    /// grows as they do.
+    pub(crate) fn reserve_first(&mut self) -> Result<(), NoMemory>
+        requires { (self.old.failures.items ≡ []) × (self.old.accounts.items ≡ []) }
+        ensures operation { self.new.operation ≡ self.old.operation }
+        ensures jobs { (self.new.jobs.items ≡ self.old.jobs.items) × (self.new.stubs.items ≡ self.old.stubs.items) × (self.new.body.items ≡ self.old.body.items) }
+        ensures answer { (self.new.failures.items ≡ []) × (self.new.accounts.items ≡ []) }
+    {
+        self.jobs.reserve(FIRST_PACKETS)?;
+        self.failures.reserve(FIRST_PACKETS)?;
+        Ok(())
     }
 
     /// Makes room for one more job, and for an answer to so many events.

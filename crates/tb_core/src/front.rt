@@ -276,12 +276,26 @@ impl Front {
         ensures same { (self.new.limit ≡ self.old.limit) × (self.new.submitters ≡ self.old.submitters) }
     {
         let mut parcels = ArrayVec::new();
-        match self.try_take(&mut parcels, ticket) {
-            Ok(()) => parcels,
-            Err(ticket) => {
-                self.step_refused(&mut parcels, ticket);
-                parcels
-            }
+        self.take_into(&mut parcels, ticket);
+        parcels
+    }
+
+    /// One ticket, as `take` takes it; what is handed on is put into the parcels, of which there are none yet. Where
+    /// many tickets are taken this spares moving the parcels, which are large, for each of them.
+    pub fn take_into(&mut self, parcels: &mut ArrayVec<Parcel, 2>, ticket: Ticket)
+        requires sender { ticket.sender ≤ self.old.submitters }
+        requires empty { parcels.old.items ≡ [] }
+        ensures took { (refused : Bool) × (take_result self.new parcels.new.items ≡ take_step refused self.old ticket.sender ticket.item) }
+        ensures accounted { all_passages_in parcels.new.items ++ held_by self.new ≡ held_by self.old ++ passages_of_item self.old.closed self.new.stopped ticket.item }
+        ensures passes { (items : List ItemValue) (sent : List Passage) → Passes items self.old.closed self.old.stopped (sent ++ held_by self.old)
+            → Passes (items ++ ticket.item ∷ []) self.new.closed self.new.stopped ((sent ++ all_passages_in parcels.new.items) ++ held_by self.new) }
+        ensures lawful { AreJoinedParcels self.old.limit parcels.new.items }
+        ensures ends { (queue : List TicketValue) → KnowsEnds queue self.old → KnowsEnds (queue ++ ticket ∷ []) self.new }
+        ensures same { (self.new.limit ≡ self.old.limit) × (self.new.submitters ≡ self.old.submitters) }
+    {
+        match self.try_take(parcels, ticket) {
+            Ok(()) => {}
+            Err(ticket) => self.step_refused(parcels, ticket),
         }
     }
 }

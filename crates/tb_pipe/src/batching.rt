@@ -9,6 +9,7 @@ use crate::gate::Gate;
 use crate::waiting::give_waiting;
 use arrayvec::ArrayVec;
 use crossbeam_utils::Backoff;
+use std::mem;
 use std::sync::Wait;
 use tb_core::{Front, Parcel};
 use tb_rings::Outlet;
@@ -35,38 +36,46 @@ fn give<R: Wait, G: Gate>(
     sealed
 }
 
+/// Gives parcels on in order, and leaves none.
 fn give_all<R: Wait, G: Gate>(
     rt: &R,
     gate: &G,
     batches: &mut Outlet<Parcel>,
-    parcels: ArrayVec<Parcel, 2>,
+    parcels: &mut ArrayVec<Parcel, 2>,
     sealed: u64,
 ) -> u64
     ensures ring { SameOutlet batches.old batches.new }
-    ensures given { given batches.new ≡ given batches.old ++ parcels.items }
+    ensures given { given batches.new ≡ given batches.old ++ parcels.old.items }
+    ensures none { parcels.new.items ≡ [] }
 {
+    if parcels.is_empty() {
+        return sealed;
+    }
     let mut sealed = sealed;
-    for parcel in parcels {
+    for parcel in mem::replace(parcels, ArrayVec::new()) {
         sealed = give(rt, gate, batches, parcel, sealed);
     }
     sealed
 }
 
-/// One ticket through the front.
+/// One ticket through the front, with room for its parcels.
 fn pass_ticket<R: Wait, G: Gate>(
     rt: &R,
     gate: &G,
     front: &mut Front,
     batches: &mut Outlet<Parcel>,
+    parcels: &mut ArrayVec<Parcel, 2>,
     ticket: Ticket,
     sealed: u64,
 ) -> u64
-    requires { ticket.sender ≤ front.old.submitters }
+    requires sender { ticket.sender ≤ front.old.submitters }
+    requires empty { parcels.old.items ≡ [] }
     ensures ring { SameOutlet batches.old batches.new }
+    ensures none { parcels.new.items ≡ [] }
     ensures batched { (limit submitters : ℕ) (queue : List TicketValue) → IsBatched limit submitters queue front.old (given batches.old)
         → IsBatched limit submitters (queue ++ ticket ∷ []) front.new (given batches.new) }
 {
-    let parcels = front.take(ticket);
+    front.take_into(parcels, ticket);
     give_all(rt, gate, batches, parcels, sealed)
 }
 
@@ -103,6 +112,7 @@ pub(crate) fn batch_all<R: Wait, G: Gate>(
     ensures all { AllBatched intake.old.limit intake.old.submitters intake.new.taken (given batches.new) }
 {
     let mut front = front;
+    let mut parcels = ArrayVec::new();
     let mut sealed = 0;
     let backoff = Backoff::new();
     for _ in rt.forever() {
@@ -113,7 +123,7 @@ pub(crate) fn batch_all<R: Wait, G: Gate>(
         }
         match intake.take(rt) {
             Some(ticket) => {
-                sealed = pass_ticket(rt, gate, &mut front, batches, ticket, sealed);
+                sealed = pass_ticket(rt, gate, &mut front, batches, &mut parcels, ticket, sealed);
                 backoff.reset();
             }
             None => {

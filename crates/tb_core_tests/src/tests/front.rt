@@ -1,9 +1,10 @@
 //! The front alone, and a packet's way through front, ledger and cutter.
 
-ghost use Rattle.std.specs.Prelude.{◌≡◌, ◌≤◌, IfOk};
+ghost use Rattle.std.specs.Prelude.{◌≡◌, ◌≤◌, [], IfOk, true};
 
 use super::made::{Made, item};
 use super::told::{Told, assert_told};
+use arrayvec::ArrayVec;
 use std::alloc::Global;
 use std::process::Abort;
 use std::slice;
@@ -66,6 +67,24 @@ fn assert_taken(
     let parcels = front.take(ticket(alloc, sender, made)?);
     assert_handed(rt, parcels.as_slice(), wanted);
     Ok(())
+}
+
+/// Lets the front take a ticket into parcels, asserts what it hands on, and leaves none.
+fn assert_taken_into(
+    rt: &impl Abort,
+    front: &mut Front,
+    parcels: &mut ArrayVec<Parcel, 2>,
+    ticket: Ticket,
+    wanted: &[Handed],
+)
+    requires sender { ticket.sender ≤ front.old.submitters }
+    requires empty { parcels.old.items ≡ [] }
+    ensures same { front.new.submitters ≡ front.old.submitters }
+    ensures none { parcels.new.items ≡ [] }
+{
+    front.take_into(parcels, ticket);
+    assert_handed(rt, parcels.as_slice(), wanted);
+    parcels.clear();
 }
 
 #[test]
@@ -136,6 +155,71 @@ fn refused_growth(rt: HostRuntime) -> Result<(), Fail> {
         THIRD,
         &[Handed::Return(Cause::Stopped)],
     )?;
+    Ok(())
+}
+
+#[test]
+fn parcels_of_the_caller(rt: HostRuntime) -> Result<(), Fail> {
+    let mut front = small_front(rt.alloc())?;
+    let mut parcels = ArrayVec::new();
+    let first = ticket(rt.alloc(), 0, FIRST)?;
+    assert_taken_into(&rt, &mut front, &mut parcels, first, &[]);
+    let pulse = ticket(rt.alloc(), 1, Made::Pulse(5))?;
+    let wanted = [Handed::Batch(1), Handed::Pulse(5)];
+    assert_taken_into(&rt, &mut front, &mut parcels, pulse, &wanted);
+    let second = ticket(rt.alloc(), 0, SECOND)?;
+    assert_taken_into(&rt, &mut front, &mut parcels, second, &[]);
+    Ok(())
+}
+
+/// Lets the front take a ticket into parcels; true where it hands nothing on.
+fn joins(front: &mut Front, parcels: &mut ArrayVec<Parcel, 2>, ticket: Ticket) -> bool
+    requires sender { ticket.sender ≤ front.old.submitters }
+    requires empty { parcels.old.items ≡ [] }
+    ensures same { front.new.submitters ≡ front.old.submitters }
+    ensures none { result ≡ true → parcels.new.items ≡ [] }
+{
+    front.take_into(parcels, ticket);
+    parcels.is_empty()
+}
+
+/// How many of three packets are taken and held; where one isn't, the parcels have what is handed on at it.
+fn held_of_three(
+    alloc: Global,
+    front: &mut Front,
+    parcels: &mut ArrayVec<Parcel, 2>,
+) -> Result<usize, Refusal>
+    requires { parcels.old.items ≡ [] }
+{
+    if !joins(front, parcels, ticket(alloc, 0, FIRST)?) {
+        return Ok(0);
+    }
+    if !joins(front, parcels, ticket(alloc, 0, SECOND)?) {
+        return Ok(1);
+    }
+    if !joins(front, parcels, ticket(alloc, 0, THIRD)?) {
+        return Ok(2);
+    }
+    Ok(3)
+}
+
+/// What is tried with each allocation refused in turn, by `tools/refuse-each-growth`.
+#[test]
+fn take_into_refused_memory(rt: HostRuntime) -> Result<(), Fail> {
+    let mut front = small_front(rt.alloc())?;
+    let mut parcels = ArrayVec::new();
+    let Ok(held) = held_of_three(rt.alloc(), &mut front, &mut parcels) else {
+        return Ok(());
+    };
+    let stopped = Handed::Return(Cause::Stopped);
+    match held {
+        0 => assert_handed(&rt, parcels.as_slice(), &[stopped]),
+        1 | 2 => assert_handed(&rt, parcels.as_slice(), &[Handed::Batch(held), stopped]),
+        _ => {
+            let batch = front.idle().ok_or("nothing is held")?;
+            assert_eq!(rt; batch.jobs().len(), 3);
+        }
+    }
     Ok(())
 }
 

@@ -20,6 +20,7 @@ loop-preserved-in-Some-take g c =
     record {
       ring = c.pass_ticket-sealed.ensures.ring ∙ c.loop.invariant.ring;
       intake = intake_more intake c.loop.intake c.take.new.self ticket c.loop.invariant.intake took;
+      none = c.pass_ticket-sealed.ensures.none;
       batched = rw took (c.pass_ticket-sealed.ensures.batched intake.limit intake.submitters c.loop.intake.taken c.loop.invariant.batched);
     }
 
@@ -30,5 +31,6 @@ loop-preserved g c =
     record {
       ring = c.pass_group-sealed.ensures.ring ∙ c.loop.invariant.ring;
       intake = intake_same intake c.loop.intake c.take.new.self c.loop.invariant.intake none;
+      none = c.loop.invariant.none;
       batched = rw none (c.pass_group-sealed.ensures.batched intake.limit intake.submitters c.loop.intake.taken c.loop.invariant.batched);
     }
