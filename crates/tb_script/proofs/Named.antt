@@ -1,5 +1,5 @@
 -- The field that a word names, and its number.
-use Rattle.std.proofs.Common.{rules, ◌≡◌, Decides, cond, ℕ, ◌+◌, ◌<◌, ◌≤◌, Bool, true, false, List, [], ◌∷◌, ◌++◌, length, take, drop, refl, sym, ap, ◌∙◌, arith, ◌-◌, suc, Bor, Some, None, Option, Ok, Err, Result, ◌⊎◌, length-append, append_assoc, take-append-drop, lt-ltb, le-ltb, inl, inr}
+use Rattle.std.proofs.Common.{rules, ◌≡◌, Decides, cond, ℕ, ◌+◌, ◌<◌, ◌≤◌, Bool, true, false, List, [], ◌∷◌, ◌++◌, length, take, drop, refl, sym, ap, ◌∙◌, arith, ◌-◌, suc, Bor, Some, None, Option, Ok, Err, Result, length-append, append_assoc, take-append-drop, lt-ltb, le-ltb, inl, inr}
 use Rattle.std.specs.Prelude.{◌==◌, All, map, slice_index_or, not, bytes_eq, get_or}
 use Rattle.std.specs.List.{list_all, position_or_len, before_first, after_first as after_sign}
 use Rattle.std.proofs.lemmas.Bool.{and_parts, cases_lt, false_from_ne_true}
@@ -158,11 +158,6 @@ unfolding after_word field_and_number
 after_word_named layout draft word both e = told_by_sides layout draft (sides_of word) ∙ ap (told_of draft) (sym e)
 
 -- ---- one word after another
-
--- a line behind its spaces begins with a word, unless it has no byte
-pub some_word : (line : List ℕ) → (length line ≡ 0) ⊎ (0 < position_or_len (λ byte. byte == 32) line) → 0 < length line → 0 < position_or_len (λ byte. byte == 32) line
-some_word line (inl none) some = absurd (omega (arith, none))
-some_word line (inr word) some = word
 
 pub after_first : (layout : Layout) (draft next : Draft) (line : List ℕ) → 0 < position_or_len (λ byte. byte == 32) line →
     after_word layout draft (first_word line) ≡ Ok next → after_words layout next (words_of (behind_first_word line)) ≡ after_words layout draft (words_of line)

@@ -5,11 +5,11 @@ ghost use Rattle.std.specs.Option.{MatchOption};
 ghost use Rattle.std.specs.Int.{to_le_bytes, w128};
 ghost use Rattle.tb_script.specs.Text.{words_of, first_word, behind_first_word};
 ghost use Rattle.tb_script.specs.Steps.{Gives, Makes, Tells, look_up};
-ghost use Rattle.tb_script.specs.Event.{Lies, IsBare, named, field_and_number, greatest, new_field, with_number, after_word, after_words, blank, event_of, hex_bytes};
+ghost use Rattle.tb_script.specs.Event.{Lies, IsBare, named, field_and_number, greatest, new_field, with_number, after_word, after_words, blank, hex_bytes};
 
 use crate::fault::{Fault, LineError};
 use crate::number::number_within;
-use crate::text::{Words, split_number, trim_spaces};
+use crate::text::{Words, split_word, trim_spaces};
 use hex::FromHexError;
 use std::alloc::Global;
 
@@ -33,6 +33,18 @@ pub struct Field {
 pub struct Draft {
     pub bytes: [u8; 128],
     pub given: [bool; 13],
+}
+
+impl Draft {
+    /// An event of which no field was given.
+    pub fn new() -> Draft
+        ensures { result ≡ blank }
+    {
+        Draft {
+            bytes: [0; 128],
+            given: [false; 13],
+        }
+    }
 }
 
 /// A field at a place among the fields and at an offset, with a size in bytes.
@@ -108,7 +120,7 @@ fn named<'a>(mut table: &[(&[u8], Field)], line: &'a [u8]) -> Result<FirstWord<'
 {
     while let [(name, field), others @ ..] = table {
         if let Some(text) = behind_name(line, name) {
-            let (number, rest) = split_number(text);
+            let (number, rest) = split_word(text);
             return Ok(FirstWord {
                 field: *field,
                 number,
@@ -234,10 +246,10 @@ fn assign<'a>(
 
 /// All words of a line.
 #[tactic(auto, unfolding(crate::specs::Event::after_words))]
-fn assign_all(layout: Layout, draft: &mut Draft, line: &[u8]) -> Result<(), Fault>
-    ensures { Makes result draft.new (after_words layout draft.old (words_of line.now)) }
+pub fn assign_all(layout: Layout, draft: &mut Draft, words: Words) -> Result<(), Fault>
+    ensures { Makes result draft.new (after_words layout draft.old (words_of words.entry.rest.now)) }
 {
-    let mut rest = trim_spaces(line);
+    let mut rest = trim_spaces(words.rest);
     let mut place = 0;
     while !rest.is_empty() {
         let (next, behind) = assign(layout, draft, place, rest)?;
@@ -245,19 +257,6 @@ fn assign_all(layout: Layout, draft: &mut Draft, line: &[u8]) -> Result<(), Faul
         rest = trim_spaces(behind);
     }
     Ok(())
-}
-
-/// The event that the words of a line give.
-#[tactic(auto, unfolding(crate::specs::Event::event_of))]
-pub fn event_of(layout: Layout, words: Words) -> Result<[u8; 128], Fault>
-    ensures { result ≡ event_of layout (words_of words.entry.rest.now) }
-{
-    let mut draft = Draft {
-        bytes: [0; 128],
-        given: [false; 13],
-    };
-    assign_all(layout, &mut draft, words.rest)?;
-    Ok(draft.bytes)
 }
 
 /// The bytes that hexadecimal digits give.

@@ -31,7 +31,7 @@ fn place_of(bytes: &[u8], byte: u8) -> Option<usize>
     bytes.iter().position(|b| *b == byte)
 }
 
-/// How many bytes stand before the first space. They are gone over one by one, which takes less for a few.
+/// How many bytes stand before the first space. They are gone over one by one: words are short.
 #[tactic(auto, using(crate::proofs::Texts::nowhere))]
 fn length_before_space(bytes: &[u8]) -> usize
     ensures value { result ≡ position_or_len (λ b. b == 32) bytes.now }
@@ -41,14 +41,6 @@ fn length_before_space(bytes: &[u8]) -> usize
         Some(place) => place,
         None => bytes.len(),
     }
-}
-
-/// The first word of a line that begins with a short one, as most numbers are, and what stands behind it.
-pub fn split_number(line: &[u8]) -> (&[u8], &[u8])
-    ensures number { result.0.now ≡ first_word line.now }
-    ensures rest { result.1.now ≡ behind_first_word line.now }
-{
-    line.split_at(length_before_space(line))
 }
 
 /// How many spaces stand at the front.
@@ -74,11 +66,11 @@ pub fn trim_spaces(line: &[u8]) -> &[u8]
 }
 
 /// The first word of a line that begins with one, and what stands behind it.
-fn split_word(line: &[u8]) -> (&[u8], &[u8])
-    requires { 0 < position_or_len (λ b. b == 32) line.now }
-    ensures { words_of line.now ≡ result.0.now ∷ words_of result.1.now }
+pub fn split_word(line: &[u8]) -> (&[u8], &[u8])
+    ensures word { result.0.now ≡ first_word line.now }
+    ensures rest { result.1.now ≡ behind_first_word line.now }
 {
-    line.split_at(length_before(line, 32))
+    line.split_at(length_before_space(line))
 }
 
 /// The first line, and what follows the byte that ends it.

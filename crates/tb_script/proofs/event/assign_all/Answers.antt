@@ -1,7 +1,8 @@
 use Rattle.std.proofs.Common.{sym, ap, ◌∙◌, rules}
 use Rattle.tb_script.specs.Event.{after_words}
 use Rattle.tb_script.specs.Text.{words_of}
-use Rattle.tb_script.proofs.Named.{after_first, faulty_first, after_none, some_word}
+use Rattle.tb_script.proofs.Named.{after_first, faulty_first, after_none}
+use Rattle.tb_script.proofs.Texts.{some_word}
 use Rattle.tb_script.proofs.event.assign_all.Goals as goal
 
 pub returns-in_err-next : goal.returns-in_err-next

@@ -9,7 +9,7 @@ abbrev pub invariant-loop-rest : goal.invariant-loop-rest
 invariant-loop-rest l = record {
   place : l.place ≤ 13;
   begins : (length l.rest ≡ 0) ⊎ (0 < position_or_len (λ b. b == 32) l.rest);
-  draft : after_words l.layout l.draft (words_of l.rest) ≡ after_words l.layout l.fn.draft (words_of l.line);
+  draft : after_words l.layout l.draft (words_of l.rest) ≡ after_words l.layout l.fn.draft (words_of l.words.rest.now);
 }
 
 abbrev pub decreases-loop-rest : goal.decreases-loop-rest
