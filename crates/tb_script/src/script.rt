@@ -4,7 +4,7 @@ ghost use Rattle.std.specs.Prelude.{◌≡◌, ◌++◌, List, [], IfOk, OnOk};
 ghost use Rattle.tb_script.specs.Text.{words_of};
 ghost use Rattle.tb_script.specs.Steps.{Gives, Tells, Leaves};
 ghost use Rattle.tb_script.specs.Keyword.{no_word, one_word, two_words};
-ghost use Rattle.tb_script.specs.Script.{Said, nothing_said, items_of, has_begun, is_in_place, with_packet, with_pulse, with_close, with_bytes, with_event, set_to, with_line, with_keyword, with_words, is_text, after_line, InBounds};
+ghost use Rattle.tb_script.specs.Script.{Said, nothing_said, items_of, has_begun, is_in_place, with_packet, with_pulse, with_close, with_bytes, with_event, set_to, with_line, with_keyword, with_words, is_text as is_text_line, after_line, InBounds};
 
 use crate::bytes::Bytes;
 use crate::event::{Draft, Layout, assign_all, hex_bytes};
@@ -68,8 +68,9 @@ fn two_words(words: Words) -> Result<(&[u8], &[u8]), Fault>
     }
 }
 
-fn is_text(line: &[u8]) -> bool
-    ensures { result ≡ is_text line.now }
+/// Whether a line is text.
+pub(crate) fn is_text(line: &[u8]) -> bool
+    ensures { result ≡ is_text_line line.now }
 {
     line.iter()
         .fold(true, |text, b| text & (32 <= *b && *b <= 126))
@@ -298,15 +299,21 @@ impl Script {
         }
     }
 
-    /// A line behind those so far. After an error the script isn't to be used.
+    /// A line behind those so far, of which it is told whether it is text. After an error the script isn't to be used.
     #[tactic(auto, unfolding(crate::specs::Script::after_line))]
-    pub fn line(&mut self, alloc: Global, line: &[u8]) -> Result<(), LineError>
+    pub(crate) fn told_line(
+        &mut self,
+        alloc: Global,
+        line: &[u8],
+        is_text: bool,
+    ) -> Result<(), LineError>
+        requires { is_text ≡ is_text_line line.now }
         ensures { Leaves result self.new (after_line self.old line.now) }
     {
         if line.len() > LINE_MAX {
             return Err(LineError::Fault(Fault::LineTooLong));
         }
-        if !is_text(line) {
+        if !is_text {
             return Err(LineError::Fault(Fault::BadByte));
         }
         let mut words = Words { rest: line };
@@ -323,6 +330,13 @@ impl Script {
             return Err(LineError::Fault(Fault::OutOfPlace));
         }
         self.take_line(alloc, keyword, words)
+    }
+
+    /// A line behind those so far. After an error the script isn't to be used.
+    pub fn line(&mut self, alloc: Global, line: &[u8]) -> Result<(), LineError>
+        ensures { Leaves result self.new (after_line self.old line.now) }
+    {
+        self.told_line(alloc, line, is_text(line))
     }
 
     /// The settings and all items.
