@@ -23,8 +23,10 @@ pub enum ScriptError {
 fn are_text(text: &[u8]) -> bool
     ensures { result ≡ list_all is_text_line (lines_of text.now) }
 {
-    text.iter()
-        .fold(true, |text, b| text & (*b == b'\n' || 32 <= *b && *b <= 126))
+    text.iter().fold(
+        true,
+        |text, b| text & (*b == b'\n' || 32 <= *b && *b <= 126),
+    )
 }
 
 /// What a script says. Each byte is read a bounded number of times.
