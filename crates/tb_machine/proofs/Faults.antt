@@ -1,6 +1,6 @@
 -- The first fault of events, and how many results a chain has.
 use Rattle.std.proofs.Common.{refl, ◌∙◌, arith, ◌≡◌, ◌≢◌, ℕ, suc, ◌+◌, ◌-◌, ◌<◌, ◌≤◌, Bool, true, false, List, [], ◌∷◌, length, replicate, eqb, Option, Some, None, map, length-append, ⊎_elim}
-use Rattle.std.specs.Prelude.{if◌then◌else◌, ◌==◌}
+use Rattle.std.specs.Prelude.{if◌then◌else◌, ◌==◌, is_some}
 use Rattle.std.proofs.lemmas.List.{length-map, length-replicate}
 use Rattle.std.proofs.lemmas.Bool.Decides.{eqb_tells}
 use Rattle.tb_layout.specs.Events.{is_last_linked}
@@ -8,7 +8,7 @@ use Rattle.tb_tables.specs.Facts.{Facts}
 use Rattle.tb_machine.specs.declared.fault.Fault.{Fault}
 use Rattle.tb_machine.specs.Clock.{next_timestamp, clock_after}
 use Rattle.tb_machine.specs.Chain.{Operation, Outcome, verdict_at, facts_with, first_fault, failed_results, closed_outcome, chain_outcome, all_but_last}
-use Rattle.tb_machine.specs.Examining.{LiesBelow}
+use Rattle.tb_machine.specs.Examining.{LiesBelow, fault_as}
 
 pub eqb-false : (a b : ℕ) → a ≢ b → (a == b) ≡ false
 eqb-false a b ne = ⊎_elim (λ (y : (eqb a b ≡ true) × (a ≡ b)). absurd (ne y.1)) (λ (n : (eqb a b ≡ false) × (a ≢ b)). n.0) (eqb_tells a b)
@@ -32,6 +32,11 @@ first_fault-below operation index clock facts (event ∷ events) end h =
 -- the same for events that chunks of bytes hold
 pub fault-below : {Chunk Event : Type 0} (operation : Operation Event) (f : Chunk → Event) (clock : ℕ) (facts : Facts) (chunks : List Chunk) → LiesBelow (length chunks) (first_fault operation 0 clock facts (map f chunks))
 fault-below operation f clock facts chunks = first_fault-below operation 0 clock facts (map f chunks) (length chunks) (omega (arith, length-map chunks f))
+
+-- whatever its event becomes, a fault stays one
+pub quiet_as : {A B : Type 0} (become : A → B) (fault : Option (Fault A)) → is_some fault ≡ false → is_some (fault_as become fault) ≡ false
+quiet_as become None h = refl
+quiet_as become (Some fault) h = h
 
 pub length-failed_results : {Event : Type 0} (count : ℕ) (fault : Option (Fault Event)) → LiesBelow count fault → length (failed_results count fault) ≡ count
 length-failed_results count None below = length-replicate count 1

@@ -11,3 +11,8 @@ first_chain_length is_linked (event ∷ events) = if is_linked event then suc (f
 abbrev pub LiesBelow : {Event : Type 0} → ℕ → Option (Fault Event) → Type 0
 LiesBelow end None = Unit {0}
 LiesBelow end (Some fault) = (fault.index < end) × (fault.code ≢ 0)
+
+-- a fault, if there is one, of what its event becomes
+abbrev pub fault_as : {A B : Type 0} → (A → B) → Option (Fault A) → Option (Fault B)
+fault_as become None = None
+fault_as become (Some fault) = Some (record { index = fault.index; event = become fault.event; code = fault.code })

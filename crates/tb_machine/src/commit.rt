@@ -5,6 +5,7 @@ ghost use Rattle.tb_tables.specs.History.{mark_of, back_to, Extends};
 ghost use Rattle.tb_layout.specs.Limits.{clock_max};
 ghost use Rattle.tb_machine.specs.Clock as spec;
 ghost use Rattle.tb_machine.specs.Chain.{verdict_at, facts_with, facts_with_all, first_fault, left_behind, open_outcome, closed_outcome, chain_outcome};
+ghost use Rattle.tb_machine.specs.Examining.{fault_as};
 ghost use Rattle.tb_machine.specs.Packet.{events_outcome, failures_from};
 
 use crate::chain::first_chain_length;
@@ -33,27 +34,45 @@ fn examine_at<E: Event>(clock: u64, tables: &mut Tables, event: &E) -> Result<u3
     }
 }
 
-/// Stores the events in order up to the first fault, which is the answer. No event after it is examined.
-fn examine_all<E: Event>(
+/// Stores the events in order up to the first fault, which is the answer, with its event's chunk: most chains have
+/// none, and a chunk's address is handed up for less than an event. No event after it is examined.
+fn examine_all<'a, E: Event>(
     clock: u64,
     tables: &mut Tables,
-    chunks: &[[u8; 128]],
-) -> Result<Option<Fault<E>>, NoMemory>
+    chunks: &'a [[u8; 128]],
+) -> Result<Option<Fault<&'a [u8; 128]>>, NoMemory>
     requires { clock ≤ clock_max }
     ensures extends { Extends tables.old tables.new }
-    ensures fault { IfOk result (λ fault. fault ≡ first_fault E.operation 0 clock tables.old.now (map E.event_of chunks.now)) }
+    ensures fault { IfOk result (λ fault. fault_as (λ chunk. E.event_of chunk.now) fault ≡ first_fault E.operation 0 clock tables.old.now (map E.event_of chunks.now)) }
     ensures stored { result ≡ Ok None → tables.new.now ≡ facts_with_all E.operation clock tables.old.now (map E.event_of chunks.now) }
 {
     let mut clock = clock;
     for (index, chunk) in chunks.iter().enumerate() {
-        let event = E::read(chunk);
-        let code = examine_at(clock, tables, &event)?;
+        let code = examine_at(clock, tables, &E::read(chunk))?;
         if code != 0 {
-            return Ok(Some(Fault { index, event, code }));
+            return Ok(Some(Fault {
+                index,
+                event: chunk,
+                code,
+            }));
         }
         clock = clock_after(clock, 1);
     }
     Ok(None)
+}
+
+/// A fault with its event in place of the event's chunk.
+fn with_event<E: Event>(fault: Option<Fault<&[u8; 128]>>) -> Option<Fault<E>>
+    ensures { result ≡ fault_as (λ chunk. E.event_of chunk.now) fault.entry }
+{
+    match fault {
+        None => None,
+        Some(Fault { index, event, code }) => Some(Fault {
+            index,
+            event: E::read(event),
+            code,
+        }),
+    }
 }
 
 /// Takes a failed chain back, but for what its fault leaves behind.
@@ -96,6 +115,7 @@ fn commit_closed_chain<E: Event>(
     let mark = tables.mark();
     let fault = examine_all::<E>(clock, tables, chain)?;
     if fault.is_some() {
+        let fault = with_event::<E>(fault);
         take_back(tables, mark, fault)?;
         report_failed(out, index, chain.len(), fault);
     }
@@ -123,7 +143,7 @@ fn commit_open_chain<E: Event>(
     ensures capacity { vec_capacity out.new ≡ vec_capacity out.old }
 {
     let mark = tables.mark();
-    let fault = examine_all::<E>(clock, tables, front)?;
+    let fault = with_event::<E>(examine_all::<E>(clock, tables, front)?);
     take_back(tables, mark, fault)?;
     report_failed(out, index, front.len(), fault);
     out.push_reserved(Failure {

@@ -163,7 +163,7 @@ fn store_resolved(
 {
     let transfer = Transfer {
         timestamp,
-        ..resolved_under(tables, pending, event)
+        ..resolved_under(tables, pending, *event)
     };
     tables.resolve_under(key, pending, transfer)
 }

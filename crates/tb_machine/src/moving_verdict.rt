@@ -51,6 +51,7 @@ fn total_credits_exceed(account: &Account, amount: u128, most: u128) -> bool
 
 /// The first check that a plain or pending transfer between two accounts fails, or Ok. Sums are told exactly, also
 /// past 128 bits.
+#[inline(always)]
 fn between(timestamp: u64, debit: &Account, credit: &Account, event: &Transfer) -> TransferCode
     ensures { result ≡ spec.between timestamp debit.now credit.now event.now }
 {
@@ -95,6 +96,7 @@ fn between(timestamp: u64, debit: &Account, credit: &Account, event: &Transfer) 
 }
 
 /// The same, where one of the accounts may not be there.
+#[inline(always)]
 fn between_found(tables: &Tables, sides: Sides, timestamp: u64, event: &Transfer) -> TransferCode
     requires { AreSides tables.now.now event.now sides }
     ensures { result ≡ spec.between_found timestamp (balanced_account tables.now.now event.now.debit_account_id) (balanced_account tables.now.now event.now.credit_account_id) event.now }

@@ -71,14 +71,15 @@ pub fn resolved(pending: &Transfer, event: &Transfer) -> Transfer
     }
 }
 
-/// A post or a void with its fields resolved against the transfer under a key.
-pub fn resolved_under(tables: &Tables, pending: Key, event: &Transfer) -> Transfer
-    requires { is_resolving_event event.now ≡ true }
-    ensures { result ≡ spec.resolved_transfer_of (transfer_with tables.now.now pending) event.now }
+/// A post or a void with its fields resolved against the transfer under a key. It is handed over by value, so that a
+/// transfer that is neither isn't put into memory for it.
+pub fn resolved_under(tables: &Tables, pending: Key, event: Transfer) -> Transfer
+    requires { is_resolving_event event ≡ true }
+    ensures { result ≡ spec.resolved_transfer_of (transfer_with tables.now.now pending) event }
 {
     match tables.transfer_under(pending) {
-        Some(pending) => resolved(&pending, event),
-        None => *event,
+        Some(pending) => resolved(&pending, &event),
+        None => event,
     }
 }
 
@@ -87,7 +88,7 @@ pub fn resolved_by(tables: &Tables, pending_id: u128, event: &Transfer) -> Trans
     ensures { result ≡ spec.resolved_transfer_of (transfer_with tables.now.now pending_id) event.now }
 {
     if is_resolving(event) {
-        resolved_under(tables, Key::of(pending_id), event)
+        resolved_under(tables, Key::of(pending_id), *event)
     } else {
         *event
     }

@@ -1,22 +1,24 @@
 -- The field that a word names, and its number.
-use Rattle.std.proofs.Common.{rules, ◌≡◌, Decides, cond, ℕ, ◌+◌, ◌<◌, ◌≤◌, Bool, true, false, List, [], ◌∷◌, ◌++◌, length, take, drop, refl, sym, ap, ◌∙◌, arith, ◌-◌, suc, Bor, Some, None, Option, Ok, Err, Result, length-append, lt-ltb, le-ltb, inl, inr}
+use Rattle.std.proofs.Common.{rules, ◌≡◌, Decides, cond, ℕ, ◌+◌, ◌<◌, ◌≤◌, Bool, true, false, List, [], ◌∷◌, ◌++◌, length, take, drop, refl, sym, ap, ◌∙◌, arith, ◌-◌, suc, Bor, Some, None, Option, Ok, Err, Result, length-append, append_assoc, take-append-drop, lt-ltb, le-ltb, inl, inr}
 use Rattle.std.specs.Prelude.{◌==◌, All, map, slice_index_or, not, bytes_eq, get_or}
-use Rattle.std.specs.List.{list_all, position_or_len, before_first, after_first}
+use Rattle.std.specs.List.{list_all, position_or_len, before_first, after_first as after_sign}
 use Rattle.std.proofs.lemmas.Bool.{and_parts, cases_lt, false_from_ne_true}
 use Rattle.std.proofs.lemmas.Bool.Decides.{Decides-eqb}
 use Rattle.std.proofs.lemmas.List.Sums.{split_at_first, passes_at_first}
 use Rattle.std.proofs.lemmas.List.Elements.{All-head, All-tail, All-drop, All-map}
 use Rattle.std.proofs.lemmas.Slice.Eq.{bytes_eq-Decides}
-use Rattle.std.proofs.Math.Seq.{drop-append-add, take-append_seam, get_or-append_seam, split_at}
+use Rattle.std.proofs.Math.Seq.{drop-append-add, take-append-add, take-append_seam, get_or-append_seam, split_at}
 use Rattle.std.proofs.lemmas.Grind.{common_steps}
 use Rattle.tb_script.specs.declared.fault.Fault.TheVariants.{BadField}
 use Rattle.tb_script.specs.declared.event.Field.{Field}
 use Rattle.tb_script.specs.declared.fault.Fault.{Fault}
 use Rattle.tb_script.specs.declared.event.Draft.{Draft}
 use Rattle.tb_script.specs.declared.event.Layout.{Layout}
-use Rattle.tb_script.specs.Event.{IsBare, after_word, field_and_number, field_of, fields_of, found, greatest, named, new_field, sides_of, with_number}
+use Rattle.tb_script.specs.Event.{IsBare, after_word, after_words, field_and_number, field_of, fields_of, found, greatest, named, new_field, sides_of, with_number}
 use Rattle.tb_script.specs.Number.{number_within}
 use Rattle.tb_script.specs.Steps.{◌>>=◌, look_up}
+use Rattle.tb_script.specs.Text.{words_of, first_word, behind_first_word}
+use Rattle.tb_script.proofs.Texts.{words_first, empty_words}
 
 up_to_equals : (name digits : List ℕ) → list_all (λ byte. not (byte == 61)) name ≡ true → position_or_len (λ byte. byte == 61) (name ++ 61 ∷ digits) ≡ length name
 up_to_equals [] digits h = refl
@@ -35,14 +37,40 @@ pub found_here : (word name number : List ℕ) (f : Field) (rows : List (List �
     named word ((name, f) ∷ rows) ≡ Ok (f, number)
 found_here word name number f rows bare e =
     let same : bytes_eq name name ≡ true = (bytes_eq-Decides name name).1 refl in
-    rw (e, sides_of_named name number bare, same) refl
+    rw (e, sides_of_named name number bare.0, same) refl
+
+-- where the first word ends of a line that begins with a name and `=`
+up_to_space : (name others : List ℕ) → list_all (λ byte. not (byte == 32)) name ≡ true →
+    position_or_len (λ byte. byte == 32) (name ++ 61 ∷ others) ≡ length name + suc (position_or_len (λ byte. byte == 32) others)
+up_to_space [] others h = omega arith
+up_to_space (byte ∷ name) others h =
+    let parts = and_parts (not (byte == 32)) (list_all (λ byte. not (byte == 32)) name) h in
+    rw (parts.0, up_to_space name others parts.1) (omega arith)
+
+-- the first word of such a line, and what stands behind it
+pub record NamedFirst (line name others : List ℕ) : Type 0 where
+  pub word : first_word line ≡ name ++ 61 ∷ first_word others
+  pub rest : behind_first_word line ≡ behind_first_word others
+
+pub named_first : (line name others : List ℕ) → IsBare name → line ≡ name ++ 61 ∷ others → NamedFirst line name others
+named_first line name others bare e =
+    let up_to = up_to_space name others bare.1 in
+    record {
+      word = rw (e, up_to) (take-append-add name (61 ∷ others) (suc (position_or_len (λ byte. byte == 32) others)));
+      rest = rw (e, up_to) (drop-append-add name (61 ∷ others) (suc (position_or_len (λ byte. byte == 32) others)));
+    }
+
+-- a line that begins so not, has no such first word
+pub not_first : (line name : List ℕ) → ((others : List ℕ) → line ≡ name ++ 61 ∷ others → ⊥) → (number : List ℕ) → first_word line ≡ name ++ 61 ∷ number → ⊥
+not_first line name differs number e = differs (number ++ behind_first_word line)
+    (sym (take-append-drop (position_or_len (λ byte. byte == 32) line) line) ∙ ap (λ front. front ++ behind_first_word line) e ∙ append_assoc name (61 ∷ number) (behind_first_word line))
 
 parts_of : (word : List ℕ) → position_or_len (λ byte. byte == 61) word < length word →
-    word ≡ before_first (λ byte. byte == 61) word ++ (61 ∷ after_first (λ byte. byte == 61) word)
+    word ≡ before_first (λ byte. byte == 61) word ++ (61 ∷ after_sign (λ byte. byte == 61) word)
 parts_of word h =
     let at = split_at_first (λ byte. byte == 61) word 0 h in
     let sign = (Decides-eqb (get_or word (position_or_len (λ byte. byte == 61) word) 0) 61).0 (passes_at_first (λ byte. byte == 61) word 0 h) in
-    at ∙ ap (λ byte. before_first (λ byte. byte == 61) word ++ (byte ∷ after_first (λ byte. byte == 61) word)) sign
+    at ∙ ap (λ byte. before_first (λ byte. byte == 61) word ++ (byte ∷ after_sign (λ byte. byte == 61) word)) sign
 
 -- where they don't, the others decide
 pub found_later : (word name : List ℕ) (f : Field) (rows : List (List ℕ × Field)) → ((number : List ℕ) → word ≡ name ++ 61 ∷ number → ⊥) →
@@ -50,7 +78,7 @@ pub found_later : (word name : List ℕ) (f : Field) (rows : List (List ℕ × F
 found_later word name f rows differs = elim (cases_lt (position_or_len (λ byte. byte == 61) word) (length word)) [
   | inl below ↦
       let other : bytes_eq (before_first (λ byte. byte == 61) word) name ≡ false =
-      false_from_ne_true _ (λ same. differs (after_first (λ byte. byte == 61) word) (parts_of word below ∙ ap (λ front. front ++ (61 ∷ after_first (λ byte. byte == 61) word)) ((bytes_eq-Decides (before_first (λ byte. byte == 61) word) name).0 same))) in
+      false_from_ne_true _ (λ same. differs (after_sign (λ byte. byte == 61) word) (parts_of word below ∙ ap (λ front. front ++ (61 ∷ after_sign (λ byte. byte == 61) word)) ((bytes_eq-Decides (before_first (λ byte. byte == 61) word) name).0 same))) in
       rw (lt-ltb (position_or_len (λ byte. byte == 61) word) (length word) below, other) refl
   | inr above ↦ rw (le-ltb (position_or_len (λ byte. byte == 61) word) (length word) above) refl
 ]
@@ -128,6 +156,22 @@ pub after_word_named : (layout : Layout) (draft : Draft) (word : List ℕ) (both
     after_word layout draft word ≡ told_of draft both
 unfolding after_word field_and_number
 after_word_named layout draft word both e = told_by_sides layout draft (sides_of word) ∙ ap (told_of draft) (sym e)
+
+-- ---- one word after another
+
+pub after_first : (layout : Layout) (draft next : Draft) (line : List ℕ) → 0 < position_or_len (λ byte. byte == 32) line →
+    after_word layout draft (first_word line) ≡ Ok next → after_words layout next (words_of (behind_first_word line)) ≡ after_words layout draft (words_of line)
+unfolding after_words
+after_first layout draft next line some e = rw (words_first line some, e) refl
+
+pub faulty_first : (layout : Layout) (draft : Draft) (line : List ℕ) (fault : Fault) → 0 < position_or_len (λ byte. byte == 32) line →
+    after_word layout draft (first_word line) ≡ Err fault → after_words layout draft (words_of line) ≡ Err fault
+unfolding after_words
+faulty_first layout draft line fault some e = rw (words_first line some, e) refl
+
+pub after_none : (layout : Layout) (draft : Draft) (line : List ℕ) → length line ≡ 0 → after_words layout draft (words_of line) ≡ Ok draft
+unfolding after_words
+after_none layout draft line none = rw (empty_words line none) refl
 
 -- ---- some rows of a table
 

@@ -94,6 +94,11 @@ pub trimmed_begins : (bs : List ℕ) → (length (drop (spaces bs) bs) ≡ 0) �
 trimmed_begins [] = inl refl
 trimmed_begins (b ∷ bs) = begins (b == 32) b (spaces bs) bs refl (trimmed_begins bs)
 
+-- a line behind its spaces begins with a word, unless it has no byte
+pub some_word : (line : List ℕ) → (length line ≡ 0) ⊎ (0 < word_end line) → 0 < length line → 0 < word_end line
+some_word line (inl none) some = absurd (omega (arith, none))
+some_word line (inr word) some = word
+
 pub no_words : words_of [] ≡ []
 unfolding words_of
 no_words = refl

@@ -90,9 +90,9 @@ sides_of word =
     then Ok (before_first (λ byte. byte == 61) word, after_first (λ byte. byte == 61) word)
     else Err BadField
 
--- no byte of a name is `=`
+-- no byte of a name is `=` or a space
 abbrev pub IsBare : List ℕ → Type 0
-IsBare name = list_all (λ byte. not (byte == 61)) name ≡ true
+IsBare name = (list_all (λ byte. not (byte == 61)) name ≡ true) × (list_all (λ byte. not (byte == 32)) name ≡ true)
 
 abbrev pub found : {Value : Type 0} → Option Value → Result Value Fault
 found None = Err BadField

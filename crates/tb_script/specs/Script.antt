@@ -7,6 +7,7 @@ use Rattle.tb_script.specs.declared.fault.Fault.{Fault}
 use Rattle.tb_script.specs.declared.fault.Fault.TheVariants.{LineTooLong, BadByte, UnknownWord, OutOfPlace}
 use Rattle.tb_script.specs.declared.keyword.Keyword.{Keyword}
 use Rattle.tb_script.specs.declared.keyword.Keyword.TheVariants as word
+use Rattle.tb_script.specs.declared.event.Layout.{Layout}
 use Rattle.tb_script.specs.declared.event.Layout.TheVariants.{Account, Transfer}
 use Rattle.tb_script.specs.declared.item.Settings.{Settings}
 use Rattle.tb_script.specs.declared.item.Submission.{Submission}
@@ -101,6 +102,11 @@ more_bytes (Some packet) bytes = Some (record packet { bytes = packet.bytes ++ b
 
 abbrev pub with_bytes : Said → List ℕ → Said
 with_bytes said bytes = record said { packet = more_bytes said.packet bytes }
+
+abbrev pub with_event : Said → Layout → List (List ℕ) → Result Said Fault
+with_event said layout words = do
+  bytes ← event_of layout words
+  Ok (with_bytes said bytes)
 
 -- a line in its place, with the words behind its first
 unfoldable pub with_line : Said → Keyword → List (List ℕ) → Result Said Fault

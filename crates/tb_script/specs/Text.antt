@@ -1,6 +1,6 @@
 -- Lines and words of bytes.
-use Rattle.std.specs.Prelude.{ℕ, ◌==◌, List, [], ◌∷◌, length, filter, if◌then◌else◌, nat_lt}
-use Rattle.std.specs.List.{onto_first, slice_split}
+use Rattle.std.specs.Prelude.{ℕ, ◌==◌, List, [], ◌∷◌, length, drop, filter, if◌then◌else◌, nat_lt}
+use Rattle.std.specs.List.{onto_first, slice_split, before_first, position_or_len}
 
 -- the lines: each ends before a byte 10, and the last may lack it
 unfoldable pub lines_of : List ℕ → List (List ℕ)
@@ -10,3 +10,11 @@ lines_of (byte ∷ bytes) = if byte == 10 then [] ∷ lines_of bytes else onto_f
 -- the words of a line: what stands between spaces, where something does
 unfoldable pub words_of : List ℕ → List (List ℕ)
 words_of line = filter (λ word. nat_lt 0 (length word)) (slice_split (λ byte. byte == 32) line)
+
+-- the first word of a line that begins with one
+abbrev pub first_word : List ℕ → List ℕ
+first_word line = before_first (λ byte. byte == 32) line
+
+-- what stands behind it
+abbrev pub behind_first_word : List ℕ → List ℕ
+behind_first_word line = drop (position_or_len (λ byte. byte == 32) line) line

@@ -3,13 +3,13 @@
 ghost use Rattle.std.specs.Prelude.{◌≡◌, ◌≤◌, ◌<◌, ◌+◌, ◌-◌, ◌^◌, ◌⊎◌, ◌++◌, ◌∷◌, ℕ, List, Some, All, length, map, IfOk};
 ghost use Rattle.std.specs.Option.{MatchOption};
 ghost use Rattle.std.specs.Int.{to_le_bytes, w128};
-ghost use Rattle.tb_script.specs.Text.{words_of};
+ghost use Rattle.tb_script.specs.Text.{words_of, first_word, behind_first_word};
 ghost use Rattle.tb_script.specs.Steps.{Gives, Makes, Tells, look_up};
-ghost use Rattle.tb_script.specs.Event.{Lies, IsBare, named, field_and_number, greatest, new_field, with_number, after_word, after_words, blank, event_of, hex_bytes};
+ghost use Rattle.tb_script.specs.Event.{Lies, IsBare, named, field_and_number, greatest, new_field, with_number, after_word, after_words, blank, hex_bytes};
 
 use crate::fault::{Fault, LineError};
 use crate::number::number_within;
-use crate::text::Words;
+use crate::text::{Words, split_word, trim_spaces};
 use hex::FromHexError;
 use std::alloc::Global;
 
@@ -33,6 +33,18 @@ pub struct Field {
 pub struct Draft {
     pub bytes: [u8; 128],
     pub given: [bool; 13],
+}
+
+impl Draft {
+    /// An event of which no field was given.
+    pub fn new() -> Draft
+        ensures { result ≡ blank }
+    {
+        Draft {
+            bytes: [0; 128],
+            given: [false; 13],
+        }
+    }
 }
 
 /// A field at a place among the fields and at an offset, with a size in bytes.
@@ -78,30 +90,44 @@ const TRANSFER_FIELDS: [(&[u8], Field); 13] = [
     (b"timestamp", lying_at!(12, 120, 8)),
 ];
 
-/// What stands behind a name and its `=`, where the word begins with these.
-fn behind_name<'a>(word: &'a [u8], name: &[u8]) -> Option<&'a [u8]>
-    ensures { MatchOption result ((number : List ℕ) → word.now ≡ name.now ++ 61 ∷ number → ⊥) (λ number. word.now ≡ name.now ++ 61 ∷ number.now) }
+/// What the first word of a line names, a field, the number that it gives, and what stands behind the word.
+#[derive(Clone, Copy)]
+struct FirstWord<'a> {
+    field: Field,
+    number: &'a [u8],
+    rest: &'a [u8],
+}
+
+/// What stands behind a name and its `=`, where the line begins with these.
+fn behind_name<'a>(line: &'a [u8], name: &[u8]) -> Option<&'a [u8]>
+    ensures { MatchOption result ((others : List ℕ) → line.now ≡ name.now ++ 61 ∷ others → ⊥) (λ others. line.now ≡ name.now ++ 61 ∷ others.now) }
 {
     let end = name.len();
-    if end < word.len() && word[end] == b'=' && &word[..end] == name {
-        Some(&word[end + 1..])
+    if end < line.len() && line[end] == b'=' && &line[..end] == name {
+        Some(&line[end + 1..])
     } else {
         None
     }
 }
 
-/// The field of a table that a word names, and its number. No byte is looked for: the name is compared with those of
-/// the table where it stands.
+/// The field of a table that the first word of a line names, with its number. Where the word ends is looked for
+/// behind the name alone: the name is compared with those of the table where it stands.
 #[inline(always)]
-fn named<'a>(mut table: &[(&[u8], Field)], word: &'a [u8]) -> Result<(Field, &'a [u8]), Fault>
+fn named<'a>(mut table: &[(&[u8], Field)], line: &'a [u8]) -> Result<FirstWord<'a>, Fault>
     requires { All (λ row. IsBare row.0.now) table.now }
-    ensures { Tells (λ both. (both.0, both.1.now)) result (named word.now (map (λ row. (row.0.now, row.1)) table.entry.now)) }
+    ensures both { Tells (λ first. (first.field, first.number.now)) result (named (first_word line.now) (map (λ row. (row.0.now, row.1)) table.entry.now)) }
+    ensures rest { IfOk result (λ first. first.rest.now ≡ behind_first_word line.now) }
 {
-    while let [(name, field), rest @ ..] = table {
-        if let Some(number) = behind_name(word, name) {
-            return Ok((*field, number));
+    while let [(name, field), others @ ..] = table {
+        if let Some(text) = behind_name(line, name) {
+            let (number, rest) = split_word(text);
+            return Ok(FirstWord {
+                field: *field,
+                number,
+                rest,
+            });
         }
-        table = rest;
+        table = others;
     }
     Err(Fault::BadField)
 }
@@ -111,29 +137,31 @@ fn named<'a>(mut table: &[(&[u8], Field)], word: &'a [u8]) -> Result<(Field, &'a
 fn named_from<'a>(
     table: &[(&[u8], Field)],
     place: usize,
-    word: &'a [u8],
-) -> Result<(Field, &'a [u8]), Fault>
+    line: &'a [u8],
+) -> Result<FirstWord<'a>, Fault>
     requires place { place ≤ length table.now }
     requires bare { All (λ row. IsBare row.0.now) table.now }
     requires own { All (λ row. look_up row.0.now (map (λ row. (row.0.now, row.1)) table.now) ≡ Some row.1) table.now }
-    ensures { Tells (λ both. (both.0, both.1.now)) result (named word.now (map (λ row. (row.0.now, row.1)) table.now)) }
+    ensures both { Tells (λ first. (first.field, first.number.now)) result (named (first_word line.now) (map (λ row. (row.0.now, row.1)) table.now)) }
+    ensures rest { IfOk result (λ first. first.rest.now ≡ behind_first_word line.now) }
 {
-    match named(&table[place..], word) {
-        Ok(both) => Ok(both),
-        Err(_) => named(table, word),
+    match named(&table[place..], line) {
+        Ok(first) => Ok(first),
+        Err(_) => named(table, line),
     }
 }
 
-/// The field of an event that a word names, and its number. `place` is where the field probably stands.
+/// What the first word of a line says of an event. `place` is where its field probably stands.
 #[tactic(auto, unfolding(crate::specs::Event::field_and_number))]
-fn field_and_number(layout: Layout, place: usize, word: &[u8]) -> Result<(Field, &[u8]), Fault>
+fn field_and_number(layout: Layout, place: usize, line: &[u8]) -> Result<FirstWord, Fault>
     requires { place ≤ 13 }
-    ensures both { Tells (λ both. (both.0, both.1.now)) result (field_and_number layout word.now) }
-    ensures lies { IfOk result (λ both. Lies both.0) }
+    ensures both { Tells (λ first. (first.field, first.number.now)) result (field_and_number layout (first_word line.now)) }
+    ensures rest { IfOk result (λ first. first.rest.now ≡ behind_first_word line.now) }
+    ensures lies { IfOk result (λ first. Lies first.field) }
 {
     match layout {
-        Layout::Account => named_from(&ACCOUNT_FIELDS, place, word),
-        Layout::Transfer => named_from(&TRANSFER_FIELDS, place, word),
+        Layout::Account => named_from(&ACCOUNT_FIELDS, place, line),
+        Layout::Transfer => named_from(&TRANSFER_FIELDS, place, line),
     }
 }
 
@@ -195,43 +223,40 @@ fn write(draft: &mut Draft, f: Field, n: u128)
     draft.given[f.place] = true;
 }
 
-/// One word NAME=N. `place` is where its field probably stands; the answer is the place behind it.
+/// The first word of a line, NAME=N, and what is left behind it. `place` is where its field probably stands; the place
+/// behind it is told too.
 #[tactic(auto, using(crate::proofs::Named::after_word_named))]
-fn assign(layout: Layout, draft: &mut Draft, place: usize, word: &[u8]) -> Result<usize, Fault>
+fn assign<'a>(
+    layout: Layout,
+    draft: &mut Draft,
+    place: usize,
+    line: &'a [u8],
+) -> Result<(usize, &'a [u8]), Fault>
     requires { place ≤ 13 }
-    ensures draft { Makes result draft.new (after_word layout draft.old word.now) }
-    ensures place { IfOk result (λ behind. behind ≤ 13) }
+    ensures draft { Makes result draft.new (after_word layout draft.old (first_word line.now)) }
+    ensures place { IfOk result (λ both. both.0 ≤ 13) }
+    ensures rest { IfOk result (λ both. both.1.now ≡ behind_first_word line.now) }
 {
-    let (named, number) = field_and_number(layout, place, word)?;
-    let f = new_field(draft, named)?;
-    let n = number_within(number, 0, greatest(f.size))?;
+    let first = field_and_number(layout, place, line)?;
+    let f = new_field(draft, first.field)?;
+    let n = number_within(first.number, 0, greatest(f.size))?;
     write(draft, f, n);
-    Ok(f.place + 1)
+    Ok((f.place + 1, first.rest))
 }
 
 /// All words of a line.
 #[tactic(auto, unfolding(crate::specs::Event::after_words))]
-fn assign_all(layout: Layout, draft: &mut Draft, words: Words) -> Result<(), Fault>
+pub fn assign_all(layout: Layout, draft: &mut Draft, words: Words) -> Result<(), Fault>
     ensures { Makes result draft.new (after_words layout draft.old (words_of words.entry.rest.now)) }
 {
+    let mut rest = trim_spaces(words.rest);
     let mut place = 0;
-    for word in words {
-        place = assign(layout, draft, place, word)?;
+    while !rest.is_empty() {
+        let (next, behind) = assign(layout, draft, place, rest)?;
+        place = next;
+        rest = trim_spaces(behind);
     }
     Ok(())
-}
-
-/// The event that the words of a line give.
-#[tactic(auto, unfolding(crate::specs::Event::event_of))]
-pub fn event_of(layout: Layout, words: Words) -> Result<[u8; 128], Fault>
-    ensures { result ≡ event_of layout (words_of words.entry.rest.now) }
-{
-    let mut draft = Draft {
-        bytes: [0; 128],
-        given: [false; 13],
-    };
-    assign_all(layout, &mut draft, words)?;
-    Ok(draft.bytes)
 }
 
 /// The bytes that hexadecimal digits give.

@@ -1,11 +1,13 @@
 //! A whole script.
 
 ghost use Rattle.std.specs.Prelude.{◌≡◌};
-ghost use Rattle.tb_script.specs.Script.{script_of};
+ghost use Rattle.std.specs.List.{list_all};
+ghost use Rattle.tb_script.specs.Text.{lines_of};
+ghost use Rattle.tb_script.specs.Script.{script_of, is_text as is_text_line};
 ghost use Rattle.tb_script.specs.Parsing.{Parses};
 
 use crate::fault::{Fault, LineError};
-use crate::script::Script;
+use crate::script::{Script, is_text};
 use crate::text::split_line;
 use std::alloc::Global;
 
@@ -17,17 +19,28 @@ pub enum ScriptError {
     Faulty(usize, Fault),
 }
 
+/// Whether all lines of a text are text. This is asked once, since it takes less for many bytes than line by line.
+fn are_text(text: &[u8]) -> bool
+    ensures { result ≡ list_all is_text_line (lines_of text.now) }
+{
+    text.iter().fold(
+        true,
+        |text, b| text & (*b == b'\n' || 32 <= *b && *b <= 126),
+    )
+}
+
 /// What a script says. Each byte is read a bounded number of times.
 pub fn parse(alloc: Global, text: &[u8]) -> Result<Script, ScriptError>
     ensures { Parses result (script_of text.now) }
 {
+    let are_text = are_text(text);
     let mut script = Script::new(alloc);
     let mut rest = text;
     let mut number = 0;
     while !rest.is_empty() {
         let (line, after) = split_line(rest);
         number += 1;
-        match script.line(alloc, line) {
+        match script.told_line(alloc, line, are_text || is_text(line)) {
             Ok(()) => rest = after,
             Err(LineError::NoMemory) => return Err(ScriptError::NoMemory),
             Err(LineError::Fault(fault)) => return Err(ScriptError::Faulty(number, fault)),

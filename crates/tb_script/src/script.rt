@@ -4,10 +4,10 @@ ghost use Rattle.std.specs.Prelude.{◌≡◌, ◌++◌, List, [], IfOk, OnOk};
 ghost use Rattle.tb_script.specs.Text.{words_of};
 ghost use Rattle.tb_script.specs.Steps.{Gives, Tells, Leaves};
 ghost use Rattle.tb_script.specs.Keyword.{no_word, one_word, two_words};
-ghost use Rattle.tb_script.specs.Script.{Said, nothing_said, items_of, has_begun, is_in_place, with_packet, with_pulse, with_close, with_bytes, set_to, with_line, with_keyword, with_words, is_text, after_line, InBounds};
+ghost use Rattle.tb_script.specs.Script.{Said, nothing_said, items_of, has_begun, is_in_place, with_packet, with_pulse, with_close, with_bytes, with_event, set_to, with_line, with_keyword, with_words, is_text as is_text_line, after_line, InBounds};
 
 use crate::bytes::Bytes;
-use crate::event::{Layout, event_of, hex_bytes};
+use crate::event::{Draft, Layout, assign_all, hex_bytes};
 use crate::fault::{Fault, LineError};
 use crate::item::{Item, Settings, Submission};
 use crate::keyword::{Keyword, keyword_of};
@@ -68,8 +68,9 @@ fn two_words(words: Words) -> Result<(&[u8], &[u8]), Fault>
     }
 }
 
-fn is_text(line: &[u8]) -> bool
-    ensures { result ≡ is_text line.now }
+/// Whether a line is text.
+pub(crate) fn is_text(line: &[u8]) -> bool
+    ensures { result ≡ is_text_line line.now }
 {
     line.iter()
         .fold(true, |text, b| text & (32 <= *b && *b <= 126))
@@ -231,19 +232,13 @@ impl Script {
         Ok(())
     }
 
-    #[tactic(auto, unfolding(crate::specs::Script::with_line))]
-    fn take_account(&mut self, words: Words) -> Result<(), LineError>
-        ensures { Leaves result self.new (with_line self.old Keyword.Account (words_of words.entry.rest.now)) }
+    #[tactic(auto, unfolding(crate::specs::Event::event_of))]
+    fn take_event(&mut self, layout: Layout, words: Words) -> Result<(), LineError>
+        ensures { Leaves result self.new (with_event self.old layout (words_of words.entry.rest.now)) }
     {
-        self.add_bytes(&event_of(Layout::Account, words)?)?;
-        Ok(())
-    }
-
-    #[tactic(auto, unfolding(crate::specs::Script::with_line))]
-    fn take_transfer(&mut self, words: Words) -> Result<(), LineError>
-        ensures { Leaves result self.new (with_line self.old Keyword.Transfer (words_of words.entry.rest.now)) }
-    {
-        self.add_bytes(&event_of(Layout::Transfer, words)?)?;
+        let mut draft = Draft::new();
+        assign_all(layout, &mut draft, words)?;
+        self.add_bytes(&draft.bytes)?;
         Ok(())
     }
 
@@ -284,6 +279,7 @@ impl Script {
     }
 
     /// A line in its place, with the words behind its first.
+    #[tactic(auto, unfolding(crate::specs::Script::with_line))]
     fn take_line(&mut self, alloc: Global, keyword: Keyword, words: Words) -> Result<(), LineError>
         ensures { Leaves result self.new (with_line self.old keyword (words_of words.entry.rest.now)) }
     {
@@ -294,8 +290,8 @@ impl Script {
             Keyword::Credit => self.set_credit(words),
             Keyword::Submitters => self.set_submitters(words),
             Keyword::Packet => self.take_packet(alloc, words),
-            Keyword::Account => self.take_account(words),
-            Keyword::Transfer => self.take_transfer(words),
+            Keyword::Account => self.take_event(Layout::Account, words),
+            Keyword::Transfer => self.take_event(Layout::Transfer, words),
             Keyword::Id => self.take_id(words),
             Keyword::Hex => self.take_hex(alloc, words),
             Keyword::Pulse => self.take_pulse(words),
@@ -303,15 +299,21 @@ impl Script {
         }
     }
 
-    /// A line behind those so far. After an error the script isn't to be used.
+    /// A line behind those so far, of which it is told whether it is text. After an error the script isn't to be used.
     #[tactic(auto, unfolding(crate::specs::Script::after_line))]
-    pub fn line(&mut self, alloc: Global, line: &[u8]) -> Result<(), LineError>
+    pub(crate) fn told_line(
+        &mut self,
+        alloc: Global,
+        line: &[u8],
+        is_text: bool,
+    ) -> Result<(), LineError>
+        requires { is_text ≡ is_text_line line.now }
         ensures { Leaves result self.new (after_line self.old line.now) }
     {
         if line.len() > LINE_MAX {
             return Err(LineError::Fault(Fault::LineTooLong));
         }
-        if !is_text(line) {
+        if !is_text {
             return Err(LineError::Fault(Fault::BadByte));
         }
         let mut words = Words { rest: line };
@@ -328,6 +330,13 @@ impl Script {
             return Err(LineError::Fault(Fault::OutOfPlace));
         }
         self.take_line(alloc, keyword, words)
+    }
+
+    /// A line behind those so far. After an error the script isn't to be used.
+    pub fn line(&mut self, alloc: Global, line: &[u8]) -> Result<(), LineError>
+        ensures { Leaves result self.new (after_line self.old line.now) }
+    {
+        self.told_line(alloc, line, is_text(line))
     }
 
     /// The settings and all items.

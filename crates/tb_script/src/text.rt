@@ -3,7 +3,7 @@
 ghost use Rattle.std.specs.Prelude.{◌≡◌, ◌<◌, ◌≤◌, ◌==◌, ◌∷◌, ◌⊎◌, not, length, position};
 ghost use Rattle.std.specs.List.{position_or_len};
 ghost use Rattle.std.specs.Iterator.{YieldsFirstRef, item_count};
-ghost use Rattle.tb_script.specs.Text.{lines_of, words_of};
+ghost use Rattle.tb_script.specs.Text.{lines_of, words_of, first_word, behind_first_word};
 
 use memchr::memchr;
 
@@ -25,6 +25,24 @@ pub fn length_before(bytes: &[u8], byte: u8) -> usize
     }
 }
 
+fn place_of(bytes: &[u8], byte: u8) -> Option<usize>
+    ensures { result ≡ position (λ b. b == byte) bytes.now }
+{
+    bytes.iter().position(|b| *b == byte)
+}
+
+/// How many bytes stand before the first space. They are gone over one by one: words are short.
+#[tactic(auto, using(crate::proofs::Texts::nowhere))]
+fn length_before_space(bytes: &[u8]) -> usize
+    ensures value { result ≡ position_or_len (λ b. b == 32) bytes.now }
+    ensures bound { result ≤ length bytes.now }
+{
+    match place_of(bytes, 32) {
+        Some(place) => place,
+        None => bytes.len(),
+    }
+}
+
 /// How many spaces stand at the front.
 #[tactic(auto, using(crate::proofs::Texts::nowhere))]
 fn leading_spaces(bytes: &[u8]) -> usize
@@ -38,20 +56,21 @@ fn leading_spaces(bytes: &[u8]) -> usize
 }
 
 /// What stands behind the spaces at the front.
-fn trim_spaces(line: &[u8]) -> &[u8]
+pub fn trim_spaces(line: &[u8]) -> &[u8]
     ensures same { words_of result.now ≡ words_of line.now }
     ensures begins { (length result.now ≡ 0) ⊎ (0 < position_or_len (λ b. b == 32) result.now) }
+    ensures within { length result.now ≤ length line.now }
 {
     let (_, trimmed) = line.split_at(leading_spaces(line));
     trimmed
 }
 
 /// The first word of a line that begins with one, and what stands behind it.
-fn split_word(line: &[u8]) -> (&[u8], &[u8])
-    requires { 0 < position_or_len (λ b. b == 32) line.now }
-    ensures { words_of line.now ≡ result.0.now ∷ words_of result.1.now }
+pub fn split_word(line: &[u8]) -> (&[u8], &[u8])
+    ensures word { result.0.now ≡ first_word line.now }
+    ensures rest { result.1.now ≡ behind_first_word line.now }
 {
-    line.split_at(length_before(line, 32))
+    line.split_at(length_before_space(line))
 }
 
 /// The first line, and what follows the byte that ends it.

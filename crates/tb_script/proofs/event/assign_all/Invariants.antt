@@ -1,10 +1,16 @@
-use Rattle.std.proofs.Common.{◌≡◌, ◌≤◌}
+use Rattle.std.proofs.Common.{◌≡◌, ◌≤◌, ◌<◌, ◌⊎◌, length}
+use Rattle.std.specs.Prelude.{◌==◌}
+use Rattle.std.specs.List.{position_or_len}
 use Rattle.tb_script.specs.Text.{words_of}
 use Rattle.tb_script.specs.Event.{after_words}
 use Rattle.tb_script.proofs.event.assign_all.Given as goal
 
-abbrev pub invariant-loop-word : goal.invariant-loop-word
-invariant-loop-word l = record {
+abbrev pub invariant-loop-rest : goal.invariant-loop-rest
+invariant-loop-rest l = record {
   place : l.place ≤ 13;
-  draft : after_words l.layout l.draft (words_of l.word-iterator.rest.now) ≡ after_words l.layout l.fn.draft (words_of l.fn.words.rest.now);
+  begins : (length l.rest ≡ 0) ⊎ (0 < position_or_len (λ b. b == 32) l.rest);
+  draft : after_words l.layout l.draft (words_of l.rest) ≡ after_words l.layout l.fn.draft (words_of l.words.rest.now);
 }
+
+abbrev pub decreases-loop-rest : goal.decreases-loop-rest
+decreases-loop-rest l = length l.rest

@@ -1,10 +1,11 @@
 use Rattle.std.proofs.Common.{arith, rules, sym, ◌∙◌, ◌+◌}
-use Rattle.tb_script.proofs.Scripts.{line_said, line_faulty, lines_ended}
+use Rattle.tb_script.proofs.Scripts.{line_said, line_faulty, lines_ended, texts_next}
 use Rattle.tb_script.proofs.parsing.parse.Goals as goal
 
 pub loop-rest-preserved : goal.loop-rest-preserved
 loop-rest-preserved c = record {
   same = sym (line_said (c.loop-rest.number + 1) _ _ _ _ _ c.split_line.ensures.line c.in-Ok.ensures) ∙ c.loop-rest.invariant.same;
+  texts = λ all. (texts_next _ _ _ c.split_line.ensures.line (c.loop-rest.invariant.texts all)).1;
   counted = omega arith;
 }
 
