@@ -69,24 +69,6 @@ fn assert_taken(
     Ok(())
 }
 
-/// Lets the front take a ticket into parcels, asserts what it hands on, and leaves none.
-fn assert_taken_into(
-    rt: &impl Abort,
-    front: &mut Front,
-    parcels: &mut ArrayVec<Parcel, 2>,
-    ticket: Ticket,
-    wanted: &[Handed],
-)
-    requires sender { ticket.sender ≤ front.old.submitters }
-    requires empty { parcels.old.items ≡ [] }
-    ensures same { front.new.submitters ≡ front.old.submitters }
-    ensures none { parcels.new.items ≡ [] }
-{
-    front.take_into(parcels, ticket);
-    assert_handed(rt, parcels.as_slice(), wanted);
-    parcels.clear();
-}
-
 #[test]
 fn openings(rt: HostRuntime) {
     assert_eq!(rt; Front::new(rt.alloc(), 0, 3).err(), Some(Refusal::BadLimit));
@@ -158,17 +140,51 @@ fn refused_growth(rt: HostRuntime) -> Result<(), Fail> {
     Ok(())
 }
 
+/// Lets the front take a ticket into parcels, asserts what it hands on, and leaves none.
+fn assert_taken_into(
+    rt: &impl Abort,
+    front: &mut Front,
+    parcels: &mut ArrayVec<Parcel, 2>,
+    ticket: Ticket,
+    wanted: &[Handed],
+)
+    requires sender { ticket.sender ≤ front.old.submitters }
+    requires empty { parcels.old.items ≡ [] }
+    ensures same { front.new.submitters ≡ front.old.submitters }
+    ensures none { parcels.new.items ≡ [] }
+{
+    front.take_into(parcels, ticket);
+    assert_handed(rt, parcels.as_slice(), wanted);
+    parcels.clear();
+}
+
+/// Lets the front take a packet, a pulse and a packet into parcels.
+fn assert_all_taken_into(
+    rt: &impl Abort,
+    alloc: Global,
+    front: &mut Front,
+    parcels: &mut ArrayVec<Parcel, 2>,
+) -> Result<(), Refusal>
+    requires submitters { front.old.submitters ≡ 1 }
+    requires empty { parcels.old.items ≡ [] }
+{
+    let pulsed = [Handed::Batch(1), Handed::Pulse(5)];
+    assert_taken_into(rt, front, parcels, ticket(alloc, 0, FIRST)?, &[]);
+    assert_taken_into(
+        rt,
+        front,
+        parcels,
+        ticket(alloc, 1, Made::Pulse(5))?,
+        &pulsed,
+    );
+    assert_taken_into(rt, front, parcels, ticket(alloc, 0, SECOND)?, &[]);
+    Ok(())
+}
+
 #[test]
 fn parcels_of_the_caller(rt: HostRuntime) -> Result<(), Fail> {
     let mut front = small_front(rt.alloc())?;
-    let mut parcels = ArrayVec::new();
-    let first = ticket(rt.alloc(), 0, FIRST)?;
-    assert_taken_into(&rt, &mut front, &mut parcels, first, &[]);
-    let pulse = ticket(rt.alloc(), 1, Made::Pulse(5))?;
-    let wanted = [Handed::Batch(1), Handed::Pulse(5)];
-    assert_taken_into(&rt, &mut front, &mut parcels, pulse, &wanted);
-    let second = ticket(rt.alloc(), 0, SECOND)?;
-    assert_taken_into(&rt, &mut front, &mut parcels, second, &[]);
+    assert_all_taken_into(&rt, rt.alloc(), &mut front, &mut ArrayVec::new())?;
     Ok(())
 }
 
@@ -203,23 +219,41 @@ fn held_of_three(
     Ok(3)
 }
 
+/// How many packets there are in the group held, which is then no longer held.
+fn packets_held(front: &mut Front) -> Option<usize> {
+    let batch = front.idle()?;
+    Some(batch.jobs().len())
+}
+
+/// Asserts what a front and its parcels have that took so many of three packets before a growth was refused.
+fn assert_held(rt: &impl Abort, front: &mut Front, parcels: &[Parcel], held: usize) {
+    let stopped = Handed::Return(Cause::Stopped);
+    match held {
+        0 => assert_handed(rt, parcels, &[stopped]),
+        1 | 2 => assert_handed(rt, parcels, &[Handed::Batch(held), stopped]),
+        _ => assert_eq!(rt; packets_held(front), Some(3)),
+    }
+}
+
+/// Lets a front take three packets into parcels, as far as memory allows.
+fn assert_three_held(
+    rt: &impl Abort,
+    alloc: Global,
+    front: &mut Front,
+    parcels: &mut ArrayVec<Parcel, 2>,
+)
+    requires { parcels.old.items ≡ [] }
+{
+    if let Ok(held) = held_of_three(alloc, front, parcels) {
+        assert_held(rt, front, parcels.as_slice(), held);
+    }
+}
+
 /// What is tried with each allocation refused in turn, by `tools/refuse-each-growth`.
 #[test]
 fn take_into_refused_memory(rt: HostRuntime) -> Result<(), Fail> {
     let mut front = small_front(rt.alloc())?;
-    let mut parcels = ArrayVec::new();
-    let Ok(held) = held_of_three(rt.alloc(), &mut front, &mut parcels) else {
-        return Ok(());
-    };
-    let stopped = Handed::Return(Cause::Stopped);
-    match held {
-        0 => assert_handed(&rt, parcels.as_slice(), &[stopped]),
-        1 | 2 => assert_handed(&rt, parcels.as_slice(), &[Handed::Batch(held), stopped]),
-        _ => {
-            let batch = front.idle().ok_or("nothing is held")?;
-            assert_eq!(rt; batch.jobs().len(), 3);
-        }
-    }
+    assert_three_held(&rt, rt.alloc(), &mut front, &mut ArrayVec::new());
     Ok(())
 }
 
