@@ -2,5 +2,6 @@ pub mod Actions
 pub mod Ahead
 pub mod Lines
 pub mod Reported
+pub mod Seated
 pub mod Seen
 pub mod Threads

@@ -1,21 +1,17 @@
 -- What the threads of the senders bring back.
 use Rattle.std.specs.Prelude.{◌≡◌, ℕ, Option, IfSome, List, ◌++◌}
 use Rattle.std.specs.declared.thread.PromisedHandle.{PromisedHandle}
-use Rattle.tb_submit.specs.Ends.{Origin, SubmitterState, EndedState, end_origin, origin_of}
 use Rattle.tb_work.specs.declared.item.Item.{Item}
+use Rattle.tb_drive.specs.Seated.{DrivenState, SeatedState}
 use Rattle.tb_drive.specs.Lines.{lines_of, refused_of, with_items}
 use Rattle.tb_drive.specs.declared.controlling.ControlDriver.{ControlDriver}
 use Rattle.tb_drive.specs.declared.controlling.ControlLeft.{ControlLeft}
 use Rattle.tb_drive.specs.declared.controlling.EndOfControl.{EndOfControl}
 use Rattle.tb_drive.specs.declared.submitting.EndOfSubmitter.{EndOfSubmitter}
 
--- a submitter's end, if there is one, has its origin
-abbrev pub IsEnd : SubmitterState → Option EndedState → Type 0
-IsEnd submitter ended = IfSome ended (λ end. end_origin end ≡ origin_of submitter)
-
--- where the submitter comes from which a thread drives
-abbrev pub started_origin : PromisedHandle (Option EndedState) EndOfSubmitter → Origin
-started_origin handle = origin_of handle.promise.submitter.value
+-- what a thread was started with
+abbrev pub started_from : {D : Type 0} → PromisedHandle DrivenState (EndOfSubmitter D) → SeatedState
+started_from handle = handle.promise.seated.value
 
 -- ---- the control
 

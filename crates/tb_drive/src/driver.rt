@@ -26,24 +26,31 @@ pub enum Action {
 /// What is to be known of a driver after a run is its implementor's to say, as two relations, and holds of anything unless they
 /// are given. `has_seen` is so of a driver behind the packets that it was told are queued and the replies that it was given,
 /// both in their order; `has_asked` besides of one that asked for a packet to be queued and wasn't told yet what became of it.
+/// `share` is what a driver was made to queue, as its implementor defines it; it stays as it is whatever the driver is asked and
+/// told, so that a caller knows its own drivers again.
 pub trait Driver: Drop {
     ghost has_seen: { Self → List Numbered → List Replied → Type 0 } = { λ _ _ _. ⊤ };
 
     ghost has_asked: { Self → packets.Packet → List Numbered → List Replied → Type 0 } = { λ _ _ _ _. ⊤ };
 
+    ghost share: { Self → List packets.Packet } = { λ _. [] };
+
     /// What the submitter does next.
     fn next(&mut self, alloc: Global) -> Action
-        ensures { (queued : List Numbered) (read : List Replied) → has_seen self.old queued read → GoesOn result (λ packet. has_asked self.new packet queued read) (has_seen self.new queued read) };
+        ensures seen { (queued : List Numbered) (read : List Replied) → has_seen self.old queued read → GoesOn result (λ packet. has_asked self.new packet queued read) (has_seen self.new queued read) }
+        ensures share { share self.new ≡ share self.old };
 
     /// Takes what became of the packet that was to be submitted last: the number under which it is queued, or why it is
     /// refused. `InFlight` and `Full` aren't told: such a packet is tried again. None is told of a packet that is still
     /// tried when the run is given up.
     fn submitted(&mut self, told: Result<u64, Refusal>)
         ensures queued { (job : Numbered) (queued : List Numbered) (read : List Replied) → has_asked self.old job.packet queued read → told ≡ Ok job.number → has_seen self.new (queued ++ job ∷ []) read }
-        ensures refused { (packet : packets.Packet) (queued : List Numbered) (read : List Replied) → has_asked self.old packet queued read → IsErr told → has_seen self.new queued read };
+        ensures refused { (packet : packets.Packet) (queued : List Numbered) (read : List Replied) → has_asked self.old packet queued read → IsErr told → has_seen self.new queued read }
+        ensures share { share self.new ≡ share self.old };
 
     /// Takes the next reply.
     fn receive(&mut self, reply: Reply)
         ensures seen { (queued : List Numbered) (read : List Replied) → has_seen self.old queued read → has_seen self.new queued (read ++ reply ∷ []) }
-        ensures asked { (packet : packets.Packet) (queued : List Numbered) (read : List Replied) → has_asked self.old packet queued read → has_asked self.new packet queued (read ++ reply ∷ []) };
+        ensures asked { (packet : packets.Packet) (queued : List Numbered) (read : List Replied) → has_asked self.old packet queued read → has_asked self.new packet queued (read ++ reply ∷ []) }
+        ensures share { share self.new ≡ share self.old };
 }

@@ -8,7 +8,8 @@ ghost use Rattle.tb_drive.specs.Ahead.{with_packet};
 ghost use Rattle.tb_drive.specs.Lines.{lines_of, refused_of};
 ghost use Rattle.tb_drive.specs.Seen.{HaveSeen};
 ghost use Rattle.tb_drive.specs.Reported.{AreTogether, HasReported};
-ghost use Rattle.tb_drive.specs.Threads.{IsControlEnd, IsEnd, IsEndPromised, IsPromiseOf, items_promised, items_to_queue, refused_promised, started_origin};
+ghost use Rattle.tb_drive.specs.Seated.{IsLeftBy, nothing_left, seated_origin, seated_share};
+ghost use Rattle.tb_drive.specs.Threads.{IsControlEnd, IsEndPromised, IsPromiseOf, items_promised, items_to_queue, refused_promised, started_from};
 
 use crate::controlling::{ControlDriver, ControlLeft, ControlLines, EndOfControl};
 use crate::driver::Driver;
@@ -69,25 +70,25 @@ struct Left<D: Driver> {
 }
 
 impl<D: Driver> Model for Left<D> {
-    ghost use Rattle.std.specs.Prelude.{◌≡◌, List, length};
-    ghost use Rattle.tb_submit.specs.Ends.{EndedState};
+    ghost use Rattle.std.specs.Prelude.{◌≡◌, length, map};
     ghost use Rattle.tb_drive.specs.Seen.{HaveSeenEnds};
+    ghost use Rattle.tb_drive.specs.Seated.{LeftState};
 
-    ghost Value = { List EndedState };
+    ghost Value = { LeftState };
 
-    ghost view = { λ left. left.ends.items };
+    ghost view = { λ left. record { ends = left.ends.items; shares = map D.share left.drivers.items } };
 
     ghost invariant = { λ left. (length left.drivers.items ≡ length left.ends.items) × HaveSeenEnds D.has_seen left.drivers.items left.ends.items };
 }
 
-type Started<D> = PromisedHandle<Driven<D>, EndOfSubmitter>;
+type Started<D> = PromisedHandle<Driven<D>, EndOfSubmitter<D>>;
 
 type StartedControl = PromisedHandle<Option<ControlLeft>, EndOfControl>;
 
 impl<D: Driver> Left<D> {
     /// Nothing yet, with room for what so many threads leave.
     fn new(alloc: Global, threads: usize) -> Result<Left<D>, DriveFault>
-        ensures { IfOk result (λ left. left ≡ []) }
+        ensures { IfOk result (λ left. left ≡ nothing_left) }
     {
         Ok(Left {
             ends: Vec::with_capacity(alloc, threads)?,
@@ -97,8 +98,9 @@ impl<D: Driver> Left<D> {
 
     /// This, and what the next thread left.
     fn with(self, driven: Driven<D>) -> Result<Left<D>, DriveFault>
-        ensures { (origin : Origin) → IfSome driven (λ end. end_origin end ≡ origin)
-            → IfOk result (λ left. map end_origin left ≡ map end_origin self ++ origin ∷ []) }
+        ensures own { (origin : Origin) → IfSome driven.ended (λ end. end_origin end ≡ origin)
+            → IfOk result (λ left. map end_origin left.ends ≡ map end_origin self.ends ++ origin ∷ []) }
+        ensures shares { IfOk result (λ left. left.shares ≡ self.shares ++ driven.share ∷ []) }
     {
         let Left {
             mut ends,
@@ -122,7 +124,8 @@ fn seat_all<D: Driver>(
 ) -> Result<Vec<Seated<D>>, DriveFault>
     requires number { length drivers.items ≡ length submitters.items }
     requires seen { HaveSeen D.has_seen drivers.items submitters.items }
-    ensures { IfOk result (λ all. map origin_of all.items ≡ map origin_of submitters.items) }
+    ensures own { IfOk result (λ all. map seated_origin all.items ≡ map origin_of submitters.items) }
+    ensures shares { IfOk result (λ all. map seated_share all.items ≡ map D.share drivers.items) }
 {
     let mut drivers = drivers.into_iter();
     let mut all = Vec::with_capacity(alloc, submitters.len())?;
@@ -143,15 +146,15 @@ fn start_one<'s, E, D: Driver + Send + 's, R: Wait + Sync>(
     stop: &'s AtomicBool,
     seated: Seated<D>,
 ) -> Result<Started<D>, DriveFault>
-    ensures { IfOk result (λ handle. started_origin handle ≡ origin_of seated) }
+    ensures { IfOk result (λ handle. handle.promise.seated.value ≡ seated) }
 {
     let promise = EndOfSubmitter {
-        submitter: Snapshot::of(&seated.submitter),
+        seated: Snapshot::of(&seated),
     };
     let started = scope.spawn_with(
         promise,
         move || -> Driven<D>
-            ensures { IsEnd seated result }
+            ensures { IsLeftBy seated result }
         { seated.drive(rt, alloc, stop) },
     );
     match started {
@@ -168,7 +171,7 @@ fn start_all<'s, E, D: Driver + Send + 's, R: Wait + Sync>(
     stop: &'s AtomicBool,
     all: Vec<Seated<D>>,
 ) -> Result<Vec<Started<D>>, DriveFault>
-    ensures { IfOk result (λ handles. map started_origin handles.items ≡ map origin_of all.items) }
+    ensures { IfOk result (λ handles. map started_from handles.items ≡ all.items) }
 {
     let mut handles = Vec::with_capacity(alloc, all.len())?;
     for seated in all {
@@ -215,9 +218,9 @@ fn start<'s, E, D: Driver + Send + 's, R: Wait + Sync>(
     all: Vec<Seated<D>>,
     control_driver: ControlDriver,
 ) -> Result<Running<D>, DriveFault>
-    ensures own { IfOk result (λ running. map started_origin running.submitters.items ≡ map origin_of all.items) }
+    ensures submitters { IfOk result (λ running. map started_from running.submitters.items ≡ all.items) }
     ensures control { IfOk result (λ running. IsPromiseOf control_driver running.control.promise) }
-    ensures room { IfOk result (λ running. running.room ≡ []) }
+    ensures room { IfOk result (λ running. running.room ≡ nothing_left) }
 {
     let room = Left::new(alloc, all.len())?;
     let submitters = start_all(scope, rt, alloc, stop, all)?;
@@ -235,8 +238,9 @@ fn join_all<D: Driver, R: Threads>(
     handles: Vec<Started<D>>,
     room: Left<D>,
 ) -> Result<Left<D>, DriveFault>
-    requires { room ≡ [] }
-    ensures { IfOk result (λ left. map end_origin left ≡ map started_origin handles.items) }
+    requires { room ≡ nothing_left }
+    ensures own { IfOk result (λ left. map end_origin left.ends ≡ map seated_origin (map started_from handles.items)) }
+    ensures shares { IfOk result (λ left. left.shares ≡ map seated_share (map started_from handles.items)) }
 {
     let mut left = room;
     for handle in handles {
@@ -257,10 +261,11 @@ fn join_control<R: Threads>(rt: &R, handle: StartedControl) -> Result<ControlLef
 
 /// Settles with the ends of all senders.
 fn settle_left<D: Driver>(served: Served, left: Left<D>, control: ControlLeft) -> Finished<D>
-    requires own { map end_origin left ≡ served.submitters }
+    requires own { map end_origin left.ends ≡ served.submitters }
     requires control { control.end.seat ≡ control_seat served.intake }
     requires number { length served.submitters ≡ served.intake.submitters }
     ensures reported { HasReported D.has_seen served.clock served.intake.limit served.intake.submitters control.end.queued result.drivers.items result.report.ledger result.report.ends.items }
+    ensures shares { map D.share result.drivers.items ≡ left.shares }
     ensures refused { result.refused_pulses ≡ control.refused }
 {
     let Left { ends, drivers } = left;
@@ -278,11 +283,12 @@ fn finish<D: Driver, R: Threads>(
     served: Served,
     running: Running<D>,
 ) -> Result<Finished<D>, DriveFault>
-    requires own { map started_origin running.submitters.items ≡ served.submitters }
+    requires own { map seated_origin (map started_from running.submitters.items) ≡ served.submitters }
     requires control { running.control.promise.control.value.seat ≡ control_seat served.intake }
     requires number { length served.submitters ≡ served.intake.submitters }
-    requires room { running.room ≡ [] }
+    requires room { running.room ≡ nothing_left }
     ensures reported { IfOk result (λ finished. HasReported D.has_seen served.clock served.intake.limit served.intake.submitters (items_promised running.control.promise) finished.drivers.items finished.report.ledger finished.report.ends.items) }
+    ensures shares { IfOk result (λ finished. map D.share finished.drivers.items ≡ map seated_share (map started_from running.submitters.items)) }
     ensures refused { IfOk result (λ finished. finished.refused_pulses ≡ refused_promised running.control.promise) }
 {
     let Running {
@@ -301,11 +307,12 @@ fn serve<D: Driver, R: Threads + Wait + Sync>(
     pipeline: Pipeline,
     running: Running<D>,
 ) -> Result<Finished<D>, DriveFault>
-    requires own { map started_origin running.submitters.items ≡ pipeline.submitters }
+    requires own { map seated_origin (map started_from running.submitters.items) ≡ pipeline.submitters }
     requires control { running.control.promise.control.value.seat ≡ control_seat pipeline.intake }
     requires number { length pipeline.submitters ≡ pipeline.intake.submitters }
-    requires room { running.room ≡ [] }
+    requires room { running.room ≡ nothing_left }
     ensures reported { IfOk result (λ finished. HasReported D.has_seen pipeline.clock pipeline.intake.limit pipeline.intake.submitters (items_promised running.control.promise) finished.drivers.items finished.report.ledger finished.report.ends.items) }
+    ensures shares { IfOk result (λ finished. map D.share finished.drivers.items ≡ map seated_share (map started_from running.submitters.items)) }
     ensures refused { IfOk result (λ finished. finished.refused_pulses ≡ refused_promised running.control.promise) }
 {
     match pipeline.serve(rt, &Open) {
@@ -324,10 +331,11 @@ fn run_all<'s, E, D: Driver + Send + 's, R: Threads + Wait + Sync>(
     all: Vec<Seated<D>>,
     control_driver: ControlDriver,
 ) -> Result<Finished<D>, DriveFault>
-    requires own { map origin_of all.items ≡ pipeline.submitters }
+    requires own { map seated_origin all.items ≡ pipeline.submitters }
     requires control { control_driver.control.seat ≡ control_seat pipeline.intake }
     requires number { length pipeline.submitters ≡ pipeline.intake.submitters }
     ensures reported { IfOk result (λ finished. HasReported D.has_seen pipeline.clock pipeline.intake.limit pipeline.intake.submitters (items_to_queue control_driver) finished.drivers.items finished.report.ledger finished.report.ends.items) }
+    ensures shares { IfOk result (λ finished. map D.share finished.drivers.items ≡ map seated_share all.items) }
     ensures refused { IfOk result (λ finished. finished.refused_pulses ≡ refused_of control_driver.lines.moments.items) }
 {
     match start(scope, rt, alloc, stop, all, control_driver) {
@@ -344,10 +352,11 @@ fn run_in_scope<D: Driver + Send, R: Threads + Wait + Sync>(
     all: Vec<Seated<D>>,
     control_driver: ControlDriver,
 ) -> Result<Finished<D>, DriveFault>
-    requires own { map origin_of all.items ≡ pipeline.submitters }
+    requires own { map seated_origin all.items ≡ pipeline.submitters }
     requires control { control_driver.control.seat ≡ control_seat pipeline.intake }
     requires number { length pipeline.submitters ≡ pipeline.intake.submitters }
     ensures reported { IfOk result (λ finished. HasReported D.has_seen pipeline.clock pipeline.intake.limit pipeline.intake.submitters (items_to_queue control_driver) finished.drivers.items finished.report.ledger finished.report.ends.items) }
+    ensures shares { IfOk result (λ finished. map D.share finished.drivers.items ≡ map seated_share all.items) }
     ensures refused { IfOk result (λ finished. finished.refused_pulses ≡ refused_of control_driver.lines.moments.items) }
 {
     let flag = AtomicBool::new(false);
@@ -356,10 +365,11 @@ fn run_in_scope<D: Driver + Send, R: Threads + Wait + Sync>(
         thread::scope_env(),
         rt,
         |scope| -> Result<Finished<D>, DriveFault>
-            requires own { map origin_of all.items ≡ pipeline.submitters }
+            requires own { map seated_origin all.items ≡ pipeline.submitters }
             requires control { control_driver.control.seat ≡ control_seat pipeline.intake }
             requires number { length pipeline.submitters ≡ pipeline.intake.submitters }
             ensures reported { IfOk result (λ finished. HasReported D.has_seen pipeline.clock pipeline.intake.limit pipeline.intake.submitters (items_to_queue control_driver) finished.drivers.items finished.report.ledger finished.report.ends.items) }
+            ensures shares { IfOk result (λ finished. map D.share finished.drivers.items ≡ map seated_share all.items) }
             ensures refused { IfOk result (λ finished. finished.refused_pulses ≡ refused_of control_driver.lines.moments.items) }
         {
             let finished = run_all(scope, rt, alloc, stop, pipeline, all, control_driver);
@@ -415,6 +425,7 @@ pub fn drive_all<D: Driver + Send, R: Threads + Wait + Sync>(
     requires number { length drivers.items ≡ length opened.pipeline.submitters }
     requires seen { HaveSeen D.has_seen drivers.items opened.submitters.items }
     ensures reported { IfOk result (λ finished. HasReported D.has_seen opened.pipeline.clock opened.pipeline.intake.limit opened.pipeline.intake.submitters (opened.control.queued ++ lines_of lines.moments.items lines.shuts) finished.drivers.items finished.report.ledger finished.report.ends.items) }
+    ensures shares { IfOk result (λ finished. map D.share finished.drivers.items ≡ map D.share drivers.items) }
     ensures refused { IfOk result (λ finished. finished.refused_pulses ≡ refused_of lines.moments.items) }
 {
     let Opened {

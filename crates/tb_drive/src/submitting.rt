@@ -8,7 +8,7 @@ ghost use Rattle.tb_work.specs.declared.packet.Packet as packets;
 ghost use Rattle.tb_work.specs.declared.refusal.Refusal.TheVariants as refusal;
 ghost use Rattle.tb_drive.specs.Ahead.{with_packet};
 ghost use Rattle.tb_drive.specs.Seen.{HasSeen, HasSeenEnd, HasAsked, jobs_in};
-ghost use Rattle.tb_drive.specs.Threads.{IsEnd};
+ghost use Rattle.tb_drive.specs.Seated.{IsEnd, IsLeftBy};
 
 use crate::driver::{Action, Driver};
 use crossbeam_utils::Backoff;
@@ -35,12 +35,12 @@ pub(crate) struct Seated<D: Driver> {
 }
 
 impl<D: Driver> Model for Seated<D> {
-    ghost use Rattle.tb_submit.specs.Ends.{SubmitterState};
     ghost use Rattle.tb_drive.specs.Seen.{HasSeen};
+    ghost use Rattle.tb_drive.specs.Seated.{SeatedState};
 
-    ghost Value = { SubmitterState };
+    ghost Value = { SeatedState };
 
-    ghost view = { λ seated. seated.submitter };
+    ghost view = { λ seated. record { submitter = seated.submitter; share = D.share seated.driver } };
 
     ghost invariant = { λ seated. HasSeen D.has_seen seated.driver seated.submitter };
 }
@@ -54,27 +54,27 @@ pub(crate) struct Driven<D: Driver> {
 }
 
 impl<D: Driver> Model for Driven<D> {
-    ghost use Rattle.std.specs.Prelude.{Option, IfSome};
-    ghost use Rattle.tb_submit.specs.Ends.{EndedState};
+    ghost use Rattle.std.specs.Prelude.{IfSome};
     ghost use Rattle.tb_drive.specs.Seen.{HasSeenEnd};
+    ghost use Rattle.tb_drive.specs.Seated.{DrivenState};
 
-    ghost Value = { Option EndedState };
+    ghost Value = { DrivenState };
 
-    ghost view = { λ driven. driven.ended };
+    ghost view = { λ driven. record { ended = driven.ended; share = D.share driven.driver } };
 
     ghost invariant = { λ driven. IfSome driven.ended (λ ended. HasSeenEnd D.has_seen driven.driver ended) };
 }
 
-/// The end that comes back is that of the submitter that was handed over.
+/// The end that comes back is that of the submitter that was handed over, and the driver is the one that was.
 #[derive(Drop)]
-pub(crate) struct EndOfSubmitter {
-    pub(crate) submitter: Snapshot<Submitter>,
+pub(crate) struct EndOfSubmitter<D: Driver> {
+    pub(crate) seated: Snapshot<Seated<D>>,
 }
 
-impl<D: Driver> Promise<Driven<D>> for EndOfSubmitter {
-    ghost use Rattle.tb_drive.specs.Threads.{IsEnd};
+impl<D: Driver> Promise<Driven<D>> for EndOfSubmitter<D> {
+    ghost use Rattle.tb_drive.specs.Seated.{IsLeftBy};
 
-    ghost kept_by = { λ p r. IsEnd p.submitter.value r };
+    ghost kept_by = { λ p r. IsLeftBy p.seated.value r };
 }
 
 /// Submits a packet once, as `Submitter::submit` does; where it is refused it comes back. Behind 2^56 packets the queue is
@@ -105,6 +105,7 @@ fn read<D: Driver>(submitter: &mut Submitter, driver: &mut D) -> bool
     ensures own { origin_of submitter.new ≡ origin_of submitter.old }
     ensures seen { HasSeen D.has_seen driver.old submitter.old → HasSeen D.has_seen driver.new submitter.new }
     ensures asked { (packet : packets.Packet) → HasAsked D.has_asked driver.old packet submitter.old → HasAsked D.has_asked driver.new packet submitter.new }
+    ensures share { D.share driver.new ≡ D.share driver.old }
 {
     match submitter.reply() {
         Some(reply) => {
@@ -127,6 +128,7 @@ fn submit<D: Driver, R: Wait>(
 ) -> Result<(), Stopped>
     ensures own { origin_of submitter.new ≡ origin_of submitter.old }
     ensures seen { HasAsked D.has_asked driver.old packet submitter.old → OnOk result (HasSeen D.has_seen driver.new submitter.new) }
+    ensures share { D.share driver.new ≡ D.share driver.old }
 {
     let mut packet = packet;
     let backoff = Backoff::new();
@@ -149,6 +151,7 @@ fn submit<D: Driver, R: Wait>(
 fn receive<D: Driver, R: Wait>(rt: &R, submitter: &mut Submitter, driver: &mut D, stop: &AtomicBool)
     ensures own { origin_of submitter.new ≡ origin_of submitter.old }
     ensures seen { HasSeen D.has_seen driver.old submitter.old → HasSeen D.has_seen driver.new submitter.new }
+    ensures share { D.share driver.new ≡ D.share driver.old }
 {
     let backoff = Backoff::new();
     for _ in rt.forever() {
@@ -171,6 +174,7 @@ fn follow<D: Driver, R: Wait>(
 ) -> Result<(), Stopped>
     ensures own { origin_of submitter.new ≡ origin_of submitter.old }
     ensures seen { HasSeen D.has_seen driver.old submitter.old → OnOk result (HasSeen D.has_seen driver.new submitter.new) }
+    ensures share { D.share driver.new ≡ D.share driver.old }
 {
     for _ in rt.forever() {
         if stop.load(Ordering::SeqCst) {
@@ -194,6 +198,7 @@ fn end<D: Driver, R: Wait>(
 ) -> Option<Ended>
     ensures own { IsEnd submitter result }
     ensures seen { HasSeen D.has_seen driver.old submitter → IfSome result (λ ended. HasSeenEnd D.has_seen driver.new ended) }
+    ensures share { D.share driver.new ≡ D.share driver.old }
 {
     let mut submitter = submitter;
     let backoff = Backoff::new();
@@ -214,7 +219,7 @@ fn end<D: Driver, R: Wait>(
 impl<D: Driver> Seated<D> {
     /// Does what the driver says, and then ends the submitter, unless it is told to stop.
     pub(crate) fn drive<R: Wait>(self, rt: &R, alloc: Global, stop: &AtomicBool) -> Driven<D>
-        ensures { IsEnd self result }
+        ensures { IsLeftBy self result }
     {
         let Seated {
             mut submitter,

@@ -1,7 +1,8 @@
-use Rattle.std.proofs.Common.{rules, ◌≡◌, ◌∷◌, ◌++◌, [], length, refl, ap, arith}
+use Rattle.std.proofs.Common.{rules, ◌≡◌, ◌∙◌, ◌∷◌, ◌++◌, [], append_assoc, length, map, refl, ap, sym, arith}
 use Rattle.std.proofs.lemmas.List.{map-append}
 use Rattle.std.specs.Vec.Iter.{into_iter_items}
 use Rattle.tb_submit.specs.Ends.{origin_of}
+use Rattle.tb_drive.specs.Seated.{SeatedState, seated_origin, seated_share}
 use Rattle.tb_drive.proofs.Seen.{first_has, others_have}
 use Rattle.tb_drive.proofs.driving.seat_all.Goals as goal
 
@@ -16,9 +17,12 @@ loop-submitter-preserved g c =
     let submitters : c.loop-submitter.submitter-iterator.rest.items ≡ c.in-Some.submitter ∷ c.next.new.self.rest.items = search rules in
     let drivers : into_iter_items c.loop-submitter.drivers ≡ c.in-Some-next.driver ∷ into_iter_items c.next-in-loop-submitter.new.self = search rules in
     let all = c.loop-submitter.all.items in
-    let pushed : c.push.new.self.items ≡ all ++ c.in-Some.submitter ∷ [] = search rules in
+    let driver = c.in-Some-next.driver in
+    let seated : SeatedState = record { submitter = c.in-Some.submitter; share = g.D.Driver.share driver } in
+    let pushed : c.push.new.self.items ≡ all ++ seated ∷ [] = search rules in
     record {
-      own = rw (pushed, map-append origin_of all (c.in-Some.submitter ∷ []), map-append origin_of c.loop-submitter.yielded (c.in-Some.submitter ∷ []), c.loop-submitter.invariant.own) refl;
+      own = rw (pushed, map-append seated_origin all (seated ∷ []), map-append origin_of c.loop-submitter.yielded (c.in-Some.submitter ∷ []), c.loop-submitter.invariant.own) refl;
+      shares = rw (pushed, map-append seated_share all (seated ∷ [])) (append_assoc (map seated_share all) (g.D.Driver.share driver ∷ []) _ ∙ sym (ap (λ ds. map seated_share all ++ map g.D.Driver.share ds) drivers) ∙ c.loop-submitter.invariant.shares);
       long = omega (arith, c.loop-submitter.invariant.long, ap length drivers, ap length submitters);
       seen = others_have g.D.Driver.has_seen drivers submitters c.loop-submitter.invariant.seen;
     }
