@@ -1,3 +1,7 @@
 pub mod Printing
+mod Answered
+mod Handing
 mod Noting
+mod Packets
+mod Pulses
 mod Sharing

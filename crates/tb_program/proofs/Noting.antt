@@ -1,11 +1,12 @@
 -- Lists of which each member is something.
 use Rattle.std.proofs.Common.{◌≡◌, ℕ, zero, suc, List, [], ◌∷◌, ◌++◌, map, ap, sym, subst}
 use Rattle.tb_submit.specs.Ends.{Origin, SubmitterState, new_submitter}
-use Rattle.tb_program.specs.Noting.{AreFresh, AreNew, HasNoted}
+use Rattle.tb_program.specs.Drivers.{AreNew, HasSeenOf}
+use Rattle.tb_program.specs.Noting.{AreFresh}
 use Rattle.tb_program.specs.declared.run.driver.ScriptDriver.{ScriptDriver}
 
-pub one_more_new : (drivers : List ScriptDriver) (last : ScriptDriver) → AreNew drivers → HasNoted last.notes [] [] → AreNew (drivers ++ last ∷ [])
-one_more_new [] last new is zero driver driver_is = let same : last ≡ driver = cc in subst (λ (d : ScriptDriver). HasNoted d.notes [] []) same is
+pub one_more_new : (drivers : List ScriptDriver) (last : ScriptDriver) → AreNew drivers → HasSeenOf last [] [] → AreNew (drivers ++ last ∷ [])
+one_more_new [] last new is zero driver driver_is = let same : last ≡ driver = cc in subst (λ (d : ScriptDriver). HasSeenOf d [] []) same is
 one_more_new [] last new is (suc k) driver driver_is = cc
 one_more_new (first ∷ drivers) last new is zero driver driver_is = new zero driver driver_is
 one_more_new (first ∷ drivers) last new is (suc k) driver driver_is = one_more_new drivers last (λ k. new (suc k)) is k driver driver_is

@@ -9,7 +9,8 @@ use Rattle.tb_script.specs.declared.item.Item.{Item}
 use Rattle.tb_script.specs.declared.item.Item.TheVariants.{Packet}
 use Rattle.tb_script.specs.declared.item.Submission.{Submission}
 use Rattle.tb_program.specs.Plan.{packet_of}
-use Rattle.tb_program.specs.Sharing.{AreDealt, packet_by, packets_by}
+use Rattle.tb_program.specs.Drivers.{lists_of}
+use Rattle.tb_program.specs.Sharing.{AreDealt, packet_by, packets_by, shares_of}
 
 one_more : (submitter : ℕ) (items : List Item) (item : Item) → packets_by submitter (items ++ item ∷ []) ≡ packets_by submitter items ++ packet_by submitter item
 one_more submitter items item = flat_map-append (packet_by submitter) items (item ∷ []) ∙ ap (λ last. packets_by submitter items ++ last) (append-nil (packet_by submitter item))
@@ -41,6 +42,12 @@ dealt_to submitter (suc k) (own ∷ shares) items submission share its within is
   dealt.0 ∙ sym (one_more submitter items (Packet submission) ∙ ap (λ last. packets_by submitter items ++ last) (not_its submitter submission (λ e. omega (arith, e, its))) ∙ append-nil (packets_by submitter items)),
   dealt_to (suc submitter) k shares items submission share (omega (arith, its)) (omega (arith, within)) is dealt.1,
 )
+
+-- what is dealt are the submitters' shares
+pub dealt_lists : (submitter : ℕ) (shares : List (Vec packets.Packet Global)) (items : List Item) → AreDealt submitter shares items → lists_of shares ≡ shares_of submitter (length shares) items
+dealt_lists submitter [] items dealt = refl
+dealt_lists submitter (own ∷ shares) items dealt =
+    ap (λ first. first ∷ lists_of shares) dealt.0 ∙ ap (λ others. packets_by submitter items ∷ others) (dealt_lists (suc submitter) shares items dealt.1)
 
 -- one submitter more, for whom there is nothing yet
 pub one_more_submitter : (submitter : ℕ) (shares : List (Vec packets.Packet Global)) (share : Vec packets.Packet Global) → share.items ≡ [] → AreDealt submitter shares [] → AreDealt submitter (shares ++ share ∷ []) []

@@ -5,3 +5,6 @@ pub mod Printing
 pub mod Sharing
 pub mod Source
 pub mod Noting
+pub mod Drivers
+pub mod Answering
+pub mod RunText

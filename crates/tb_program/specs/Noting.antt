@@ -1,24 +1,33 @@
 -- What the drivers of a script note.
-use Rattle.std.specs.Prelude.{◌≡◌, ℕ, Bool, true, false, List, [], Some, count_by, length, slice_get}
+use Rattle.std.specs.Prelude.{◌≡◌, ℕ, true, List, [], ◌∷◌, ◌++◌, Some, length, map, slice_get}
 use Rattle.tb_submit.specs.Ends.{SubmitterState}
 use Rattle.tb_work.specs.Job.{Numbered}
 use Rattle.tb_work.specs.Reply.{Replied}
-use Rattle.tb_program.specs.declared.run.driver.ScriptDriver.{ScriptDriver}
+use Rattle.tb_work.specs.declared.packet.Packet.{Packet}
 use Rattle.tb_program.specs.declared.run.notes.Notes.{Notes}
 use Rattle.tb_program.specs.declared.run.notes.Told.{Told}
 use Rattle.tb_program.specs.declared.run.notes.Told.TheVariants.{Queued, Refused}
 
-abbrev pub is_queued : Told → Bool
-is_queued Queued = true
-is_queued (Refused refusal) = false
+-- those of these packets of which was told that they are queued
+abbrev pub kept : List Packet → List Told → List Packet
+kept [] told = []
+kept (packet ∷ packets) [] = []
+kept (packet ∷ packets) (Queued ∷ told) = packet ∷ kept packets told
+kept (packet ∷ packets) (Refused refusal ∷ told) = kept packets told
 
--- notes that found room say of as many packets as were queued that they are, and have the replies that were read
-abbrev pub HasNoted : Notes → List Numbered → List Replied → Type 0
-HasNoted notes queued read = notes.complete ≡ true → (count_by is_queued notes.told.items ≡ length queued) × (notes.replies.items ≡ read)
+abbrev pub packets_in : List Numbered → List Packet
+packets_in jobs = map (λ (job : Numbered). job.packet) jobs
 
--- drivers that have noted nothing
-abbrev pub AreNew : List ScriptDriver → Type 0
-AreNew drivers = (k : ℕ) (driver : ScriptDriver) → slice_get drivers k ≡ Some driver → HasNoted driver.notes [] []
+-- the first packets of a share were handed in, of each was told what became of it, and just those are queued of which it was told
+pub record IsHandedIn (share rest : List Packet) (told : List Told) (queued : List Numbered) : Type 0 where
+  pub handed : List Packet
+  pub parts : share ≡ handed ++ rest
+  pub number : length told ≡ length handed
+  pub told_so : packets_in queued ≡ kept handed told
+
+-- notes that found room have all of it, and the replies that were read
+abbrev pub HasNoted : List Packet → List Packet → Notes → List Numbered → List Replied → Type 0
+HasNoted share rest notes queued read = notes.complete ≡ true → IsHandedIn share rest notes.told.items queued × (notes.replies.items ≡ read)
 
 -- submitters that have neither queued nor read anything
 abbrev pub AreFresh : List SubmitterState → Type 0

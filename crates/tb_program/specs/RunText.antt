@@ -1,6 +1,6 @@
 -- What is printed of a run.
-use Rattle.std.specs.Prelude.{◌≡◌, ℕ, suc, ◌+◌, Bool, List, [], ◌∷◌, ◌++◌, Result, Ok, Some, count_by, length, slice_get, string_bytes}
-use Rattle.std.specs.List.{flat_map, replicate}
+use Rattle.std.specs.Prelude.{◌≡◌, ℕ, ◌+◌, zero, suc, Bool, List, [], ◌∷◌, ◌++◌, Ok, Some, length, slice_get}
+use Rattle.std.specs.List.{flat_map}
 use Rattle.tb_core.specs.Grouping.{IsGrouping}
 use Rattle.tb_core.specs.Report.{LawfulReport}
 use Rattle.tb_layout.specs.Work.{Work, Packet, Pulse}
@@ -8,11 +8,13 @@ use Rattle.tb_machine.specs.Replay.{State}
 use Rattle.tb_work.specs.Reply.{Replied}
 use Rattle.tb_work.specs.declared.item.Item.{Item}
 use Rattle.tb_work.specs.declared.item.Ticket.{Ticket}
+use Rattle.tb_work.specs.declared.packet.Packet as packets
 use Rattle.tb_drive.specs.Lines.{lines_of, refused_of}
+use Rattle.tb_drive.specs.Seen.{jobs_in}
 use Rattle.tb_script.specs.Script.{Said, clock_of, limit_of, submitters_of, items_of, script_of}
-use Rattle.tb_program.specs.Noting.{is_queued}
+use Rattle.tb_program.specs.Noting.{IsHandedIn}
 use Rattle.tb_program.specs.Output.{reply_line, refused_line, pulse_line, refused_pulse_line, state_text}
-use Rattle.tb_program.specs.Sharing.{moments_in, shuts_in}
+use Rattle.tb_program.specs.Sharing.{moments_in, shares_of, shuts_in}
 use Rattle.tb_program.specs.declared.run.notes.Told.{Told}
 use Rattle.tb_program.specs.declared.run.notes.Told.TheVariants.{Queued, Refused}
 
@@ -34,19 +36,12 @@ unfoldable pub told_text : ℕ → List Told → List Replied → List ℕ
 told_text submitter [] replies = []
 told_text submitter (told ∷ others) replies = told_line submitter told replies ++ told_text submitter others (behind_told told replies)
 
--- there is a reply to each packet that was queued, and no other
-abbrev pub IsAnswered : List Told → List Replied → Type 0
-IsAnswered told replies = count_by is_queued told ≡ length replies
-
 -- ---- the packets of all, by rising number of their submitters
 
-abbrev pub AreAnswered : List (List Told) → (ℕ → List Replied) → Type 0
-AreAnswered told replies = (k : ℕ) (own : List Told) → slice_get told k ≡ Some own → IsAnswered own (replies k)
-
--- from a submitter on
+-- from a submitter on, the first of whose replies are those of 0
 unfoldable pub packets_text : ℕ → List (List Told) → (ℕ → List Replied) → List ℕ
 packets_text submitter [] replies = []
-packets_text submitter (own ∷ others) replies = told_text submitter own (replies submitter) ++ packets_text (suc submitter) others replies
+packets_text submitter (own ∷ others) replies = told_text submitter own (replies zero) ++ packets_text (submitter + 1) others (λ k. replies (suc k))
 
 -- ---- what was committed
 
@@ -57,19 +52,27 @@ pulses_text place (Packet submitter number events ∷ works) = pulses_text (suc 
 pulses_text place (Pulse moment ∷ works) = pulse_line place ++ pulses_text (suc place) works
 
 abbrev pub refused_pulses_text : ℕ → List ℕ
-refused_pulses_text count = flat_map (λ line. line) (replicate count refused_pulse_line)
+refused_pulses_text zero = []
+refused_pulses_text (suc count) = refused_pulses_text count ++ refused_pulse_line
 
 abbrev pub ledger_text : List Work → ℕ → State → List ℕ
 ledger_text works refused_pulses state = pulses_text 0 works ++ refused_pulses_text refused_pulses ++ state_text state
 
 -- ---- the whole
 
+abbrev pub works_of : List (List Work) → List Work
+works_of groups = flat_map (λ group. group) groups
+
 abbrev pub run_text : List (List Told) → (ℕ → List Replied) → List Work → ℕ → State → List ℕ
 run_text told replies works refused_pulses state = packets_text 0 told replies ++ ledger_text works refused_pulses state
 
--- Of a run from this clock on, under this limit, with so many submitters and a control that queued these items: the text is that
--- of a lawful report of some queue, in which each queued packet has its reply.
-pub record IsRunText (clock limit submitters : ℕ) (controlled : List Item) (refused_pulses : ℕ) (text : List ℕ) : Type 0 where
+-- all of these shares were handed in: of each packet was told what became of it, and just those are queued of which it was told
+abbrev pub AreHandedIn : List (List packets.Packet) → List (List Told) → (ℕ → List Item) → Type 0
+AreHandedIn shares told queued = (k : ℕ) (share : List packets.Packet) (own : List Told) → slice_get shares k ≡ Some share → slice_get told k ≡ Some own → IsHandedIn share [] own (jobs_in (queued k))
+
+-- Of a run from this clock on under this limit, with a submitter for each of these shares and a control that queued these items:
+-- the text is that of a lawful report of some queue, in which each submitter queued its share but for what it was refused.
+pub record IsRunText (clock limit : ℕ) (shares : List (List packets.Packet)) (controlled : List Item) (refused_pulses : ℕ) (text : List ℕ) : Type 0 where
   pub queue : List Ticket
   pub queued : ℕ → List Item
   pub groups : List (List Work)
@@ -77,19 +80,20 @@ pub record IsRunText (clock limit submitters : ℕ) (controlled : List Item) (re
   pub stopped : Bool
   pub replies : ℕ → List Replied
   pub told : List (List Told)
-  pub control : queued submitters ≡ controlled
-  pub report : LawfulReport clock submitters queue queued (flat_map (λ group. group) groups) state stopped replies
+  pub report : LawfulReport clock (length shares) queue queued (works_of groups) state stopped replies
   pub grouping : IsGrouping limit groups
-  pub number : length told ≡ submitters
-  pub answered : AreAnswered told replies
-  pub printed : text ≡ run_text told replies (flat_map (λ group. group) groups) refused_pulses state
+  pub control : queued (length shares) ≡ controlled
+  pub number : length told ≡ length shares
+  pub handed : AreHandedIn shares told queued
+  pub printed : text ≡ run_text told replies (works_of groups) refused_pulses state
 
--- the text of a run of what a script says: the control queues its pulses and its Close, or its end
+-- of what a script says: each submitter's share is its packets, and the control queues the pulses and the Close, or its end
 abbrev pub IsTextOf : Said → List ℕ → Type 0
 IsTextOf said text =
-    let moments = moments_in (items_of said) in
-    IsRunText (clock_of said.settings) (limit_of said.settings) (submitters_of said.settings) (lines_of moments (shuts_in (items_of said))) (refused_of moments) text
+    let items = items_of said in
+    IsRunText (clock_of said.settings) (limit_of said.settings) (shares_of 0 (submitters_of said.settings) items) (lines_of (moments_in items) (shuts_in items))
+    (refused_of (moments_in items)) text
 
--- the text of a run of a faultless script with these bytes
+-- of bytes that are a faultless script
 abbrev pub IsRunOf : List ℕ → List ℕ → Type 0
 IsRunOf bytes text = (said : Said) → script_of bytes ≡ Ok said → IsTextOf said text

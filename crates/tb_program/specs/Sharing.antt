@@ -1,5 +1,5 @@
 -- What each thread of a script's run is to queue.
-use Rattle.std.specs.Prelude.{◌≡◌, ℕ, suc, ◌==◌, Bool, true, false, List, [], ◌∷◌, Vec, if◌then◌else◌, ⊤}
+use Rattle.std.specs.Prelude.{◌≡◌, ℕ, zero, suc, ◌==◌, Bool, true, false, List, [], ◌∷◌, Vec, if◌then◌else◌, ⊤}
 use Rattle.std.specs.List.{flat_map, list_any}
 use Rattle.std.specs.declared.alloc.Global.{Global}
 use Rattle.tb_work.specs.declared.packet.Packet as packets
@@ -31,6 +31,11 @@ is_shut Shut = true
 
 abbrev pub shuts_in : List Item → Bool
 shuts_in items = list_any is_shut items
+
+-- the packets of so many submitters, from a number on
+abbrev pub shares_of : ℕ → ℕ → List Item → List (List packets.Packet)
+shares_of submitter zero items = []
+shares_of submitter (suc count) items = packets_by submitter items ∷ shares_of (suc submitter) count items
 
 -- the submitters from a number on have their packets
 abbrev pub AreDealt : ℕ → List (Vec packets.Packet Global) → List Item → Type 0

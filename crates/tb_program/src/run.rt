@@ -1,11 +1,15 @@
 //! A script through the pipeline, with a thread for each sender.
 
-ghost use Rattle.std.specs.Prelude.{◌≡◌, false, length, IfOk, IfSome, IsErrOf, string_bytes};
+ghost use Rattle.std.specs.Prelude.{◌≡◌, ◌≤◌, ℕ, List, [], false, true, length, map, IfOk, IfSome, IsErrOf, string_bytes};
 ghost use Rattle.std.specs.Io.KnownBytes.{Appends, Keeps};
+ghost use Rattle.tb_drive.specs.Lines.{lines_of, refused_of};
 ghost use Rattle.tb_drive.specs.Reported.{AreTogether};
-ghost use Rattle.tb_program.specs.Noting.{AreFresh, AreNew};
+ghost use Rattle.tb_layout.specs.Limits.{submitters_max};
+ghost use Rattle.tb_program.specs.Drivers.{AreNew, lists_of, share_of};
+ghost use Rattle.tb_program.specs.Noting.{AreFresh};
 ghost use Rattle.tb_program.specs.Output.{out, is_faultless};
-ghost use Rattle.tb_script.specs.Script.{InBounds, submitters_of};
+ghost use Rattle.tb_program.specs.RunText.{IsRunOf, IsRunText, IsTextOf};
+ghost use Rattle.tb_script.specs.Script.{InBounds, clock_of, limit_of, submitters_of};
 
 mod driver;
 mod notes;
@@ -33,7 +37,10 @@ fn open_for(alloc: Global, settings: &Settings) -> Result<Opened, NoMemory>
     requires { InBounds settings.now }
     ensures together { IfOk result (λ opened. AreTogether opened.pipeline opened.submitters.items opened.control) }
     ensures number { IfOk result (λ opened. length opened.pipeline.submitters ≡ submitters_of settings.now) }
+    ensures clock { IfOk result (λ opened. opened.pipeline.clock ≡ clock_of settings.now) }
+    ensures limit { IfOk result (λ opened. opened.pipeline.intake.limit ≡ limit_of settings.now) }
     ensures fresh { IfOk result (λ opened. AreFresh opened.submitters.items) }
+    ensures silent { IfOk result (λ opened. opened.control.queued ≡ []) }
 {
     let opened = open(
         alloc,
@@ -52,19 +59,13 @@ fn open_for(alloc: Global, settings: &Settings) -> Result<Opened, NoMemory>
     }
 }
 
-/// A driver for each submitter, by rising number.
-fn drivers(
-    alloc: Global,
-    submitters: u32,
-    packets: Vec<Vec<Packet>>,
-) -> Result<Vec<ScriptDriver>, NoMemory>
-    ensures number { IfOk result (λ drivers. length drivers.items ≡ submitters) }
+/// A driver for each submitter's packets, by rising number.
+fn drivers(alloc: Global, packets: Vec<Vec<Packet>>) -> Result<Vec<ScriptDriver>, NoMemory>
+    ensures shares { IfOk result (λ drivers. map share_of drivers.items ≡ lists_of packets.items) }
     ensures new { IfOk result (λ drivers. AreNew drivers.items) }
 {
-    let mut shares = packets.into_iter();
-    let mut drivers = Vec::new(alloc);
-    for _ in 0..submitters {
-        let packets = shares.next().unwrap_or(Vec::new(alloc));
+    let mut drivers = Vec::with_capacity(alloc, packets.len())?;
+    for packets in packets {
         drivers.push(ScriptDriver::new(alloc, packets)?)?;
     }
     Ok(drivers)
@@ -80,8 +81,12 @@ fn run_opened<T: Threads + Wait + Sync>(
 ) -> Result<String, ProgramFault>
     requires together { AreTogether opened.pipeline opened.submitters.items opened.control }
     requires number { length drivers.items ≡ length opened.pipeline.submitters }
+    requires few { length drivers.items ≤ submitters_max }
     requires fresh { AreFresh opened.submitters.items }
+    requires silent { opened.control.queued ≡ [] }
     requires new { AreNew drivers.items }
+    ensures { IfOk result (λ text. IsRunText opened.pipeline.clock opened.pipeline.intake.limit (map share_of drivers.items)
+        (lines_of lines.moments.items lines.shuts) (refused_of lines.moments.items) (string_bytes text)) }
 {
     let finished = drive_all(rt, alloc, opened, drivers, lines)?;
     Ok(text_of(alloc, finished)?)
@@ -92,10 +97,12 @@ fn output_for<T: Threads + Wait + Sync>(
     rt: &T,
     alloc: Global,
     script: Script,
-) -> Result<String, ProgramFault> {
+) -> Result<String, ProgramFault>
+    ensures { IfOk result (λ text. IsTextOf script (string_bytes text)) }
+{
     let (settings, items) = script.finish()?;
     let Shares { packets, lines } = share_out(alloc, settings.submitters(), items)?;
-    let drivers = drivers(alloc, settings.submitters(), packets)?;
+    let drivers = drivers(alloc, packets)?;
     match open_for(alloc, &settings) {
         Ok(opened) => run_opened(rt, alloc, opened, drivers, lines),
         Err(fault) => Err(ProgramFault::from(fault)),
@@ -110,6 +117,7 @@ fn output_of<T: Threads + Wait + Sync, R: Read>(
 ) -> Result<(String, bool), ProgramFault>
     ensures faultless { IfOk result (λ both. IfSome (R.remaining reader.old) (λ bytes. both.1 ≡ is_faultless bytes)) }
     ensures faulty { IfOk result (λ both. IfSome (R.remaining reader.old) (λ bytes. is_faultless bytes ≡ false → string_bytes both.0 ≡ out bytes)) }
+    ensures ran { IfOk result (λ both. IfSome (R.remaining reader.old) (λ bytes. is_faultless bytes ≡ true → IsRunOf bytes (string_bytes both.0))) }
 {
     match read_source(alloc, reader)? {
         Source::Script(script) => Ok((output_for(rt, alloc, script)?, true)),
@@ -132,6 +140,9 @@ pub fn run_threads<T: Threads + Wait + Sync, R: Read, W: Write>(
     // Of a faulty script the line is written that `run_script` writes, and nothing else.
     ensures faulty { IfOk result (λ faultless. IfSome (R.remaining reader.old) (λ bytes. is_faultless bytes ≡ false
         → Appends (W.contents writer.old) (W.contents writer.new) (out bytes))) }
+    // Of any other the text of a lawful run of what the script says.
+    ensures ran { IfOk result (λ faultless. IfSome (R.remaining reader.old) (λ bytes. is_faultless bytes ≡ true
+        → (text : List ℕ) × IsRunOf bytes text × Appends (W.contents writer.old) (W.contents writer.new) text)) }
     // Nothing is written where the reader failed, memory ran out or a thread couldn't be started.
     ensures read { IsErrOf result ProgramFault.Read → Keeps (W.contents writer.old) (W.contents writer.new) }
     ensures memory { IsErrOf result ProgramFault.NoMemory → Keeps (W.contents writer.old) (W.contents writer.new) }

@@ -1,19 +1,20 @@
 //! What a submitter queues.
 
-ghost use Rattle.std.specs.Prelude.{◌≡◌, [], IfOk};
-ghost use Rattle.std.specs.Vec.Iter.{into_iter_items};
-ghost use Rattle.tb_program.specs.Noting.{HasNoted};
+ghost use Rattle.std.specs.Prelude.{◌≡◌, [], IfOk, IfSome, IsSome};
+ghost use Rattle.tb_program.specs.Drivers.{HasAskedOf, HasSeenOf, IsDone, share_of};
 
 use crate::run::notes::{Notes, Told};
 use std::alloc::Global;
+use std::snapshot::Snapshot;
 use std::vec::IntoIter;
 use tb_drive::{Action, Driver};
 use tb_layout::NoMemory;
 use tb_work::{Packet, Refusal, Reply};
 
-/// Queues the packets of a submitter in the order of the script, and notes what becomes of them.
+/// Queues its share, the packets of a submitter in the order of the script, and notes what becomes of them.
 #[derive(Drop)]
 pub struct ScriptDriver {
+    share: Snapshot<Vec<Packet>>,
     packets: IntoIter<Packet>,
     notes: Notes,
 }
@@ -21,29 +22,40 @@ pub struct ScriptDriver {
 impl ScriptDriver {
     /// The driver for these packets, with room for what it is to note.
     pub fn new(alloc: Global, packets: Vec<Packet>) -> Result<ScriptDriver, NoMemory>
-        ensures packets { IfOk result (λ driver. into_iter_items driver.packets ≡ packets.items) }
-        ensures notes { IfOk result (λ driver. HasNoted driver.notes [] []) }
+        ensures share { IfOk result (λ driver. share_of driver ≡ packets.items) }
+        ensures new { IfOk result (λ driver. HasSeenOf driver [] []) }
     {
         let notes = Notes::new(alloc, packets.len())?;
         Ok(ScriptDriver {
+            share: Snapshot::of(&packets),
             packets: packets.into_iter(),
             notes,
         })
     }
 
-    /// What it has noted.
-    pub fn into_notes(self) -> Notes
-        ensures { result ≡ self.notes }
+    /// What it has noted. None where it found no room, or a packet is left, as none is once the driver has ended.
+    pub fn into_notes(self) -> Option<Notes>
+        ensures notes { IfSome result (λ notes. notes ≡ self.notes) }
+        ensures done { IsSome result → IsDone self }
     {
-        let ScriptDriver { notes, .. } = self;
-        notes
+        let ScriptDriver {
+            mut packets,
+            notes,
+            ..
+        } = self;
+        if !notes.complete || packets.next().is_some() {
+            return None;
+        }
+        Some(notes)
     }
 }
 
 impl Driver for ScriptDriver {
-    ghost has_seen = { λ driver queued read. HasNoted driver.notes queued read };
+    ghost has_seen = { HasSeenOf };
 
-    ghost has_asked = { λ driver packet queued read. HasNoted driver.notes queued read };
+    ghost has_asked = { HasAskedOf };
+
+    ghost share = { share_of };
 
     fn next(&mut self, _alloc: Global) -> Action {
         match self.packets.next() {

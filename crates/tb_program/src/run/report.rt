@@ -1,9 +1,21 @@
 //! What is printed of a run.
 
+ghost use Rattle.std.specs.Prelude.{◌≡◌, ◌<◌, ◌≤◌, ◌+◌, ◌^◌, ◌++◌, ◌∷◌, length, map, IfOk, IsSomeAnd, OnOk, string_bytes};
+ghost use Rattle.std.specs.List.{flat_map};
+ghost use Rattle.tb_core.specs.Ledger.{group_of, works};
+ghost use Rattle.tb_layout.specs.Limits.{submitters_max};
+ghost use Rattle.tb_machine.specs.Replay.{replay};
+ghost use Rattle.tb_submit.specs.Ends.{replies_of};
+ghost use Rattle.tb_program.specs.Answering.{AreAllAnswered, AreAllDone, IsAnswered, IsAnsweredBy};
+ghost use Rattle.tb_program.specs.Drivers.{IsDone, told_of};
+ghost use Rattle.tb_program.specs.RunText.{behind_told, ledger_text, packets_text, pulses_text, refused_pulses_text, run_text, told_line, told_text};
+ghost use Rattle.tb_program.specs.declared.run.notes.Told.TheVariants.{Queued};
+
 use crate::output::{put_pulse, put_refused, put_refused_pulse, put_reply, put_state};
 use crate::run::driver::ScriptDriver;
 use crate::run::notes::{Notes, Told};
 use std::alloc::{AllocError, Global};
+use std::marker::Model;
 use std::vec::IntoIter;
 use tb_core::{Entry, Ledger};
 use tb_drive::Finished;
@@ -12,15 +24,31 @@ use tb_pipe::Report;
 use tb_submit::Ended;
 use tb_work::Reply;
 
-/// A submitter's replies in their order: those that its driver read, and then those that its end still has.
+/// The shortest line of a packet, as `packet 0 0 committed 0` and its end.
+const SHORTEST_LINE: usize = 23;
+
+/// A submitter's replies in their order: those that its driver read, and then those that its end still has. It is seen
+/// as those that are left.
 #[derive(Drop)]
 struct Replies {
     read: IntoIter<Reply>,
     ended: Ended,
 }
 
+impl Model for Replies {
+    ghost use Rattle.std.specs.Prelude.{List, ◌++◌};
+    ghost use Rattle.std.specs.Vec.Iter.{into_iter_items};
+    ghost use Rattle.tb_work.specs.Reply.{Replied};
+
+    ghost Value = { List Replied };
+
+    ghost view = { λ replies. into_iter_items replies.read ++ replies.ended.lying };
+}
+
 impl Replies {
-    fn next(&mut self) -> Option<Reply> {
+    fn next(&mut self) -> Option<Reply>
+        ensures { 0 < length self.old → IsSomeAnd result (λ reply. self.old ≡ reply ∷ self.new) }
+    {
         match self.read.next() {
             Some(reply) => Some(reply),
             None => self.ended.reply(),
@@ -28,12 +56,11 @@ impl Replies {
     }
 
     /// The line of a packet: its reply, or why it was refused.
-    fn put_packet(
-        &mut self,
-        out: &mut String,
-        submitter: u32,
-        told: Told,
-    ) -> Result<(), AllocError> {
+    fn put_told(&mut self, out: &mut String, submitter: u32, told: Told) -> Result<(), AllocError>
+        requires { told ≡ Queued → 0 < length self.old }
+        ensures text { OnOk result (string_bytes out.new ≡ string_bytes out.old ++ told_line submitter told self.old) }
+        ensures left { OnOk result (self.new ≡ behind_told told self.old) }
+    {
         match told {
             Told::Queued => match self.next() {
                 Some(reply) => put_reply(out, &reply),
@@ -44,63 +71,100 @@ impl Replies {
     }
 }
 
+/// The lines of packets of which was told what became of them.
+#[tactic(auto, unfolding(crate::specs::RunText::told_text))]
+fn put_all_told(
+    out: &mut String,
+    submitter: u32,
+    told: Vec<Told>,
+    replies: Replies,
+) -> Result<(), NoMemory>
+    requires { IsAnswered told.items replies }
+    ensures { OnOk result (string_bytes out.new ≡ string_bytes out.old ++ told_text submitter told.items replies) }
+{
+    let mut replies = replies;
+    for told in told {
+        replies.put_told(out, submitter, told)?;
+    }
+    Ok(())
+}
+
 /// The lines of a submitter's packets.
 fn put_packets(
     out: &mut String,
     submitter: u32,
-    notes: Notes,
+    driver: ScriptDriver,
     ended: Ended,
-) -> Result<(), NoMemory> {
-    let Notes {
-        told,
-        replies,
-        complete,
-    } = notes;
-    if !complete {
+) -> Result<(), NoMemory>
+    requires { IsAnsweredBy driver ended }
+    ensures done { OnOk result (IsDone driver) }
+    ensures text { OnOk result (string_bytes out.new ≡ string_bytes out.old ++ told_text submitter (told_of driver) (ended.read ++ ended.lying)) }
+{
+    let Some(Notes { told, replies, .. }) = driver.into_notes() else {
         return Err(NoMemory);
-    }
-    let mut replies = Replies {
+    };
+    let replies = Replies {
         read: replies.into_iter(),
         ended,
     };
-    for told in told {
-        replies.put_packet(out, submitter, told)?;
-    }
-    Ok(())
+    put_all_told(out, submitter, told, replies)
 }
 
 /// The lines of all packets, by rising number of their submitters.
+#[tactic(auto, unfolding(crate::specs::RunText::packets_text))]
 fn put_all_packets(
     out: &mut String,
     drivers: Vec<ScriptDriver>,
     ends: Vec<Ended>,
-) -> Result<(), NoMemory> {
+) -> Result<(), NoMemory>
+    requires few { length drivers.items ≤ submitters_max }
+    requires number { length ends.items ≡ length drivers.items }
+    requires answered { AreAllAnswered drivers.items ends.items }
+    ensures done { OnOk result (AreAllDone drivers.items) }
+    ensures text { OnOk result (string_bytes out.new ≡ string_bytes out.old ++ packets_text 0 (map told_of drivers.items) (replies_of ends.items)) }
+{
+    let mut ends = ends.into_iter();
     let mut submitter = 0u32;
-    for (driver, ended) in drivers.into_iter().zip(ends) {
-        put_packets(out, submitter, driver.into_notes(), ended)?;
-        submitter = submitter.saturating_add(1);
+    for driver in drivers {
+        let Some(ended) = ends.next() else {
+            unreachable!()
+        };
+        put_packets(out, submitter, driver, ended)?;
+        submitter += 1;
     }
     Ok(())
 }
 
-/// The lines of the committed pulses. A pulse has its place among all that was committed, of which there is less than
-/// 2^63.
-fn put_pulses(out: &mut String, journal: &[Entry]) -> Result<(), AllocError> {
+/// The line of an entry that is a pulse, whose place is given; none of a batch. Answers the place behind the entry.
+fn put_entry(out: &mut String, place: u64, entry: &Entry) -> Result<u64, AllocError>
+    requires { place + length (group_of entry.now) < 2 ^ 64 }
+    ensures behind { IfOk result (λ behind. behind ≡ place + length (group_of entry.now)) }
+    ensures text { OnOk result (string_bytes out.new ≡ string_bytes out.old ++ pulses_text place (group_of entry.now)) }
+{
+    match entry {
+        Entry::Batch { stubs, .. } => Ok(place + stubs.len() as u64),
+        Entry::Pulse { .. } => {
+            put_pulse(out, place)?;
+            Ok(place + 1)
+        }
+    }
+}
+
+/// The lines of the committed pulses. A pulse has its place among all that was committed.
+fn put_pulses(out: &mut String, journal: &[Entry]) -> Result<(), AllocError>
+    requires { length (flat_map group_of journal.now) < 2 ^ 64 }
+    ensures { OnOk result (string_bytes out.new ≡ string_bytes out.old ++ pulses_text 0 (flat_map group_of journal.now)) }
+{
     let mut place = 0u64;
     for entry in journal {
-        let places = match entry {
-            Entry::Batch { stubs, .. } => stubs.len() as u64,
-            Entry::Pulse { .. } => {
-                put_pulse(out, place)?;
-                1
-            }
-        };
-        place = place.saturating_add(places);
+        place = put_entry(out, place, entry)?;
     }
     Ok(())
 }
 
-fn put_refused_pulses(out: &mut String, count: u64) -> Result<(), AllocError> {
+fn put_refused_pulses(out: &mut String, count: u64) -> Result<(), AllocError>
+    ensures { OnOk result (string_bytes out.new ≡ string_bytes out.old ++ refused_pulses_text count) }
+{
     for _ in 0..count {
         put_refused_pulse(out)?;
     }
@@ -108,34 +172,35 @@ fn put_refused_pulses(out: &mut String, count: u64) -> Result<(), AllocError> {
 }
 
 /// The lines of what was committed: the pulses, those that were refused, the clock and the accounts.
-fn put_ledger(out: &mut String, ledger: &Ledger, refused_pulses: u64) -> Result<(), NoMemory> {
+fn put_ledger(out: &mut String, ledger: &Ledger, refused_pulses: u64) -> Result<(), NoMemory>
+    requires { length (works ledger.now) < 2 ^ 64 }
+    ensures { OnOk result (string_bytes out.new ≡ string_bytes out.old ++ ledger_text (works ledger.now) refused_pulses (replay ledger.now.opening (works ledger.now))) }
+{
     put_pulses(out, ledger.journal())?;
     put_refused_pulses(out, refused_pulses)?;
     put_state(out, ledger.machine())?;
     Ok(())
 }
 
-/// The text of these packets and of what was committed of them.
-fn text_with(
-    alloc: Global,
-    ledger: &Ledger,
-    drivers: Vec<ScriptDriver>,
-    ends: Vec<Ended>,
-    refused_pulses: u64,
-) -> Result<String, NoMemory> {
-    let mut out = String::new(alloc);
-    put_all_packets(&mut out, drivers, ends)?;
-    put_ledger(&mut out, ledger, refused_pulses)?;
-    Ok(out)
-}
-
-/// The text of a run: its packets, its pulses, the pulses that were refused, the clock and the accounts.
-pub fn text_of(alloc: Global, finished: Finished<ScriptDriver>) -> Result<String, NoMemory> {
+/// The text of a run: its packets, its pulses, the pulses that were refused, the clock and the accounts. It begins with
+/// room for the shortest lines of what was committed.
+pub fn text_of(alloc: Global, finished: Finished<ScriptDriver>) -> Result<String, NoMemory>
+    requires few { length finished.drivers.items ≤ submitters_max }
+    requires number { length finished.report.ends.items ≡ length finished.drivers.items }
+    requires answered { AreAllAnswered finished.drivers.items finished.report.ends.items }
+    ensures done { IfOk result (λ text. AreAllDone finished.drivers.items) }
+    ensures text { IfOk result (λ text. string_bytes text ≡ run_text (map told_of finished.drivers.items) (replies_of finished.report.ends.items)
+        (works finished.report.ledger) finished.refused_pulses (replay finished.report.ledger.opening (works finished.report.ledger))) }
+{
     let Finished {
         report,
         drivers,
         refused_pulses,
     } = finished;
     let Report { ledger, ends } = report;
-    text_with(alloc, &ledger, drivers, ends, refused_pulses)
+    let probable = (ledger.places() as usize).saturating_mul(SHORTEST_LINE);
+    let mut out = String::with_capacity(alloc, probable)?;
+    put_all_packets(&mut out, drivers, ends)?;
+    put_ledger(&mut out, &ledger, refused_pulses)?;
+    Ok(out)
 }

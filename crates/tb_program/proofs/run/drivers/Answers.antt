@@ -1,14 +1,18 @@
-use Rattle.std.proofs.Common.{rules, ◌≡◌, ◌++◌, ◌∷◌, [], sym, subst}
-use Rattle.tb_program.specs.Noting.{AreNew}
+use Rattle.std.proofs.Common.{rules, ◌≡◌, ◌++◌, ◌∷◌, [], Vec, sym, subst}
+use Rattle.std.proofs.lemmas.List.{map-append}
+use Rattle.std.specs.declared.alloc.Global.{Global}
+use Rattle.tb_work.specs.declared.packet.Packet.{Packet}
+use Rattle.tb_program.specs.Drivers.{AreNew, share_of}
 use Rattle.tb_program.proofs.Noting.{one_more_new}
 use Rattle.tb_program.proofs.run.drivers.Goals as goal
 
-pub loop-preserved : goal.loop-preserved
-loop-preserved c =
-    let drivers = c.loop.drivers.items in
+pub loop-packets-preserved : goal.loop-packets-preserved
+loop-packets-preserved c =
+    let drivers = c.loop-packets.drivers.items in
     let last = c.in_ok-new.field-0 in
     let pushed : c.push.new.self.items ≡ drivers ++ last ∷ [] = search rules in
     record {
-      number = search rules;
-      new = subst AreNew (sym pushed) (one_more_new drivers last c.loop.invariant.new c.in_ok-new.ensures.notes);
+      shares = rw (pushed, map-append share_of drivers (last ∷ []), c.loop-packets.invariant.shares, c.in_ok-new.ensures.share)
+          (sym (map-append (λ (share : Vec Packet Global). share.items) c.loop-packets.yielded (_ ∷ [])));
+      new = subst AreNew (sym pushed) (one_more_new drivers last c.loop-packets.invariant.new c.in_ok-new.ensures.new);
     }

@@ -1,9 +1,9 @@
-use Rattle.std.proofs.Common.{◌≡◌, length}
-use Rattle.tb_program.specs.Noting.{AreNew}
+use Rattle.std.proofs.Common.{◌≡◌, map}
+use Rattle.tb_program.specs.Drivers.{AreNew, lists_of, share_of}
 use Rattle.tb_program.proofs.run.drivers.Given as goal
 
-abbrev pub invariant-loop : goal.invariant-loop
-invariant-loop l = record {
-  number : length l.drivers.items ≡ l.counter;
+abbrev pub invariant-loop-packets : goal.invariant-loop-packets
+invariant-loop-packets l = record {
+  shares : map share_of l.drivers.items ≡ lists_of l.yielded;
   new : AreNew l.drivers.items;
 }

@@ -1,12 +1,51 @@
-use Rattle.std.proofs.Common.{List, [], sym, subst}
+use Rattle.std.proofs.Common.{◌≡◌, ◌∙◌, ◌++◌, List, [], length, map, ap, sym, subst}
+use Rattle.std.proofs.lemmas.List.{length-map}
+use Rattle.tb_core.specs.Ledger.{works}
+use Rattle.tb_core.specs.Report.{LawfulReport}
+use Rattle.tb_drive.specs.Lines.{lines_of}
 use Rattle.tb_drive.specs.Seen.{jobs_in}
+use Rattle.tb_machine.specs.Replay.{replay}
+use Rattle.tb_submit.specs.Ends.{replies_of}
 use Rattle.tb_work.specs.Reply.{Replied}
 use Rattle.tb_work.specs.declared.item.Item.{Item}
-use Rattle.tb_program.specs.Noting.{HasNoted}
+use Rattle.tb_program.specs.Drivers.{HasSeenOf, share_of, told_of}
+use Rattle.tb_program.specs.RunText.{AreHandedIn, run_text}
+use Rattle.tb_program.proofs.Answered.{all_answered, all_handed_in}
 use Rattle.tb_program.proofs.run.run_opened.Goals as goal
 
 pub drive_all-requires-clause-seen : goal.drive_all-requires-clause-seen
 drive_all-requires-clause-seen g c κs within = λ k driver submitter driver_is submitter_is.
     let fresh = c.requires.fresh k submitter submitter_is in
-    subst (λ (queued : List Item). HasNoted driver.notes (jobs_in queued) submitter.read) (sym fresh.0)
-    (subst (λ (read : List Replied). HasNoted driver.notes [] read) (sym fresh.1) (c.requires.new k driver driver_is))
+    subst (λ (queued : List Item). HasSeenOf driver (jobs_in queued) submitter.read) (sym fresh.0)
+    (subst (λ (read : List Replied). HasSeenOf driver [] read) (sym fresh.1) (c.requires.new k driver driver_is))
+
+pub text_of-requires-clause-answered : goal.text_of-requires-clause-answered
+text_of-requires-clause-answered g c = all_answered c.in_ok-finished.ensures.reported
+
+pub returns : goal.returns
+returns g c =
+    let opened = c.args.opened in
+    let reported = c.in_ok-finished.ensures.reported in
+    let finished = c.in_ok-finished.finished in
+    let ledger = finished.report.ledger in
+    let drivers = finished.drivers.items in
+    let told = map told_of drivers in
+    let state = replay ledger.opening (works ledger) in
+    let replies = replies_of finished.report.ends.items in
+    let shares : map share_of drivers ≡ map share_of c.args.drivers.items = c.in_ok-finished.ensures.shares in
+    let long = length-map c.args.drivers.items share_of ∙ c.requires.number ∙ c.requires.together.2 in
+    record {
+      queue = reported.queue;
+      queued = reported.queued;
+      groups = ledger.groups;
+      state = state;
+      stopped = ledger.stopped;
+      replies = replies;
+      told = told;
+      report = subst (λ n. LawfulReport opened.pipeline.clock n reported.queue reported.queued (works ledger) state ledger.stopped replies) (sym long) reported.report;
+      grouping = reported.grouping;
+      control = ap reported.queued long ∙ reported.control ∙ ap (λ queued. queued ++ lines_of c.args.lines.moments.items c.args.lines.shuts) c.requires.silent;
+      number = length-map drivers told_of ∙ sym (length-map drivers share_of) ∙ ap length shares;
+      handed = subst (λ all. AreHandedIn all told reported.queued) shares (all_handed_in reported c.in_ok-text_of.ensures.done);
+      printed = c.in_ok-text_of.ensures.text ∙ ap (λ refused. run_text told replies (works ledger) refused state) c.in_ok-finished.ensures.refused;
+    }

@@ -1,0 +1,31 @@
+-- Drivers whose submitters have ended, and the replies to what they queued.
+use Rattle.std.specs.Prelude.{◌≡◌, ℕ, suc, List, [], ◌∷◌, ◌++◌, Some, length, slice_get}
+use Rattle.tb_submit.specs.Ends.{EndedState}
+use Rattle.tb_work.specs.Job.{Numbered}
+use Rattle.tb_work.specs.Reply.{Replied}
+use Rattle.tb_program.specs.Drivers.{HasSeenOf, IsDone}
+use Rattle.tb_program.specs.declared.run.driver.ScriptDriver.{ScriptDriver}
+use Rattle.tb_program.specs.declared.run.notes.Told.{Told}
+use Rattle.tb_program.specs.declared.run.notes.Told.TheVariants.{Queued, Refused}
+
+-- of how many packets was told that they are queued
+abbrev pub queued_among : List Told → ℕ
+queued_among [] = 0
+queued_among (Queued ∷ told) = suc (queued_among told)
+queued_among (Refused refusal ∷ told) = queued_among told
+
+-- there is a reply to each of them, and no other
+abbrev pub IsAnswered : List Told → List Replied → Type 0
+IsAnswered told replies = queued_among told ≡ length replies
+
+-- a driver has seen what its end queued and read, and there are as many replies as packets
+pub record IsAnsweredBy (driver : ScriptDriver) (ended : EndedState) : Type 0 where
+  pub queued : List Numbered
+  pub seen : HasSeenOf driver queued ended.read
+  pub number : length queued ≡ length (ended.read ++ ended.lying)
+
+abbrev pub AreAllAnswered : List ScriptDriver → List EndedState → Type 0
+AreAllAnswered drivers ends = (k : ℕ) (driver : ScriptDriver) (ended : EndedState) → slice_get drivers k ≡ Some driver → slice_get ends k ≡ Some ended → IsAnsweredBy driver ended
+
+abbrev pub AreAllDone : List ScriptDriver → Type 0
+AreAllDone drivers = (k : ℕ) (driver : ScriptDriver) → slice_get drivers k ≡ Some driver → IsDone driver

@@ -1,0 +1,35 @@
+-- The drivers of a script: what they were made to queue, and what they have noted.
+use Rattle.std.specs.Prelude.{◌≡◌, ℕ, true, List, [], ◌∷◌, Some, Vec, map, slice_get}
+use Rattle.std.specs.Vec.Iter.{into_iter_items}
+use Rattle.std.specs.declared.alloc.Global.{Global}
+use Rattle.tb_work.specs.Job.{Numbered}
+use Rattle.tb_work.specs.Reply.{Replied}
+use Rattle.tb_work.specs.declared.packet.Packet.{Packet}
+use Rattle.tb_program.specs.Noting.{HasNoted}
+use Rattle.tb_program.specs.declared.run.driver.ScriptDriver.{ScriptDriver}
+use Rattle.tb_program.specs.declared.run.notes.Told.{Told}
+
+abbrev pub share_of : ScriptDriver → List Packet
+share_of driver = driver.share.value.items
+
+abbrev pub told_of : ScriptDriver → List Told
+told_of driver = driver.notes.told.items
+
+-- of the packets that it still has
+abbrev pub HasSeenOf : ScriptDriver → List Numbered → List Replied → Type 0
+HasSeenOf driver queued read = HasNoted (share_of driver) (into_iter_items driver.packets) driver.notes queued read
+
+-- and of one that it has handed out besides
+abbrev pub HasAskedOf : ScriptDriver → Packet → List Numbered → List Replied → Type 0
+HasAskedOf driver packet queued read = HasNoted (share_of driver) (packet ∷ into_iter_items driver.packets) driver.notes queued read
+
+-- it noted all that it was to note, and has no packet left
+abbrev pub IsDone : ScriptDriver → Type 0
+IsDone driver = (driver.notes.complete ≡ true) × (into_iter_items driver.packets ≡ [])
+
+-- drivers that have noted nothing
+abbrev pub AreNew : List ScriptDriver → Type 0
+AreNew drivers = (k : ℕ) (driver : ScriptDriver) → slice_get drivers k ≡ Some driver → HasSeenOf driver [] []
+
+abbrev pub lists_of : List (Vec Packet Global) → List (List Packet)
+lists_of shares = map (λ (share : Vec Packet Global). share.items) shares
