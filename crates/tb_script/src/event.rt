@@ -59,42 +59,46 @@ macro_rules! lying_at {
     };
 }
 
+/// An account's fields under their names, in the order in which lines mostly give them.
 const ACCOUNT_FIELDS: [(&[u8], Field); 13] = [
     (b"id", lying_at!(0, 0, 16)),
-    (b"debits_pending", lying_at!(1, 16, 16)),
-    (b"debits_posted", lying_at!(2, 32, 16)),
-    (b"credits_pending", lying_at!(3, 48, 16)),
-    (b"credits_posted", lying_at!(4, 64, 16)),
+    (b"ledger", lying_at!(9, 112, 4)),
+    (b"code", lying_at!(10, 116, 2)),
+    (b"flags", lying_at!(11, 118, 2)),
     (b"user_data_128", lying_at!(5, 80, 16)),
     (b"user_data_64", lying_at!(6, 96, 8)),
     (b"user_data_32", lying_at!(7, 104, 4)),
     (b"reserved", lying_at!(8, 108, 4)),
-    (b"ledger", lying_at!(9, 112, 4)),
-    (b"code", lying_at!(10, 116, 2)),
-    (b"flags", lying_at!(11, 118, 2)),
+    (b"debits_pending", lying_at!(1, 16, 16)),
+    (b"debits_posted", lying_at!(2, 32, 16)),
+    (b"credits_pending", lying_at!(3, 48, 16)),
+    (b"credits_posted", lying_at!(4, 64, 16)),
     (b"timestamp", lying_at!(12, 120, 8)),
 ];
 
+/// A transfer's fields, likewise.
 const TRANSFER_FIELDS: [(&[u8], Field); 13] = [
     (b"id", lying_at!(0, 0, 16)),
     (b"debit_account_id", lying_at!(1, 16, 16)),
     (b"credit_account_id", lying_at!(2, 32, 16)),
     (b"amount", lying_at!(3, 48, 16)),
     (b"pending_id", lying_at!(4, 64, 16)),
-    (b"user_data_128", lying_at!(5, 80, 16)),
-    (b"user_data_64", lying_at!(6, 96, 8)),
-    (b"user_data_32", lying_at!(7, 104, 4)),
     (b"timeout", lying_at!(8, 108, 4)),
     (b"ledger", lying_at!(9, 112, 4)),
     (b"code", lying_at!(10, 116, 2)),
     (b"flags", lying_at!(11, 118, 2)),
+    (b"user_data_128", lying_at!(5, 80, 16)),
+    (b"user_data_64", lying_at!(6, 96, 8)),
+    (b"user_data_32", lying_at!(7, 104, 4)),
     (b"timestamp", lying_at!(12, 120, 8)),
 ];
 
-/// The field that the first word of a line names, and the line from its number on.
+/// The field that the first word of a line names, how many rows of the table stand behind its own, and the line from its
+/// number on.
 #[derive(Clone, Copy)]
 struct NamedField<'a> {
     field: Field,
+    behind: usize,
     from_number: &'a [u8],
 }
 
@@ -117,11 +121,13 @@ fn named<'a>(mut table: &[(&[u8], Field)], line: &'a [u8]) -> Result<NamedField<
     requires { All (λ row. IsBare row.0.now) table.now }
     ensures both { Tells (λ first. (first.field, first_word first.from_number.now)) result (named (first_word line.now) (map (λ row. (row.0.now, row.1)) table.entry.now)) }
     ensures rest { IfOk result (λ first. behind_first_word first.from_number.now ≡ behind_first_word line.now) }
+    ensures behind { IfOk result (λ first. first.behind ≤ length table.entry.now) }
 {
     while let [(name, field), others @ ..] = table {
         if let Some(from_number) = behind_name(line, name) {
             return Ok(NamedField {
                 field: *field,
+                behind: others.len(),
                 from_number,
             });
         }
@@ -142,6 +148,7 @@ fn named_from<'a>(
     requires own { All (λ row. look_up row.0.now (map (λ row. (row.0.now, row.1)) table.now) ≡ Some row.1) table.now }
     ensures both { Tells (λ first. (first.field, first_word first.from_number.now)) result (named (first_word line.now) (map (λ row. (row.0.now, row.1)) table.now)) }
     ensures rest { IfOk result (λ first. behind_first_word first.from_number.now ≡ behind_first_word line.now) }
+    ensures behind { IfOk result (λ first. first.behind ≤ length table.now) }
 {
     match named(&table[place..], line) {
         Ok(first) => Ok(first),
@@ -149,12 +156,13 @@ fn named_from<'a>(
     }
 }
 
-/// What the first word of a line says of an event. `place` is where its field probably stands.
+/// What the first word of a line says of an event. `place` is where its field's row probably stands.
 #[tactic(auto, unfolding(crate::specs::Event::field_and_number))]
 fn field_and_number(layout: Layout, place: usize, line: &[u8]) -> Result<NamedField, Fault>
     requires { place ≤ 13 }
     ensures both { Tells (λ first. (first.field, first_word first.from_number.now)) result (field_and_number layout (first_word line.now)) }
     ensures rest { IfOk result (λ first. behind_first_word first.from_number.now ≡ behind_first_word line.now) }
+    ensures behind { IfOk result (λ first. first.behind ≤ 13) }
     ensures lies { IfOk result (λ first. Lies first.field) }
 {
     match layout {
@@ -248,8 +256,8 @@ fn put_first<'a>(draft: &mut Draft, f: Field, line: &'a [u8]) -> Result<&'a [u8]
     Ok(rest)
 }
 
-/// The first word of a line, NAME=N, and what is left behind it. `place` is where its field probably stands; the place
-/// behind it is told too.
+/// The first word of a line, NAME=N, and what is left behind it. `place` is where its field's row probably stands; the
+/// place behind that row is told too.
 #[tactic(auto, using(crate::proofs::Named::after_word_named))]
 fn assign<'a>(
     layout: Layout,
@@ -265,7 +273,7 @@ fn assign<'a>(
     let first = field_and_number(layout, place, line)?;
     let f = new_field(draft, first.field)?;
     let rest = put_first(draft, f, first.from_number)?;
-    Ok((f.place + 1, rest))
+    Ok((13 - first.behind, rest))
 }
 
 /// All words of a line.

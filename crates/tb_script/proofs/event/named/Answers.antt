@@ -1,4 +1,4 @@
-use Rattle.std.proofs.Common.{sym, ap, ◌∙◌}
+use Rattle.std.proofs.Common.{sym, ap, ◌∙◌, rules}
 use Rattle.tb_script.specs.Event.{named}
 use Rattle.tb_script.specs.Text.{first_word}
 use Rattle.tb_script.proofs.Named.{first_row, found_here, found_later, named_first, not_first}
@@ -22,4 +22,5 @@ loop-table-preserved c =
     record {
       same = sym (found_later (first_word c.args.line.now) _ _ _ (not_first c.args.line.now _ c.in_default-behind_name.ensures)) ∙ sym (ap (named (first_word c.args.line.now)) first.rows) ∙ c.loop-table.invariant.same;
       bare = first.others;
+      fewer = search rules;
     }
