@@ -1,5 +1,5 @@
 -- The field that a word names, and its number.
-use Rattle.std.proofs.Common.{rules, ◌≡◌, Decides, cond, ℕ, ◌+◌, ◌<◌, ◌≤◌, Bool, true, false, List, [], ◌∷◌, ◌++◌, length, take, drop, refl, sym, ap, ◌∙◌, arith, ◌-◌, suc, Bor, Some, None, Option, Ok, Err, Result, length-append, append_assoc, take-append-drop, lt-ltb, le-ltb, inl, inr}
+use Rattle.std.proofs.Common.{rules, ◌≡◌, ℕ, ◌+◌, ◌<◌, ◌≤◌, true, false, List, [], ◌∷◌, ◌++◌, length, take, drop, refl, sym, ap, ◌∙◌, arith, ◌-◌, suc, Bor, Some, None, Option, Ok, Err, Result, length-append, append_assoc, take-append-drop, lt-ltb, le-ltb, inl, inr}
 use Rattle.std.specs.Prelude.{◌==◌, All, map, slice_index_or, not, bytes_eq, get_or}
 use Rattle.std.specs.List.{list_all, position_or_len, before_first, after_first as after_sign}
 use Rattle.std.proofs.lemmas.Bool.{and_parts, cases_lt, false_from_ne_true}
@@ -19,6 +19,7 @@ use Rattle.tb_script.specs.Number.{number_within}
 use Rattle.tb_script.specs.Steps.{◌>>=◌, look_up}
 use Rattle.tb_script.specs.Text.{words_of, first_word, behind_first_word}
 use Rattle.tb_script.proofs.Texts.{words_first, empty_words}
+use Rattle.tb_script.proofs.Tables.{AreOwn, own_row, same_rows}
 
 up_to_equals : (name digits : List ℕ) → list_all (λ byte. not (byte == 61)) name ≡ true → position_or_len (λ byte. byte == 61) (name ++ 61 ∷ digits) ≡ length name
 up_to_equals [] digits h = refl
@@ -175,22 +176,6 @@ after_none layout draft line none = rw (empty_words line none) refl
 
 -- ---- some rows of a table
 
--- rows that a table has for their names
-abbrev pub AreOwn : List (List ℕ × Field) → List (List ℕ × Field) → Type 0
-AreOwn table rows = All (λ row. look_up row.0 table ≡ Some row.1) rows
-
-own_by : (same : Bool) (table : List (List ℕ × Field)) (row : List ℕ × Field) (name : List ℕ) (f : Field) (others : Option Field) →
-    Decides same (name ≡ row.0) → look_up row.0 table ≡ Some row.1 → (others ≡ Some f → look_up name table ≡ Some f) →
-    cond same (Some row.1) others ≡ Some f → look_up name table ≡ Some f
-own_by true table row name f others decides own later e = ap (λ word. look_up word table) (decides.0 refl) ∙ own ∙ e
-own_by false table row name f others decides own later e = later e
-
-own_row : (table rows : List (List ℕ × Field)) (name : List ℕ) (f : Field) → AreOwn table rows → look_up name rows ≡ Some f → look_up name table ≡ Some f
-own_row table [] name f own e = absurd (search (rules, e))
-own_row table (row ∷ rows) name f own e =
-    own_by (bytes_eq name row.0) table row name f (look_up name rows) (bytes_eq-Decides name row.0) (All-head (λ row. look_up row.0 table ≡ Some row.1) row rows own)
-    (own_row table rows name f (All-tail (λ row. look_up row.0 table ≡ Some row.1) row rows own)) e
-
 told_by_row : (table rows : List (List ℕ × Field)) (name number : List ℕ) (row : Option Field) (both : Field × List ℕ) → row ≡ look_up name rows → AreOwn table rows →
     (found row >>= λ f. Ok (f, number)) ≡ Ok both → (found (look_up name table) >>= λ f. Ok (f, number)) ≡ Ok both
 told_by_row table rows name number None both e own h = absurd (search (rules, h))
@@ -207,3 +192,18 @@ pub named_from_place : (word : List ℕ) (table : List (Bor (List ℕ) × Field)
     named word (map row_of table) ≡ Ok both
 named_from_place word table place both own h = told_by_parts (map row_of table) (map row_of (drop place table)) (sides_of word) both
     (All-map (λ row. look_up row.0 (map row_of table) ≡ Some row.1) row_of (drop place table) (All-drop (λ row. look_up row.0.now (map row_of table) ≡ Some row.1) place table own)) h
+
+-- ---- a table in another order
+
+abbrev beside : List ℕ → Option Field → Result (Field × List ℕ) Fault
+beside number field = do
+  f ← found field
+  Ok (f, number)
+
+in_order : (rows table : List (List ℕ × Field)) (sides : Result (List ℕ × List ℕ) Fault) → AreOwn table rows → AreOwn rows table →
+    (sides >>= λ s. beside s.1 (look_up s.0 rows)) ≡ (sides >>= λ s. beside s.1 (look_up s.0 table))
+in_order rows table (Err fault) own back = refl
+in_order rows table (Ok sides) own back = ap (beside sides.1) (same_rows rows table sides.0 own back)
+
+pub named_in_order : (word : List ℕ) (rows table : List (List ℕ × Field)) → AreOwn table rows → AreOwn rows table → named word rows ≡ named word table
+named_in_order word rows table own back = in_order rows table (sides_of word) own back

@@ -1,6 +1,7 @@
 -- What `parse` answers for a word of digits.
-use Rattle.std.proofs.Common.{◌≡◌, ℕ, zero, suc, ◌+◌, ◌-◌, ◌*◌, ◌/◌, ◌%◌, ◌<◌, ◌≤◌, ◌^◌, true, false, List, ◌++◌, length, take, get_or, refl, ap, ◌∙◌, arith, rules, lt-ltb, le-ltb, length-take-le, Some, None, Ok, Err, Result, inl, inr}
-use Rattle.std.specs.List.{list_all}
+use Rattle.std.proofs.Common.{◌≡◌, ℕ, zero, suc, ◌+◌, ◌-◌, ◌*◌, ◌/◌, ◌%◌, ◌<◌, ◌≤◌, ◌^◌, true, false, List, ◌++◌, length, take, drop, get_or, get_or-take, refl, ap, ◌∙◌, arith, rules, lt-ltb, le-ltb, length-take-le, Some, None, Ok, Err, Result, inl, inr}
+use Rattle.std.specs.Prelude.{◌==◌}
+use Rattle.std.specs.List.{list_all, position_or_len}
 use Rattle.std.specs.Char.{is_ascii_digit}
 use Rattle.std.specs.Str.{IsUtf8}
 use Rattle.std.specs.Str.Parse.{ParsesUnsigned, digits_value}
@@ -10,12 +11,14 @@ use Rattle.std.proofs.lemmas.Fmt.{IsAscii-from_digits}
 use Rattle.std.proofs.lemmas.Str.Parse.{IsNumeralModel, numerals_by_value, parse_digits, digits_value_short}
 use Rattle.std.proofs.lemmas.Int.Digits.{digits_value_more}
 use Rattle.std.proofs.lemmas.List.Folds.{list_all_at, list_all_more}
+use Rattle.std.proofs.lemmas.List.Sums.{AllPass-from_list_all, position_or_len_is}
 use Rattle.std.proofs.lemmas.Str.{digit_value_digit}
 use Rattle.std.proofs.lemmas.Nat.{le_bytes_8}
 use Rattle.std.specs.Int.{bytes_low_first, to_le_bytes, w64, w128}
 use Rattle.std.proofs.lemmas.Bool.{cases_lt}
 use Rattle.std.proofs.lemmas.Grind.{common_steps}
 use Rattle.tb_script.specs.Number.{number_of, fitting}
+use Rattle.tb_script.specs.Text.{first_word, behind_first_word}
 
 pub own : IsNumeralModel (λ ds. list_all is_ascii_digit ds ≡ true) (digits_value 10)
 own = numerals_by_value _ (search rules)
@@ -48,7 +51,7 @@ pub record OneMore (word : List ℕ) (place : ℕ) : Type 0 where
   pub value : digits_value 10 (take (place + 1) word) ≡ 10 * digits_value 10 (take place word) + (get_or word place 0 - 48)
   pub small : digits_value 10 (take (place + 1) word) < 10 ^ 19
 
-pub one_more : (word : List ℕ) (place : ℕ) → place < length word → length word < 20 → list_all is_ascii_digit (take place word) ≡ true →
+pub one_more : (word : List ℕ) (place : ℕ) → place < length word → place < 19 → list_all is_ascii_digit (take place word) ≡ true →
     is_ascii_digit (get_or word place 0) ≡ true → OneMore word place
 one_more word place within short digits digit =
     let more : list_all is_ascii_digit (take (place + 1) word) ≡ true = list_all_more is_ascii_digit word place 0 within ∙ rw (digits, digit) refl in
@@ -56,6 +59,34 @@ one_more word place within short digits digit =
       digits = more;
       value = omega (arith, digits_value_more 10 word place within, digit_value_digit (get_or word place 0) (search (rules, digit)));
       small = digits_value_short own (take (place + 1) word) 19 more (omega (arith, length-take-le (place + 1) word (omega arith), short, within));
+    }
+
+no_space : (byte : ℕ) → is_ascii_digit byte ≡ true → (byte == 32) ≡ false
+no_space byte digit = grind (arith, common_steps, digit)
+
+-- where digits stand at the front, and a space or the end behind them, the first word ends there
+digits_end : (line : List ℕ) (count : ℕ) → count ≤ length line → list_all is_ascii_digit (take count line) ≡ true →
+    (count < length line → get_or line count 0 ≡ 32) → position_or_len (λ byte. byte == 32) line ≡ count
+digits_end line count within digits ends =
+    let pass = AllPass-from_list_all is_ascii_digit (take count line) digits in
+    let long = length-take-le count line within in
+    position_or_len_is (λ byte. byte == 32) line count 0 within
+    (λ k below. no_space (get_or line k 0) (rw (get_or-take count line k 0 below) at (pass k 0 (omega (arith, below, long)))))
+    (λ below. rw (ends below) refl)
+
+-- what such a line begins with
+pub record LeadingDigits (line : List ℕ) (count : ℕ) : Type 0 where
+  pub number : number_of (first_word line) ≡ Some (digits_value 10 (take count line))
+  pub rest : take (length line - count) (drop count line) ≡ behind_first_word line
+
+pub leading_digits : (line : List ℕ) (count : ℕ) → 0 < count → count ≤ 19 → count ≤ length line → list_all is_ascii_digit (take count line) ≡ true →
+    (count < length line → get_or line count 0 ≡ 32) → LeadingDigits line count
+leading_digits line count some short within digits ends =
+    let at = digits_end line count within digits ends in
+    let long = length-take-le count line within in
+    record {
+      number = rw at (all_digits (take count line) (omega (arith, some, long)) (omega (arith, short, long)) digits);
+      rest = rw at (grind (arith, common_steps));
     }
 
 digits_read : {E : Type 0} (word : List ℕ) (r : Result ℕ E) → OkIff r ((0 < length word) × (digits_value 10 word < 2 ^ 128)) (digits_value 10 word) →

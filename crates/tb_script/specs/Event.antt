@@ -9,7 +9,7 @@ use Rattle.tb_script.specs.declared.event.Field.{Field}
 use Rattle.tb_script.specs.declared.event.Draft.{Draft}
 use Rattle.tb_script.specs.declared.event.Layout.{Layout}
 use Rattle.tb_script.specs.declared.event.Layout.TheVariants.{Account, Transfer}
-use Rattle.tb_script.specs.Number.{number_within}
+use Rattle.tb_script.specs.Number.{number_within, within}
 use Rattle.tb_script.specs.Steps.{◌>>=◌, look_up}
 
 -- the field at a place among the fields, an offset, and with a size in bytes
@@ -107,6 +107,12 @@ named word rows = do
 
 unfoldable pub field_and_number : Layout → List ℕ → Result (Field × List ℕ) Fault
 field_and_number layout word = named word (fields_of layout)
+
+-- the number that a word gave, if it gave one and that fits, in the field's place
+abbrev pub put : Draft → Field → Option ℕ → Result Draft Fault
+put draft field number = do
+  fitting ← within 0 (greatest field.size) number
+  Ok (with_number draft field fitting)
 
 -- one word NAME=N
 unfoldable pub after_word : Layout → Draft → List ℕ → Result Draft Fault

@@ -1,6 +1,6 @@
 //! Bytes that grow.
 
-ghost use Rattle.std.specs.Prelude.{◌≡◌, ℕ, List, [], ◌++◌, OnOk};
+ghost use Rattle.std.specs.Prelude.{◌≡◌, ℕ, List, [], ◌++◌, length, IfOk, OnOk};
 
 use std::alloc::Global;
 use std::marker::Model;
@@ -19,13 +19,13 @@ impl Model for Bytes {
 }
 
 impl Bytes {
-    /// No bytes. Takes no memory.
-    pub fn new(alloc: Global) -> Bytes
-        ensures { result ≡ [] }
+    /// No bytes, with room for so many. Room for none takes no memory.
+    pub fn with_capacity(alloc: Global, capacity: usize) -> Result<Bytes, NoMemory>
+        ensures { IfOk result (λ bytes. bytes ≡ []) }
     {
-        Bytes {
-            bytes: Vec::new(alloc),
-        }
+        Ok(Bytes {
+            bytes: Vec::with_capacity(alloc, capacity)?,
+        })
     }
 
     /// Puts bytes behind those that are there.
@@ -41,6 +41,13 @@ impl Bytes {
         ensures { result.items ≡ self }
     {
         self.bytes
+    }
+
+    /// How many there are.
+    pub fn len(&self) -> usize
+        ensures { result ≡ length self.now }
+    {
+        self.bytes.len()
     }
 
     /// All bytes.

@@ -5,11 +5,12 @@ ghost use Rattle.std.specs.Option.{MatchOption};
 ghost use Rattle.std.specs.Int.{to_le_bytes, w128};
 ghost use Rattle.tb_script.specs.Text.{words_of, first_word, behind_first_word};
 ghost use Rattle.tb_script.specs.Steps.{Gives, Makes, Tells, look_up};
-ghost use Rattle.tb_script.specs.Event.{Lies, IsBare, named, field_and_number, greatest, new_field, with_number, after_word, after_words, blank, hex_bytes};
+ghost use Rattle.tb_script.specs.Number.{number_of};
+ghost use Rattle.tb_script.specs.Event.{Lies, IsBare, named, field_and_number, greatest, new_field, with_number, put, after_word, after_words, blank, hex_bytes};
 
 use crate::fault::{Fault, LineError};
-use crate::number::number_within;
-use crate::text::{Words, split_word, trim_spaces};
+use crate::number::{in_bounds, leading_number, long_first};
+use crate::text::{Words, trim_spaces};
 use hex::FromHexError;
 use std::alloc::Global;
 
@@ -58,44 +59,47 @@ macro_rules! lying_at {
     };
 }
 
+/// An account's fields under their names, in the order in which lines mostly give them.
 const ACCOUNT_FIELDS: [(&[u8], Field); 13] = [
     (b"id", lying_at!(0, 0, 16)),
-    (b"debits_pending", lying_at!(1, 16, 16)),
-    (b"debits_posted", lying_at!(2, 32, 16)),
-    (b"credits_pending", lying_at!(3, 48, 16)),
-    (b"credits_posted", lying_at!(4, 64, 16)),
+    (b"ledger", lying_at!(9, 112, 4)),
+    (b"code", lying_at!(10, 116, 2)),
+    (b"flags", lying_at!(11, 118, 2)),
     (b"user_data_128", lying_at!(5, 80, 16)),
     (b"user_data_64", lying_at!(6, 96, 8)),
     (b"user_data_32", lying_at!(7, 104, 4)),
     (b"reserved", lying_at!(8, 108, 4)),
-    (b"ledger", lying_at!(9, 112, 4)),
-    (b"code", lying_at!(10, 116, 2)),
-    (b"flags", lying_at!(11, 118, 2)),
+    (b"debits_pending", lying_at!(1, 16, 16)),
+    (b"debits_posted", lying_at!(2, 32, 16)),
+    (b"credits_pending", lying_at!(3, 48, 16)),
+    (b"credits_posted", lying_at!(4, 64, 16)),
     (b"timestamp", lying_at!(12, 120, 8)),
 ];
 
+/// A transfer's fields, likewise.
 const TRANSFER_FIELDS: [(&[u8], Field); 13] = [
     (b"id", lying_at!(0, 0, 16)),
     (b"debit_account_id", lying_at!(1, 16, 16)),
     (b"credit_account_id", lying_at!(2, 32, 16)),
     (b"amount", lying_at!(3, 48, 16)),
     (b"pending_id", lying_at!(4, 64, 16)),
-    (b"user_data_128", lying_at!(5, 80, 16)),
-    (b"user_data_64", lying_at!(6, 96, 8)),
-    (b"user_data_32", lying_at!(7, 104, 4)),
     (b"timeout", lying_at!(8, 108, 4)),
     (b"ledger", lying_at!(9, 112, 4)),
     (b"code", lying_at!(10, 116, 2)),
     (b"flags", lying_at!(11, 118, 2)),
+    (b"user_data_128", lying_at!(5, 80, 16)),
+    (b"user_data_64", lying_at!(6, 96, 8)),
+    (b"user_data_32", lying_at!(7, 104, 4)),
     (b"timestamp", lying_at!(12, 120, 8)),
 ];
 
-/// What the first word of a line names, a field, the number that it gives, and what stands behind the word.
+/// The field that the first word of a line names, how many rows of the table stand behind its own, and the line from its
+/// number on.
 #[derive(Clone, Copy)]
-struct FirstWord<'a> {
+struct NamedField<'a> {
     field: Field,
-    number: &'a [u8],
-    rest: &'a [u8],
+    behind: usize,
+    from_number: &'a [u8],
 }
 
 /// What stands behind a name and its `=`, where the line begins with these.
@@ -110,21 +114,21 @@ fn behind_name<'a>(line: &'a [u8], name: &[u8]) -> Option<&'a [u8]>
     }
 }
 
-/// The field of a table that the first word of a line names, with its number. Where the word ends is looked for
-/// behind the name alone: the name is compared with those of the table where it stands.
+/// The field of a table that the first word of a line names. Where the word ends isn't looked for: the name is compared
+/// with those of the table where it stands.
 #[inline(always)]
-fn named<'a>(mut table: &[(&[u8], Field)], line: &'a [u8]) -> Result<FirstWord<'a>, Fault>
+fn named<'a>(mut table: &[(&[u8], Field)], line: &'a [u8]) -> Result<NamedField<'a>, Fault>
     requires { All (λ row. IsBare row.0.now) table.now }
-    ensures both { Tells (λ first. (first.field, first.number.now)) result (named (first_word line.now) (map (λ row. (row.0.now, row.1)) table.entry.now)) }
-    ensures rest { IfOk result (λ first. first.rest.now ≡ behind_first_word line.now) }
+    ensures both { Tells (λ first. (first.field, first_word first.from_number.now)) result (named (first_word line.now) (map (λ row. (row.0.now, row.1)) table.entry.now)) }
+    ensures rest { IfOk result (λ first. behind_first_word first.from_number.now ≡ behind_first_word line.now) }
+    ensures behind { IfOk result (λ first. first.behind ≤ length table.entry.now) }
 {
     while let [(name, field), others @ ..] = table {
-        if let Some(text) = behind_name(line, name) {
-            let (number, rest) = split_word(text);
-            return Ok(FirstWord {
+        if let Some(from_number) = behind_name(line, name) {
+            return Ok(NamedField {
                 field: *field,
-                number,
-                rest,
+                behind: others.len(),
+                from_number,
             });
         }
         table = others;
@@ -138,12 +142,13 @@ fn named_from<'a>(
     table: &[(&[u8], Field)],
     place: usize,
     line: &'a [u8],
-) -> Result<FirstWord<'a>, Fault>
+) -> Result<NamedField<'a>, Fault>
     requires place { place ≤ length table.now }
     requires bare { All (λ row. IsBare row.0.now) table.now }
     requires own { All (λ row. look_up row.0.now (map (λ row. (row.0.now, row.1)) table.now) ≡ Some row.1) table.now }
-    ensures both { Tells (λ first. (first.field, first.number.now)) result (named (first_word line.now) (map (λ row. (row.0.now, row.1)) table.now)) }
-    ensures rest { IfOk result (λ first. first.rest.now ≡ behind_first_word line.now) }
+    ensures both { Tells (λ first. (first.field, first_word first.from_number.now)) result (named (first_word line.now) (map (λ row. (row.0.now, row.1)) table.now)) }
+    ensures rest { IfOk result (λ first. behind_first_word first.from_number.now ≡ behind_first_word line.now) }
+    ensures behind { IfOk result (λ first. first.behind ≤ length table.now) }
 {
     match named(&table[place..], line) {
         Ok(first) => Ok(first),
@@ -151,12 +156,13 @@ fn named_from<'a>(
     }
 }
 
-/// What the first word of a line says of an event. `place` is where its field probably stands.
+/// What the first word of a line says of an event. `place` is where its field's row probably stands.
 #[tactic(auto, unfolding(crate::specs::Event::field_and_number))]
-fn field_and_number(layout: Layout, place: usize, line: &[u8]) -> Result<FirstWord, Fault>
+fn field_and_number(layout: Layout, place: usize, line: &[u8]) -> Result<NamedField, Fault>
     requires { place ≤ 13 }
-    ensures both { Tells (λ first. (first.field, first.number.now)) result (field_and_number layout (first_word line.now)) }
-    ensures rest { IfOk result (λ first. first.rest.now ≡ behind_first_word line.now) }
+    ensures both { Tells (λ first. (first.field, first_word first.from_number.now)) result (field_and_number layout (first_word line.now)) }
+    ensures rest { IfOk result (λ first. behind_first_word first.from_number.now ≡ behind_first_word line.now) }
+    ensures behind { IfOk result (λ first. first.behind ≤ 13) }
     ensures lies { IfOk result (λ first. Lies first.field) }
 {
     match layout {
@@ -223,8 +229,35 @@ fn write(draft: &mut Draft, f: Field, n: u128)
     draft.given[f.place] = true;
 }
 
-/// The first word of a line, NAME=N, and what is left behind it. `place` is where its field probably stands; the place
-/// behind it is told too.
+/// A number put into the field's bytes, if it is there and fits.
+#[inline(always)]
+fn put(draft: &mut Draft, f: Field, n: Option<u128>) -> Result<(), Fault>
+    requires { Lies f }
+    ensures { Makes result draft.new (put draft.old f n) }
+{
+    let n = in_bounds(n, 0, greatest(f.size))?;
+    write(draft, f, n);
+    Ok(())
+}
+
+/// The number of a line's first word put into the field's bytes, and what is left behind the word.
+#[inline(always)]
+fn put_first<'a>(draft: &mut Draft, f: Field, line: &'a [u8]) -> Result<&'a [u8], Fault>
+    requires { Lies f }
+    ensures draft { Makes result draft.new (put draft.old f (number_of (first_word line.now))) }
+    ensures rest { IfOk result (λ rest. rest.now ≡ behind_first_word line.now) }
+{
+    if let Some((n, rest)) = leading_number(line) {
+        put(draft, f, Some(u128::from(n)))?;
+        return Ok(rest);
+    }
+    let (n, rest) = long_first(line);
+    put(draft, f, n)?;
+    Ok(rest)
+}
+
+/// The first word of a line, NAME=N, and what is left behind it. `place` is where its field's row probably stands; the
+/// place behind that row is told too.
 #[tactic(auto, using(crate::proofs::Named::after_word_named))]
 fn assign<'a>(
     layout: Layout,
@@ -239,9 +272,8 @@ fn assign<'a>(
 {
     let first = field_and_number(layout, place, line)?;
     let f = new_field(draft, first.field)?;
-    let n = number_within(first.number, 0, greatest(f.size))?;
-    write(draft, f, n);
-    Ok((f.place + 1, first.rest))
+    let rest = put_first(draft, f, first.from_number)?;
+    Ok((13 - first.behind, rest))
 }
 
 /// All words of a line.

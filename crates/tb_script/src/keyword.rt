@@ -22,19 +22,20 @@ pub enum Keyword {
     Shut,
 }
 
+/// The words with their keywords, those first that a script has most often.
 const KEYWORDS: [(&[u8], Keyword); 12] = [
+    (b"transfer", Keyword::Transfer),
+    (b"packet", Keyword::Packet),
+    (b"account", Keyword::Account),
+    (b"id", Keyword::Id),
+    (b"pulse", Keyword::Pulse),
+    (b"hex", Keyword::Hex),
+    (b"shut", Keyword::Shut),
     (b"clock", Keyword::Clock),
     (b"limit", Keyword::Limit),
     (b"capacity", Keyword::Capacity),
     (b"credit", Keyword::Credit),
     (b"submitters", Keyword::Submitters),
-    (b"packet", Keyword::Packet),
-    (b"account", Keyword::Account),
-    (b"transfer", Keyword::Transfer),
-    (b"id", Keyword::Id),
-    (b"hex", Keyword::Hex),
-    (b"pulse", Keyword::Pulse),
-    (b"shut", Keyword::Shut),
 ];
 
 /// The keyword that a word spells.

@@ -1,11 +1,13 @@
 //! Numbers in decimal digits.
 
-ghost use Rattle.std.specs.Prelude.{true, ◌≡◌, ◌<◌, ◌≤◌, length, IfOk};
+ghost use Rattle.std.specs.Prelude.{true, ◌≡◌, ◌≤◌, Some, IfOk, IfSome};
 ghost use Rattle.std.specs.List.{list_all};
 ghost use Rattle.std.specs.Char.{is_ascii_digit};
+ghost use Rattle.tb_script.specs.Text.{first_word, behind_first_word};
 ghost use Rattle.tb_script.specs.Number.{number_of, fitting, within, number_within};
 
 use crate::fault::Fault;
+use crate::text::split_word;
 
 fn are_digits(word: &[u8]) -> bool
     ensures { result ≡ list_all is_ascii_digit word.now }
@@ -13,7 +15,8 @@ fn are_digits(word: &[u8]) -> bool
     word.iter().all(|b| b.is_ascii_digit())
 }
 
-fn in_bounds(n: Option<u128>, low: u128, high: u128) -> Result<u128, Fault>
+/// A number, if it is there and in bounds.
+pub fn in_bounds(n: Option<u128>, low: u128, high: u128) -> Result<u128, Fault>
     ensures value { result ≡ within low high n }
     ensures bound { IfOk result (λ n. n ≤ high) }
 {
@@ -33,22 +36,27 @@ fn text_of(word: &[u8]) -> &str
     }
 }
 
-/// The number that a word spells which has too few digits to leave 64 bits.
-fn short_number(word: &[u8]) -> Option<u64>
-    requires { length word.now < 20 }
-    ensures { result ≡ number_of word.now }
+/// The most digits that always leave a number in 64 bits.
+const SHORT: usize = 19;
+
+/// The number that the first word of a line spells in 1 to 19 digits, and what stands behind the word. Where the word ends
+/// is seen while its digits are read.
+#[inline(always)]
+pub fn leading_number(line: &[u8]) -> Option<(u64, &[u8])>
+    ensures number { IfSome result (λ both. number_of (first_word line.now) ≡ Some both.0) }
+    ensures rest { IfSome result (λ both. both.1.now ≡ behind_first_word line.now) }
 {
-    if word.is_empty() {
+    let end = line.len().min(SHORT);
+    let mut number = 0u64;
+    let mut digits = 0;
+    while digits < end && line[digits].is_ascii_digit() {
+        number = 10 * number + u64::from(line[digits] - b'0');
+        digits += 1;
+    }
+    if digits == 0 || digits < line.len() && line[digits] != b' ' {
         return None;
     }
-    let mut number = 0u64;
-    for byte in word {
-        if !byte.is_ascii_digit() {
-            return None;
-        }
-        number = 10 * number + u64::from(*byte - b'0');
-    }
-    Some(number)
+    Some((number, &line[digits..]))
 }
 
 /// The number that a word spells, if it fits, of any length.
@@ -70,11 +78,10 @@ fn long_number(word: &[u8]) -> Option<u128>
 fn fitting_number(word: &[u8]) -> Option<u128>
     ensures { result ≡ fitting (number_of word.now) }
 {
-    if word.len() < 20 {
-        let number = short_number(word)?;
-        return Some(u128::from(number));
+    match leading_number(word) {
+        Some((number, rest)) if rest.is_empty() => Some(u128::from(number)),
+        _ => long_number(word),
     }
-    long_number(word)
 }
 
 /// The number that a word spells in 1 to 39 digits, if it is in bounds.
@@ -84,4 +91,14 @@ pub fn number_within(word: &[u8], low: u128, high: u128) -> Result<u128, Fault>
     ensures bound { IfOk result (λ n. n ≤ high) }
 {
     in_bounds(fitting_number(word), low, high)
+}
+
+/// The number that the first word of a line spells, if it fits, of any length, and what stands behind the word.
+#[inline(never)]
+pub fn long_first(line: &[u8]) -> (Option<u128>, &[u8])
+    ensures number { result.0 ≡ fitting (number_of (first_word line.now)) }
+    ensures rest { result.1.now ≡ behind_first_word line.now }
+{
+    let (word, rest) = split_word(line);
+    (long_number(word), rest)
 }

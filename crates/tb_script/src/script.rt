@@ -27,6 +27,8 @@ pub struct Script {
     settings: Settings,
     items: Vec<Item>,
     packet: Option<Submission>,
+    /// How many bytes the last packet that ended has: probably the next has as many.
+    probable_size: usize,
     shut: bool,
 }
 
@@ -91,6 +93,7 @@ impl Script {
             },
             items: Vec::new(alloc),
             packet: None,
+            probable_size: 0,
             shut: false,
         }
     }
@@ -123,11 +126,14 @@ impl Script {
         ensures { OnOk result (self.new ≡ record self.old { items = items_of self.old; packet = None }) }
     {
         if let Some(packet) = self.packet.take() {
+            self.probable_size = packet.bytes.len();
             self.items.push(Item::Packet(packet))?;
         }
         Ok(())
     }
 
+    /// Begins a packet with room for as many bytes as the packet before has. So all these rooms together are no larger
+    /// than the packets.
     fn begin_packet(
         &mut self,
         alloc: Global,
@@ -140,7 +146,7 @@ impl Script {
         self.packet = Some(Submission {
             submitter,
             operation,
-            bytes: Bytes::new(alloc),
+            bytes: Bytes::with_capacity(alloc, self.probable_size)?,
         });
         Ok(())
     }
