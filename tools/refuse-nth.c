@@ -1,4 +1,9 @@
-/* Preloaded into a program: refuses its allocation number REFUSE, counted from 1, and says so on standard error. */
+/* Preloaded into a program: refuses its allocation number REFUSE, or the start of its thread number REFUSE_THREAD, each
+ * counted from 1, and says so on standard error. */
+#define _GNU_SOURCE
+#include <dlfcn.h>
+#include <errno.h>
+#include <pthread.h>
 #include <stddef.h>
 #include <stdlib.h>
 #include <unistd.h>
@@ -6,26 +11,38 @@
 extern void *__libc_malloc(size_t size);
 extern void *__libc_realloc(void *old, size_t size);
 
-static long left = -1;
+typedef int start_thread(pthread_t *thread, const pthread_attr_t *attributes, void *(*body)(void *), void *argument);
 
-static int is_refused(void)
+static long allocations_left = -1;
+static long threads_left = -1;
+
+/* Whether this call is the one to be refused, of those that a variable of the environment counts. */
+static int is_refused(const char *variable, long *left)
 {
     static const char told[] = "refused\n";
-    if (left < 0) {
-        const char *nth = getenv("REFUSE");
-        left = nth ? atol(nth) : 0;
+    if (*left < 0) {
+        const char *nth = getenv(variable);
+        *left = nth ? atol(nth) : 0;
     }
-    if (left == 0 || --left > 0)
+    if (*left == 0 || --*left > 0)
         return 0;
     return write(2, told, sizeof told - 1) > 0;
 }
 
 void *malloc(size_t size)
 {
-    return is_refused() ? NULL : __libc_malloc(size);
+    return is_refused("REFUSE", &allocations_left) ? NULL : __libc_malloc(size);
 }
 
 void *realloc(void *old, size_t size)
 {
-    return is_refused() ? NULL : __libc_realloc(old, size);
+    return is_refused("REFUSE", &allocations_left) ? NULL : __libc_realloc(old, size);
+}
+
+int pthread_create(pthread_t *thread, const pthread_attr_t *attributes, void *(*body)(void *), void *argument)
+{
+    start_thread *start = (start_thread *)dlsym(RTLD_NEXT, "pthread_create");
+    if (is_refused("REFUSE_THREAD", &threads_left))
+        return EAGAIN;
+    return start(thread, attributes, body, argument);
 }

@@ -14,6 +14,7 @@ mod faults;
 mod lookups;
 mod running;
 mod streams;
+mod submitters;
 mod transfers;
 
 /// What `list` writes for a script.

@@ -1,0 +1,196 @@
+//! What no clause tells of a run: when a driver is asked, told and given something, and what becomes of replies that it
+//! doesn't wait for.
+
+use std::alloc::{AllocError, Global};
+use std::sync::Wait;
+use std::test::Fail;
+use std::thread::Threads;
+use tb_drive::{Action, ControlLines, Driver, Finished, drive_all};
+use tb_pipe::open;
+use tb_submit::Ended;
+use tb_work::{Bytes, Outcome, Packet, Refusal, Reply};
+
+mod replies;
+mod tellings;
+
+const CREATE_ACCOUNTS: u8 = 129;
+
+/// More replies than a submitter of these tests has packets.
+const MOST_REPLIES: u32 = 100;
+
+/// What a driver does next.
+#[derive(Clone, Copy)]
+enum Step {
+    /// Submits a packet of this operation with so many bytes, each of them 0.
+    Submit(u8, usize),
+    Receive,
+}
+
+/// Submits a packet of accounts, without events.
+const SUBMIT: Step = Step::Submit(CREATE_ACCOUNTS, 0);
+
+/// What a driver sees, in its order.
+#[derive(Clone, Copy, Debug, PartialEq, Eq)]
+enum Saw {
+    /// It is asked what it does next.
+    Asked,
+    /// It is told what became of a packet.
+    Told(Result<u64, Refusal>),
+    /// It is given a reply: the submitter, the number, and the user word.
+    Given(u32, u64, u64),
+    /// Memory was wanting for a packet.
+    NoMemory,
+}
+
+/// What is seen of a reply to a packet that is committed, and None where it isn't.
+fn given_by(reply: &Reply) -> Option<Saw> {
+    match &reply.outcome {
+        Outcome::Committed { .. } => {
+            Some(Saw::Given(reply.submitter, reply.number, reply.packet.user))
+        }
+        Outcome::Shutdown | Outcome::Stopped => None,
+    }
+}
+
+/// A packet of an operation with so many bytes.
+fn packet_of(alloc: Global, operation: u8, size: usize, user: u64) -> Result<Packet, AllocError> {
+    let mut bytes = Vec::new(alloc);
+    bytes.resize(size, 0)?;
+    Ok(Packet {
+        operation,
+        bytes: Bytes::from_vec(bytes),
+        user,
+    })
+}
+
+/// Takes its steps in turn and then ends, and notes what it sees. The user word of its packets is its own.
+#[derive(Drop)]
+struct Noter {
+    steps: &'static [Step],
+    next: usize,
+    user: u64,
+    saw: Vec<Saw>,
+}
+
+impl Noter {
+    /// A driver that has seen nothing.
+    fn new(alloc: Global, steps: &'static [Step], user: u64) -> Noter {
+        Noter {
+            steps,
+            next: 0,
+            user,
+            saw: Vec::new(alloc),
+        }
+    }
+
+    /// Notes what it sees; what finds no room is missing in what is compared.
+    fn note(&mut self, saw: Saw) {
+        let _ = self.saw.push(saw);
+    }
+
+    /// The next step; None behind the last.
+    fn step(&mut self) -> Option<Step> {
+        let step = *self.steps.get(self.next)?;
+        self.next = self.next.saturating_add(1);
+        Some(step)
+    }
+}
+
+impl Driver for Noter {
+    fn next(&mut self, alloc: Global) -> Action {
+        self.note(Saw::Asked);
+        match self.step() {
+            None => Action::End,
+            Some(Step::Receive) => Action::Receive,
+            Some(Step::Submit(operation, size)) => {
+                match packet_of(alloc, operation, size, self.user) {
+                    Ok(packet) => Action::Submit(packet),
+                    Err(_) => {
+                        self.note(Saw::NoMemory);
+                        Action::End
+                    }
+                }
+            }
+        }
+    }
+
+    fn submitted(&mut self, told: Result<u64, Refusal>) {
+        self.note(Saw::Told(told));
+    }
+
+    fn receive(&mut self, reply: Reply) {
+        if let Some(saw) = given_by(&reply) {
+            self.note(saw);
+        }
+    }
+}
+
+/// Runs a pipeline under limit 4 with a submitter for each driver, without a pulse or a Close.
+fn run<R: Threads + Wait + Sync>(
+    rt: &R,
+    alloc: Global,
+    capacity: u32,
+    credit: u32,
+    drivers: Vec<Noter>,
+) -> Result<Finished<Noter>, Fail> {
+    let submitters = u32::try_from(drivers.len())?;
+    let opened = open(alloc, 0, 4, capacity, credit, submitters)?;
+    match drive_all(rt, alloc, opened, drivers, ControlLines::none(alloc)) {
+        Ok(finished) => Ok(finished),
+        Err(_) => Err("the run is given up")?,
+    }
+}
+
+/// What was seen of a submitter in a run: by its driver, and of the replies that its end still has.
+#[derive(Drop)]
+struct Seen {
+    user: u64,
+    by_driver: Vec<Saw>,
+    left: Vec<Option<Saw>>,
+}
+
+/// The replies that an end still has, each by what is seen of it.
+fn replies_left(alloc: Global, ended: &mut Ended) -> Result<Vec<Option<Saw>>, AllocError> {
+    let mut left = Vec::new(alloc);
+    for _ in 0..MOST_REPLIES {
+        match ended.reply() {
+            Some(reply) => left.push(given_by(&reply))?,
+            None => return Ok(left),
+        }
+    }
+    Ok(left)
+}
+
+/// What was seen of each submitter, the drivers and the ends both in the order in which they came back.
+fn seen_in(alloc: Global, finished: Finished<Noter>) -> Result<Vec<Seen>, AllocError> {
+    let Finished {
+        report,
+        drivers,
+        ..
+    } = finished;
+    let mut seen = Vec::new(alloc);
+    for (driver, mut ended) in drivers.into_iter().zip(report.ends) {
+        let left = replies_left(alloc, &mut ended)?;
+        let Noter { user, saw, .. } = driver;
+        seen.push(Seen {
+            user,
+            by_driver: saw,
+            left,
+        })?;
+    }
+    Ok(seen)
+}
+
+/// Runs one submitter with these steps, without a pulse or a Close: what was seen of it.
+fn run_one<R: Threads + Wait + Sync>(
+    rt: &R,
+    alloc: Global,
+    capacity: u32,
+    credit: u32,
+    steps: &'static [Step],
+) -> Result<Seen, Fail> {
+    let drivers = vec![in alloc; Noter::new(alloc, steps, 7)]?;
+    let finished = run(rt, alloc, capacity, credit, drivers)?;
+    let mut seen = seen_in(alloc, finished)?;
+    Ok(seen.pop().ok_or("no submitter came back")?)
+}

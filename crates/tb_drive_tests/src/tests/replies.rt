@@ -1,0 +1,90 @@
+//! Replies, by the drivers that wait for them and by those that don't.
+
+use super::{Noter, SUBMIT, Saw, Seen, Step, run, run_one, seen_in};
+use std::alloc::{AllocError, Global};
+use std::test::Fail;
+
+/// Waits before there is a packet, for the one that is queued, for two of two, and behind the last reply.
+const WAITS: [Step; 8] = [
+    Step::Receive,
+    SUBMIT,
+    Step::Receive,
+    SUBMIT,
+    SUBMIT,
+    Step::Receive,
+    Step::Receive,
+    Step::Receive,
+];
+
+/// Between two askings there is one reply at most, and none only where no packet's reply is unread.
+const WAITS_SEEN: [Saw; 15] = [
+    Saw::Asked,
+    Saw::Asked,
+    Saw::Told(Ok(0)),
+    Saw::Asked,
+    Saw::Given(0, 0, 7),
+    Saw::Asked,
+    Saw::Told(Ok(1)),
+    Saw::Asked,
+    Saw::Told(Ok(2)),
+    Saw::Asked,
+    Saw::Given(0, 1, 7),
+    Saw::Asked,
+    Saw::Given(0, 2, 7),
+    Saw::Asked,
+    Saw::Asked,
+];
+
+#[test]
+fn receive_waits_for_one_reply(rt: HostRuntime) -> Result<(), Fail> {
+    let seen = run_one(&rt, rt.alloc(), 64, 16, &WAITS)?;
+    assert_eq!(rt; seen.by_driver.as_slice(), WAITS_SEEN.as_slice());
+    assert!(rt; seen.left.is_empty());
+    Ok(())
+}
+
+/// Two packets, and a wait for the first reply.
+const TWO: [Step; 3] = [SUBMIT, SUBMIT, Step::Receive];
+
+/// What the driver of a submitter sees whose packets have this user word.
+fn two_seen(submitter: u32, user: u64) -> [Saw; 7] {
+    [
+        Saw::Asked,
+        Saw::Told(Ok(0)),
+        Saw::Asked,
+        Saw::Told(Ok(1)),
+        Saw::Asked,
+        Saw::Given(submitter, 0, user),
+        Saw::Asked,
+    ]
+}
+
+/// Whether this was seen of a submitter, and the second reply is left.
+fn is_two(seen: &Seen, submitter: u32, user: u64) -> bool {
+    seen.user == user
+        && seen.by_driver.as_slice() == two_seen(submitter, user).as_slice()
+        && seen.left.as_slice() == [Some(Saw::Given(submitter, 1, user))].as_slice()
+}
+
+/// Sixteen drivers, whose user words are 100 and more.
+fn sixteen(alloc: Global) -> Result<Vec<Noter>, AllocError> {
+    let mut drivers = Vec::new(alloc);
+    for user in 100..116u64 {
+        drivers.push(Noter::new(alloc, &TWO, user))?;
+    }
+    Ok(drivers)
+}
+
+/// Each driver comes back at its submitter's index, with replies to its submitter's packets alone.
+#[test]
+fn drivers_in_order(rt: HostRuntime) -> Result<(), Fail> {
+    let alloc = rt.alloc();
+    let finished = run(&rt, alloc, 64, 16, sixteen(alloc)?)?;
+    let seen = seen_in(alloc, finished)?;
+    assert_eq!(rt; seen.len(), 16);
+    for (seen, submitter) in seen.iter().zip(0..16u32) {
+        let user = u64::from(submitter).saturating_add(100);
+        assert!(rt; is_two(seen, submitter, user), "submitter {submitter}");
+    }
+    Ok(())
+}
