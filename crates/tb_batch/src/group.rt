@@ -47,6 +47,7 @@ fn can_share(job: &Job) -> bool
 impl Group {
     /// A group of one job. Where others may join it, it has room for as much as the batch before came to, if memory
     /// allows that. Where memory for the job itself is refused, the job comes back.
+    #[inline(never)]
     pub(crate) fn alone(alloc: Global, before: Size, job: Job) -> Result<Group, (Job, NoMemory)>
         ensures group { IfOk result (λ group. group ≡ job ∷ []) }
         ensures back { IfErr result (λ refused. refused.0 ≡ job) }

@@ -60,6 +60,7 @@ impl Parts {
     }
 
     /// Makes room for one more job, and for an answer to so many events.
+    #[inline(always)]
     pub(crate) fn reserve_for(&mut self, job: &Job, events: u32) -> Result<(), NoMemory>
         requires { (self.old.failures.items ≡ []) × (self.old.accounts.items ≡ []) }
         ensures operation { self.new.operation ≡ self.old.operation }
@@ -83,6 +84,7 @@ impl Parts {
 
     /// Puts a job behind those that are there, for which there is room. This copies its data into the
     /// body, the one copy on a packet's way.
+    #[inline(always)]
     pub(crate) fn append(&mut self, job: Job)
         requires { (vec_len self.old.jobs < vec_capacity self.old.jobs) × (vec_len self.old.stubs < vec_capacity self.old.stubs) × (vec_len self.old.body + length job.packet.bytes ≤ vec_capacity self.old.body) }
         ensures operation { self.new.operation ≡ self.old.operation }
