@@ -7,6 +7,7 @@ ghost use Rattle.tb_work.specs.declared.refusal.Refusal.TheVariants.{BadLimit};
 use crate::batch::Batch;
 use crate::group::Group;
 use crate::offered::Offered;
+use crate::size::Size;
 use std::alloc::Global;
 use std::marker::Model;
 use std::mem;
@@ -15,11 +16,16 @@ use tb_work::{Job, Refusal};
 
 /// Joins neighbouring packets to batches of at most so many events. It is seen as its limit and the
 /// jobs of the group that it holds.
+///
+/// It also notes how large the batch sealed last was: the next group that others may join begins with room for as much.
+/// So all room that it asks for stays linear in what is batched: a batch asks at most for what the one before came to
+/// and for twice what it comes to itself, and for a few jobs and failures.
 #[derive(Drop)]
 pub struct Batcher {
     alloc: Global,
     limit: u32,
     held: Option<Group>,
+    before: Size,
 }
 
 impl Model for Batcher {
@@ -50,6 +56,7 @@ impl Batcher {
             alloc,
             limit,
             held: None,
+            before: Size::none(),
         })
     }
 
@@ -64,6 +71,14 @@ impl Batcher {
         }
     }
 
+    /// How large the group held is, or where none is, the batch before.
+    fn size_of_held(&self) -> Size {
+        match &self.held {
+            Some(held) => held.size(),
+            None => self.before,
+        }
+    }
+
     /// Joins a job that is taken.
     fn join(&mut self, job: Job) -> Offered
         requires { is_taken self.old.limit self.old.jobs job ≡ true }
@@ -75,7 +90,7 @@ impl Batcher {
                 Err((job, refused)) => Offered::Refused(job, refused),
             };
         }
-        match Group::alone(self.alloc, job) {
+        match Group::alone(self.alloc, self.before, job) {
             Ok(group) => {
                 self.held = Some(group);
                 Offered::Joined
@@ -89,7 +104,8 @@ impl Batcher {
         requires { is_taken self.old.limit self.old.jobs job ≡ false }
         ensures { Offers self.old job result self.new }
     {
-        match Group::alone(self.alloc, job) {
+        self.before = self.size_of_held();
+        match Group::alone(self.alloc, self.before, job) {
             Ok(group) => match mem::replace(&mut self.held, Some(group)) {
                 Some(held) => Offered::Sealed(held.seal()),
                 None => Offered::Joined,
@@ -134,6 +150,7 @@ impl Batcher {
         if self.held.is_none() {
             return None;
         }
+        self.before = self.size_of_held();
         match self.held.take() {
             Some(held) => Some(held.seal()),
             None => None,

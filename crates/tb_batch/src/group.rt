@@ -3,13 +3,15 @@
 ghost use Rattle.std.specs.Prelude.{◌≡◌, ◌<◌, ◌≤◌, ◌==◌, ◌++◌, ◌∷◌, [], length, IfOk, IfErr, OnOk, OnErr};
 ghost use Rattle.tb_layout.specs.Limits.{batch_max};
 ghost use Rattle.tb_work.specs.Admission.{count_of};
-ghost use Rattle.tb_work.specs.Job.{is_lookup};
+ghost use Rattle.tb_work.specs.Job.{count_of_all, is_lookup};
 ghost use Rattle.std.specs.Prelude.{true};
+ghost use Rattle.tb_batch.specs.Batch.{body_of};
 ghost use Rattle.tb_batch.specs.Grouping.{can_share};
 ghost use Rattle.tb_batch.specs.Grouping.{is_taken};
 
 use crate::batch::Batch;
 use crate::parts::Parts;
+use crate::size::Size;
 use std::alloc::Global;
 use std::marker::Model;
 use tb_layout::{LOOKUP_ACCOUNTS, NoMemory};
@@ -43,16 +45,18 @@ fn can_share(job: &Job) -> bool
 }
 
 impl Group {
-    /// A group of one job. Where memory is refused, the job comes back.
-    pub(crate) fn alone(alloc: Global, job: Job) -> Result<Group, (Job, NoMemory)>
+    /// A group of one job. Where others may join it, it has room for as much as the batch before came to, if memory
+    /// allows that. Where memory for the job itself is refused, the job comes back.
+    #[inline(never)]
+    pub(crate) fn alone(alloc: Global, before: Size, job: Job) -> Result<Group, (Job, NoMemory)>
         ensures group { IfOk result (λ group. group ≡ job ∷ []) }
         ensures back { IfErr result (λ refused. refused.0 ≡ job) }
     {
         let mut parts = Parts::new(alloc, job.packet().operation);
         let events = job.stub().count;
         let shares = can_share(&job);
-        if shares && parts.reserve_first().is_err() {
-            return Err((job, NoMemory));
+        if shares {
+            parts.reserve_first(before.max(Size::of(&job)));
         }
         if parts.reserve_for(&job, events).is_err() {
             return Err((job, NoMemory));
@@ -101,6 +105,19 @@ impl Group {
         ensures { result ≡ (length self.now == 0) }
     {
         self.parts.jobs.is_empty()
+    }
+
+    /// How large it is.
+    pub(crate) fn size(&self) -> Size
+        ensures packets { result.packets ≡ length self.now }
+        ensures events { result.events ≡ count_of_all self.now }
+        ensures bytes { result.bytes ≡ length (body_of self.now) }
+    {
+        Size {
+            packets: self.parts.jobs.len(),
+            events: self.events,
+            bytes: self.parts.body.len(),
+        }
     }
 
     /// The group as a batch, to which nothing joins any more.

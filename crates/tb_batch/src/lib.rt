@@ -10,6 +10,7 @@ mod batcher;
 mod group;
 mod offered;
 mod parts;
+mod size;
 
 pub use batch::Batch;
 pub use batcher::Batcher;

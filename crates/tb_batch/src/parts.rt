@@ -6,11 +6,12 @@ ghost use Rattle.tb_layout.specs.Operation.{lookup_accounts};
 ghost use Rattle.tb_work.specs.Admission.{admission_of};
 ghost use Rattle.tb_work.specs.Job.{stub_of};
 
+use crate::size::Size;
 use std::alloc::Global;
 use tb_layout::{Account, Failure, LOOKUP_ACCOUNTS, NoMemory};
 use tb_work::{Job, Stub};
 
-/// So many small packets join a group before its jobs and failures need more room.
+/// A group that others may join has room for so many jobs and failures at least.
 const FIRST_PACKETS: usize = 16;
 
 /// The parts of a batch: its packets' data one behind the other, its jobs with their stubs, and an
@@ -42,20 +43,24 @@ impl Parts {
         }
     }
 
-    /// Makes room for the jobs and failures of the first few small packets. Data and stubs stay in the journal: theirs
-    /// grows as they do.
-    pub(crate) fn reserve_first(&mut self) -> Result<(), NoMemory>
+    /// Makes room for packets of a size, and for the jobs and failures of a few small ones at least. Where that is
+    /// refused, there is as much room as before.
+    pub(crate) fn reserve_first(&mut self, size: Size)
         requires { (self.old.failures.items ≡ []) × (self.old.accounts.items ≡ []) }
         ensures operation { self.new.operation ≡ self.old.operation }
         ensures jobs { (self.new.jobs.items ≡ self.old.jobs.items) × (self.new.stubs.items ≡ self.old.stubs.items) × (self.new.body.items ≡ self.old.body.items) }
         ensures answer { (self.new.failures.items ≡ []) × (self.new.accounts.items ≡ []) }
     {
-        self.jobs.reserve(FIRST_PACKETS)?;
-        self.failures.reserve(FIRST_PACKETS)?;
-        Ok(())
+        let _ = self.jobs.reserve(size.packets.max(FIRST_PACKETS));
+        let _ = self.stubs.reserve(size.packets);
+        let _ = self.body.reserve(size.bytes);
+        let _ = self
+            .failures
+            .reserve((size.events as usize).max(FIRST_PACKETS));
     }
 
     /// Makes room for one more job, and for an answer to so many events.
+    #[inline(always)]
     pub(crate) fn reserve_for(&mut self, job: &Job, events: u32) -> Result<(), NoMemory>
         requires { (self.old.failures.items ≡ []) × (self.old.accounts.items ≡ []) }
         ensures operation { self.new.operation ≡ self.old.operation }
@@ -79,6 +84,7 @@ impl Parts {
 
     /// Puts a job behind those that are there, for which there is room. This copies its data into the
     /// body, the one copy on a packet's way.
+    #[inline(always)]
     pub(crate) fn append(&mut self, job: Job)
         requires { (vec_len self.old.jobs < vec_capacity self.old.jobs) × (vec_len self.old.stubs < vec_capacity self.old.stubs) × (vec_len self.old.body + length job.packet.bytes ≤ vec_capacity self.old.body) }
         ensures operation { self.new.operation ≡ self.old.operation }

@@ -1,13 +1,14 @@
 //! The front: tickets in, batches out.
 
-ghost use Rattle.std.specs.Prelude.{◌≡◌, ◌<◌, ◌≤◌, ◌==◌, ◌++◌, ◌∷◌, [], length, true, false, not, Some, None, IfOk, OnOk, IfErr, IfSome, IfNone};
+ghost use Rattle.std.specs.Prelude.{◌≡◌, ◌<◌, ◌≤◌, ◌==◌, ◌++◌, ◌∷◌, [], length, true, false, not, Some, None, IfOk, OnOk, OnErr, IfErr, IfSome, IfNone};
 
 use crate::parcel::{Cause, Parcel};
 use arrayvec::ArrayVec;
 use std::alloc::Global;
 use std::marker::Model;
+use std::mem;
 use tb_batch::{Batch, Batcher, Offered};
-use tb_layout::SUBMITTERS_MAX;
+use tb_layout::{NoMemory, SUBMITTERS_MAX};
 use tb_work::{Item, Job, Moment, Refusal, Ticket};
 
 /// Takes the tickets of a queue in order, joins neighbouring packets to batches, and hands these on
@@ -126,16 +127,16 @@ impl Front {
         parcels.push(parcel);
     }
 
-    /// A packet. It comes back as its ticket where its growth is refused, and nothing has changed.
+    /// A packet. Where its growth is refused, it comes back in place of an item, and nothing else has changed.
     fn offer(
         &mut self,
         parcels: &mut ArrayVec<Parcel, 2>,
-        sender: u32,
+        back: &mut Item,
         job: Job,
-    ) -> Result<(), Ticket>
+    ) -> Result<(), NoMemory>
         requires { parcels.old.items ≡ [] }
         ensures ok { OnOk result (take_result self.new parcels.new.items ≡ step_of_packet false self.old job) }
-        ensures err { IfErr result (λ back. (back.sender ≡ sender) × (back.item ≡ PacketItem job) × (self.new ≡ self.old) × (parcels.new.items ≡ [])) }
+        ensures err { OnErr result ((back.new ≡ PacketItem job) × (self.new ≡ self.old) × (parcels.new.items ≡ [])) }
         ensures front { IsFront self.old }
     {
         if self.closed {
@@ -152,10 +153,10 @@ impl Front {
                 parcels.push(Parcel::Batch(batch));
                 Ok(())
             }
-            Offered::Refused(job, _refused) => Err(Ticket {
-                sender,
-                item: Item::Packet(job),
-            }),
+            Offered::Refused(job, refused) => {
+                *back = Item::Packet(job);
+                Err(refused)
+            }
         }
     }
 
@@ -210,21 +211,22 @@ impl Front {
     }
 
     /// One ticket, where its growth isn't refused; what is handed on is put into the parcels. Otherwise the ticket
-    /// comes back, and nothing has changed.
+    /// and all else are as before. The ticket is lent, since handing up what is as large for each of them would cost
+    /// more than the rest.
     pub(crate) fn try_take(
         &mut self,
         parcels: &mut ArrayVec<Parcel, 2>,
-        ticket: Ticket,
-    ) -> Result<(), Ticket>
-        requires sender { ticket.sender ≤ self.old.submitters }
+        ticket: &mut Ticket,
+    ) -> Result<(), NoMemory>
+        requires sender { ticket.old.sender ≤ self.old.submitters }
         requires empty { parcels.old.items ≡ [] }
-        ensures ok { OnOk result (take_result self.new parcels.new.items ≡ take_step false self.old ticket.sender ticket.item) }
-        ensures err { IfErr result (λ back. (back ≡ ticket) × (self.new ≡ self.old) × (parcels.new.items ≡ [])) }
+        ensures ok { OnOk result (take_result self.new parcels.new.items ≡ take_step false self.old ticket.old.sender ticket.old.item) }
+        ensures err { OnErr result ((ticket.new ≡ ticket.old) × (self.new ≡ self.old) × (parcels.new.items ≡ [])) }
         ensures front { IsFront self.old }
     {
-        let Ticket { sender, item } = ticket;
-        match item {
-            Item::Packet(job) => self.offer(parcels, sender, job),
+        let sender = ticket.sender;
+        match mem::replace(&mut ticket.item, Item::End) {
+            Item::Packet(job) => self.offer(parcels, &mut ticket.item, job),
             Item::Pulse(moment) => Ok(self.pulse(parcels, moment)),
             Item::End => Ok(self.end(parcels, sender)),
             Item::Close => Ok(self.close(parcels, sender)),
@@ -293,9 +295,10 @@ impl Front {
         ensures ends { (queue : List TicketValue) → KnowsEnds queue self.old → KnowsEnds (queue ++ ticket ∷ []) self.new }
         ensures same { (self.new.limit ≡ self.old.limit) × (self.new.submitters ≡ self.old.submitters) }
     {
-        match self.try_take(parcels, ticket) {
+        let mut ticket = ticket;
+        match self.try_take(parcels, &mut ticket) {
             Ok(()) => {}
-            Err(ticket) => self.step_refused(parcels, ticket),
+            Err(_) => self.step_refused(parcels, ticket),
         }
     }
 }

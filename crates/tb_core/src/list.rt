@@ -93,10 +93,8 @@ impl Listing {
         ensures runs { (clock : ℕ) (limit : ℕ) (items : List ItemValue) → IsRunning clock limit items self.old.front self.old.ledger self.old.replies.items
             → OnOk result (IsRunning clock limit (items ++ item ∷ []) self.new.front self.new.ledger self.new.replies.items) }
     {
-        let ticket = Ticket { sender: 0, item };
-        let Ok(()) = self.front.try_take(parcels, ticket) else {
-            return Err(NoMemory);
-        };
+        let mut ticket = Ticket { sender: 0, item };
+        self.front.try_take(parcels, &mut ticket)?;
         apply_all(&mut self.ledger, &mut self.replies, parcels)
     }
 

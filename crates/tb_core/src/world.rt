@@ -175,18 +175,18 @@ impl World {
         if !self.parcels.is_empty() {
             return Ok(false);
         }
-        let Some(ticket) = self.queue.pop_front() else {
+        let Some(mut ticket) = self.queue.pop_front() else {
             return Ok(false);
         };
         if refused {
             self.parcels = self.front.take_as_refused(ticket);
             return Ok(true);
         }
-        match self.front.try_take(&mut self.parcels, ticket) {
+        match self.front.try_take(&mut self.parcels, &mut ticket) {
             Ok(()) => Ok(true),
-            Err(ticket) => {
+            Err(refused) => {
                 self.queue.push_front_reserved(ticket);
-                Err(NoMemory)
+                Err(refused)
             }
         }
     }

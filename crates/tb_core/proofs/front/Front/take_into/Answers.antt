@@ -3,7 +3,7 @@ use Rattle.tb_core.specs.Front.{take_result}
 use Rattle.tb_core.proofs.Accounting.{HasTaken, has_taken}
 use Rattle.tb_core.proofs.front.Front.take_into.Goals as goal
 
-taken : (c : goal.In-Ok) → HasTaken false c.args.self.now c.args.ticket (take_result c.try_take.new.self c.try_take.new.parcels.items)
+taken : (c : goal.Joined-ticket) → HasTaken false c.args.self.now c.args.ticket (take_result c.try_take.new.self c.try_take.new.parcels.items)
 taken c = has_taken false c.args.self.now c.args.ticket _ c.try_take.ensures.front c.requires.sender c.in-Ok.ensures.ok
 
 -- the ticket came back, with the front as it was
