@@ -1,4 +1,4 @@
-use Rattle.std.proofs.Common.{◌≡◌, ◌∙◌, ◌++◌, List, [], length, map, ap, sym, subst}
+use Rattle.std.proofs.Common.{◌≡◌, ◌∙◌, ◌++◌, List, [], length, map, string_bytes, ap, sym, subst}
 use Rattle.std.proofs.lemmas.List.{length-map}
 use Rattle.tb_core.specs.Ledger.{works}
 use Rattle.tb_core.specs.Report.{LawfulReport}
@@ -47,5 +47,5 @@ returns g c =
       control = ap reported.queued long ∙ reported.control ∙ ap (λ queued. queued ++ lines_of c.args.lines.moments.items c.args.lines.shuts) c.requires.silent;
       number = length-map drivers told_of ∙ sym (length-map drivers share_of) ∙ ap length shares;
       handed = subst (λ all. AreHandedIn all told reported.queued) shares (all_handed_in reported c.in_ok-text_of.ensures.done);
-      printed = c.in_ok-text_of.ensures.text ∙ ap (λ refused. run_text told replies (works ledger) refused state) c.in_ok-finished.ensures.refused;
+      printed = subst (λ refused. string_bytes c.in_ok-text_of.field-0 ≡ run_text told replies (works ledger) refused state) c.in_ok-finished.ensures.refused c.in_ok-text_of.ensures.text;
     }
