@@ -8,11 +8,29 @@ ghost use Rattle.tb_program.specs.Output.{fault_line, refused_line, failure_text
 ghost use Rattle.tb_machine.specs.Replay.{balanced_accounts};
 
 use crate::program_fault::ProgramFault;
+use itoa::{Buffer, Integer};
 use std::alloc::AllocError;
 use std::io::Write;
 use tb_layout::{Account, Failure};
 use tb_machine::Machine;
 use tb_work::{Answer, Outcome, Refusal, Reply};
+
+/// A number in decimal. This takes fewer instructions than `write!`.
+fn put_number<I: Integer>(out: &mut String, number: I) -> Result<(), AllocError>
+    ensures { OnOk result (string_bytes out.new ≡ string_bytes out.old ++ I.text number) }
+{
+    let mut buffer = Buffer::new();
+    out.push_str(buffer.format(number))
+}
+
+/// A text and a number behind it.
+#[inline(always)]
+fn put_field<I: Integer>(out: &mut String, text: &str, number: I) -> Result<(), AllocError>
+    ensures { OnOk result (string_bytes out.new ≡ string_bytes out.old ++ text.now ++ I.text number) }
+{
+    out.push_str(text)?;
+    put_number(out, number)
+}
 
 /// The line of a fault.
 pub fn put_fault(out: &mut String, line: usize, text: &str) -> Result<(), AllocError>
@@ -35,8 +53,8 @@ fn put_failures(out: &mut String, failures: &[Failure]) -> Result<(), AllocError
     ensures { OnOk result (string_bytes out.new ≡ string_bytes out.old ++ flat_map failure_text failures.now) }
 {
     for failure in failures {
-        let Failure { index, code } = *failure;
-        write!(out, " {index}:{code}")?;
+        put_field(out, " ", failure.index)?;
+        put_field(out, ":", failure.code)?;
     }
     Ok(())
 }
@@ -45,19 +63,17 @@ fn put_failures(out: &mut String, failures: &[Failure]) -> Result<(), AllocError
 fn put_found_debits(out: &mut String, account: &Account) -> Result<(), AllocError>
     ensures { OnOk result (string_bytes out.new ≡ string_bytes out.old ++ found_debits account.now) }
 {
-    let id = account.id;
-    let pending = account.debits_pending;
-    let posted = account.debits_posted;
-    write!(out, " {id}:{pending}:{posted}")
+    put_field(out, " ", account.id)?;
+    put_field(out, ":", account.debits_pending)?;
+    put_field(out, ":", account.debits_posted)
 }
 
 #[tactic(auto, unfolding(crate::specs::Output::found_credits))]
 fn put_found_credits(out: &mut String, account: &Account) -> Result<(), AllocError>
     ensures { OnOk result (string_bytes out.new ≡ string_bytes out.old ++ found_credits account.now) }
 {
-    let pending = account.credits_pending;
-    let posted = account.credits_posted;
-    write!(out, ":{pending}:{posted}")
+    put_field(out, ":", account.credits_pending)?;
+    put_field(out, ":", account.credits_posted)
 }
 
 fn put_all_found(out: &mut String, accounts: &[Account]) -> Result<(), AllocError>
@@ -84,7 +100,7 @@ fn put_outcome(out: &mut String, outcome: &Outcome) -> Result<(), AllocError>
 {
     match outcome {
         Outcome::Committed { place, answer } => {
-            write!(out, " committed {place}")?;
+            put_field(out, " committed ", *place)?;
             put_answer(out, answer)
         }
         Outcome::Shutdown => out.push_str(" shutdown"),
@@ -96,7 +112,8 @@ fn put_outcome(out: &mut String, outcome: &Outcome) -> Result<(), AllocError>
 fn put_packet_front(out: &mut String, submitter: u32, number: u64) -> Result<(), AllocError>
     ensures { OnOk result (string_bytes out.new ≡ string_bytes out.old ++ packet_front submitter number) }
 {
-    write!(out, "packet {submitter} {number}")
+    put_field(out, "packet ", submitter)?;
+    put_field(out, " ", number)
 }
 
 /// The line of a packet that was queued.
@@ -113,7 +130,8 @@ pub fn put_reply(out: &mut String, reply: &Reply) -> Result<(), AllocError>
 pub fn put_pulse(out: &mut String, place: u64) -> Result<(), AllocError>
     ensures { OnOk result (string_bytes out.new ≡ string_bytes out.old ++ pulse_line place) }
 {
-    write!(out, "pulse {place}\n")
+    put_field(out, "pulse ", place)?;
+    out.push_str("\n")
 }
 
 /// The line of a pulse whose moment is too large.
@@ -134,28 +152,27 @@ pub fn put_close(out: &mut String) -> Result<(), AllocError>
 fn put_clock(out: &mut String, clock: u64) -> Result<(), AllocError>
     ensures { OnOk result (string_bytes out.new ≡ string_bytes out.old ++ clock_line clock) }
 {
-    write!(out, "clock {clock}\n")
+    put_field(out, "clock ", clock)?;
+    out.push_str("\n")
 }
 
 #[tactic(auto, unfolding(crate::specs::Output::account_front))]
 fn put_account_front(out: &mut String, id: u128, timestamp: u64) -> Result<(), AllocError>
     ensures { OnOk result (string_bytes out.new ≡ string_bytes out.old ++ account_front id timestamp) }
 {
-    write!(out, "account {id} {timestamp}")
+    put_field(out, "account ", id)?;
+    put_field(out, " ", timestamp)
 }
 
 #[tactic(auto, unfolding(crate::specs::Output::balances_text))]
 fn put_balances(out: &mut String, account: &Account) -> Result<(), AllocError>
     ensures { OnOk result (string_bytes out.new ≡ string_bytes out.old ++ balances_text account.now) }
 {
-    let debits_pending = account.debits_pending;
-    let debits_posted = account.debits_posted;
-    let credits_pending = account.credits_pending;
-    let credits_posted = account.credits_posted;
-    write!(
-        out,
-        " {debits_pending} {debits_posted} {credits_pending} {credits_posted}\n"
-    )
+    put_field(out, " ", account.debits_pending)?;
+    put_field(out, " ", account.debits_posted)?;
+    put_field(out, " ", account.credits_pending)?;
+    put_field(out, " ", account.credits_posted)?;
+    out.push_str("\n")
 }
 
 /// The line of an account, with its balances.
