@@ -2,7 +2,7 @@
 use Rattle.std.proofs.Common.{◌≡◌, ℕ, zero, suc, List, [], ◌∷◌, ◌++◌, map, ap, sym, subst}
 use Rattle.tb_submit.specs.Ends.{Origin, SubmitterState, new_submitter}
 use Rattle.tb_program.specs.Drivers.{AreNew, HasSeenOf}
-use Rattle.tb_program.specs.Noting.{AreFresh}
+use Rattle.tb_program.specs.Noting.{AreFresh, HaveCredit}
 use Rattle.tb_program.specs.declared.run.driver.ScriptDriver.{ScriptDriver}
 
 pub one_more_new : (drivers : List ScriptDriver) (last : ScriptDriver) → AreNew drivers → HasSeenOf last [] [] → AreNew (drivers ++ last ∷ [])
@@ -20,3 +20,13 @@ opened_fresh credit (origin ∷ origins) (suc k) submitter is = opened_fresh cre
 
 pub are_fresh : (credit : ℕ) (origins : List Origin) (submitters : List SubmitterState) → submitters ≡ map (new_submitter credit) origins → AreFresh submitters
 are_fresh credit origins submitters same = subst AreFresh (sym same) (opened_fresh credit origins)
+
+opened_with : (credit : ℕ) (origins : List Origin) → HaveCredit credit (map (new_submitter credit) origins)
+opened_with credit [] k submitter is = cc
+opened_with credit (origin ∷ origins) zero submitter is =
+    let same : new_submitter credit origin ≡ submitter = cc in
+    sym (ap (λ (s : SubmitterState). s.credit) same)
+opened_with credit (origin ∷ origins) (suc k) submitter is = opened_with credit origins k submitter is
+
+pub have_credit : (credit : ℕ) (origins : List Origin) (submitters : List SubmitterState) → submitters ≡ map (new_submitter credit) origins → HaveCredit credit submitters
+have_credit credit origins submitters same = subst (HaveCredit credit) (sym same) (opened_with credit origins)

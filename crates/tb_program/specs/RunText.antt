@@ -11,6 +11,7 @@ use Rattle.tb_work.specs.declared.item.Ticket.{Ticket}
 use Rattle.tb_work.specs.declared.packet.Packet as packets
 use Rattle.tb_drive.specs.Lines.{lines_of, refused_of}
 use Rattle.tb_drive.specs.Seen.{jobs_in}
+use Rattle.tb_pipe.specs.Pulses.{IsPrefixOf, moments_committed, moments_queued}
 use Rattle.tb_script.specs.Script.{Said, clock_of, limit_of, submitters_of, items_of, script_of}
 use Rattle.tb_program.specs.Noting.{IsHandedIn}
 use Rattle.tb_program.specs.Output.{reply_line, refused_line, pulse_line, refused_pulse_line, state_text}
@@ -71,7 +72,8 @@ abbrev pub AreHandedIn : List (List packets.Packet) → List (List Told) → (�
 AreHandedIn shares told queued = (k : ℕ) (share : List packets.Packet) (own : List Told) → slice_get shares k ≡ Some share → slice_get told k ≡ Some own → IsHandedIn share [] own (jobs_in (queued k))
 
 -- Of a run from this clock on under this limit, with a submitter for each of these shares and a control that queued these items:
--- the text is that of a lawful report of some queue, in which each submitter queued its share but for what it was refused.
+-- the text is that of a lawful report of some queue, in which each submitter queued its share but for what it was refused, and whose
+-- committed pulses are the first of the control's. Which packets are refused, and why, is left open.
 pub record IsRunText (clock limit : ℕ) (shares : List (List packets.Packet)) (controlled : List Item) (refused_pulses : ℕ) (text : List ℕ) : Type 0 where
   pub queue : List Ticket
   pub queued : ℕ → List Item
@@ -83,6 +85,7 @@ pub record IsRunText (clock limit : ℕ) (shares : List (List packets.Packet)) (
   pub report : LawfulReport clock (length shares) queue queued (works_of groups) state stopped replies
   pub grouping : IsGrouping limit groups
   pub control : queued (length shares) ≡ controlled
+  pub pulses : IsPrefixOf (moments_committed (works_of groups)) (moments_queued controlled)
   pub number : length told ≡ length shares
   pub handed : AreHandedIn shares told queued
   pub printed : text ≡ run_text told replies (works_of groups) refused_pulses state

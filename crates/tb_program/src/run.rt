@@ -6,10 +6,10 @@ ghost use Rattle.tb_drive.specs.Lines.{lines_of, refused_of};
 ghost use Rattle.tb_drive.specs.Reported.{AreTogether};
 ghost use Rattle.tb_layout.specs.Limits.{submitters_max};
 ghost use Rattle.tb_program.specs.Drivers.{AreNew, lists_of, share_of};
-ghost use Rattle.tb_program.specs.Noting.{AreFresh};
+ghost use Rattle.tb_program.specs.Noting.{AreFresh, HaveCredit};
 ghost use Rattle.tb_program.specs.Output.{out, is_faultless};
 ghost use Rattle.tb_program.specs.RunText.{IsRunOf, IsRunText, IsTextOf};
-ghost use Rattle.tb_script.specs.Script.{InBounds, clock_of, limit_of, submitters_of};
+ghost use Rattle.tb_script.specs.Script.{InBounds, clock_of, credit_of, limit_of, submitters_of};
 
 mod driver;
 mod notes;
@@ -39,6 +39,7 @@ fn open_for(alloc: Global, settings: &Settings) -> Result<Opened, NoMemory>
     ensures number { IfOk result (λ opened. length opened.pipeline.submitters ≡ submitters_of settings.now) }
     ensures clock { IfOk result (λ opened. opened.pipeline.clock ≡ clock_of settings.now) }
     ensures limit { IfOk result (λ opened. opened.pipeline.intake.limit ≡ limit_of settings.now) }
+    ensures credit { IfOk result (λ opened. HaveCredit (credit_of settings.now) opened.submitters.items) }
     ensures fresh { IfOk result (λ opened. AreFresh opened.submitters.items) }
     ensures silent { IfOk result (λ opened. opened.control.queued ≡ []) }
 {

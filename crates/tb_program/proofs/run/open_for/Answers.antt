@@ -2,7 +2,7 @@ use Rattle.std.proofs.Common.{◌≡◌, ℕ, ◌≤◌, le-ltb, None, refl}
 use Rattle.tb_layout.specs.Limits.{batch_max, capacity_max, submitters_max}
 use Rattle.tb_submit.specs.Refusals.{queue_refusal}
 use Rattle.tb_script.specs.Script.{limit_of, capacity_of, credit_of, submitters_of}
-use Rattle.tb_program.proofs.Noting.{are_fresh}
+use Rattle.tb_program.proofs.Noting.{are_fresh, have_credit}
 use Rattle.tb_program.proofs.run.open_for.Goals as goal
 
 no_refusal : (limit capacity credit submitters : ℕ) → 1 ≤ limit → limit ≤ batch_max → 1 ≤ capacity → capacity ≤ capacity_max →
@@ -19,3 +19,6 @@ unreachable-requires c =
 
 pub returns-in-Ok-clause-fresh : goal.returns-in-Ok-clause-fresh
 returns-in-Ok-clause-fresh c = are_fresh _ _ _ c.in-Ok.ensures.submitters
+
+pub returns-in-Ok-clause-credit : goal.returns-in-Ok-clause-credit
+returns-in-Ok-clause-credit c = rw (c.credit.ensures) at (have_credit _ _ _ c.in-Ok.ensures.submitters)

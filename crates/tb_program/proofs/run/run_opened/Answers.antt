@@ -5,6 +5,7 @@ use Rattle.tb_core.specs.Report.{LawfulReport}
 use Rattle.tb_drive.specs.Lines.{lines_of}
 use Rattle.tb_drive.specs.Seen.{jobs_in}
 use Rattle.tb_machine.specs.Replay.{replay}
+use Rattle.tb_pipe.specs.Pulses.{IsPrefixOf, moments_committed, moments_queued}
 use Rattle.tb_submit.specs.Ends.{replies_of}
 use Rattle.tb_work.specs.Reply.{Replied}
 use Rattle.tb_work.specs.declared.item.Item.{Item}
@@ -30,6 +31,7 @@ returns g c =
     let ledger = finished.report.ledger in
     let drivers = finished.drivers.items in
     let told = map told_of drivers in
+    let lines = lines_of c.args.lines.moments.items c.args.lines.shuts in
     let state = replay ledger.opening (works ledger) in
     let replies = replies_of finished.report.ends.items in
     let shares : map share_of drivers ≡ map share_of c.args.drivers.items = c.in_ok-finished.ensures.shares in
@@ -44,7 +46,8 @@ returns g c =
       told = told;
       report = subst (λ n. LawfulReport opened.pipeline.clock n reported.queue reported.queued (works ledger) state ledger.stopped replies) (sym long) reported.report;
       grouping = reported.grouping;
-      control = ap reported.queued long ∙ reported.control ∙ ap (λ queued. queued ++ lines_of c.args.lines.moments.items c.args.lines.shuts) c.requires.silent;
+      control = ap reported.queued long ∙ reported.control ∙ ap (λ queued. queued ++ lines) c.requires.silent;
+      pulses = subst (λ queued. IsPrefixOf (moments_committed (works ledger)) (moments_queued (queued ++ lines))) c.requires.silent reported.pulses;
       number = length-map drivers told_of ∙ sym (length-map drivers share_of) ∙ ap length shares;
       handed = subst (λ all. AreHandedIn all told reported.queued) shares (all_handed_in reported c.in_ok-text_of.ensures.done);
       printed = subst (λ refused. string_bytes c.in_ok-text_of.field-0 ≡ run_text told replies (works ledger) refused state) c.in_ok-finished.ensures.refused c.in_ok-text_of.ensures.text;
