@@ -17,7 +17,8 @@ use tb_work::{Job, Refusal};
 /// Joins neighbouring packets to batches of at most so many events. It is seen as its limit and the
 /// jobs of the group that it holds.
 ///
-/// It also notes how large the batch sealed last was: the next group that others may join begins with room for as much.
+/// It also notes how large the batch was that was sealed last, or was to be: the next group that others may join begins with
+/// room for as much.
 /// So all room that it asks for stays linear in what is batched: a batch asks at most for what the one before came to
 /// and for twice what it comes to itself, and for a few jobs and failures.
 #[derive(Drop)]
