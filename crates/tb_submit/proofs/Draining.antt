@@ -10,7 +10,7 @@ use Rattle.tb_work.specs.declared.item.Ticket.{Ticket}
 use Rattle.tb_submit.specs.declared.rule.Entry.{Entry}
 use Rattle.tb_submit.specs.Ends.{EndedState, IntakeState, Seat, SenderState, control_seat, queued_by, seat_at}
 use Rattle.tb_submit.specs.Inside.{entry_of}
-use Rattle.tb_submit.specs.Lists.{ArePulsesOfControl, AreWithin, IsFiled, IsPulseOfControl, IsWithin}
+use Rattle.tb_submit.specs.Lists.{AreWithin, IsFiled, IsWithin}
 use Rattle.tb_submit.specs.Rule.{IsWhole, entry}
 use Rattle.tb_submit.proofs.Keeping.{part_append}
 
@@ -150,7 +150,3 @@ settled_queue intake ends control is = record {
 pub settled_within : (intake : IntakeState) (ends : List EndedState) (control : SenderState) → AreSettled intake ends control → AreWithin intake.limit intake.taken
 settled_within intake ends control is =
     all_of_parts (λ sender. IsWithin intake.limit) intake.taken (each_part (λ sender. IsWithin intake.limit) intake ends control is (λ sender items filed. filed.within))
-
-pub settled_pulses : (intake : IntakeState) (ends : List EndedState) (control : SenderState) → AreSettled intake ends control → ArePulsesOfControl intake.submitters intake.taken
-settled_pulses intake ends control is =
-    all_of_parts (IsPulseOfControl intake.submitters) intake.taken (each_part (IsPulseOfControl intake.submitters) intake ends control is (λ sender items filed. filed.pulses))

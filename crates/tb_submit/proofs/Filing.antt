@@ -7,7 +7,7 @@ use Rattle.tb_work.specs.Job.{Numbered, numbered_packet}
 use Rattle.tb_work.specs.Queue.{is_end, IsUnended, IsSubmitted, AreNumbered}
 use Rattle.tb_work.specs.declared.item.Item.{Item}
 use Rattle.tb_work.specs.declared.item.Item.TheVariants.{Packet, Pulse, End, Close}
-use Rattle.tb_submit.specs.Lists.{IsWithin, IsPulseOfControl, ArePackets, ArePulses, IsFiled}
+use Rattle.tb_submit.specs.Lists.{IsWithin, ArePackets, ArePulses, IsFiled}
 
 -- ---- packets
 
@@ -40,13 +40,6 @@ packets_within limit sender number (Pulse moment ∷ items) all = absurd all
 packets_within limit sender number (End ∷ items) all = absurd all
 packets_within limit sender number (Close ∷ items) all = absurd all
 
-packets_no_pulses : (limit submitters sender number : ℕ) (items : List Item) → ArePackets limit sender number items → AllByRecursion (IsPulseOfControl submitters sender) (items ++ End ∷ [])
-packets_no_pulses limit submitters sender number [] all = (tt, tt)
-packets_no_pulses limit submitters sender number (Packet job ∷ items) all = (tt, packets_no_pulses limit submitters sender (number + 1) items all.3)
-packets_no_pulses limit submitters sender number (Pulse moment ∷ items) all = absurd all
-packets_no_pulses limit submitters sender number (End ∷ items) all = absurd all
-packets_no_pulses limit submitters sender number (Close ∷ items) all = absurd all
-
 packets_numbered : (limit sender number : ℕ) (items : List Item) → ArePackets limit sender number items → AreNumbered sender number (items ++ End ∷ [])
 packets_numbered limit sender number [] all = tt
 packets_numbered limit sender number (Packet job ∷ items) all = (all.0, all.1, packets_numbered limit sender (number + 1) items all.3)
@@ -59,7 +52,6 @@ pub packets_filed : (limit submitters sender : ℕ) (items : List Item) → send
 packets_filed limit submitters sender items among all = record {
   submitted = packets_submitted limit submitters sender 0 items among all;
   within = packets_within limit sender 0 items all;
-  pulses = packets_no_pulses limit submitters sender 0 items all;
   numbered = packets_numbered limit sender 0 items all;
   ended = record { body = items; last = End; parts = refl; unended = packets_unended limit sender 0 items all; ends = refl };
 }
@@ -95,12 +87,11 @@ pulses_unended (Pulse moment ∷ items) all = pulses_unended items all
 pulses_unended (End ∷ items) all = absurd all
 pulses_unended (Close ∷ items) all = absurd all
 
-filed : (limit submitters sender : ℕ) (items : List Item) (last : Item) → sender ≡ submitters → is_end last ≡ true → IsSubmitted submitters sender last → IsWithin limit last → IsPulseOfControl submitters sender last → AreNumbered sender 0 (last ∷ []) → ArePulses items →
+filed : (limit submitters sender : ℕ) (items : List Item) (last : Item) → sender ≡ submitters → is_end last ≡ true → IsSubmitted submitters sender last → IsWithin limit last → AreNumbered sender 0 (last ∷ []) → ArePulses items →
     IsFiled limit submitters sender (items ++ last ∷ [])
-filed limit submitters sender items last control ends own within pulse numbered_packet all = record {
-  submitted = pulses_all (IsSubmitted submitters sender) items last (λ moment. tt) own all;
+filed limit submitters sender items last control ends own within numbered_packet all = record {
+  submitted = pulses_all (IsSubmitted submitters sender) items last (λ moment. control) own all;
   within = pulses_all (IsWithin limit) items last (λ moment. tt) within all;
-  pulses = pulses_all (IsPulseOfControl submitters sender) items last (λ moment. control) pulse all;
   numbered = pulses_numbered sender items last numbered_packet all;
   ended = record { body = items; last = last; parts = refl; unended = pulses_unended items all; ends = ends };
 }
@@ -109,5 +100,5 @@ filed limit submitters sender items last control ends own within pulse numbered_
 pub pulses_filed : (limit submitters sender : ℕ) (items : List Item) (last : Item) → sender ≡ submitters → is_end last ≡ true → ArePulses items → IsFiled limit submitters sender (items ++ last ∷ [])
 pulses_filed limit submitters sender items (Packet job) control ends all = cc
 pulses_filed limit submitters sender items (Pulse moment) control ends all = cc
-pulses_filed limit submitters sender items End control ends all = filed limit submitters sender items End control ends tt tt tt tt all
-pulses_filed limit submitters sender items Close control ends all = filed limit submitters sender items Close control ends tt tt tt tt all
+pulses_filed limit submitters sender items End control ends all = filed limit submitters sender items End control ends tt tt tt all
+pulses_filed limit submitters sender items Close control ends all = filed limit submitters sender items Close control ends control tt tt all

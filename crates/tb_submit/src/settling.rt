@@ -6,7 +6,7 @@ ghost use Rattle.tb_rings.specs.Ends.{given};
 ghost use Rattle.tb_rings.specs.declared.Outlet.{Outlet as OutletValue};
 ghost use Rattle.tb_submit.specs.Ends.{EndedState, IntakeState, control_seat, end_origin, origins, queued_by, replies_of};
 ghost use Rattle.tb_submit.specs.Inside.{entry_of};
-ghost use Rattle.tb_submit.specs.Lists.{ArePulsesOfControl, AreWithin, IsFiled};
+ghost use Rattle.tb_submit.specs.Lists.{AreWithin, IsFiled};
 ghost use Rattle.tb_work.specs.Queue.{IsQueueOf, is_end, part};
 ghost use Rattle.tb_work.specs.Reply.{Replied};
 
@@ -49,7 +49,6 @@ pub fn settle_queue(
     requires finished { (sender : ℕ) → sender ≤ intake.submitters → list_any is_end (part sender intake.taken) ≡ true }
     ensures queue { IsQueueOf intake.submitters intake.taken (queued_by ends.items control) }
     ensures within { AreWithin intake.limit intake.taken }
-    ensures pulses { ArePulsesOfControl intake.submitters intake.taken }
     ensures long { length result.items ≡ intake.submitters }
     ensures replies { (sender : ℕ) (d : OutletValue Replied) → sender < intake.submitters → replies_of result.items sender ≡ given (slice_index_or outlets.items sender d) }
     ensures read { (k : ℕ) (d : EndedState) → (slice_index_or result.items k d).read ≡ (slice_index_or ends.items k d).read }

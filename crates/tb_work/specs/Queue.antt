@@ -46,12 +46,12 @@ pub record IsEnded (items : List Item) : Type 0 where
 abbrev pub items_in : List Ticket → List Item
 items_in queue = map (λ (ticket : Ticket). ticket.item) queue
 
--- a packet is its sender's own, and that sender is one of so many submitters
+-- a sender's own item: a packet is that of its submitter, one of so many; a pulse and a Close are the control's, which is the sender behind them
 abbrev pub IsSubmitted : ℕ → ℕ → Item → Type 0
 IsSubmitted submitters sender (Packet job) = (job.submitter ≡ sender) × (sender < submitters)
-IsSubmitted submitters sender (Pulse moment) = Unit {0}
+IsSubmitted submitters sender (Pulse moment) = sender ≡ submitters
 IsSubmitted submitters sender End = Unit {0}
-IsSubmitted submitters sender Close = Unit {0}
+IsSubmitted submitters sender Close = sender ≡ submitters
 
 abbrev pub AreSubmitted : ℕ → List Ticket → Type 0
 AreSubmitted submitters queue = AllByRecursion (λ (ticket : Ticket). IsSubmitted submitters ticket.sender ticket.item) queue
@@ -65,7 +65,7 @@ AreNumbered sender number (End ∷ items) = AreNumbered sender number items
 AreNumbered sender number (Close ∷ items) = AreNumbered sender number items
 
 -- A queue as its senders filled it: senders 0 to `submitters` (the last is the control) put in it just what each of them
--- queued, in order and with its end last; each packet is its submitter's own, and numbered from 0; nobody else is in it.
+-- queued, in order and with its end last; each packet is its submitter's own, and numbered from 0; pulses and a Close are the control's; nobody else is in it.
 pub record IsQueueOf (submitters : ℕ) (queue : List Ticket) (queued : ℕ → List Item) : Type 0 where
   pub parts : (sender : ℕ) → sender ≤ submitters → part sender queue ≡ queued sender
   pub strangers : (sender : ℕ) → submitters < sender → part sender queue ≡ []

@@ -38,9 +38,9 @@ may limit submitters number sender (item.Packet job) h =
       next = (eqb-true job.submitter number own.0, eqb-true job.number sender.pushed counted.0);
       submitted = (eqb-true job.submitter number own.0, few);
     }
-may limit submitters number sender (item.Pulse moment) h = let is = eqb-true number submitters h in record { among = omega (arith, is); next = tt; submitted = tt }
+may limit submitters number sender (item.Pulse moment) h = let is = eqb-true number submitters h in record { among = omega (arith, is); next = tt; submitted = is }
 may limit submitters number sender item.End h = record { among = leb-true number submitters h; next = tt; submitted = tt }
-may limit submitters number sender item.Close h = let is = eqb-true number submitters h in record { among = omega (arith, is); next = tt; submitted = tt }
+may limit submitters number sender item.Close h = let is = eqb-true number submitters h in record { among = omega (arith, is); next = tt; submitted = is }
 
 -- ---- one sender
 

@@ -48,5 +48,5 @@ returns-clause-pulses c =
     let remains = c.args.remains in
     let long : length c.args.ends.items ≡ remains.intake.submitters
     = sym (length-map c.args.ends.items end_origin) ∙ ap length c.requires.ends ∙ length-origins (seat_at remains.intake) 0 remains.routed.outlets.items ∙ c.requires.served.number in
-    first_moments remains.intake.submitters remains.intake.taken c.args.ends.items c.args.control (works remains.committed.ledger) (report c).behind long (report c).committed c.settle_queue-ends.ensures.pulses
+    first_moments remains.intake.submitters remains.intake.taken c.args.ends.items c.args.control (works remains.committed.ledger) (report c).behind long (report c).committed c.settle_queue-ends.ensures.queue.submitted
     (c.settle_queue-ends.ensures.queue.parts remains.intake.submitters (omega arith))

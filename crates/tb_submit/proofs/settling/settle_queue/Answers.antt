@@ -7,7 +7,7 @@ use Rattle.tb_submit.specs.Ends.{EndedState, IntakeState, SenderState, replies_o
 use Rattle.tb_submit.specs.Inside.{ReaderState, entry_of}
 use Rattle.tb_submit.specs.Lists.{IsFiled}
 use Rattle.tb_submit.specs.Rule.{IsWhole, entry}
-use Rattle.tb_submit.proofs.Draining.{AreSettled, settled_queue, settled_within, settled_pulses}
+use Rattle.tb_submit.proofs.Draining.{AreSettled, settled_queue, settled_within}
 use Rattle.tb_submit.proofs.Opening.{ends_long, seat_of_one}
 use Rattle.tb_submit.proofs.settling.settle_queue.Goals as goal
 
@@ -52,9 +52,6 @@ returns-clause-queue c = settled_queue c.args.intake c.args.ends.items c.args.co
 
 pub returns-clause-within : goal.returns-clause-within
 returns-clause-within c = settled_within c.args.intake c.args.ends.items c.args.control (settled c)
-
-pub returns-clause-pulses : goal.returns-clause-pulses
-returns-clause-pulses c = settled_pulses c.args.intake c.args.ends.items c.args.control (settled c)
 
 pub returns-clause-long : goal.returns-clause-long
 returns-clause-long c = c.settle_all-ends.ensures.long ∙ (settled c).long
