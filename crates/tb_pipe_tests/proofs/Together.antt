@@ -1,12 +1,11 @@
 -- A run from opening to the report, put together from what the calls say.
-use Rattle.std.proofs.Common.{◌≡◌, ℕ, suc, ◌+◌, List, [], ◌∷◌, ◌++◌, map, length, length-append, sym, ap, ◌∙◌, subst, arith}
+use Rattle.std.proofs.Common.{◌≡◌, ℕ, List, ap, subst}
 use Rattle.std.specs.Prelude.{Result, Ok, Err, IfOk}
-use Rattle.std.proofs.lemmas.List.{length-map}
 use Rattle.tb_core.specs.Grouping.{IsGrouping}
 use Rattle.tb_core.specs.Ledger.{LedgerState, works}
 use Rattle.tb_core.specs.Report.{LawfulReport}
 use Rattle.tb_machine.specs.Replay.{replay}
-use Rattle.tb_submit.specs.Ends.{EndedState, IntakeState, Origin, SubmitterState, origin_of, replies_of}
+use Rattle.tb_submit.specs.Ends.{EndedState, IntakeState, replies_of}
 use Rattle.tb_work.specs.declared.item.Item.{Item}
 use Rattle.tb_pipe.specs.Run.{PipelineState, ServedState}
 use Rattle.tb_pipe.specs.declared.settling.Report.{Report}

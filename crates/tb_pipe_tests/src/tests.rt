@@ -1,4 +1,6 @@
 //! What no clause tells: worked examples by name, the gate's calls, threads, and memory that is refused.
+//!
+//! Who owns a pipeline or a report drops it by name: a proof goes through all that is let go where a function ends.
 
 ghost use Rattle.std.specs.Prelude.{◌≡◌, ◌++◌, ◌∷◌, [], IfOk, OnOk, length, map};
 ghost use Rattle.tb_submit.specs.Ends.{origin_of, end_origin, control_seat};
@@ -290,15 +292,51 @@ fn finish_lone<R: Threads + Wait + Sync, G: Gate>(
         submitter,
         control,
     } = lone;
-    let ends = end_lone(rt, alloc, submitter, control, shut, behind)?;
-    match finish(rt, pipeline, ends, gate) {
-        Ok(report) => Ok(report),
-        Err(_) => Err("a thread can't be started")?,
+    match end_lone(rt, alloc, submitter, control, shut, behind) {
+        Ok(ends) => finish_started(rt, pipeline, ends, gate),
+        Err(fail) => {
+            drop(pipeline);
+            Err(fail)
+        }
     }
 }
 
-/// Compares a report's clock, and what the replies tell that a submitter has not read.
+/// Serves and settles as `finish` does, where threads can be started.
+fn finish_started<R: Threads + Wait + Sync, G: Gate>(
+    rt: &R,
+    pipeline: Pipeline,
+    ends: Ends,
+    gate: &G,
+) -> Result<Report, Fail>
+    requires own { map end_origin ends.submitters.items ≡ pipeline.submitters }
+    requires control { ends.control.seat ≡ control_seat pipeline.intake }
+    ensures { IfOk result (λ report. IsRun pipeline.clock pipeline.intake.limit pipeline.intake.submitters report.ledger report.ends.items) }
+{
+    match finish(rt, pipeline, ends, gate) {
+        Ok(report) => Ok(report),
+        Err(back) => {
+            drop(back);
+            Err("a thread can't be started")?
+        }
+    }
+}
+
+/// Compares the clock of a run with one submitter, and what the replies tell that it has not read.
 fn assert_run(
+    rt: &impl Abort,
+    alloc: Global,
+    report: Report,
+    wanted_clock: u64,
+    wanted: &[Told],
+) -> Result<(), Fail> {
+    let mut report = report;
+    let asserted = assert_report(rt, alloc, &mut report, wanted_clock, 0, wanted);
+    drop(report);
+    asserted
+}
+
+/// Compares a report's clock, and what the replies tell that a submitter has not read.
+fn assert_report(
     rt: &impl Abort,
     alloc: Global,
     report: &mut Report,

@@ -69,22 +69,18 @@ fn assert_taken(
     Ok(())
 }
 
+/// Why a front isn't opened.
+fn refusal(alloc: Global, limit: u32, submitters: u32) -> Option<Refusal> {
+    Front::new(alloc, limit, submitters).err()
+}
+
 #[test]
 fn openings(rt: HostRuntime) {
-    assert_eq!(rt; Front::new(rt.alloc(), 0, 3).err(), Some(Refusal::BadLimit));
-    assert_eq!(rt;
-        Front::new(rt.alloc(), 8191, 17).err(),
-        Some(Refusal::BadLimit)
-    );
-    assert_eq!(rt;
-        Front::new(rt.alloc(), 4, 17).err(),
-        Some(Refusal::BadSubmitters)
-    );
-    assert_eq!(rt;
-        Front::new(rt.alloc(), 4, 0).err(),
-        Some(Refusal::BadSubmitters)
-    );
-    assert_eq!(rt; Front::new(rt.alloc(), 4, 3).err(), None);
+    assert_eq!(rt; refusal(rt.alloc(), 0, 3), Some(Refusal::BadLimit));
+    assert_eq!(rt; refusal(rt.alloc(), 8191, 17), Some(Refusal::BadLimit));
+    assert_eq!(rt; refusal(rt.alloc(), 4, 17), Some(Refusal::BadSubmitters));
+    assert_eq!(rt; refusal(rt.alloc(), 4, 0), Some(Refusal::BadSubmitters));
+    assert_eq!(rt; refusal(rt.alloc(), 4, 3), None);
 }
 
 const FIRST: Made = Made::Packet { number: 0, id: 1 };
@@ -271,16 +267,32 @@ fn way_of_a_packet(front: &mut Front, ledger: &mut Ledger, ticket: Ticket) -> Op
     }
 }
 
-#[test]
-fn packet_is_answered(rt: HostRuntime) -> Result<(), Fail> {
-    let mut front = small_front(rt.alloc())?;
-    let mut ledger = Ledger::new(rt.alloc(), 0);
-    let ticket = ticket(rt.alloc(), 0, FIRST)?;
-    let reply = way_of_a_packet(&mut front, &mut ledger, ticket).ok_or("no reply")?;
+/// Asserts that the submitter's first packet has its reply.
+fn assert_answered(
+    rt: &impl Abort,
+    alloc: Global,
+    front: &mut Front,
+    ledger: &mut Ledger,
+) -> Result<(), Fail>
+    requires { front.old.submitters ≡ 1 }
+{
+    let ticket = ticket(alloc, 0, FIRST)?;
+    let reply = way_of_a_packet(front, ledger, ticket).ok_or("no reply")?;
     assert_eq!(rt;
         (reply.submitter, reply.number, reply.packet.user),
         (0, 0, 7)
     );
-    assert_told(&rt, slice::from_ref(&reply), &[Told::Committed(0)]);
+    assert_told(rt, slice::from_ref(&reply), &[Told::Committed(0)]);
+    drop(reply);
     Ok(())
+}
+
+#[test]
+fn packet_is_answered(rt: HostRuntime) -> Result<(), Fail> {
+    let mut front = small_front(rt.alloc())?;
+    let mut ledger = Ledger::new(rt.alloc(), 0);
+    let answered = assert_answered(&rt, rt.alloc(), &mut front, &mut ledger);
+    drop(front);
+    drop(ledger);
+    answered
 }

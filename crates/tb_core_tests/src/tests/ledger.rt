@@ -121,14 +121,29 @@ fn told_of_all(
     Ok(told)
 }
 
+/// Feeds them, and asserts what they come to.
+fn feed_all(
+    rt: &impl Abort,
+    alloc: Global,
+    front: &mut Front,
+    ledger: &mut Ledger,
+) -> Result<(), Fail>
+    requires { front.old.submitters ≡ 1 }
+{
+    let told = told_of_all(rt, alloc, front, ledger)?;
+    assert_eq!(rt; told.as_slice(), PULSE_BETWEEN_BATCHES.as_slice());
+    assert_pulse_between(rt, ledger);
+    Ok(())
+}
+
 #[test]
 fn pulse_between_batches(rt: HostRuntime) -> Result<(), Fail> {
     let mut front = small_front(rt.alloc())?;
     let mut ledger = Ledger::new(rt.alloc(), 0);
-    let told = told_of_all(&rt, rt.alloc(), &mut front, &mut ledger)?;
-    assert_eq!(rt; told.as_slice(), PULSE_BETWEEN_BATCHES.as_slice());
-    assert_pulse_between(&rt, &ledger);
-    Ok(())
+    let fed = feed_all(&rt, rt.alloc(), &mut front, &mut ledger);
+    drop(front);
+    drop(ledger);
+    fed
 }
 
 fn assert_pulse_between(rt: &impl Abort, ledger: &Ledger) {
@@ -174,30 +189,33 @@ fn found(reply: &Reply) -> Option<(u64, usize, Account)> {
     }
 }
 
-/// The first reply of a batch.
-fn first_reply(outcomes: Outcomes) -> Option<Reply> {
+/// What the first reply of a batch found.
+fn first_found(outcomes: Outcomes) -> Option<(u64, usize, Account)> {
     match outcomes {
-        Outcomes::Cut(mut cutter) => cutter.next(),
+        Outcomes::Cut(mut cutter) => found(&cutter.next()?),
         _ => None,
     }
 }
 
 #[test]
 fn found_by_a_lookup(rt: HostRuntime) -> Result<(), Fail> {
+    let made = batch_of(rt.alloc(), 1)?;
     let mut ledger = Ledger::new(rt.alloc(), 3);
-    ledger.apply(batch_of(rt.alloc(), 1)?);
-    assert_found(&rt, rt.alloc(), &mut ledger)
+    ledger.apply(made);
+    let found = assert_found(&rt, rt.alloc(), &mut ledger);
+    drop(ledger);
+    found
 }
 
 /// A lookup of accounts 1 and 2, of which the first is there.
 fn assert_found(rt: &impl Abort, alloc: Global, ledger: &mut Ledger) -> Result<(), Fail> {
     let asked = alone(alloc, looking_up(alloc, 0, 1, &[1, 2])?)?;
-    let reply = first_reply(ledger.apply(Parcel::Batch(asked))).ok_or("no reply")?;
+    let found = first_found(ledger.apply(Parcel::Batch(asked)));
     let made = Account {
         timestamp: 4,
         ..account(1)
     };
-    assert_eq!(rt; found(&reply), Some((1, 1, made)));
+    assert_eq!(rt; found, Some((1, 1, made)));
     assert_eq!(rt; ledger.machine().clock(), 4);
     assert_noted(rt, ledger.journal(), &[Noted::Batch(1), Noted::Batch(1)]);
     Ok(())
@@ -206,8 +224,15 @@ fn assert_found(rt: &impl Abort, alloc: Global, ledger: &mut Ledger) -> Result<(
 #[test]
 fn refused_commit(rt: HostRuntime) -> Result<(), Fail> {
     let mut ledger = Ledger::new(rt.alloc(), 0);
-    let mut told = Vec::new(rt.alloc());
-    refuse_commit(&rt, rt.alloc(), &mut ledger, &mut told)?;
+    let refused = assert_refused(&rt, rt.alloc(), &mut ledger);
+    drop(ledger);
+    refused
+}
+
+/// Refuses a commit, and asserts that nothing is committed from there on.
+fn assert_refused(rt: &impl Abort, alloc: Global, ledger: &mut Ledger) -> Result<(), Fail> {
+    let mut told = Vec::new(alloc);
+    refuse_commit(rt, alloc, ledger, &mut told)?;
     assert_eq!(rt;
         told.as_slice(),
         [Told::Stopped, Told::Stopped, Told::Shutdown].as_slice()

@@ -51,6 +51,7 @@ fn pulse_between_batches(rt: HostRuntime) -> Result<(), Fail> {
     ];
     let noted = [Noted::Batch(2), Noted::Pulse(5), Noted::Batch(4)];
     assert_listed(&rt, &listed, &told, &noted, 9);
+    drop(listed);
     Ok(())
 }
 
@@ -68,6 +69,7 @@ fn packet_behind_shut(rt: HostRuntime) -> Result<(), Fail> {
     let told = [Told::Committed(0), Told::Shutdown];
     assert_listed(&rt, &listed, &told, &[Noted::Batch(1)], 1);
     assert_eq!(rt; listed.ledger.machine().accounts(), 1);
+    drop(listed);
     Ok(())
 }
 
@@ -127,6 +129,7 @@ fn full_batch_then_overflow(rt: HostRuntime) -> Result<(), Fail> {
     let listed = run_list(rt.alloc(), 0, 4, items)?;
     let noted = [Noted::Batch(1), Noted::Batch(2)];
     assert_listed(&rt, &listed, &FIRST_THREE, &noted, 5);
+    drop(listed);
     Ok(())
 }
 
@@ -161,5 +164,6 @@ fn largest_packets(rt: HostRuntime) -> Result<(), Fail> {
     let noted = [Noted::Batch(1), Noted::Batch(1), Noted::Batch(1)];
     assert_listed(&rt, &listed, &FIRST_THREE, &noted, 16_390);
     assert_largest(&rt, &listed);
+    drop(listed);
     Ok(())
 }

@@ -287,9 +287,12 @@ pub(super) fn run<R: Threads + Wait + Sync>(
                     ensures { (end_origin result.ended ≡ origin_of last) × (result.control.seat ≡ control.seat) }
                 { drive(rt, alloc, last, control, course) },
             ) else {
+                drop(pipeline);
+                drop(ends);
                 return Err(Refusal::NoThread);
             };
             let Ok(served) = pipeline.serve(rt, &Open) else {
+                drop(ends);
                 return Err(Refusal::NoThread);
             };
             let Driven {
@@ -297,7 +300,11 @@ pub(super) fn run<R: Threads + Wait + Sync>(
                 control,
                 saw,
             } = driver.join(rt);
-            put(&mut ends, ended)?;
+            let Ok(()) = put(&mut ends, ended) else {
+                drop(served);
+                drop(control);
+                return Err(Refusal::NoMemory);
+            };
             Ok((settle(served, ends, control), saw))
         },
     )
@@ -353,13 +360,19 @@ fn opened_driving<R: Wait>(
         submitters,
         control,
     } = opened(alloc, capacity, credit, submitters)?;
-    let (ends, last) = end_all_but_last(rt, alloc, submitters)?;
-    Ok(Driving {
-        pipeline,
-        ends,
-        last,
-        control,
-    })
+    match end_all_but_last(rt, alloc, submitters) {
+        Ok((ends, last)) => Ok(Driving {
+            pipeline,
+            ends,
+            last,
+            control,
+        }),
+        Err(fail) => {
+            drop(pipeline);
+            drop(control);
+            Err(fail)
+        }
+    }
 }
 
 /// Compares what the driver saw, and the clock after the run.
@@ -375,7 +388,9 @@ fn assert_driven<R: Threads + Wait + Sync + Abort>(
     requires control { driving.control.seat ≡ control_seat driving.pipeline.intake }
 {
     let (report, saw) = run(rt, alloc, driving, course)?;
-    assert_eq!(rt; (saw, clock(&report)), (wanted, wanted_clock));
+    let clock = clock(&report);
+    drop(report);
+    assert_eq!(rt; (saw, clock), (wanted, wanted_clock));
     Ok(())
 }
 

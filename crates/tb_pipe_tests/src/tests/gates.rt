@@ -69,10 +69,10 @@ const EMPTY: [Step; 2] = [
 #[test]
 fn batcher_and_committer_overlap(rt: HostRuntime) -> Result<(), Fail> {
     let gate = Meeting::new(2, true);
-    let mut report = run_queued(&rt, rt.alloc(), &EMPTY, false, &[], &gate)?;
+    let report = run_queued(&rt, rt.alloc(), &EMPTY, false, &[], &gate)?;
     assert!(rt; !gate.marked.load(SeqCst));
     let places = [Told::Committed(0), Told::Committed(1)];
-    assert_run(&rt, rt.alloc(), &mut report, 0, 0, &places)
+    assert_run(&rt, rt.alloc(), report, 0, &places)
 }
 
 /// The same two in turn, twenty in all.
@@ -95,7 +95,7 @@ fn twenty_places() -> [Told; 20] {
 #[test]
 fn six_batches_sealed_ahead(rt: HostRuntime) -> Result<(), Fail> {
     let gate = Meeting::new(6, false);
-    let mut report = run_queued(&rt, rt.alloc(), &twenty_in_turn(), false, &[], &gate)?;
+    let report = run_queued(&rt, rt.alloc(), &twenty_in_turn(), false, &[], &gate)?;
     assert!(rt; !gate.marked.load(SeqCst));
-    assert_run(&rt, rt.alloc(), &mut report, 0, 0, &twenty_places())
+    assert_run(&rt, rt.alloc(), report, 0, &twenty_places())
 }

@@ -108,8 +108,13 @@ fn serve_seven<R: Threads + Wait + Sync>(
         submitter,
         control,
     } = lone;
-    let ends = end_lone(rt, alloc, submitter, control, false, &[])?;
-    Ok(finish(rt, pipeline, ends, &Open))
+    match end_lone(rt, alloc, submitter, control, false, &[]) {
+        Ok(ends) => Ok(finish(rt, pipeline, ends, &Open)),
+        Err(fail) => {
+            drop(pipeline);
+            Err(fail)
+        }
+    }
 }
 
 /// What a ticket says: a packet with its number, or a pulse with its moment.
@@ -187,8 +192,14 @@ fn each_growth_refused_memory(rt: HostRuntime) -> Result<(), Fail> {
     let mut told = false;
     let lone = seven_queued(&rt, rt.alloc(), &mut told)?;
     match serve_seven(&rt, rt.alloc(), lone)? {
-        Ok(mut report) => assert_seven(&rt, &mut report, told),
-        Err((mut intake, refusal)) => assert_none_taken(&rt, &mut intake, refusal),
+        Ok(mut report) => {
+            assert_seven(&rt, &mut report, told);
+            drop(report);
+        }
+        Err((mut intake, refusal)) => {
+            assert_none_taken(&rt, &mut intake, refusal);
+            drop(intake);
+        }
     }
     Ok(())
 }
@@ -239,8 +250,11 @@ fn first_commit_refused_memory(rt: HostRuntime) -> Result<(), Fail> {
     let lone = three_queued(&rt, rt.alloc())?;
     match run(&rt, rt.alloc(), drive_lone(lone, ends), Course::ReadTwo) {
         Ok((report, saw)) => {
-            if report.ledger.places() == 0 {
-                assert_eq!(rt; (saw, clock(&report)), (ALL_STOPPED, 0));
+            let places = report.ledger.places();
+            let clock = clock(&report);
+            drop(report);
+            if places == 0 {
+                assert_eq!(rt; (saw, clock), (ALL_STOPPED, 0));
                 let _ = println!(rt; "the first commit is refused");
             }
         }

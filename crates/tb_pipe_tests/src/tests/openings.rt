@@ -11,10 +11,7 @@ use tb_work::{Packet, Refusal};
 
 /// Why an opening with a credit of 4 is refused.
 fn refusal_of(alloc: Global, limit: u32, capacity: u32, submitters: u32) -> Option<Refusal> {
-    match open(alloc, 0, limit, capacity, 4, submitters) {
-        Ok(_) => None,
-        Err(refusal) => Some(refusal),
-    }
+    open(alloc, 0, limit, capacity, 4, submitters).err()
 }
 
 #[test]
@@ -70,7 +67,9 @@ fn assert_full<R: Wait + Abort>(
 #[test]
 fn full_queue_of_one(rt: HostRuntime) -> Result<(), Fail> {
     let mut lone = opened_lone(rt.alloc(), 1, 4)?;
-    assert_full(&rt, rt.alloc(), &mut lone.submitter)
+    let asserted = assert_full(&rt, rt.alloc(), &mut lone.submitter);
+    drop(lone);
+    asserted
 }
 
 /// The credit is looked at after the packet's operation.
@@ -94,5 +93,7 @@ fn assert_used_up<R: Wait + Abort>(
 #[test]
 fn credit_used_up(rt: HostRuntime) -> Result<(), Fail> {
     let mut lone = opened_lone(rt.alloc(), 4, 1)?;
-    assert_used_up(&rt, rt.alloc(), &mut lone.submitter)
+    let asserted = assert_used_up(&rt, rt.alloc(), &mut lone.submitter);
+    drop(lone);
+    asserted
 }

@@ -5,8 +5,8 @@ ghost use Rattle.tb_submit.specs.Ends.{end_origin, origin_of};
 ghost use Rattle.tb_pipe_tests.specs.Together.{IsRun};
 
 use super::{
-    CREATE_ACCOUNTS, Ends, Told, assert_run, end_all, end_control, entries, finish, finish_lone,
-    holds, opened, opened_lone, packet_of, queue, queue_pulse, submit,
+    CREATE_ACCOUNTS, Ends, Told, assert_report, assert_run, end_all, end_control, entries,
+    finish_lone, finish_started, holds, opened, opened_lone, packet_of, queue, queue_pulse, submit,
 };
 use std::alloc::Global;
 use std::process::Abort;
@@ -57,8 +57,13 @@ pub(super) fn run_queued<R: Threads + Wait + Sync, G: Gate>(
     ensures { IfOk result (λ report. IsRun 0 4 1 report.ledger report.ends.items) }
 {
     let mut lone = opened_lone(alloc, 64, 64)?;
-    queue_steps(rt, alloc, &mut lone.submitter, &mut lone.control, steps)?;
-    finish_lone(rt, alloc, lone, shut, behind, gate)
+    match queue_steps(rt, alloc, &mut lone.submitter, &mut lone.control, steps) {
+        Ok(()) => finish_lone(rt, alloc, lone, shut, behind, gate),
+        Err(fail) => {
+            drop(lone);
+            Err(fail)
+        }
+    }
 }
 
 const TWO_AND_FOUR: [Step; 7] = [
@@ -84,14 +89,16 @@ const SIX_PLACES: [Told; 6] = [
 fn assert_pulse_between(rt: &impl Abort, alloc: Global, report: &mut Report) -> Result<(), Fail> {
     let counts = entries(alloc, report)?;
     assert_eq!(rt; counts.as_slice(), [2, 0, 4].as_slice());
-    assert_run(rt, alloc, report, 9, 0, &SIX_PLACES)
+    assert_report(rt, alloc, report, 9, 0, &SIX_PLACES)
 }
 
 #[test]
 fn pulse_between_batches(rt: HostRuntime) -> Result<(), Fail> {
     for shut in [false, true] {
         let mut report = run_queued(&rt, rt.alloc(), &TWO_AND_FOUR, shut, &[], &Open)?;
-        assert_pulse_between(&rt, rt.alloc(), &mut report)?;
+        let asserted = assert_pulse_between(&rt, rt.alloc(), &mut report);
+        drop(report);
+        asserted?;
     }
     Ok(())
 }
@@ -99,16 +106,10 @@ fn pulse_between_batches(rt: HostRuntime) -> Result<(), Fail> {
 #[test]
 fn packet_behind_shut(rt: HostRuntime) -> Result<(), Fail> {
     let ahead = [Step::Packet(CREATE_ACCOUNTS, 1)];
-    let mut report = run_queued(&rt, rt.alloc(), &ahead, true, &[2], &Open)?;
+    let report = run_queued(&rt, rt.alloc(), &ahead, true, &[2], &Open)?;
     assert_eq!(rt; report.ledger.machine().accounts(), 1);
-    assert_run(
-        &rt,
-        rt.alloc(),
-        &mut report,
-        1,
-        0,
-        &[Told::Committed(0), Told::Shutdown],
-    )
+    let told = [Told::Committed(0), Told::Shutdown];
+    assert_run(&rt, rt.alloc(), report, 1, &told)
 }
 
 /// So many of six packets are ahead of the Close.
@@ -139,9 +140,9 @@ fn told_where(count: usize) -> [Told; 6] {
 #[test]
 fn close_anywhere(rt: HostRuntime) -> Result<(), Fail> {
     for count in 0..7usize {
-        let mut report = closes_after(&rt, rt.alloc(), count)?;
+        let report = closes_after(&rt, rt.alloc(), count)?;
         let told = told_where(count);
-        assert_run(&rt, rt.alloc(), &mut report, count as u64, 0, &told)?;
+        assert_run(&rt, rt.alloc(), report, count as u64, &told)?;
     }
     Ok(())
 }
@@ -171,21 +172,20 @@ fn three_unread<R: Threads + Wait + Sync>(rt: &R, alloc: Global) -> Result<Repor
     ensures { IfOk result (λ report. IsRun 0 4 1 report.ledger report.ends.items) }
 {
     let mut lone = opened_lone(alloc, 8, 3)?;
-    submit_four(rt, alloc, &mut lone.submitter)?;
-    finish_lone(rt, alloc, lone, false, &[], &Open)
+    match submit_four(rt, alloc, &mut lone.submitter) {
+        Ok(()) => finish_lone(rt, alloc, lone, false, &[], &Open),
+        Err(fail) => {
+            drop(lone);
+            Err(fail)
+        }
+    }
 }
 
 #[test]
 fn replies_after_settle(rt: HostRuntime) -> Result<(), Fail> {
-    let mut report = three_unread(&rt, rt.alloc())?;
-    assert_run(
-        &rt,
-        rt.alloc(),
-        &mut report,
-        3,
-        0,
-        &[Told::Committed(0), Told::Committed(1), Told::Committed(2)],
-    )
+    let report = three_unread(&rt, rt.alloc())?;
+    let told = [Told::Committed(0), Told::Committed(1), Told::Committed(2)];
+    assert_run(&rt, rt.alloc(), report, 3, &told)
 }
 
 /// Each submitter queues a packet with the account after its number.
@@ -233,10 +233,12 @@ fn one_of_each<R: Threads + Wait + Sync>(rt: &R, alloc: Global) -> Result<Report
         submitters,
         control,
     } = opened(alloc, 64, 64, 16)?;
-    let ends = end_each(rt, alloc, submitters, control)?;
-    match finish(rt, pipeline, ends, &Open) {
-        Ok(report) => Ok(report),
-        Err(_) => Err("a thread can't be started")?,
+    match end_each(rt, alloc, submitters, control) {
+        Ok(ends) => finish_started(rt, pipeline, ends, &Open),
+        Err(fail) => {
+            drop(pipeline);
+            Err(fail)
+        }
     }
 }
 
@@ -246,7 +248,7 @@ fn assert_one_of_each(rt: &impl Abort, alloc: Global, report: &mut Report) -> Re
     assert_eq!(rt; counts.as_slice(), [4, 4, 4, 4].as_slice());
     for sender in 0..16u8 {
         let told = [Told::Committed(u64::from(sender))];
-        assert_run(rt, alloc, report, 16, usize::from(sender), &told)?;
+        assert_report(rt, alloc, report, 16, usize::from(sender), &told)?;
     }
     Ok(())
 }
@@ -254,5 +256,7 @@ fn assert_one_of_each(rt: &impl Abort, alloc: Global, report: &mut Report) -> Re
 #[test]
 fn sixteen_submitters(rt: HostRuntime) -> Result<(), Fail> {
     let mut report = one_of_each(&rt, rt.alloc())?;
-    assert_one_of_each(&rt, rt.alloc(), &mut report)
+    let asserted = assert_one_of_each(&rt, rt.alloc(), &mut report);
+    drop(report);
+    asserted
 }

@@ -1,6 +1,6 @@
 //! From opening to the content of a reply.
 
-ghost use Rattle.std.specs.Prelude.{◌≡◌, ◌∷◌, [], IfOk};
+ghost use Rattle.std.specs.Prelude.{◌≡◌, ◌∷◌, [], IfOk, IfSome};
 ghost use Rattle.tb_submit.specs.Ends.{end_origin, ended_with, control_seat, sender_with, with_item};
 ghost use Rattle.tb_work.specs.Job.{numbered_packet};
 ghost use Rattle.tb_work.specs.declared.item.Item.TheVariants as item;
@@ -54,6 +54,22 @@ fn end_alone<R: Wait>(rt: &R, control: Control) -> Result<ControlEnd, Fail>
     }
 }
 
+/// Queues a packet, and ends both senders.
+fn end_both<R: Wait>(
+    rt: &R,
+    alloc: Global,
+    submitter: Submitter,
+    control: Control,
+    packet: Packet,
+) -> Result<(Ended, ControlEnd), Fail>
+    requires { submitter.queued ≡ [] }
+    ensures ended { IfOk result (λ ends. ends.0 ≡ ended_with (with_item submitter (item.Packet (numbered_packet submitter.origin.seat.number 0 packet))) item.End) }
+    ensures control { IfOk result (λ ends. ends.1 ≡ sender_with control item.End) }
+{
+    let ended = queue_and_end(rt, alloc, submitter, packet)?;
+    Ok((ended, end_alone(rt, control)?))
+}
+
 /// A pipeline of one submitter, for which a packet is queued.
 fn queue_one<R: Wait>(rt: &R, alloc: Global, packet: Packet) -> Result<Queued, Fail>
     ensures own { IfOk result (λ queued. end_origin queued.ended ∷ [] ≡ queued.pipeline.submitters) }
@@ -69,13 +85,30 @@ fn queue_one<R: Wait>(rt: &R, alloc: Global, packet: Packet) -> Result<Queued, F
         submitter,
         control,
     } = lone_of(opened);
-    let ended = queue_and_end(rt, alloc, submitter, packet)?;
-    let control = end_alone(rt, control)?;
-    Ok(Queued {
-        pipeline,
-        ended,
-        control,
-    })
+    match end_both(rt, alloc, submitter, control, packet) {
+        Ok((ended, control)) => Ok(Queued {
+            pipeline,
+            ended,
+            control,
+        }),
+        Err(fail) => {
+            drop(pipeline);
+            Err(fail)
+        }
+    }
+}
+
+/// The ends of the submitters, of which there is one; None where there is no room.
+fn only_end(alloc: Global, ended: Ended) -> Option<Vec<Ended>>
+    ensures { IfSome result (λ ends. ends.items ≡ ended ∷ []) }
+{
+    let Ok(mut ends) = room_for_ends(alloc) else {
+        return None;
+    };
+    match put(&mut ends, ended) {
+        Ok(()) => Some(ends),
+        Err(_) => None,
+    }
 }
 
 /// Serves it, and settles.
@@ -94,11 +127,16 @@ fn settle_one<R: Threads + Wait + Sync>(
         ended,
         control,
     } = queued;
-    let mut ends = room_for_ends(alloc)?;
-    put(&mut ends, ended)?;
+    let Some(ends) = only_end(alloc, ended) else {
+        drop(pipeline);
+        return Err("there is no room for an end")?;
+    };
     match pipeline.serve(rt, &Open) {
         Ok(served) => Ok(settle(served, ends, control)),
-        Err(_) => Err("a thread can't be started")?,
+        Err(back) => {
+            drop(back);
+            Err("a thread can't be started")?
+        }
     }
 }
 
@@ -126,7 +164,9 @@ fn reply_to_one<R: Threads + Wait + Sync>(
 {
     let queued = queue_one(rt, alloc, packet)?;
     let mut report = settle_one(rt, alloc, queued)?;
-    Ok(only_reply(&mut report))
+    let reply = only_reply(&mut report);
+    drop(report);
+    Ok(reply)
 }
 
 /// A packet that asks twice for account 1.

@@ -41,7 +41,9 @@ fn pushes_that_answer_false(rt: HostRuntime) -> Result<(), Fail> {
 fn answer_to(alloc: Global, limit: u32, sender: u32, job: Job) -> Result<bool, Refusal> {
     let mut world = World::new(alloc, 0, limit, 2)?;
     let item = Item::Packet(job);
-    match world.step(Event::Push(Ticket { sender, item })) {
+    let answer = world.step(Event::Push(Ticket { sender, item }));
+    drop(world);
+    match answer {
         Ok(moves) => Ok(moves),
         Err((_event, _refused)) => Err(Refusal::NoMemory),
     }

@@ -172,6 +172,7 @@ fn world_with_close_by_a_list(rt: HostRuntime) -> Result<(), Fail> {
     let events = events_with_close(rt.alloc())?;
     let world = run_world(rt.alloc(), 0, 4, 2, events)?;
     assert_world(&rt, &world, &WITH_CLOSE_TOLD, &[Noted::Batch(1)], 1);
+    drop(world);
     Ok(())
 }
 

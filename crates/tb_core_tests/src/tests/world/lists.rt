@@ -301,7 +301,9 @@ fn one_list(rt: &impl Abort, alloc: Global, seed: u64) -> Result<(), Fail> {
         pushed: Vec::new(alloc),
         refused: false,
     };
-    play_list(rt, alloc, &mut world, &mut known, seed)
+    let played = play_list(rt, alloc, &mut world, &mut known, seed);
+    drop(world);
+    played
 }
 
 #[test]

@@ -80,10 +80,6 @@ fn pulsed_events(alloc: Global) -> Result<Vec<Event>, Refusal> {
     Ok(events)
 }
 
-fn pulsed_world(alloc: Global) -> Result<World, Refusal> {
-    run(alloc, pulsed_events(alloc)?)
-}
-
 /// Asserts what the example says.
 fn assert_pulsed(rt: &impl Abort, world: &World) {
     let told = [
@@ -100,18 +96,23 @@ fn assert_pulsed(rt: &impl Abort, world: &World) {
     assert_eq!(rt; world.ledger().machine().clock(), 9);
 }
 
-#[test]
-fn pulse_between_batches(rt: HostRuntime) -> Result<(), Fail> {
-    let world = pulsed_world(rt.alloc())?;
-    assert_pulsed(&rt, &world);
+/// Runs the example, and asserts what it comes to.
+fn run_pulsed(rt: &impl Abort, alloc: Global) -> Result<(), Refusal> {
+    let world = run(alloc, pulsed_events(alloc)?)?;
+    assert_pulsed(rt, &world);
+    drop(world);
     Ok(())
 }
 
 #[test]
+fn pulse_between_batches(rt: HostRuntime) -> Result<(), Fail> {
+    Ok(run_pulsed(&rt, rt.alloc())?)
+}
+
+#[test]
 fn pulse_between_batches_refused_memory(rt: HostRuntime) {
-    match pulsed_world(rt.alloc()) {
-        Ok(world) => assert_pulsed(&rt, &world),
-        Err(refusal) => assert_eq!(rt; refusal, Refusal::NoMemory),
+    if let Err(refusal) = run_pulsed(&rt, rt.alloc()) {
+        assert_eq!(rt; refusal, Refusal::NoMemory);
     }
 }
 
@@ -178,10 +179,6 @@ fn joined_events(alloc: Global) -> Result<Vec<Event>, Refusal> {
     Ok(events)
 }
 
-fn joined_world(alloc: Global) -> Result<World, Refusal> {
-    run(alloc, joined_events(alloc)?)
-}
-
 const CHAIN_FAILURES: [Failure; 3] = [
     Failure { index: 0, code: 1 },
     Failure { index: 1, code: 1 },
@@ -214,18 +211,23 @@ fn assert_untouched(rt: &impl Abort, world: &World) {
     }
 }
 
-#[test]
-fn chains_of_transfers_joined(rt: HostRuntime) -> Result<(), Fail> {
-    let world = joined_world(rt.alloc())?;
-    assert_joined(&rt, &world);
+/// Runs the example, and asserts what it comes to.
+fn run_joined(rt: &impl Abort, alloc: Global) -> Result<(), Refusal> {
+    let world = run(alloc, joined_events(alloc)?)?;
+    assert_joined(rt, &world);
+    drop(world);
     Ok(())
 }
 
 #[test]
+fn chains_of_transfers_joined(rt: HostRuntime) -> Result<(), Fail> {
+    Ok(run_joined(&rt, rt.alloc())?)
+}
+
+#[test]
 fn chains_of_transfers_joined_refused_memory(rt: HostRuntime) {
-    match joined_world(rt.alloc()) {
-        Ok(world) => assert_joined(&rt, &world),
-        Err(refusal) => assert_eq!(rt; refusal, Refusal::NoMemory),
+    if let Err(refusal) = run_joined(&rt, rt.alloc()) {
+        assert_eq!(rt; refusal, Refusal::NoMemory);
     }
 }
 
@@ -277,5 +279,6 @@ fn sixteen_submitters(rt: HostRuntime) -> Result<(), Fail> {
     let events = sixteen_events(rt.alloc())?;
     let world = run_world(rt.alloc(), 0, 4, 16, events)?;
     assert_sixteen(&rt, &world);
+    drop(world);
     Ok(())
 }

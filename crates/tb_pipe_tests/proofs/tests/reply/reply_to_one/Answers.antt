@@ -1,11 +1,11 @@
 use Rattle.tb_pipe_tests.proofs.tests.reply.reply_to_one.Goals as goal
 
-pub only_reply-requires : goal.only_reply-requires
-only_reply-requires g c =
+pub only_reply-reply-requires : goal.only_reply-reply-requires
+only_reply-reply-requires g c =
     let queued = c.in_ok-queued.ensures.queued in
     (c.args.packet, c.in_ok-report.ensures c.args.packet queued.0 queued.1)
 
 pub returns : goal.returns
 returns g c =
     let queued = c.in_ok-queued.ensures.queued in
-    c.only_reply.ensures c.args.packet (c.in_ok-report.ensures c.args.packet queued.0 queued.1)
+    c.only_reply-reply.ensures c.args.packet (c.in_ok-report.ensures c.args.packet queued.0 queued.1)
