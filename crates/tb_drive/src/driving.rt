@@ -277,6 +277,25 @@ fn settle_left<D: Driver>(served: Served, left: Left<D>, control: ControlLeft) -
     }
 }
 
+/// Joins all threads.
+fn join<D: Driver, R: Threads>(
+    rt: &R,
+    running: Running<D>,
+) -> Result<(Left<D>, ControlLeft), DriveFault>
+    requires { running.room ≡ nothing_left }
+    ensures own { IfOk result (λ left. map end_origin left.0.ends ≡ map seated_origin (map started_from running.submitters.items)) }
+    ensures shares { IfOk result (λ left. left.0.shares ≡ map seated_share (map started_from running.submitters.items)) }
+    ensures control { IfOk result (λ left. IsEndPromised running.control.promise left.1) }
+{
+    let Running {
+        submitters,
+        control,
+        room,
+    } = running;
+    let left = join_all(rt, submitters, room)?;
+    Ok((left, join_control(rt, control)?))
+}
+
 /// Joins all threads, and settles with the ends that they leave.
 fn finish<D: Driver, R: Threads>(
     rt: &R,
@@ -291,14 +310,13 @@ fn finish<D: Driver, R: Threads>(
     ensures shares { IfOk result (λ finished. map D.share finished.drivers.items ≡ map seated_share (map started_from running.submitters.items)) }
     ensures refused { IfOk result (λ finished. finished.refused_pulses ≡ refused_promised running.control.promise) }
 {
-    let Running {
-        submitters,
-        control,
-        room,
-    } = running;
-    let left = join_all(rt, submitters, room)?;
-    let control = join_control(rt, control)?;
-    Ok(settle_left(served, left, control))
+    match join(rt, running) {
+        Ok((left, control)) => Ok(settle_left(served, left, control)),
+        Err(fault) => {
+            drop(served);
+            Err(fault)
+        }
+    }
 }
 
 /// Serves while the threads run, joins them and settles.
@@ -317,7 +335,11 @@ fn serve<D: Driver, R: Threads + Wait + Sync>(
 {
     match pipeline.serve(rt, &Open) {
         Ok(served) => finish(rt, served, running),
-        Err(_) => Err(DriveFault::NoThread),
+        Err(back) => {
+            drop(back);
+            drop(running);
+            Err(DriveFault::NoThread)
+        }
     }
 }
 
@@ -340,7 +362,10 @@ fn run_all<'s, E, D: Driver + Send + 's, R: Threads + Wait + Sync>(
 {
     match start(scope, rt, alloc, stop, all, control_driver) {
         Ok(running) => serve(rt, pipeline, running),
-        Err(fault) => Err(fault),
+        Err(fault) => {
+            drop(pipeline);
+            Err(fault)
+        }
     }
 }
 
@@ -435,6 +460,10 @@ pub fn drive_all<D: Driver + Send, R: Threads + Wait + Sync>(
     } = opened;
     match seat_all(alloc, submitters, drivers) {
         Ok(all) => run_in_scope(rt, alloc, pipeline, all, ControlDriver { control, lines }),
-        Err(fault) => Err(fault),
+        Err(fault) => {
+            drop(pipeline);
+            drop(control);
+            Err(fault)
+        }
     }
 }
