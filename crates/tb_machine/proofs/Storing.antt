@@ -1,6 +1,6 @@
 -- An event whose checks find nothing may be stored.
 use Rattle.std.proofs.Common.{refl, sym, ap, subst, ◌∙◌, arith, ◌≡◌, ℕ, ◌+◌, ◌*◌, ◌<◌, ◌≤◌, ◌^◌, Bool, true, false, not, List, [], ◌∷◌, Option, Some, None}
-use Rattle.std.specs.Prelude.{◌==◌, ◌&&◌, ◌||◌, nat_lt, IsSome, if◌then◌else◌}
+use Rattle.std.specs.Prelude.{◌==◌, ◌&&◌, ◌||◌, nat_lt, slice_get, IsSome, if◌then◌else◌}
 use Rattle.std.specs.List.{AllByRecursion, list_all}
 use Rattle.std.specs.Option.{option_map}
 use Rattle.std.proofs.lemmas.Bool.{eqb-true}
@@ -11,7 +11,7 @@ use Rattle.tb_layout.specs.declared.transfer_code.TransferCode.{TransferCode}
 use Rattle.tb_layout.specs.declared.transfer_code.TransferCode.TheVariants.{Exists, Ok}
 use Rattle.tb_layout.specs.TransferCode.{number_of}
 use Rattle.tb_layout.specs.Transfer.{is_pending, is_post, is_void, is_resolving}
-use Rattle.tb_tables.specs.Facts.{Facts, account_with, IsPlaceOf, transfer_with}
+use Rattle.tb_tables.specs.Facts.{Facts, account_with, IsPlaceOf, IsPlaceOfTransfer, transfer_with}
 use Rattle.tb_tables.specs.Balances.{balanced_account, with_balances, debits, credits}
 use Rattle.tb_tables.specs.Status.{status_of, is_due}
 use Rattle.tb_tables.specs.declared.status.Status.{Status}
@@ -192,22 +192,17 @@ post_or_void false false false h k = cc
 equal : (a b : ℕ) → not (a == b) ≡ false → a ≡ b
 equal a b h = eqb-true a b (not_not (a == b) h)
 
--- resolving leaves the ids
-pub same_id : (found : Option Transfer) (event : Transfer) → (resolved_transfer_of found event).id ≡ event.id
-same_id None event = refl
-same_id (Some pending) event = by (is_resolving event)
-  where
-    by : (b : Bool) → (if b then resolved_transfer pending event else event).id ≡ event.id
-    by true = refl
-    by false = refl
+-- what stands at the place of the transfer that it names is that transfer
+pub is_named : (facts : Facts) (id : ℕ) (place : Option ℕ) (at : ℕ) (one : Transfer) → IsPlaceOfTransfer facts id place → place ≡ Some at → Some one ≡ slice_get facts.transfers at → transfer_with facts id ≡ Some one
+is_named facts id None at one is same there = cc
+is_named facts id (Some place) at one is same there = cc (is.1, is.2, there, same)
 
-pub same_pending_id : (found : Option Transfer) (event : Transfer) → (resolved_transfer_of found event).pending_id ≡ event.pending_id
-same_pending_id None event = refl
-same_pending_id (Some pending) event = by (is_resolving event)
-  where
-    by : (b : Bool) → (if b then resolved_transfer pending event else event).pending_id ≡ event.pending_id
-    by true = refl
-    by false = refl
+-- and it is stored as resolved against that
+pub stored_is : (facts : Facts) (timestamp : ℕ) (event pending : Transfer) → transfer_with facts event.pending_id ≡ Some pending → is_resolving event ≡ true →
+    stored_transfer facts timestamp event ≡ record (resolved_transfer pending event) { timestamp = timestamp }
+stored_is facts timestamp event pending named resolves =
+    ap (λ found. record (resolved_transfer_of found event) { timestamp = timestamp }) named
+    ∙ ap (λ b. record (if b then resolved_transfer pending event else event) { timestamp = timestamp }) resolves
 
 pub may_resolve : (facts : Facts) (timestamp : ℕ) (event : Transfer) → number_of (transfer_verdict facts timestamp event) ≡ 0 → is_resolving event ≡ true → MayResolve facts (stored_transfer facts timestamp event)
 may_resolve facts timestamp event ok resolves =
@@ -216,11 +211,8 @@ may_resolve facts timestamp event ok resolves =
     sym (ap (λ b. number_of (if b then resolving_verdict facts timestamp event else moving_verdict facts timestamp event)) resolves) ∙ id.rest in
     let one = names facts timestamp event verdict in
     let kind = post_or_void (is_pending event) (is_post event) (is_void event) id.apart resolves in
-    let stored : stored_transfer facts timestamp event ≡ record (resolved_transfer one.pending event) { timestamp = timestamp } =
-    ap (λ found. record (resolved_transfer_of found event) { timestamp = timestamp }) one.named
-    ∙ ap (λ b. record (if b then resolved_transfer one.pending event else event) { timestamp = timestamp }) resolves in
     let pending_id = found-id (λ (transfer : Transfer). transfer.id) event.pending_id facts.transfers one.pending one.named in
-    subst (MayResolve facts) (sym stored)
+    subst (MayResolve facts) (sym (stored_is facts timestamp event one.pending one.named resolves))
     (record {
       new = id.new;
       post_or_void = kind.0;

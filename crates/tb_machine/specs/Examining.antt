@@ -1,6 +1,8 @@
 -- Words of the functions that take a packet's chains one by one.
 use Rattle.std.specs.Prelude.{◌≢◌, ◌<◌, ℕ, suc, Bool, List, [], ◌∷◌, Option, Some, None, if◌then◌else◌}
+use Rattle.tb_tables.specs.Facts.{Facts}
 use Rattle.tb_machine.specs.declared.fault.Fault.{Fault}
+use Rattle.tb_machine.specs.Chain.{Operation, Outcome, closed_outcome, first_fault}
 
 -- how many events the first chain has
 abbrev pub first_chain_length : {Event : Type 0} → (Event → Bool) → List Event → ℕ
@@ -16,3 +18,7 @@ LiesBelow end (Some fault) = (fault.index < end) × (fault.code ≢ 0)
 abbrev pub fault_as : {A B : Type 0} → (A → B) → Option (Fault A) → Option (Fault B)
 fault_as become None = None
 fault_as become (Some fault) = Some (record { index = fault.index; event = become fault.event; code = fault.code })
+
+-- what becomes of an event that is a chain by itself and isn't linked
+abbrev pub event_outcome : {Event : Type 0} → Operation Event → ℕ → Facts → Event → Outcome
+event_outcome operation clock facts event = closed_outcome operation clock facts (event ∷ []) (first_fault operation 0 clock facts (event ∷ []))

@@ -2,11 +2,10 @@
 use Rattle.std.specs.Prelude.{◌≡◌, true, false}
 use Rattle.tb_layout.specs.declared.transfer.Transfer.{Transfer}
 use Rattle.tb_layout.specs.Transfer.{is_resolving}
-use Rattle.tb_tables.specs.Facts.{Facts, IsPlaceOf}
+use Rattle.tb_tables.specs.Facts.{Facts, IsPlaceOf, IsPlaceOfTransfer}
 use Rattle.tb_machine.specs.declared.prefetch.Sides.{Sides}
 use Rattle.tb_machine.specs.declared.prefetch.Target.{Target}
 use Rattle.tb_machine.specs.declared.prefetch.Target.TheVariants.{Between, Named}
-use Rattle.tb_machine.specs.declared.prefetch.Prefetch.{Prefetch}
 
 -- the places are those of the event's accounts
 pub record AreSides (facts : Facts) (event : Transfer) (sides : Sides) : Type 0 where
@@ -16,8 +15,4 @@ pub record AreSides (facts : Facts) (event : Transfer) (sides : Sides) : Type 0 
 -- a plain or pending transfer acts on its accounts, and a post or a void on the transfer that it names
 abbrev pub IsTarget : Facts → Transfer → Target → Type 0
 IsTarget facts event (Between sides) = (is_resolving event ≡ false) × AreSides facts event sides
-IsTarget facts event (Named pending) = (is_resolving event ≡ true) × (pending ≡ event.pending_id)
-
-pub record IsPrefetched (facts : Facts) (event : Transfer) (prefetch : Prefetch) : Type 0 where
-  pub key : prefetch.key ≡ event.id
-  pub target : IsTarget facts event prefetch.target
+IsTarget facts event (Named pending) = (is_resolving event ≡ true) × IsPlaceOfTransfer facts event.pending_id pending

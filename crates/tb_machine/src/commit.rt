@@ -1,11 +1,11 @@
 //! A packet's chains, one by one.
 
-ghost use Rattle.std.specs.Prelude.{◌≡◌, ◌+◌, ◌^◌, ◌<◌, ◌≤◌, ◌++◌, [], length, map, vec_len, vec_capacity, Ok, None, IfOk, OnOk};
+ghost use Rattle.std.specs.Prelude.{◌≡◌, ◌≢◌, ◌+◌, ◌^◌, ◌<◌, ◌≤◌, ◌++◌, [], length, map, vec_len, vec_capacity, Ok, None, IfOk, OnOk};
 ghost use Rattle.tb_tables.specs.History.{mark_of, back_to, Extends};
 ghost use Rattle.tb_layout.specs.Limits.{clock_max};
 ghost use Rattle.tb_machine.specs.Clock as spec;
 ghost use Rattle.tb_machine.specs.Chain.{verdict_at, facts_with, facts_with_all, first_fault, left_behind, open_outcome, closed_outcome, chain_outcome};
-ghost use Rattle.tb_machine.specs.Examining.{fault_as};
+ghost use Rattle.tb_machine.specs.Examining.{event_outcome, fault_as};
 ghost use Rattle.tb_machine.specs.Packet.{events_outcome, failures_from};
 
 use crate::chain::first_chain_length;
@@ -27,6 +27,7 @@ fn examine_at<E: Event>(clock: u64, tables: &mut Tables, event: &E) -> Result<u3
     ensures extends { Extends tables.old tables.new }
     ensures code { IfOk result (λ code. code ≡ verdict_at E.operation tables.old.now (spec.next_timestamp clock) event.now) }
     ensures stored { result ≡ Ok 0 → tables.new.now ≡ facts_with E.operation tables.old.now (spec.next_timestamp clock) event.now }
+    ensures same { result ≢ Ok 0 → tables.new ≡ tables.old }
 {
     match next_timestamp(clock) {
         Some(timestamp) => event.examine(tables, timestamp),
@@ -90,6 +91,38 @@ fn take_back<E: Event>(
         Some(fault) => fault.event.remember(tables, fault.code),
         None => Ok(()),
     }
+}
+
+/// Takes an event that is a chain by itself: it succeeds, or it is reported with its own code and leaves behind what
+/// that does. There is nothing to take back.
+fn commit_event<E: Event>(
+    clock: u64,
+    tables: &mut Tables,
+    chunk: &[u8; 128],
+    index: usize,
+    out: &mut Vec<Failure>,
+) -> Result<(), NoMemory>
+    requires clock { clock ≤ clock_max }
+    requires room { vec_len out.old < vec_capacity out.old }
+    requires fits { index < 2 ^ 32 }
+    ensures extends { Extends tables.old tables.new }
+    ensures facts { let outcome = event_outcome E.operation clock tables.old.now (E.event_of chunk.now) in
+        OnOk result (tables.new.now ≡ outcome.facts) }
+    ensures failures { let outcome = event_outcome E.operation clock tables.old.now (E.event_of chunk.now) in
+        OnOk result (out.new.items ≡ out.old.items ++ failures_from index outcome.results) }
+    ensures len { vec_len out.new ≤ vec_len out.old + 1 }
+    ensures capacity { vec_capacity out.new ≡ vec_capacity out.old }
+{
+    let event = E::read(chunk);
+    let code = examine_at(clock, tables, &event)?;
+    if code != 0 {
+        event.remember(tables, code)?;
+        out.push_reserved(Failure {
+            index: index as u32,
+            code,
+        });
+    }
+    Ok(())
 }
 
 /// Takes a chain whose last event isn't linked: each of its events succeeds, or each is reported, the first fault
@@ -174,6 +207,8 @@ fn commit_chain<E: Event>(
     let last = chain.len() - 1;
     if E::is_chunk_linked(&chain[last]) {
         commit_open_chain::<E>(clock, tables, &chain[..last], index, out)
+    } else if last == 0 {
+        commit_event::<E>(clock, tables, &chain[0], index, out)
     } else {
         commit_closed_chain::<E>(clock, tables, chain, index, out)
     }

@@ -9,18 +9,18 @@ ghost use Rattle.tb_tables.specs.History.{with_change, Extends};
 ghost use Rattle.tb_layout.specs.Limits.{clock_max};
 ghost use Rattle.tb_machine.specs.Chain.{Operation};
 ghost use Rattle.tb_machine.specs.TransferVerdict.{stored_transfer, transfer_verdict as verdict_of};
-ghost use Rattle.tb_machine.specs.Prefetch.{IsTarget, IsPrefetched};
+ghost use Rattle.tb_machine.specs.Prefetch.{IsTarget};
 ghost use Rattle.tb_machine.specs.declared.prefetch.Target.TheVariants.{Between, Named};
 ghost use Rattle.tb_machine.specs.Operations as spec;
 
 use crate::account_verdict::account_verdict;
-use crate::prefetch::{Prefetch, Sides, Target};
-use crate::resolved::resolved_under;
+use crate::prefetch::{Sides, Target};
+use crate::resolved::resolved;
 use crate::transfer_verdict::transfer_verdict;
 use tb_layout::{
     Account, NoMemory, Transfer, TransferCode, is_chunk_linked, read_account, read_transfer,
 };
-use tb_tables::{Key, Tables};
+use tb_tables::Tables;
 
 /// An event of an operation.
 pub trait Event: Copy {
@@ -89,18 +89,17 @@ impl Event for Transfer {
     }
 
     fn examine(&self, tables: &mut Tables, timestamp: u64) -> Result<u32, NoMemory> {
-        let prefetch = Prefetch::of(tables, self);
-        let code = transfer_verdict(tables, &prefetch, timestamp, self).number();
+        let target = Target::of(tables, self);
+        let code = transfer_verdict(tables, target, timestamp, self).number();
         if code == 0 {
-            store(tables, &prefetch, timestamp, self)?;
+            store(tables, target, timestamp, self)?;
         }
         Ok(code)
     }
 
     fn remember(&self, tables: &mut Tables, code: u32) -> Result<(), NoMemory> {
-        let key = Key::of(self.id);
-        if is_transient(code) && !tables.failed_under(key) {
-            tables.add_failed_under(key)?;
+        if is_transient(code) && !tables.failed(self.id) {
+            tables.add_failed(self.id)?;
         }
         Ok(())
     }
@@ -122,12 +121,10 @@ fn is_transient(code: u32) -> bool
 /// Stores a plain or pending transfer whose checks find nothing.
 fn store_between(
     tables: &mut Tables,
-    key: Key,
     sides: Sides,
     timestamp: u64,
     event: &Transfer,
 ) -> Result<(), NoMemory>
-    requires key { key ≡ event.now.id }
     requires target { IsTarget tables.old.now event.now (Between sides) }
     requires clock { timestamp ≤ clock_max }
     requires ok { number_of (verdict_of tables.old.now timestamp event.now) ≡ 0 }
@@ -144,45 +141,47 @@ fn store_between(
         timestamp,
         ..*event
     };
-    tables.add_transfer_between(key, transfer, debit, credit)
+    tables.add_transfer_between(transfer, debit, credit)
 }
 
 /// Stores a post or a void whose checks find nothing.
 fn store_resolved(
     tables: &mut Tables,
-    key: Key,
-    pending: Key,
+    pending: Option<usize>,
     timestamp: u64,
     event: &Transfer,
 ) -> Result<(), NoMemory>
-    requires key { key ≡ event.now.id }
     requires target { IsTarget tables.old.now event.now (Named pending) }
     requires ok { number_of (verdict_of tables.old.now timestamp event.now) ≡ 0 }
     ensures ok { OnOk result (tables.new ≡ with_change tables.old (add_transfer tables.old.now (stored_transfer tables.old.now timestamp event.now))) }
     ensures err { OnErr result (tables.new ≡ tables.old) }
 {
+    let Some(place) = pending else { unreachable!() };
+    let Some(named) = tables.transfer_at(place) else {
+        unreachable!()
+    };
     let transfer = Transfer {
         timestamp,
-        ..resolved_under(tables, pending, *event)
+        ..resolved(&named, event)
     };
-    tables.resolve_under(key, pending, transfer)
+    tables.resolve_at(transfer, place)
 }
 
 /// Stores a transfer whose checks find nothing.
 fn store(
     tables: &mut Tables,
-    prefetch: &Prefetch,
+    target: Target,
     timestamp: u64,
     event: &Transfer,
 ) -> Result<(), NoMemory>
-    requires prefetch { IsPrefetched tables.old.now event.now prefetch.now }
+    requires target { IsTarget tables.old.now event.now target }
     requires clock { timestamp ≤ clock_max }
     requires ok { number_of (verdict_of tables.old.now timestamp event.now) ≡ 0 }
     ensures ok { OnOk result (tables.new ≡ with_change tables.old (add_transfer tables.old.now (stored_transfer tables.old.now timestamp event.now))) }
     ensures err { OnErr result (tables.new ≡ tables.old) }
 {
-    match prefetch.target {
-        Target::Between(sides) => store_between(tables, prefetch.key, sides, timestamp, event),
-        Target::Named(pending) => store_resolved(tables, prefetch.key, pending, timestamp, event),
+    match target {
+        Target::Between(sides) => store_between(tables, sides, timestamp, event),
+        Target::Named(pending) => store_resolved(tables, pending, timestamp, event),
     }
 }

@@ -3,11 +3,11 @@
 ghost use Rattle.std.specs.Prelude.{◌≡◌, ℕ};
 ghost use Rattle.tb_tables.specs.Facts.{IsPlaceOf};
 ghost use Rattle.tb_tables.specs.Balances.{balanced_account};
-ghost use Rattle.tb_machine.specs.Prefetch.{IsPrefetched};
+ghost use Rattle.tb_machine.specs.Prefetch.{IsTarget};
 
 use crate::resolved::is_resolving;
 use tb_layout::{Account, Transfer};
-use tb_tables::{Key, Tables};
+use tb_tables::Tables;
 
 /// The places of two accounts, as far as they are there.
 #[derive(Clone, Copy)]
@@ -16,39 +16,28 @@ pub struct Sides {
     pub credit: Option<usize>,
 }
 
-/// What a transfer acts on.
+/// What a transfer acts on. From here on it is found by its place alone.
 #[derive(Clone, Copy)]
 pub enum Target {
-    /// The accounts of a plain or pending transfer. From here on each is found by its place alone.
+    /// The accounts of a plain or pending transfer.
     Between(Sides),
 
-    /// The transfer that a post or a void names. It has its accounts from there.
-    Named(Key),
+    /// The place of the transfer that a post or a void names, as far as it is there.
+    Named(Option<usize>),
 }
 
-/// A transfer's own key and what it acts on. Each of its ids is hashed here, once.
-#[derive(Clone, Copy)]
-pub struct Prefetch {
-    pub key: Key,
-    pub target: Target,
-}
-
-impl Prefetch {
-    /// Looks up what an event needs.
-    pub fn of(tables: &Tables, event: &Transfer) -> Prefetch
-        ensures { IsPrefetched tables.now.now event.now result }
+impl Target {
+    /// Looks up what an event acts on.
+    pub fn of(tables: &Tables, event: &Transfer) -> Target
+        ensures { IsTarget tables.now.now event.now result }
     {
-        let target = if is_resolving(event) {
-            Target::Named(Key::of(event.pending_id))
+        if is_resolving(event) {
+            Target::Named(tables.place_of_transfer(event.pending_id))
         } else {
             Target::Between(Sides {
                 debit: tables.place(event.debit_account_id),
                 credit: tables.place(event.credit_account_id),
             })
-        };
-        Prefetch {
-            key: Key::of(event.id),
-            target,
         }
     }
 }

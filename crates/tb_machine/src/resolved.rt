@@ -6,7 +6,7 @@ ghost use Rattle.tb_tables.specs.Facts.{transfer_with};
 ghost use Rattle.tb_machine.specs.TransferVerdict as spec;
 
 use tb_layout::Transfer;
-use tb_tables::{Key, Tables};
+use tb_tables::Tables;
 
 /// A field, or where it is 0 what the pending transfer has.
 fn unless_zero_u128(field: u128, otherwise: u128) -> u128
@@ -71,13 +71,13 @@ pub fn resolved(pending: &Transfer, event: &Transfer) -> Transfer
     }
 }
 
-/// A post or a void with its fields resolved against the transfer under a key. It is handed over by value, so that a
+/// A post or a void with its fields resolved against the transfer with an id. It is handed over by value, so that a
 /// transfer that is neither isn't put into memory for it.
-pub fn resolved_under(tables: &Tables, pending: Key, event: Transfer) -> Transfer
+fn resolved_against(tables: &Tables, pending_id: u128, event: Transfer) -> Transfer
     requires { is_resolving_event event ≡ true }
-    ensures { result ≡ spec.resolved_transfer_of (transfer_with tables.now.now pending) event }
+    ensures { result ≡ spec.resolved_transfer_of (transfer_with tables.now.now pending_id) event }
 {
-    match tables.transfer_under(pending) {
+    match tables.transfer(pending_id) {
         Some(pending) => resolved(&pending, &event),
         None => event,
     }
@@ -88,7 +88,7 @@ pub fn resolved_by(tables: &Tables, pending_id: u128, event: &Transfer) -> Trans
     ensures { result ≡ spec.resolved_transfer_of (transfer_with tables.now.now pending_id) event.now }
 {
     if is_resolving(event) {
-        resolved_under(tables, Key::of(pending_id), *event)
+        resolved_against(tables, pending_id, *event)
     } else {
         *event
     }

@@ -1,15 +1,15 @@
 //! The checks of a post or a void, in their order.
 
-ghost use Rattle.std.specs.Prelude.{◌≡◌, Some, true};
+ghost use Rattle.std.specs.Prelude.{◌≡◌, Some, true, slice_get};
 ghost use Rattle.tb_layout.specs.Transfer.{is_pending};
-ghost use Rattle.tb_tables.specs.Facts.{transfer_with};
+ghost use Rattle.tb_tables.specs.Facts.{IsPlaceOfTransfer};
 ghost use Rattle.tb_tables.specs.Status.{status_of, is_due as is_due_at};
 ghost use Rattle.tb_machine.specs.TransferVerdict as spec;
 
 use crate::clock::expires_at;
 use crate::resolved::resolved;
 use tb_layout::{Transfer, TransferCode};
-use tb_tables::{Key, Status, Tables};
+use tb_tables::{Status, Tables};
 
 /// Whether a transfer has a timeout that is over at a clock.
 fn is_due(clock: u64, transfer: &Transfer) -> bool
@@ -20,12 +20,12 @@ fn is_due(clock: u64, transfer: &Transfer) -> bool
 
 /// What a pending transfer's status leaves of a post or a void: only one that is pending still, and not due, may be
 /// resolved. One that is due expired, also where no pulse came since.
-fn against_status(tables: &Tables, key: Key, pending: &Transfer, due: bool) -> TransferCode
-    requires there { transfer_with tables.now.now key ≡ Some pending.now }
+fn against_status(tables: &Tables, place: usize, pending: &Transfer, due: bool) -> TransferCode
+    requires there { slice_get tables.now.now.transfers place ≡ Some pending.now }
     requires pending { is_pending pending.now ≡ true }
     ensures { result ≡ spec.against_status (status_of tables.now.now pending.now.id) due }
 {
-    match tables.status_under(key) {
+    match tables.status_at(place) {
         Some(Status::Posted) => TransferCode::PendingTransferAlreadyPosted,
         Some(Status::Voided) => TransferCode::PendingTransferAlreadyVoided,
         Some(Status::Expired) => TransferCode::PendingTransferExpired,
@@ -42,12 +42,12 @@ fn against_status(tables: &Tables, key: Key, pending: &Transfer, due: bool) -> T
 /// The first check that a post or a void, with its fields resolved, fails against the transfer that it names, or Ok.
 fn against_pending(
     tables: &Tables,
-    key: Key,
+    place: usize,
     timestamp: u64,
     pending: &Transfer,
     event: &Transfer,
 ) -> TransferCode
-    requires { transfer_with tables.now.now key ≡ Some pending.now }
+    requires { slice_get tables.now.now.transfers place ≡ Some pending.now }
     ensures { result ≡ spec.against_pending tables.now.now timestamp pending.now event.now }
 {
     if !pending.is_pending() {
@@ -71,17 +71,17 @@ fn against_pending(
     if event.is_void() && event.amount < pending.amount {
         return TransferCode::PendingTransferHasDifferentAmount;
     }
-    against_status(tables, key, pending, is_due(timestamp, pending))
+    against_status(tables, place, pending, is_due(timestamp, pending))
 }
 
 /// The first check that a post or a void fails, or Ok.
 pub fn resolving_verdict(
     tables: &Tables,
-    pending: Key,
+    pending: Option<usize>,
     timestamp: u64,
     event: &Transfer,
 ) -> TransferCode
-    requires { pending ≡ event.now.pending_id }
+    requires { IsPlaceOfTransfer tables.now.now event.now.pending_id pending }
     ensures { result ≡ spec.resolving_verdict tables.now.now timestamp event.now }
 {
     if event.pending_id == 0 {
@@ -96,14 +96,11 @@ pub fn resolving_verdict(
     if event.timeout != 0 {
         return TransferCode::TimeoutReservedForPendingTransfer;
     }
-    match tables.transfer_under(pending) {
-        Some(named) => against_pending(
-            tables,
-            pending,
-            timestamp,
-            &named,
-            &resolved(&named, event),
-        ),
-        None => TransferCode::PendingTransferNotFound,
-    }
+    let Some(place) = pending else {
+        return TransferCode::PendingTransferNotFound;
+    };
+    let Some(named) = tables.transfer_at(place) else {
+        return TransferCode::PendingTransferNotFound;
+    };
+    against_pending(tables, place, timestamp, &named, &resolved(&named, event))
 }

@@ -2,10 +2,10 @@
 
 ghost use Rattle.std.specs.Prelude.{◌≡◌};
 ghost use Rattle.tb_machine.specs.TransferVerdict as spec;
-ghost use Rattle.tb_machine.specs.Prefetch.{IsPrefetched};
+ghost use Rattle.tb_machine.specs.Prefetch.{IsTarget};
 
 use crate::moving_verdict::moving_verdict;
-use crate::prefetch::{Prefetch, Target};
+use crate::prefetch::Target;
 use crate::resolved::resolved_by;
 use crate::resolving_verdict::resolving_verdict;
 use tb_layout::{Transfer, TransferCode};
@@ -62,17 +62,17 @@ fn has_exclusive_flags(event: &Transfer) -> bool
 
 /// The first check that an event fails whose id is that of no transfer, or Ok. The accounts, or the pending transfer,
 /// were looked up before.
-fn of_new_id(tables: &Tables, prefetch: &Prefetch, timestamp: u64, event: &Transfer) -> TransferCode
-    requires { IsPrefetched tables.now.now event.now prefetch.now }
+fn of_new_id(tables: &Tables, target: Target, timestamp: u64, event: &Transfer) -> TransferCode
+    requires { IsTarget tables.now.now event.now target }
     ensures { result ≡ spec.of_new_id tables.now.now timestamp event.now }
 {
-    if tables.failed_under(prefetch.key) {
+    if tables.failed(event.id) {
         return TransferCode::IdAlreadyFailed;
     }
     if has_exclusive_flags(event) {
         return TransferCode::FlagsAreMutuallyExclusive;
     }
-    match prefetch.target {
+    match target {
         Target::Between(sides) => moving_verdict(tables, sides, timestamp, event),
         Target::Named(pending) => resolving_verdict(tables, pending, timestamp, event),
     }
@@ -81,11 +81,11 @@ fn of_new_id(tables: &Tables, prefetch: &Prefetch, timestamp: u64, event: &Trans
 /// The first check that the event fails, or Ok.
 pub fn transfer_verdict(
     tables: &Tables,
-    prefetch: &Prefetch,
+    target: Target,
     timestamp: u64,
     event: &Transfer,
 ) -> TransferCode
-    requires { IsPrefetched tables.now.now event.now prefetch.now }
+    requires { IsTarget tables.now.now event.now target }
     ensures { result ≡ spec.transfer_verdict tables.now.now timestamp event.now }
 {
     if event.timestamp != 0 {
@@ -100,8 +100,8 @@ pub fn transfer_verdict(
     if event.id == u128::MAX {
         return TransferCode::IdMustNotBeIntMax;
     }
-    match tables.transfer_under(prefetch.key) {
+    match tables.transfer(event.id) {
         Some(stored) => against_stored(&stored, &resolved_by(tables, stored.pending_id, event)),
-        None => of_new_id(tables, prefetch, timestamp, event),
+        None => of_new_id(tables, target, timestamp, event),
     }
 }

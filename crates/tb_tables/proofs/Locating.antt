@@ -1,12 +1,25 @@
 -- Look-ups in the maps.
 use Rattle.std.proofs.Common.{refl, sym, ap, subst, ◌∙◌, ◌≡◌, ℕ, true, List, [], ◌∷◌, nat_eq, slice_get, length, arith, ◌==◌, Option, Some, None, IsSome, find, option_map}
 use Rattle.std.proofs.lemmas.List.{length-map}
-use Rattle.tb_tables.proofs.Words.{position, position_or_len, keys_of, lookup, Account, Transfer, Facts, account_with, IsPlaceOf, transfer_with, MayResolve, IsLawful, sums_of, with_sums, AreAt, Hold, AreGrounded, row_in, MayPost, Places, Row, has_account, IsGrounded}
-use Rattle.tb_tables.proofs.Stored.{lookup-rows, key-placed, key-of-position, first-of-key}
+use Rattle.std.proofs.lemmas.Option.{slice_get-map}
+use Rattle.tb_tables.proofs.Words.{position, position_or_len, keys_of, lookup, Account, Transfer, Facts, account_with, IsPlaceAmong, IsPlaceOf, IsPlaceOfTransfer, transfer_with, MayResolve, IsLawful, sums_of, with_sums, AreAt, Hold, AreGrounded, row_in, MayPost, Places, Row, has_account, IsGrounded}
+use Rattle.tb_tables.proofs.Stored.{rows, lookup-rows, key-placed, key-of-position, first-of-key}
 use Rattle.indexmap.proofs.MapLemmas.{Found-position, Missing-position}
 use Rattle.std.proofs.lemmas.List.Folds.{find_at}
 use Rattle.tb_tables.proofs.Grounding.{all-found}
 use Rattle.tb_tables.proofs.Expecting.{find-at}
+
+-- the place of a key, as the map tells it
+placed : {X V : Type 0} (key : X → ℕ) (made : X → V) (xs : List X) {es : List (ℕ × V)} → es ≡ rows key made xs → (id : ℕ) (place : Option ℕ) → place ≡ position (nat_eq id) (keys_of es) → IsPlaceAmong xs (find (λ x. key x == id) xs) place
+placed key made xs {es} are id None is = grind (arith, ap (lookup (nat_eq id)) are ∙ lookup-rows key made id xs, (Missing-position (nat_eq id) es (sym is)).value)
+placed key made xs {es} are id (Some place) is =
+    let there = key-placed key made xs are place (key-of-position id es place (sym is)) in
+    let first = sym (ap (λ es. position_or_len (nat_eq id) (keys_of es)) are ∙ first-of-key key made id xs) ∙ (Found-position (nat_eq id) es place (sym is)).or_len in
+    (there.0, there.1, find_at (λ x. key x == id) xs ∙ ap (slice_get xs) first ∙ there.1)
+
+-- what a post or a void names stands at the place that was found
+pub may-post : {facts : Facts} {t : Transfer} {place : ℕ} → MayResolve facts t → IsPlaceOfTransfer facts t.pending_id (Some place) → MayPost facts t place
+may-post may at = record { may = may; pending_at = at.1 ∙ sym at.2 ∙ may.named }
 
 module _ {facts : Facts} {accounts : List (ℕ × Account)} {transfers : List (ℕ × Row)} (hold : Hold facts accounts transfers) where
   pub account-found : (id : ℕ) → lookup (nat_eq id) accounts ≡ option_map (with_sums (sums_of facts)) (account_with facts id)
@@ -17,11 +30,14 @@ module _ {facts : Facts} {accounts : List (ℕ × Account)} {transfers : List (�
 
   -- the place, as the map tells it
   pub account-placed : (id : ℕ) (place : Option ℕ) → place ≡ position (nat_eq id) (keys_of accounts) → IsPlaceOf facts id place
-  account-placed id None is = grind (arith, account-found id, (Missing-position (nat_eq id) accounts (sym is)).value)
-  account-placed id (Some place) is =
-      let there = account-place place (key-of-position id accounts place (sym is)) in
-      let first = sym (ap (λ es. position_or_len (nat_eq id) (keys_of es)) hold.accounts_are ∙ first-of-key (λ (a : Account). a.id) (with_sums (sums_of facts)) id facts.accounts) ∙ (Found-position (nat_eq id) accounts place (sym is)).or_len in
-      (there.0, there.1, find_at (λ (a : Account). a.id == id) facts.accounts ∙ ap (slice_get facts.accounts) first ∙ there.1)
+  account-placed = placed (λ (a : Account). a.id) (with_sums (sums_of facts)) facts.accounts hold.accounts_are
+
+  pub transfer-placed : (id : ℕ) (place : Option ℕ) → place ≡ position (nat_eq id) (keys_of transfers) → IsPlaceOfTransfer facts id place
+  transfer-placed = placed (λ (t : Transfer). t.id) (row_in facts) facts.transfers hold.transfers_are
+
+  -- what stands at a place
+  pub row-at : (place : ℕ) → slice_get transfers place ≡ option_map (λ (t : Transfer). (t.id, row_in facts t)) (slice_get facts.transfers place)
+  row-at place = ap (λ es. slice_get es place) hold.transfers_are ∙ slice_get-map (λ (t : Transfer). (t.id, row_in facts t)) facts.transfers place
 
   pub row-found : (id : ℕ) → lookup (nat_eq id) transfers ≡ option_map (row_in facts) (transfer_with facts id)
   row-found id = ap (lookup (nat_eq id)) hold.transfers_are ∙ lookup-rows (λ (t : Transfer). t.id) (row_in facts) id facts.transfers
@@ -38,15 +54,6 @@ module _ {facts : Facts} {accounts : List (ℕ × Account)} {transfers : List (�
       let d = account-place places.debit debit in
       let c = account-place places.credit credit in
       record { debit_account = d.0; credit_account = c.0; debit_at = d.1; credit_at = c.1; debit_is = d.2; credit_is = c.2 }
-
-  pub transfer-there : (id : ℕ) (t : Transfer) → transfer_with facts id ≡ Some t → IsSome (lookup (nat_eq id) transfers)
-  transfer-there id t named = subst IsSome (sym (row-found id ∙ ap (option_map (row_in facts)) named)) refl
-
-  pub may-post : IsLawful facts → (t : Transfer) (place : ℕ) → MayResolve facts t → slice_get (keys_of transfers) place ≡ Some t.pending_id → MayPost facts t place
-  may-post lawful t place may at =
-      let p = key-placed (λ (x : Transfer). x.id) (row_in facts) facts.transfers hold.transfers_are place at in
-      let found = find-at facts.transfers place p.0 lawful.distinct p.1 in
-      record { may = may; pending_at = p.1 ∙ sym found ∙ ap (λ id. find (λ (x : Transfer). x.id == id) facts.transfers) p.2 ∙ may.named }
 
   -- the accounts of the transfer that a post or a void names are there
   there : (id : ℕ) (xs : List Account) → has_account id xs ≡ true → IsSome (find (λ (a : Account). a.id == id) xs)

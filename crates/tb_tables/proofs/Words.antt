@@ -10,7 +10,7 @@ pub use Rattle.tb_tables.specs.Balances.{balanced_account, credits, debits, is_p
 pub use Rattle.tb_tables.specs.Changes.{before, history_of, oldest, past_of, without_last}
 pub use Rattle.tb_tables.specs.Conditions.{HasNoBalances, MayAdd, MayResolve}
 pub use Rattle.tb_tables.specs.Expiries.{has_pair, is_indexed, pair_cmp, same_pair}
-pub use Rattle.tb_tables.specs.Facts.{Facts, IsPlaceOf, account_with, add_account, add_failed, add_transfer, is_expired, transfer_with}
+pub use Rattle.tb_tables.specs.Facts.{Facts, IsPlaceAmong, IsPlaceOf, IsPlaceOfTransfer, account_with, add_account, add_failed, add_transfer, is_expired, transfer_with}
 pub use Rattle.tb_tables.specs.Held.{stored_in}
 pub use Rattle.tb_tables.specs.History.{back_to, mark_of, with_change}
 pub use Rattle.tb_tables.specs.Kept.{Allow, AreExpiries, AreGrounded, AreHeld, AreUndoable, HavePlaces, Hold, Indexed, IsGrounded, IsKept, IsSound, IsUndoable, KeepsPairs, MayPost, MayStore, NamesOne, Stored, WasMade, WasStored, account_made, expects, facts_of, has_account, has_expired, history_in, is_pair, is_pair_of, is_resolved_at, is_spent, is_timed, its_pair, names_place, reserves_at, resolves_at, row_in, transfer_rows}
@@ -22,6 +22,6 @@ pub use Rattle.tb_tables.specs.declared.amounts.Phase.{Phase}
 pub use Rattle.tb_tables.specs.declared.balance.Balance.{Balance}
 pub use Rattle.tb_tables.specs.declared.change.Change.{Change}
 pub use Rattle.tb_tables.specs.declared.places.Places.{Places}
-pub use Rattle.tb_tables.specs.declared.row.Row.{Row}
+pub use Rattle.tb_tables.specs.Row.{Row}
 pub use Rattle.tb_tables.specs.declared.status.Status.{Status}
 pub use Rattle.tb_tables.specs.declared.status.Status.TheVariants.{Expired, Pending, Posted, Voided}

@@ -23,10 +23,17 @@ account_with facts id = find (λ account. account.id == id) facts.accounts
 abbrev pub transfer_with : Facts → ℕ → Option Transfer
 transfer_with facts id = find (λ transfer. transfer.id == id) facts.transfers
 
--- where the account with this id stands, if it is there
+-- where what was found among others stands, if something was found
+abbrev pub IsPlaceAmong : {X : Type 0} → List X → Option X → Option ℕ → Type 0
+IsPlaceAmong {X} others found None = found ≡ None
+IsPlaceAmong {X} others found (Some place) = (one : X) × (slice_get others place ≡ Some one) × (found ≡ Some one)
+
+-- where the account, or the transfer, with this id stands, if it is there
 abbrev pub IsPlaceOf : Facts → ℕ → Option ℕ → Type 0
-IsPlaceOf facts id None = account_with facts id ≡ None
-IsPlaceOf facts id (Some place) = (account : Account) × (slice_get facts.accounts place ≡ Some account) × (account_with facts id ≡ Some account)
+IsPlaceOf facts id = IsPlaceAmong facts.accounts (account_with facts id)
+
+abbrev pub IsPlaceOfTransfer : Facts → ℕ → Option ℕ → Type 0
+IsPlaceOfTransfer facts id = IsPlaceAmong facts.transfers (transfer_with facts id)
 
 abbrev pub is_expired : Facts → ℕ → Bool
 is_expired facts id = list_any (λ expired. expired == id) facts.expired

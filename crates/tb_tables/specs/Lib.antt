@@ -1,6 +1,5 @@
 pub mod Facts
-pub mod Key
-pub mod Handed
+pub mod Row
 pub mod Status
 pub mod Balances
 pub mod Conditions

@@ -10,7 +10,7 @@ use Rattle.tb_tables.specs.Sums.{sums_of, account_rows}
 use Rattle.tb_tables.specs.Kept.{Allow, AreGrounded, Hold, transfer_rows, resolves_at}
 use Rattle.tb_tables.specs.declared.change.Change.{Change}
 use Rattle.tb_tables.specs.declared.places.Places.{Places}
-use Rattle.tb_tables.specs.declared.row.Row.{Row}
+use Rattle.tb_tables.specs.Row.{Row}
 use Rattle.tb_tables.specs.declared.status.Status.{Status}
 use Rattle.tb_tables.specs.declared.status.Status.TheVariants.{Pending, Posted, Voided, Expired}
 

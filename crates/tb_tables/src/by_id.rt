@@ -1,12 +1,9 @@
 //! Maps and sets of ids.
 
-use crate::handed::Handed;
-use crate::key::Key;
 use indexmap::{IndexMap, IndexSet};
-use std::hash::BuildHasherDefault;
 
 /// What stands under ids, in order of making.
-pub type ById<V> = IndexMap<Key, V, BuildHasherDefault<Handed>>;
+pub type ById<V> = IndexMap<u128, V>;
 
 /// Ids, in order of making.
-pub type Ids = IndexSet<Key, BuildHasherDefault<Handed>>;
+pub type Ids = IndexSet<u128>;

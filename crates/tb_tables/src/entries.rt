@@ -3,12 +3,11 @@
 ghost use Rattle.std.specs.Prelude.{◌≡◌, ◌<◌, ◌++◌, ◌∷◌, ◌==◌, [], ℕ, None, Some, OnOk, OnErr, IsSome, false, nat_eq, slice_get, List};
 ghost use Rattle.std.specs.List.{list_any};
 ghost use Rattle.indexmap.specs.IndexMap.{get, keys, index_map_len, set_value_at, IsUnique};
-ghost use Rattle.tb_tables.specs.declared.row.Row.{Row as RowRecord};
+ghost use Rattle.tb_tables.specs.Row.{Row as RowRecord};
 ghost use Rattle.tb_tables.specs.Changes.{without_last};
 ghost use Rattle.tb_tables.specs.Storing.{new_row, status_after};
 
 use crate::by_id::{ById, Ids};
-use crate::key::Key;
 use crate::row::Row;
 use crate::status::Status;
 use tb_layout::{Account, NoMemory, Transfer};
@@ -19,7 +18,7 @@ pub fn push_account(accounts: &mut ById<Account>, account: Account) -> Result<()
     ensures ok { OnOk result (accounts.new.entries ≡ accounts.old.entries ++ (account.id, account) ∷ []) }
     ensures err { OnErr result (accounts.new.entries ≡ accounts.old.entries) }
 {
-    accounts.insert(Key::of(account.id), account)?;
+    accounts.insert(account.id, account)?;
     Ok(())
 }
 
@@ -32,31 +31,26 @@ fn new_row(transfer: Transfer) -> Row
     } else {
         None
     };
-    Row { transfer, status }
+    Row::new(&transfer, status)
 }
 
-/// Puts a new transfer after the others, under its id's key.
-pub fn push_transfer(
-    transfers: &mut ById<Row>,
-    key: Key,
-    transfer: Transfer,
-) -> Result<(), NoMemory>
-    requires key { key ≡ transfer.id }
-    requires new { get nat_eq transfers.old transfer.id ≡ None }
+/// Puts a new transfer after the others.
+pub fn push_transfer(transfers: &mut ById<Row>, transfer: Transfer) -> Result<(), NoMemory>
+    requires { get nat_eq transfers.old transfer.id ≡ None }
     ensures ok { OnOk result (transfers.new.entries ≡ transfers.old.entries ++ (transfer.id, new_row transfer) ∷ []) }
     ensures err { OnErr result (transfers.new.entries ≡ transfers.old.entries) }
 {
-    transfers.entry(key)?.or_insert(new_row(transfer));
+    transfers.entry(transfer.id)?.or_insert(new_row(transfer));
     Ok(())
 }
 
 /// Puts a new failed id after the others.
-pub fn push_failed(failed: &mut Ids, key: Key) -> Result<(), NoMemory>
-    requires { list_any (λ other. other == key) failed.old.keys ≡ false }
-    ensures ok { OnOk result (failed.new.keys ≡ failed.old.keys ++ key ∷ []) }
+pub fn push_failed(failed: &mut Ids, id: u128) -> Result<(), NoMemory>
+    requires { list_any (λ other. other == id) failed.old.keys ≡ false }
+    ensures ok { OnOk result (failed.new.keys ≡ failed.old.keys ++ id ∷ []) }
     ensures err { OnErr result (failed.new.keys ≡ failed.old.keys) }
 {
-    failed.insert(key)?;
+    failed.insert(id)?;
     Ok(())
 }
 
@@ -79,15 +73,7 @@ pub fn place_of<V: Drop>(entries: &ById<V>, id: u128) -> usize
     requires { IsSome (get nat_eq entries.now id) }
     ensures { slice_get (keys entries.now) result ≡ Some id }
 {
-    place_under(entries, Key::of(id))
-}
-
-/// The place of the entry under this key.
-pub fn place_under<V: Drop>(entries: &ById<V>, key: Key) -> usize
-    requires { IsSome (get nat_eq entries.now key) }
-    ensures { slice_get (keys entries.now) result ≡ Some key }
-{
-    entries.get_index_of(&key).unwrap()
+    entries.get_index_of(&id).unwrap()
 }
 
 /// The row of the transfer at a place.
@@ -106,7 +92,7 @@ pub fn pop_transfer(transfers: &mut ById<Row>) -> Transfer
         → (result ≡ row.transfer) × (transfers.new.entries ≡ others) }
 {
     let (_, row) = transfers.pop().unwrap();
-    row.transfer
+    row.transfer()
 }
 
 /// Sets the status of the transfer at a place, and gives that transfer.
@@ -118,8 +104,8 @@ pub fn set_status(transfers: &mut ById<Row>, place: usize, status: Status) -> Tr
     ensures unique { IsUnique nat_eq transfers.old }
 {
     let (_, row) = transfers.pair_mut(place);
-    row.status = Some(status);
-    row.transfer
+    row.set_status(status);
+    row.transfer()
 }
 
 /// The status of what a post or a void names.

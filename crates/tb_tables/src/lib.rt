@@ -8,7 +8,7 @@
 //!
 //! What stands on what, lowest first:
 //!
-//! - `key`, `handed`, `by_id`: ids with their hashes, and maps of what stands under them;
+//! - `halves`, `row`, `by_id`: a transfer with its status as it lies in memory, and maps of what stands under ids;
 //! - `balance`, `amounts`: one balance of an account, an amount between two;
 //! - `entries`, `expiries`: one entry of a map, one pair of the index of expiries;
 //! - `storing`, `timeouts`: all that one transfer changes, over facts that the maps hold (`AreHeld`);
@@ -22,8 +22,7 @@ mod by_id;
 mod change;
 mod entries;
 mod expiries;
-mod handed;
-mod key;
+mod halves;
 mod maps;
 mod mark;
 mod note;
@@ -36,7 +35,6 @@ mod tables;
 mod tests;
 mod timeouts;
 
-pub use key::Key;
 pub use mark::Mark;
 pub use status::Status;
 pub use tables::Tables;

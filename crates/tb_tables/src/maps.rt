@@ -1,15 +1,12 @@
 //! The maps: accounts, transfers and failed ids, with the index of expiries.
 
-ghost use Rattle.std.specs.Prelude.{◌≡◌, None, OnOk, OnErr, false, length, slice_get};
+ghost use Rattle.std.specs.Prelude.{◌≡◌, Some, None, OnOk, OnErr, false, length, slice_get};
 ghost use Rattle.std.specs.List.{AllByRecursion};
 ghost use Rattle.std.specs.Option.{option_map};
 
 use crate::by_id::{ById, Ids};
 use crate::change::Change;
-use crate::entries::{
-    place_of, place_under, pop_account, pop_failed, push_account, push_failed, push_transfer,
-};
-use crate::key::Key;
+use crate::entries::{place_of, pop_account, pop_failed, push_account, push_failed, push_transfer};
 use crate::places::Places;
 use crate::row::Row;
 use crate::status::Status;
@@ -17,7 +14,6 @@ use crate::storing::{apply, expect, forget, forget_resolved, take_back};
 use crate::timeouts::expire_all;
 use std::alloc::Global;
 use std::collections::BTreeSet;
-use std::hash::BuildHasherDefault;
 use std::marker::Model;
 use tb_layout::{Account, NoMemory, Transfer};
 
@@ -43,8 +39,8 @@ impl Model for Maps {
 }
 
 impl Maps {
-    ghost use Rattle.tb_tables.specs.Facts.{no_facts, account_with, IsPlaceOf, transfer_with, is_failed, add_account as with_account, add_transfer as with_transfer, add_failed as with_failed};
-    ghost use Rattle.tb_tables.specs.Status.{status_with, expire_due as with_due_expired};
+    ghost use Rattle.tb_tables.specs.Facts.{no_facts, account_with, IsPlaceOf, IsPlaceOfTransfer, transfer_with, is_failed, add_account as with_account, add_transfer as with_transfer, add_failed as with_failed};
+    ghost use Rattle.tb_tables.specs.Status.{status_with, status_if_pending, expire_due as with_due_expired};
     ghost use Rattle.tb_tables.specs.Balances.{with_balances as balanced, balanced_account};
     ghost use Rattle.tb_tables.specs.Expiries.{has_pair};
     ghost use Rattle.tb_tables.specs.Changes.{before};
@@ -56,9 +52,9 @@ impl Maps {
         ensures { result.facts ≡ no_facts }
     {
         Maps {
-            accounts: ById::with_hasher(alloc, BuildHasherDefault::new()),
-            transfers: ById::with_hasher(alloc, BuildHasherDefault::new()),
-            failed: Ids::with_hasher(alloc, BuildHasherDefault::new()),
+            accounts: ById::new(alloc),
+            transfers: ById::new(alloc),
+            failed: Ids::new(alloc),
             expiries: BTreeSet::new(alloc),
         }
     }
@@ -75,20 +71,19 @@ impl Maps {
         Ok(())
     }
 
-    /// Adds an id, here its key, to those that failed.
-    pub fn add_failed(&mut self, key: Key) -> Result<(), NoMemory>
-        requires { is_failed self.old.facts key ≡ false }
-        ensures ok { OnOk result (self.new ≡ record self.old { facts = with_failed self.old.facts key }) }
+    /// Adds an id to those that failed.
+    pub fn add_failed(&mut self, id: u128) -> Result<(), NoMemory>
+        requires { is_failed self.old.facts id ≡ false }
+        ensures ok { OnOk result (self.new ≡ record self.old { facts = with_failed self.old.facts id }) }
         ensures err { OnErr result (self.new ≡ self.old) }
         ensures sound { IsSound (has_pair self.old.pairs) self.old.facts }
     {
-        push_failed(&mut self.failed, key)?;
+        push_failed(&mut self.failed, id)?;
         Ok(())
     }
 
-    /// Adds a transfer, under its id's key, whose accounts, and whose pending transfer, have these places.
-    pub fn store(&mut self, key: Key, transfer: &Transfer, places: Places) -> Result<(), NoMemory>
-        requires key { key ≡ transfer.now.id }
+    /// Adds a transfer whose accounts, and whose pending transfer, have these places.
+    pub fn store(&mut self, transfer: &Transfer, places: Places) -> Result<(), NoMemory>
         requires at { HavePlaces self.old.facts transfer.now places }
         requires may { MayStore self.old.facts transfer.now places.pending }
         ensures ok { OnOk result (self.new.facts ≡ with_transfer self.old.facts transfer.now) }
@@ -98,7 +93,7 @@ impl Maps {
     {
         let place = self.transfers.len();
         expect(&mut self.expiries, transfer, place)?;
-        if let Err(refused) = push_transfer(&mut self.transfers, key, *transfer) {
+        if let Err(refused) = push_transfer(&mut self.transfers, *transfer) {
             forget(&mut self.expiries, transfer, place);
             return Err(refused);
         }
@@ -159,9 +154,9 @@ impl Maps {
         }
     }
 
-    /// Where the accounts of a post or a void stand, and the transfer that it names, which has a key.
-    pub fn places_resolved(&self, transfer: &Transfer, pending: Key) -> Places
-        requires pending { pending ≡ transfer.now.pending_id }
+    /// Where the accounts of a post or a void stand, beside the transfer that it names.
+    pub fn places_resolved(&self, transfer: &Transfer, pending: usize) -> Places
+        requires pending { IsPlaceOfTransfer self.now.facts transfer.now.pending_id (Some pending) }
         requires may { MayResolve self.now.facts transfer.now }
         ensures at { HavePlaces self.now.facts transfer.now result }
         ensures may { MayStore self.now.facts transfer.now result.pending }
@@ -169,22 +164,22 @@ impl Maps {
         Places {
             debit: place_of(&self.accounts, transfer.debit_account_id),
             credit: place_of(&self.accounts, transfer.credit_account_id),
-            pending: Some(place_under(&self.transfers, pending)),
+            pending: Some(pending),
         }
     }
 
-    /// The account under a key, with its balances.
-    pub fn account(&self, key: Key) -> Option<Account>
-        ensures { result ≡ balanced_account self.now.facts key }
+    /// The account with this id, with its balances.
+    pub fn account(&self, id: u128) -> Option<Account>
+        ensures { result ≡ balanced_account self.now.facts id }
     {
-        self.accounts.get(&key).copied()
+        self.accounts.get(&id).copied()
     }
 
-    /// The place of the account under a key.
-    pub fn place(&self, key: Key) -> Option<usize>
-        ensures { IsPlaceOf self.now.facts key result }
+    /// The place of the account with this id.
+    pub fn place(&self, id: u128) -> Option<usize>
+        ensures { IsPlaceOf self.now.facts id result }
     {
-        self.accounts.get_index_of(&key)
+        self.accounts.get_index_of(&id)
     }
 
     /// The account at a place, with its balances.
@@ -202,24 +197,47 @@ impl Maps {
         self.accounts.len()
     }
 
-    /// The transfer under a key.
-    pub fn transfer(&self, key: Key) -> Option<Transfer>
-        ensures { result ≡ transfer_with self.now.facts key }
+    /// The transfer with this id.
+    pub fn transfer(&self, id: u128) -> Option<Transfer>
+        ensures { result ≡ transfer_with self.now.facts id }
     {
-        self.transfers.get(&key).map(|row| row.transfer)
+        self.transfers.get(&id).map(|row| row.transfer())
     }
 
-    /// What became of the pending transfer under a key.
-    pub fn status(&self, key: Key) -> Option<Status>
-        ensures { result ≡ status_with self.now.facts key }
+    /// The place of the transfer with this id.
+    pub fn place_of_transfer(&self, id: u128) -> Option<usize>
+        ensures { IsPlaceOfTransfer self.now.facts id result }
     {
-        self.transfers.get(&key).and_then(|row| row.status)
+        self.transfers.get_index_of(&id)
     }
 
-    /// Whether an id, here its key, is among those that failed.
-    pub fn failed(&self, key: Key) -> bool
-        ensures { result ≡ is_failed self.now.facts key }
+    /// The transfer at a place.
+    pub fn transfer_at(&self, place: usize) -> Option<Transfer>
+        ensures { result ≡ slice_get self.now.facts.transfers place }
     {
-        self.failed.contains(&key)
+        let (_, row) = self.transfers.get_index(place)?;
+        Some(row.transfer())
+    }
+
+    /// What became of the pending transfer with this id.
+    pub fn status(&self, id: u128) -> Option<Status>
+        ensures { result ≡ status_with self.now.facts id }
+    {
+        self.transfers.get(&id).and_then(|row| row.status())
+    }
+
+    /// What became of the pending transfer at a place.
+    pub fn status_at(&self, place: usize) -> Option<Status>
+        ensures { result ≡ status_if_pending self.now.facts (slice_get self.now.facts.transfers place) }
+    {
+        let (_, row) = self.transfers.get_index(place)?;
+        row.status()
+    }
+
+    /// Whether an id is among those that failed.
+    pub fn failed(&self, id: u128) -> bool
+        ensures { result ≡ is_failed self.now.facts id }
+    {
+        self.failed.contains(&id)
     }
 }

@@ -162,7 +162,7 @@ fn named_by(change: &Change<Places>) -> Option<usize>
 fn is_spent(row: &Row) -> bool
     ensures { result ≡ (is_timed_of row.now.transfer && not (is_open_status row.now.status)) }
 {
-    is_timed(&row.transfer) && !row.is_open()
+    is_timed(&row.transfer()) && !row.is_open()
 }
 
 /// Takes the pair of the transfer at a place out of the index, where it reserves nothing any more.
@@ -173,7 +173,7 @@ fn forget_at(expiries: &mut BTreeSet<(u64, usize)>, transfers: &ById<Row>, place
 {
     let row = row_at(transfers, place);
     if is_spent(row) {
-        take_out(expiries, expires_at(&row.transfer), place);
+        take_out(expiries, expires_at(&row.transfer()), place);
     }
 }
 

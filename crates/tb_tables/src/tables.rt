@@ -4,7 +4,6 @@ ghost use Rattle.std.specs.Prelude.{◌≡◌, ◌<◌, ◌≤◌, Some, None, [
 ghost use Rattle.std.specs.Option.{option_map};
 
 use crate::change::Change;
-use crate::key::Key;
 use crate::maps::Maps;
 use crate::mark::Mark;
 use crate::note::note;
@@ -34,8 +33,8 @@ impl Model for Tables {
 }
 
 impl Tables {
-    ghost use Rattle.tb_tables.specs.Facts.{no_facts, account_with, IsPlaceOf, transfer_with, is_failed, add_account as with_account, add_transfer as with_transfer, add_failed as with_failed};
-    ghost use Rattle.tb_tables.specs.Status.{status_with, expire_due as with_due_expired};
+    ghost use Rattle.tb_tables.specs.Facts.{no_facts, account_with, IsPlaceOf, IsPlaceOfTransfer, transfer_with, is_failed, add_account as with_account, add_transfer as with_transfer, add_failed as with_failed};
+    ghost use Rattle.tb_tables.specs.Status.{status_with, status_if_pending, expire_due as with_due_expired};
     ghost use Rattle.tb_tables.specs.Balances.{with_balances as balanced, balanced_account};
     ghost use Rattle.tb_tables.specs.Conditions.{HasNoBalances, MayAdd, MayResolve};
     ghost use Rattle.tb_tables.specs.History.{with_change, mark_of, back_to, without_past};
@@ -70,31 +69,21 @@ impl Tables {
         ensures ok { OnOk result (self.new ≡ with_change self.old (with_failed self.old.now id)) }
         ensures err { OnErr result (self.new ≡ self.old) }
     {
-        self.add_failed_under(Key::of(id))
-    }
-
-    /// Adds an id, here its key, to those that failed. No id is hashed.
-    pub fn add_failed_under(&mut self, key: Key) -> Result<(), NoMemory>
-        requires { is_failed self.old.now key ≡ false }
-        ensures ok { OnOk result (self.new ≡ with_change self.old (with_failed self.old.now key)) }
-        ensures err { OnErr result (self.new ≡ self.old) }
-    {
         self.changes.reserve(1)?;
-        self.maps.add_failed(key)?;
+        self.maps.add_failed(id)?;
         note(&mut self.changes, Change::Failed);
         Ok(())
     }
 
-    /// Adds a transfer, under its id's key, whose accounts, and whose pending transfer, have these places.
-    fn store(&mut self, key: Key, transfer: &Transfer, places: Places) -> Result<(), NoMemory>
-        requires key { key ≡ transfer.now.id }
+    /// Adds a transfer whose accounts, and whose pending transfer, have these places.
+    fn store(&mut self, transfer: &Transfer, places: Places) -> Result<(), NoMemory>
         requires at { HavePlaces self.old.now transfer.now places }
         requires may { MayStore self.old.now transfer.now places.pending }
         ensures ok { OnOk result (self.new ≡ with_change self.old (with_transfer self.old.now transfer.now)) }
         ensures err { OnErr result (self.new ≡ self.old) }
     {
         self.changes.reserve(1)?;
-        self.maps.store(key, transfer, places)?;
+        self.maps.store(transfer, places)?;
         note(&mut self.changes, Change::Transfer(places));
         Ok(())
     }
@@ -106,19 +95,17 @@ impl Tables {
         ensures err { OnErr result (self.new ≡ self.old) }
     {
         let places = self.maps.places_of(&transfer);
-        self.store(Key::of(transfer.id), &transfer, places)
+        self.store(&transfer, places)
     }
 
-    /// Adds a plain or pending transfer after those that are there, under its id's key and between the accounts at
-    /// two places. No id is hashed.
+    /// Adds a plain or pending transfer after those that are there, between the accounts at two places. These aren't
+    /// looked up again.
     pub fn add_transfer_between(
         &mut self,
-        key: Key,
         transfer: Transfer,
         debit: usize,
         credit: usize,
     ) -> Result<(), NoMemory>
-        requires key { key ≡ transfer.id }
         requires may { MayAdd self.old.now transfer }
         requires debit { IsPlaceOf self.old.now transfer.debit_account_id (Some debit) }
         requires credit { IsPlaceOf self.old.now transfer.credit_account_id (Some credit) }
@@ -126,7 +113,6 @@ impl Tables {
         ensures err { OnErr result (self.new ≡ self.old) }
     {
         self.store(
-            key,
             &transfer,
             Places {
                 debit,
@@ -142,39 +128,36 @@ impl Tables {
         ensures ok { OnOk result (self.new ≡ with_change self.old (with_transfer self.old.now transfer)) }
         ensures err { OnErr result (self.new ≡ self.old) }
     {
-        self.resolve_under(Key::of(transfer.id), Key::of(transfer.pending_id), transfer)
+        let Some(pending) = self.maps.place_of_transfer(transfer.pending_id) else {
+            unreachable!()
+        };
+        self.resolve_at(transfer, pending)
     }
 
-    /// Adds a post or a void, with its resolved fields, under its id's key; the transfer that it names, and that is
-    /// pending no more, has a key too. Neither id is hashed.
-    pub fn resolve_under(
-        &mut self,
-        key: Key,
-        pending: Key,
-        transfer: Transfer,
-    ) -> Result<(), NoMemory>
-        requires key { key ≡ transfer.id }
-        requires pending { pending ≡ transfer.pending_id }
+    /// Adds a post or a void, with its resolved fields. The transfer that it names, at this place, is pending no more;
+    /// it isn't looked up again.
+    pub fn resolve_at(&mut self, transfer: Transfer, pending: usize) -> Result<(), NoMemory>
+        requires pending { IsPlaceOfTransfer self.old.now transfer.pending_id (Some pending) }
         requires may { MayResolve self.old.now transfer }
         ensures ok { OnOk result (self.new ≡ with_change self.old (with_transfer self.old.now transfer)) }
         ensures err { OnErr result (self.new ≡ self.old) }
     {
         let places = self.maps.places_resolved(&transfer, pending);
-        self.store(key, &transfer, places)
+        self.store(&transfer, places)
     }
 
     /// The account with this id, with its balances.
     pub fn account(&self, id: u128) -> Option<Account>
         ensures { result ≡ balanced_account self.now.now id }
     {
-        self.maps.account(Key::of(id))
+        self.maps.account(id)
     }
 
     /// The place in the order of making of the account with this id, counted from 0.
     pub fn place(&self, id: u128) -> Option<usize>
         ensures { IsPlaceOf self.now.now id result }
     {
-        self.maps.place(Key::of(id))
+        self.maps.place(id)
     }
 
     /// The account at a place in the order of making, counted from 0, with its balances.
@@ -195,42 +178,42 @@ impl Tables {
     pub fn transfer(&self, id: u128) -> Option<Transfer>
         ensures { result ≡ transfer_with self.now.now id }
     {
-        self.transfer_under(Key::of(id))
+        self.maps.transfer(id)
     }
 
-    /// The transfer under this key. No id is hashed.
-    pub fn transfer_under(&self, key: Key) -> Option<Transfer>
-        ensures { result ≡ transfer_with self.now.now key }
+    /// The place in the order of making of the transfer with this id, counted from 0.
+    pub fn place_of_transfer(&self, id: u128) -> Option<usize>
+        ensures { IsPlaceOfTransfer self.now.now id result }
     {
-        self.maps.transfer(key)
+        self.maps.place_of_transfer(id)
+    }
+
+    /// The transfer at a place in the order of making, counted from 0; a post or a void with its resolved fields.
+    pub fn transfer_at(&self, place: usize) -> Option<Transfer>
+        ensures { result ≡ slice_get self.now.now.transfers place }
+    {
+        self.maps.transfer_at(place)
     }
 
     /// What became of the pending transfer with this id.
     pub fn status(&self, id: u128) -> Option<Status>
         ensures { result ≡ status_with self.now.now id }
     {
-        self.status_under(Key::of(id))
+        self.maps.status(id)
     }
 
-    /// What became of the pending transfer under this key. No id is hashed.
-    pub fn status_under(&self, key: Key) -> Option<Status>
-        ensures { result ≡ status_with self.now.now key }
+    /// What became of the pending transfer at a place in the order of making, counted from 0.
+    pub fn status_at(&self, place: usize) -> Option<Status>
+        ensures { result ≡ status_if_pending self.now.now (slice_get self.now.now.transfers place) }
     {
-        self.maps.status(key)
+        self.maps.status_at(place)
     }
 
     /// Whether an id is among those that failed.
     pub fn failed(&self, id: u128) -> bool
         ensures { result ≡ is_failed self.now.now id }
     {
-        self.failed_under(Key::of(id))
-    }
-
-    /// Whether an id, here its key, is among those that failed. No id is hashed.
-    pub fn failed_under(&self, key: Key) -> bool
-        ensures { result ≡ is_failed self.now.now key }
-    {
-        self.maps.failed(key)
+        self.maps.failed(id)
     }
 
     /// How far `undo_to` can come back to. It is spent by `keep` and by going back past it.

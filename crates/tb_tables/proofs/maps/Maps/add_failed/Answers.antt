@@ -5,4 +5,4 @@ use Rattle.tb_tables.proofs.maps.Maps.add_failed.Goals as goal
 pub invariant_of-self-2 : goal.invariant_of-self-2
 invariant_of-self-2 c =
     let facts = facts_of (stored_in c.self.inside) in
-    rw (c.in_ok-push_failed.ensures.ok) (held-failed facts (add_failed facts c.args.key).failed c.self.invariant)
+    rw (c.in_ok-push_failed.ensures.ok) (held-failed facts (add_failed facts c.args.id).failed c.self.invariant)

@@ -4,8 +4,8 @@ use Rattle.tb_tables.proofs.Locating.{row-found, transfers-length}
 use Rattle.tb_tables.proofs.Stepping as stepping
 use Rattle.tb_tables.proofs.maps.Maps.store.Goals as goal
 
-pub push_transfer-requires-clause-new : goal.push_transfer-requires-clause-new
-push_transfer-requires-clause-new c =
+pub push_transfer-requires : goal.push_transfer-requires
+push_transfer-requires c =
     let old = stored_in c.self.inside in
     let may = rw (← c.self.view_is) at c.requires.may in
     row-found c.self.invariant.hold c.args.transfer.now.id ∙ ap (option_map (row_in (facts_of old))) (stepping.no-other (facts_of old) c.args.transfer.now c.args.places.pending may)
