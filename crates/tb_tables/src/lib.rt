@@ -32,8 +32,6 @@ mod row;
 mod status;
 mod storing;
 mod tables;
-#[cfg(test)]
-mod tests;
 mod timeouts;
 
 pub use key::Key;
