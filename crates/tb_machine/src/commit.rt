@@ -22,6 +22,7 @@ const CLOCK_EXHAUSTED: u32 = 201;
 
 /// Stores the event, at the timestamp after the clock, where its checks find nothing, and answers the number of its
 /// result. An event for which the clock can't be raised isn't checked.
+#[inline(always)]
 fn examine_at<E: Event>(clock: u64, tables: &mut Tables, event: &E) -> Result<u32, NoMemory>
     requires { clock ≤ clock_max }
     ensures extends { Extends tables.old tables.new }

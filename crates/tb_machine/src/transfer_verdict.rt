@@ -1,6 +1,7 @@
 //! The checks of an event that asks for a transfer, in their order.
 
-ghost use Rattle.std.specs.Prelude.{◌≡◌};
+ghost use Rattle.std.specs.Prelude.{◌≡◌, ℕ, Some};
+ghost use Rattle.tb_tables.specs.Facts.{IsPlaceOfTransfer, transfer_with};
 ghost use Rattle.tb_machine.specs.TransferVerdict as spec;
 ghost use Rattle.tb_machine.specs.Prefetch.{IsTarget};
 
@@ -49,6 +50,17 @@ fn against_stored(stored: &Transfer, event: &Transfer) -> TransferCode
         return TransferCode::ExistsWithDifferentCode;
     }
     TransferCode::Exists
+}
+
+/// An event whose id is that of the transfer at a place.
+fn against_place(tables: &Tables, place: usize, event: &Transfer) -> TransferCode
+    requires { IsPlaceOfTransfer tables.now.now event.now.id (Some place) }
+    ensures { (timestamp : ℕ) → result ≡ spec.against_id tables.now.now timestamp (transfer_with tables.now.now event.now.id) event.now }
+{
+    let Some(stored) = tables.transfer_at(place) else {
+        unreachable!()
+    };
+    against_stored(&stored, &resolved_by(tables, stored.pending_id, event))
 }
 
 /// Whether more than one of pending, post and void is set.
@@ -100,8 +112,8 @@ pub fn transfer_verdict(
     if event.id == u128::MAX {
         return TransferCode::IdMustNotBeIntMax;
     }
-    match tables.transfer(event.id) {
-        Some(stored) => against_stored(&stored, &resolved_by(tables, stored.pending_id, event)),
+    match tables.place_of_transfer(event.id) {
+        Some(place) => against_place(tables, place, event),
         None => of_new_id(tables, target, timestamp, event),
     }
 }

@@ -1,7 +1,7 @@
 -- The history after a change, and after one is taken back.
-use Rattle.std.proofs.Common.{refl, sym, ap, subst, ◌∙◌, arith, ◌≡◌, ◌-◌, List, [], ◌∷◌, ◌++◌, length, take, length-append, suc}
+use Rattle.std.proofs.Common.{refl, sym, ap, ◌∙◌, arith, ◌≡◌, ◌-◌, List, [], ◌∷◌, ◌++◌, length, take, length-append, suc}
 use Rattle.std.proofs.Math.Seq.{take-append_seam}
-use Rattle.tb_tables.proofs.Words.{AllByRecursion, Facts, with_change, IsLawful, AreLawful, without_last, oldest, past_of, history_of, Change}
+use Rattle.tb_tables.proofs.Words.{AllByRecursion, Facts, with_change, without_last, oldest, past_of, history_of, Change}
 
 pub without_last-push : {X : Type 0} (xs : List X) (x : X) → without_last (xs ++ x ∷ []) ≡ xs
 without_last-push xs x =
@@ -35,24 +35,8 @@ module _ {T X : Type 0} (undo : Change T → X → X) (seen : X → Facts) where
   pub history_of-pop : (changes : List (Change T)) (change : Change T) (now : X) → with_change (history_of undo seen changes (undo change now)) (seen now) ≡ history_of undo seen (changes ++ change ∷ []) now
   history_of-pop changes change now = sym (history_of-push changes change (undo change now) now refl)
 
--- ---- the facts of each moment stay lawful
+-- ---- what is true of each entry, with one more
 
 pub all_push : {X : Type 0} (P : X → Type 0) (xs : List X) (x : X) → AllByRecursion P xs → P x → AllByRecursion P (xs ++ x ∷ [])
 all_push P [] x all p = (p, tt)
 all_push P (y ∷ xs) x all p = (all.0, all_push P xs x all.1 p)
-
-all_pop : {X : Type 0} (P : X → Type 0) (xs : List X) (x : X) → AllByRecursion P (xs ++ x ∷ []) → AllByRecursion P xs × P x
-all_pop P [] x all = (tt, all.0)
-all_pop P (y ∷ xs) x all =
-    let rest = all_pop P xs x all.1 in
-    ((all.0, rest.0), rest.1)
-
--- one entry more, where the facts with it are lawful, and one less
-module _ {T X : Type 0} (undo : Change T → X → X) (seen : X → Facts) where
-  pub lawful_push : (changes : List (Change T)) (change : Change T) (old new : X) → undo change new ≡ old → IsLawful (seen new) → AreLawful (history_of undo seen changes old) → AreLawful (history_of undo seen (changes ++ change ∷ []) new)
-  lawful_push changes change old new e lawful all = subst AreLawful (sym (history_of-push undo seen changes change old new e)) (record { now = lawful; past = all_push IsLawful (past_of undo seen changes old) (seen old) all.past all.now })
-
-  pub lawful_pop : (changes : List (Change T)) (change : Change T) (now : X) → AreLawful (history_of undo seen (changes ++ change ∷ []) now) → AreLawful (history_of undo seen changes (undo change now))
-  lawful_pop changes change now all =
-      let past = all_pop IsLawful (past_of undo seen changes (undo change now)) (seen (undo change now)) (subst AreLawful (sym (history_of-pop undo seen changes change now)) all).past in
-      record { now = past.1; past = past.0 }

@@ -2,8 +2,7 @@ pub mod Words
 pub mod Histories
 pub mod Finding
 mod Sums
-mod Laws
-mod Rows
+pub mod Laws
 pub mod Stored
 pub mod Raising
 pub mod Added

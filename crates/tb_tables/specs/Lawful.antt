@@ -1,10 +1,9 @@
 -- What is true of the facts at every moment.
 use Rattle.std.specs.Prelude.{◌≡◌, ℕ, ◌<◌, ◌^◌, ◌==◌, Bool, true, not, ◌&&◌, List, [], ◌∷◌}
-use Rattle.std.specs.List.{list_any, AllByRecursion}
+use Rattle.std.specs.List.{list_any}
 use Rattle.tb_layout.specs.declared.transfer.Transfer.{Transfer}
 use Rattle.tb_tables.specs.Facts.{Facts}
 use Rattle.tb_tables.specs.Balances.{debits, credits}
-use Rattle.tb_tables.specs.History.{History}
 
 -- whether the id is that of one of the transfers
 abbrev pub has_id : ℕ → List Transfer → Bool
@@ -19,8 +18,3 @@ pub record IsLawful (facts : Facts) : Type 0 where
   pub distinct : ids_distinct facts.transfers ≡ true
   pub debits_fit : (id : ℕ) → debits facts id < 2 ^ 128
   pub credits_fit : (id : ℕ) → credits facts id < 2 ^ 128
-
--- the facts now, and whatever can be gone back to
-pub record AreLawful (history : History) : Type 0 where
-  pub now : IsLawful history.now
-  pub past : AllByRecursion IsLawful history.past

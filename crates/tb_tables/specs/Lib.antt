@@ -6,7 +6,6 @@ pub mod Conditions
 pub mod History
 pub mod Lawful
 pub mod Changes
-pub mod Plain
 pub mod Sums
 pub mod Expiries
 pub mod Kept

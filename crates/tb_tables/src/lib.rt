@@ -31,8 +31,6 @@ mod row;
 mod status;
 mod storing;
 mod tables;
-#[cfg(test)]
-mod tests;
 mod timeouts;
 
 pub use mark::Mark;

@@ -27,7 +27,7 @@ impl Mark {
     }
 
     /// How many changes lie before it.
-    pub(crate) fn changes(self) -> usize
+    pub fn changes(self) -> usize
         ensures { result ≡ self }
     {
         self.changes

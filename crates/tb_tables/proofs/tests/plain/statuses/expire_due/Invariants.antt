@@ -1,5 +1,0 @@
-use Rattle.tb_tables.proofs.Rows.{AreMarked}
-use Rattle.tb_tables.proofs.tests.plain.statuses.expire_due.Given as goal
-
-abbrev pub invariant-loop-place : goal.invariant-loop-place
-invariant-loop-place l = AreMarked l.clock l.fn.rows l.rows l.place

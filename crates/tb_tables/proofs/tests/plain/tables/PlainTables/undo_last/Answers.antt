@@ -1,9 +1,0 @@
-use Rattle.tb_tables.specs.Plain.{facts_of, cut_back}
-use Rattle.tb_tables.proofs.Histories.{history_of-pop, lawful_pop}
-use Rattle.tb_tables.proofs.tests.plain.tables.PlainTables.undo_last.Goals as goal
-
-pub invariant_of-self-in-Some : goal.invariant_of-self-in-Some
-invariant_of-self-in-Some c = rw c.cut_back.ensures (lawful_pop cut_back facts_of c.pop.new.self.items c.in-Some.change c.self.inside.lists (rw c.in-Some.ensures.items at c.self.invariant))
-
-pub returns-in-Some : goal.returns-in-Some
-returns-in-Some c = rw (← c.self.view_is, c.cut_back.ensures, c.in-Some.ensures.items) (history_of-pop cut_back facts_of c.pop.new.self.items c.in-Some.change c.self.inside.lists)

@@ -1,0 +1,9 @@
+//! An entry of the plain lists' undo list.
+
+/// What a change added.
+#[derive(Clone, Copy)]
+pub enum Change {
+    Account,
+    Transfer,
+    Failed,
+}

@@ -1,0 +1,7 @@
+//! The tests of tb_tables, among them plain lists with the contract of its maps, in a crate of their own so that
+//! tb_tables isn't proved twice.
+#![tactic(auto)]
+
+mod change;
+#[cfg(test)]
+mod tests;

@@ -1,0 +1,282 @@
+//! 400 events, made by a rule from a counter: the maps and the plain lists take them side by side.
+
+ghost use Rattle.std.specs.Prelude.{◌≡◌, ◌+◌, ◌≤◌, ◌<◌, ◌^◌, true, IsSome, OnOk};
+ghost use Rattle.tb_tables.specs.Balances.{debits, credits};
+ghost use Rattle.tb_tables.specs.Conditions.{HasNoBalances, MayAdd, MayResolve};
+ghost use Rattle.tb_tables.specs.Facts.{account_with};
+ghost use Rattle.tb_tables.specs.History.{mark_of};
+ghost use Rattle.tb_tables.specs.Status.{expires_at};
+
+use super::plain::PlainTables;
+use super::{account, transfer};
+use std::test::Fail;
+use tb_layout::{Account, NANOSECONDS_PER_SECOND, NoMemory, Transfer};
+use tb_tables::{Status, Tables};
+
+/// One of `many` numbers, counted from 0, that a counter and a purpose lead to.
+fn pick(counter: u64, purpose: u64, many: u64) -> u64 {
+    let number = counter.wrapping_add(purpose.wrapping_mul(7));
+    (number.wrapping_mul(number) % 1009)
+        .checked_rem(many)
+        .unwrap_or(0)
+}
+
+/// An id from 1 to `ids`.
+fn id_at(counter: u64, ids: u64) -> u128 {
+    u128::from(counter.checked_rem(ids).unwrap_or(0).saturating_add(1))
+}
+
+/// The clock at an event, in nanoseconds: a second passes with each forty.
+fn clock_at(counter: u64) -> u64 {
+    (counter / 40)
+        .saturating_mul(NANOSECONDS_PER_SECOND)
+        .saturating_add(counter)
+}
+
+/// A plain or pending transfer between two of the accounts 1 to 4, or to account 5, which isn't there.
+fn moving(counter: u64, ids: u64, flags: u16) -> Transfer {
+    let amount = u128::from(pick(counter, 8, 100).saturating_add(1));
+    Transfer {
+        debit_account_id: u128::from(pick(counter, 6, 4).saturating_add(1)),
+        credit_account_id: u128::from(pick(counter, 7, 5).saturating_add(1)),
+        timeout: u32::try_from(pick(counter, 10, 3)).unwrap_or(0),
+        timestamp: clock_at(counter),
+        ..transfer(id_at(counter, ids), amount, 0, flags)
+    }
+}
+
+/// A post of half of what a transfer reserves, or a void of all.
+fn resolving(counter: u64, ids: u64, pending: &Transfer, flags: u16) -> Transfer {
+    let amount = if flags == 4 {
+        pending.amount / 2
+    } else {
+        pending.amount
+    };
+    Transfer {
+        debit_account_id: pending.debit_account_id,
+        credit_account_id: pending.credit_account_id,
+        timestamp: clock_at(counter),
+        ..transfer(id_at(counter, ids), amount, pending.id, flags)
+    }
+}
+
+/// The transfer that a counter leads to; a post or a void names one of the last ids, where that has a transfer.
+fn event(counter: u64, ids: u64, maps: &Tables) -> Transfer {
+    let named = id_at(counter.saturating_sub(pick(counter, 9, 16)), ids);
+    match (pick(counter, 2, 4), maps.transfer(named)) {
+        (0, Some(pending)) => resolving(counter, ids, &pending, 4),
+        (1, Some(pending)) => resolving(counter, ids, &pending, 8),
+        (2, _) => moving(counter, ids, 0),
+        _ => moving(counter, ids, 2),
+    }
+}
+
+/// Whether the sum of a balance, pending and posted together, and an amount can be told.
+fn fits(pending: u128, posted: u128, amount: u128) -> bool
+    ensures { result ≡ true → pending + posted + amount < 2 ^ 128 }
+{
+    match pending.checked_add(posted) {
+        Some(balance) => balance.checked_add(amount).is_some(),
+        None => false,
+    }
+}
+
+/// Whether an account is there and can be debited.
+fn can_debit(tables: &Tables, id: u128, amount: u128) -> bool
+    ensures there { result ≡ true → IsSome (account_with tables.now.now id) }
+    ensures fits { result ≡ true → debits tables.now.now id + amount < 2 ^ 128 }
+{
+    match tables.account(id) {
+        Some(account) => fits(account.debits_pending, account.debits_posted, amount),
+        None => false,
+    }
+}
+
+/// Whether an account is there and can be credited.
+fn can_credit(tables: &Tables, id: u128, amount: u128) -> bool
+    ensures there { result ≡ true → IsSome (account_with tables.now.now id) }
+    ensures fits { result ≡ true → credits tables.now.now id + amount < 2 ^ 128 }
+{
+    match tables.account(id) {
+        Some(account) => fits(account.credits_pending, account.credits_posted, amount),
+        None => false,
+    }
+}
+
+/// Whether the moment at which a transfer expires can be told.
+fn expiry_fits(transfer: &Transfer) -> bool
+    ensures { result ≡ true → expires_at transfer.now < 2 ^ 64 }
+{
+    transfer
+        .timestamp
+        .checked_add(u64::from(transfer.timeout) * NANOSECONDS_PER_SECOND)
+        .is_some()
+}
+
+/// Whether the tables may take a plain or pending transfer.
+fn may_add(tables: &Tables, transfer: &Transfer) -> bool
+    ensures { result ≡ true → MayAdd tables.now.now transfer.now }
+{
+    if tables.transfer(transfer.id).is_some() || transfer.is_post() || transfer.is_void() {
+        return false;
+    }
+    let debits = can_debit(tables, transfer.debit_account_id, transfer.amount);
+    let credits = can_credit(tables, transfer.credit_account_id, transfer.amount);
+    debits && credits && expiry_fits(transfer)
+}
+
+/// Whether the tables may take a post or a void.
+fn may_resolve(tables: &Tables, transfer: &Transfer) -> bool
+    ensures { result ≡ true → MayResolve tables.now.now transfer.now }
+{
+    let Some(pending) = tables.transfer(transfer.pending_id) else {
+        return false;
+    };
+    let Some(Status::Pending) = tables.status(transfer.pending_id) else {
+        return false;
+    };
+    if tables.transfer(transfer.id).is_some() || transfer.is_pending() || !pending.is_pending() {
+        return false;
+    }
+    if transfer.is_void() == transfer.is_post()
+        || transfer.debit_account_id != pending.debit_account_id
+        || transfer.credit_account_id != pending.credit_account_id
+    {
+        return false;
+    }
+    transfer.amount <= pending.amount
+}
+
+/// Adds an account to both, where there is none with its id.
+fn add(maps: &mut Tables, lists: &mut PlainTables, made: Account) -> Result<(), NoMemory>
+    requires same { maps.old ≡ lists.old }
+    requires no_balances { HasNoBalances made }
+    ensures { OnOk result (maps.new ≡ lists.new) }
+{
+    if maps.account(made.id).is_none() {
+        maps.add_account(made)?;
+        lists.add_account(made)?;
+    }
+    Ok(())
+}
+
+/// Stores a transfer in both where they may take it, and else its id among those that failed.
+fn store(maps: &mut Tables, lists: &mut PlainTables, transfer: Transfer) -> Result<(), NoMemory>
+    requires { maps.old ≡ lists.old }
+    ensures same { OnOk result (maps.new ≡ lists.new) }
+    ensures more { OnOk result (mark_of maps.old ≤ mark_of maps.new) }
+{
+    if may_add(maps, &transfer) {
+        maps.add_transfer(transfer)?;
+        lists.add_transfer(transfer)?;
+    } else if may_resolve(maps, &transfer) {
+        maps.resolve(transfer)?;
+        lists.resolve(transfer)?;
+    } else if !maps.failed(transfer.id) {
+        maps.add_failed(transfer.id)?;
+        lists.add_failed(transfer.id)?;
+    }
+    Ok(())
+}
+
+/// Takes an event, and now and then takes it back.
+fn take(maps: &mut Tables, lists: &mut PlainTables, counter: u64, ids: u64) -> Result<(), NoMemory>
+    requires { maps.old ≡ lists.old }
+    ensures { OnOk result (maps.new ≡ lists.new) }
+{
+    let mark = maps.mark();
+    let transfer = event(counter, ids, maps);
+    store(maps, lists, transfer)?;
+    if pick(counter, 11, 8) == 0 {
+        maps.undo_to(mark);
+        lists.undo_to(mark.changes());
+    }
+    Ok(())
+}
+
+/// Lets the changes stand, and what is due at a clock expire.
+fn pulse(maps: &mut Tables, lists: &mut PlainTables, clock: u64)
+    requires { maps.old ≡ lists.old }
+    ensures { maps.new ≡ lists.new }
+{
+    maps.keep();
+    lists.keep();
+    maps.expire_due(clock);
+    lists.expire_due(clock);
+}
+
+/// Whether each look-up of an id agrees, and that of the place one below.
+fn agree_on(maps: &Tables, lists: &PlainTables, id: u32) -> bool {
+    let place = id.saturating_sub(1) as usize;
+    let id = u128::from(id);
+    maps.account(id) == lists.account(id)
+        && maps.account_at(place) == lists.account_at(place)
+        && maps.transfer(id) == lists.transfer(id)
+        && maps.status(id) == lists.status(id)
+        && maps.failed(id) == lists.failed(id)
+}
+
+/// Whether all look-ups agree.
+fn agree(maps: &Tables, lists: &PlainTables, ids: u32) -> bool {
+    for id in 0..=ids {
+        if !agree_on(maps, lists, id) {
+            return false;
+        }
+    }
+    maps.accounts() == lists.accounts() && maps.mark().changes() == lists.mark()
+}
+
+/// Makes accounts 1 to 4, then takes the events.
+fn run(maps: &mut Tables, lists: &mut PlainTables, ids: u32, apart: u64) -> Result<(), Fail>
+    requires same { maps.old ≡ lists.old }
+    requires some { 0 < apart }
+{
+    for id in [1_u128, 2, 3, 4] {
+        add(maps, lists, account(id))?;
+    }
+    take_events(maps, lists, ids, apart)
+}
+
+/// Takes the events, with a pulse after each fortieth. All look-ups are compared after events that are so many apart.
+fn take_events(maps: &mut Tables, lists: &mut PlainTables, ids: u32, apart: u64) -> Result<(), Fail>
+    requires same { maps.old ≡ lists.old }
+    requires some { 0 < apart }
+{
+    for counter in 0..400_u64 {
+        take(maps, lists, counter, u64::from(ids))?;
+        if counter % 40 == 39 {
+            pulse(maps, lists, clock_at(counter));
+        }
+        if counter % apart == 0 && !agree(maps, lists, ids) {
+            return Err("a look-up in the maps answers otherwise than one in the lists")?;
+        }
+    }
+    Ok(())
+}
+
+/// Whether a transfer with one of the ids has this status.
+fn some_has(maps: &Tables, ids: u32, status: Status) -> bool {
+    for id in 1..=ids {
+        if maps.status(u128::from(id)) == Some(status) {
+            return true;
+        }
+    }
+    false
+}
+
+#[test]
+fn four_hundred_events(rt: HostRuntime) -> Result<(), Fail> {
+    let mut maps = Tables::new(rt.alloc());
+    let mut lists = PlainTables::new(rt.alloc());
+    run(&mut maps, &mut lists, 8, 1)
+}
+
+#[test]
+fn four_hundred_events_of_as_many_ids(rt: HostRuntime) -> Result<(), Fail> {
+    let mut maps = Tables::new(rt.alloc());
+    let mut lists = PlainTables::new(rt.alloc());
+    run(&mut maps, &mut lists, 400, 19)?;
+    assert!(rt; some_has(&maps, 400, Status::Pending) && some_has(&maps, 400, Status::Posted));
+    assert!(rt; some_has(&maps, 400, Status::Voided) && some_has(&maps, 400, Status::Expired));
+    Ok(())
+}
