@@ -112,7 +112,7 @@ rise_left offset other high failures end rise is (inr empty) = rw empty tt
 
 -- what is left is that of the packets behind
 pub next_left : (old new : Uncut) (job : Numbered) (jobs : List Numbered) → IsUncut old (job ∷ jobs) → failures_left new ≡ drop (count_below (old.offset + count_of job.packet) (failures_left old)) (failures_left old) →
-    new.taken ≤ length new.failures.items → (new.offset ≡ old.offset + count_of job.packet) ⊎ (failures_left new ≡ []) → new.place ≡ old.place + 1 → IsUncut new jobs
+    new.taken ≤ length new.failures → (new.offset ≡ old.offset + count_of job.packet) ⊎ (failures_left new ≡ []) → new.place ≡ old.place + 1 → IsUncut new jobs
 next_left old new job jobs h is taken offset place =
     let end = old.offset + count_of job.packet in
     let high = old.offset + (count_of job.packet + count_of_all jobs) in

@@ -15,12 +15,12 @@ use Rattle.tb_demux.specs.Cutting.{replies_from}
 
 -- the failures not yet given
 abbrev pub failures_left : Uncut → List Failure
-failures_left uncut = drop uncut.taken uncut.failures.items
+failures_left uncut = drop uncut.taken uncut.failures
 
 -- they are those of the packets still to come
 pub record IsUncut (uncut : Uncut) (jobs : List Numbered) : Type 0 where
   pub places : uncut.place + length jobs ≤ 2 ^ 63
-  pub taken : uncut.taken ≤ length uncut.failures.items
+  pub taken : uncut.taken ≤ length uncut.failures
   pub rise : RiseWithin uncut.offset (uncut.offset + count_of_all jobs) (failures_left uncut)
   pub no_lookup : list_all (λ job. not (is_lookup job.packet)) jobs ≡ true
 

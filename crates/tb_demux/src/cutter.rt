@@ -44,7 +44,7 @@ impl Cutter {
                     place,
                     offset: 0,
                     taken: 0,
-                    failures: failures.into_vec(),
+                    failures,
                 }),
                 Answer::Accounts(accounts) => Source::Lookup(Outcome::Committed {
                     place,

@@ -10,7 +10,7 @@ ghost use Rattle.tb_work.specs.declared.outcome.Outcome.TheVariants.{Committed a
 ghost use Rattle.tb_demux.specs.Leading.{count_below};
 ghost use Rattle.tb_demux.specs.Left.{failures_left};
 
-use tb_layout::Failure;
+use tb_layout::{Failure, Failures};
 use tb_work::{Job, Reply};
 
 /// A batch's failures, of which the first ones are taken: the next packet has this place, and its
@@ -20,7 +20,7 @@ pub(crate) struct Uncut {
     pub(crate) place: u64,
     pub(crate) offset: u32,
     pub(crate) taken: usize,
-    pub(crate) failures: Vec<Failure>,
+    pub(crate) failures: Failures,
 }
 
 /// How many failures lie in front of the first one whose index isn't below `end`.
@@ -60,12 +60,12 @@ impl Uncut {
     /// The reply to the next packet.
     pub(crate) fn reply(&mut self, job: Job) -> Reply
         requires place { self.old.place < 2 ^ 63 }
-        requires taken { self.old.taken ≤ length self.old.failures.items }
+        requires taken { self.old.taken ≤ length self.old.failures }
         requires rise { (high : ℕ) × RiseWithin self.old.offset high (failures_left self.old) }
         requires no_lookup { is_lookup job.packet ≡ false }
         ensures reply { result ≡ reply_with (CommittedAt self.old.place (FailuresOf (failures_within self.old.offset (count_of job.packet) (failures_left self.old)))) job }
         ensures left { failures_left self.new ≡ drop (count_below (self.old.offset + count_of job.packet) (failures_left self.old)) (failures_left self.old) }
-        ensures taken { self.new.taken ≤ length self.new.failures.items }
+        ensures taken { self.new.taken ≤ length self.new.failures }
         ensures offset { (self.new.offset ≡ self.old.offset + count_of job.packet) ⊎ (failures_left self.new ≡ []) }
         ensures place { self.new.place ≡ self.old.place + 1 }
     {

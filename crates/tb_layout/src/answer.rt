@@ -4,12 +4,16 @@ ghost use Rattle.std.specs.Prelude.{◌≡◌};
 
 use crate::account::Account;
 use crate::failure::Failure;
+use smallvec::SmallVec;
 use std::marker::Model;
+
+/// Room for failures. Those of a small packet, of up to two events, lie in the value itself and need no memory of their own.
+pub type FailureRoom = SmallVec<Failure, 2>;
 
 /// The failed events of a packet, seen as their list.
 #[derive(Drop)]
 pub struct Failures {
-    failures: Vec<Failure>,
+    failures: FailureRoom,
 }
 
 impl Model for Failures {
@@ -22,8 +26,17 @@ impl Model for Failures {
 }
 
 impl Failures {
-    /// These failures, which are not copied.
+    /// These failures. More than two are not copied.
     pub fn from_vec(failures: Vec<Failure>) -> Failures
+        ensures { result ≡ failures.items }
+    {
+        Failures {
+            failures: SmallVec::from_vec(failures),
+        }
+    }
+
+    /// The failures that were put into their room.
+    pub fn from_room(failures: FailureRoom) -> Failures
         ensures { result ≡ failures.items }
     {
         Failures { failures }
@@ -34,13 +47,6 @@ impl Failures {
         ensures { result.now ≡ self.now }
     {
         self.failures.as_slice()
-    }
-
-    /// The failures with their memory.
-    pub fn into_vec(self) -> Vec<Failure>
-        ensures { result.items ≡ self }
-    {
-        self.failures
     }
 }
 

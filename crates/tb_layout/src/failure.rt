@@ -3,7 +3,7 @@
 use crate::number::{read_u32, write_u32};
 
 /// A failed event: its index in its packet, counted from 0, and the number of its result.
-#[derive(Clone, Copy, Debug, PartialEq, Eq)]
+#[derive(Clone, Copy, Debug, Default, PartialEq, Eq)]
 pub struct Failure {
     pub index: u32,
     pub code: u32,

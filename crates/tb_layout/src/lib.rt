@@ -20,7 +20,7 @@ mod transfer_code;
 
 pub use account::{Account, read_account, write_account};
 pub use account_code::AccountCode;
-pub use answer::{Accounts, Answer, Failures};
+pub use answer::{Accounts, Answer, FailureRoom, Failures};
 pub use chunk::is_chunk_linked;
 pub use failure::{Failure, read_failure, write_failure};
 pub use id::read_id;

@@ -1,6 +1,6 @@
 -- A packet that was admitted, with its number.
-use Rattle.std.specs.Prelude.{ℕ, ◌≡◌, ◌≤◌, ◌+◌, ◌==◌, Bool, false, List, [], ◌∷◌, Vec, Ok, vec_capacity, if◌then◌else◌}
-use Rattle.std.specs.declared.alloc.Global.{Global}
+use Rattle.std.specs.Prelude.{ℕ, ◌≡◌, ◌≤◌, ◌+◌, ◌==◌, Bool, false, List, [], ◌∷◌, Ok, if◌then◌else◌}
+use Rattle.smallvec.specs.SmallVec.{SmallVec}
 use Rattle.tb_layout.specs.Limits.{batch_max}
 use Rattle.tb_layout.specs.Operation.{create_accounts, create_transfers, lookup_accounts}
 use Rattle.tb_layout.specs.declared.failure.Failure.{Failure}
@@ -44,7 +44,7 @@ is_chunk_linked operation chunk =
     if operation == create_accounts then is_linked_account (account_of chunk) else if operation == create_transfers then is_linked_transfer (transfer_of chunk) else false
 
 -- it is admitted, and so many failures have room
-pub record IsJob (packet : Packet) (count : ℕ) (room : Vec Failure Global) : Type 0 where
+pub record IsJob (packet : Packet) (count : ℕ) (room : SmallVec Failure) : Type 0 where
   pub admitted : admission_of batch_max packet ≡ Ok count
   pub empty : room.items ≡ []
-  pub fits : is_lookup packet ≡ false → count ≤ vec_capacity room
+  pub fits : is_lookup packet ≡ false → count ≤ room.capacity

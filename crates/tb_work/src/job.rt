@@ -1,6 +1,6 @@
 //! Packets that were admitted.
 
-ghost use Rattle.std.specs.Prelude.{◌≡◌, ◌≤◌, ◌==◌, ◌⊎◌, false, [], IfOk, OnOk, IfErr, IsOk, Err, vec_capacity};
+ghost use Rattle.std.specs.Prelude.{◌≡◌, ◌≤◌, ◌==◌, ◌⊎◌, false, [], IfOk, OnOk, IfErr, IsOk, Err};
 ghost use Rattle.tb_layout.specs.Limits.{batch_max};
 ghost use Rattle.tb_layout.specs.Operation.{lookup_accounts};
 ghost use Rattle.tb_work.specs.Admission.{admission_of};
@@ -13,7 +13,7 @@ use crate::refusal::Refusal;
 use crate::stub::Stub;
 use std::alloc::{AllocError, Global};
 use std::marker::Model;
-use tb_layout::{CREATE_ACCOUNTS, CREATE_TRANSFERS, Failure, LOOKUP_ACCOUNTS};
+use tb_layout::{CREATE_ACCOUNTS, CREATE_TRANSFERS, FailureRoom, LOOKUP_ACCOUNTS};
 
 /// An admitted packet of a submitter, with its number and with room for its failures.
 #[derive(Drop)]
@@ -22,7 +22,7 @@ pub struct Job {
     pub(crate) number: u64,
     pub(crate) count: u32,
     pub(crate) packet: Packet,
-    pub(crate) room: Vec<Failure>,
+    pub(crate) room: FailureRoom,
 }
 
 impl Model for Job {
@@ -36,14 +36,14 @@ impl Model for Job {
 }
 
 /// Room for the failures of a packet: none for a lookup, which has no failures.
-fn room_for(alloc: Global, operation: u8, count: u32) -> Result<Vec<Failure>, AllocError>
+fn room_for(alloc: Global, operation: u8, count: u32) -> Result<FailureRoom, AllocError>
     ensures empty { IfOk result (λ room. room.items ≡ []) }
-    ensures fits { IfOk result (λ room. (operation == lookup_accounts) ≡ false → count ≤ vec_capacity room) }
+    ensures fits { IfOk result (λ room. (operation == lookup_accounts) ≡ false → count ≤ room.capacity) }
 {
     if operation == LOOKUP_ACCOUNTS {
-        Ok(Vec::new(alloc))
+        Ok(FailureRoom::new(alloc))
     } else {
-        Vec::with_capacity(alloc, count as usize)
+        FailureRoom::with_capacity(alloc, count as usize)
     }
 }
 
@@ -60,7 +60,7 @@ impl Job {
 
     /// The packet as this submitter's packet of this number, with room for as many failures as it has
     /// events. Where it is not admitted or memory is refused, it comes back as it was. All memory that
-    /// its way takes is taken here; it costs that room.
+    /// its way takes is taken here; it costs that room, which for up to two events lies in the job itself.
     pub fn new(
         alloc: Global,
         submitter: u32,

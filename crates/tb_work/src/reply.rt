@@ -1,6 +1,6 @@
 //! Replies.
 
-ghost use Rattle.std.specs.Prelude.{◌≡◌, ◌+◌, ◌<◌, ◌≤◌, ◌++◌, ◌^◌, [], false, map, length, vec_capacity};
+ghost use Rattle.std.specs.Prelude.{◌≡◌, ◌+◌, ◌<◌, ◌≤◌, ◌++◌, ◌^◌, [], false, map, length};
 ghost use Rattle.tb_layout.specs.Failures.{RiseWithin, from_offset};
 ghost use Rattle.tb_work.specs.Admission.{count_of};
 ghost use Rattle.tb_work.specs.Answer.{IsOutcomeOf};
@@ -12,7 +12,7 @@ use crate::job::Job;
 use crate::outcome::Outcome;
 use crate::packet::Packet;
 use std::marker::Model;
-use tb_layout::{Answer, Failure, Failures};
+use tb_layout::{Answer, Failure, FailureRoom, Failures};
 
 /// A packet as it was handed in, with what became of it.
 #[derive(Drop)]
@@ -35,10 +35,10 @@ impl Model for Reply {
 }
 
 /// Puts failures behind those that are there, with indices counted from an offset.
-fn rebase_into(room: &mut Vec<Failure>, failures: &[Failure], offset: u32, count: u32)
+fn rebase_into(room: &mut FailureRoom, failures: &[Failure], offset: u32, count: u32)
     requires empty { room.old.items ≡ [] }
     requires rise { RiseWithin offset (offset + count) failures.now }
-    requires fits { count ≤ vec_capacity room.old }
+    requires fits { count ≤ room.old.capacity }
     ensures { room.new.items ≡ map (from_offset offset) failures.now }
 {
     for failure in failures {
@@ -89,7 +89,7 @@ impl Reply {
             packet,
             outcome: Outcome::Committed {
                 place,
-                answer: Answer::Failures(Failures::from_vec(room)),
+                answer: Answer::Failures(Failures::from_room(room)),
             },
         }
     }

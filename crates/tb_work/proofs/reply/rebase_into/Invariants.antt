@@ -1,11 +1,11 @@
-use Rattle.std.proofs.Common.{◌≡◌, map, take, vec_len}
-use Rattle.std.specs.Prelude.{vec_capacity}
+use Rattle.std.proofs.Common.{◌≡◌, map, take}
+use Rattle.smallvec.specs.SmallVec.{small_vec_len}
 use Rattle.tb_layout.specs.Failures.{from_offset}
 use Rattle.tb_work.proofs.reply.rebase_into.Given as goal
 
 abbrev pub invariant-loop-failure : goal.invariant-loop-failure
 invariant-loop-failure l = record {
   items : l.room.items ≡ map (from_offset l.offset) (take l.failure-index l.failures);
-  len : vec_len l.room ≡ l.failure-index;
-  capacity : vec_capacity l.room ≡ vec_capacity l.fn.room;
+  len : small_vec_len l.room ≡ l.failure-index;
+  capacity : l.room.capacity ≡ l.fn.room.capacity;
 }
