@@ -9,7 +9,7 @@ use tb_work::{Bytes, Packet, Refusal};
 /// number 0, or comes back as it was and none is queued.
 fn submit_or_not<R: Wait>(rt: &R, alloc: Global, submitter: &mut Submitter) -> Result<(), Fail> {
     let mut bytes = Vec::new(alloc);
-    let Ok(()) = bytes.resize(256, 7) else {
+    let Ok(()) = bytes.resize(512, 7) else {
         return Ok(());
     };
     let packet = Packet {
@@ -23,7 +23,7 @@ fn submit_or_not<R: Wait>(rt: &R, alloc: Global, submitter: &mut Submitter) -> R
     match submitter.submit(rt, alloc, packet) {
         Ok(number) => holds(number == 0 && submitter.queued() == 1),
         Err((back, refusal)) => {
-            holds(refusal == Refusal::NoMemory && look_of(&back) == made_look(129, 256))?;
+            holds(refusal == Refusal::NoMemory && look_of(&back) == made_look(129, 512))?;
             holds(submitter.queued() == 0 && submitter.in_flight() == 0)
         }
     }

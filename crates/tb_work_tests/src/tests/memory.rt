@@ -2,11 +2,12 @@ use std::test::Fail;
 use tb_layout::{Account, NoMemory, Transfer};
 use tb_work::{Bytes, Job, Packet, Refusal};
 
-/// What is tried with each allocation refused in turn, by `tools/refuse-each-growth`.
+/// What is tried with each allocation refused in turn, by `tools/refuse-each-growth`. The room for four failures doesn't
+/// lie in the job.
 #[test]
 fn job_refused_memory(rt: HostRuntime) -> Result<(), Fail> {
     let mut bytes = Vec::new(rt.alloc());
-    let Ok(()) = bytes.resize(256, 0) else {
+    let Ok(()) = bytes.resize(512, 0) else {
         return Ok(());
     };
     let packet = Packet {
@@ -19,7 +20,7 @@ fn job_refused_memory(rt: HostRuntime) -> Result<(), Fail> {
     };
     assert_eq!(rt; refusal, Refusal::NoMemory);
     assert_eq!(rt; packet.user, 7);
-    assert_eq!(rt; packet.bytes.as_slice().len(), 256);
+    assert_eq!(rt; packet.bytes.as_slice().len(), 512);
     Ok(())
 }
 
