@@ -234,7 +234,7 @@ impl Front {
     }
 
     /// One ticket, whose growth is refused.
-    fn step_refused(&mut self, parcels: &mut ArrayVec<Parcel, 2>, ticket: Ticket)
+    pub(crate) fn step_refused(&mut self, parcels: &mut ArrayVec<Parcel, 2>, ticket: Ticket)
         requires sender { ticket.sender ≤ self.old.submitters }
         requires empty { parcels.old.items ≡ [] }
         ensures took { take_result self.new parcels.new.items ≡ take_step true self.old ticket.sender ticket.item }
