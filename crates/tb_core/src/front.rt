@@ -68,6 +68,7 @@ impl Front {
     {
         let batcher = Batcher::new(alloc, limit)?;
         if submitters < 1 || submitters > SUBMITTERS_MAX {
+            drop(batcher);
             return Err(Refusal::BadSubmitters);
         }
         Ok(Front {

@@ -27,6 +27,7 @@ pub use run::run_world;
 use std::alloc::Global;
 use std::collections::VecDeque;
 use std::marker::Model;
+use std::mem;
 use tb_layout::NoMemory;
 use tb_work::{Refusal, Reply, Ticket};
 
@@ -102,10 +103,12 @@ fn sides(alloc: Global, submitters: u32) -> Result<(Vec<Sender>, Shelves), NoMem
 fn keep(outcome: &mut Option<Outcomes>, outcomes: Outcomes)
     ensures { outcome.new ≡ left_by outcomes }
 {
-    *outcome = match outcomes {
+    let left = match outcomes {
         Outcomes::Nothing => None,
         outcomes => Some(outcomes),
     };
+    // A drop by name is proved once, and one by assignment at each place.
+    drop(mem::replace(outcome, left));
 }
 
 impl World {
