@@ -1,4 +1,5 @@
-use Rattle.std.proofs.Common.{◌≡◌, ◌≤◌, ◌∙◌, ℕ, List, ◌∷◌, Bool, true, false, ap, subst, All}
+use Rattle.std.proofs.Common.{◌≡◌, ◌≤◌, ◌∙◌, ℕ, List, ◌∷◌, Bool, true, false, ap, subst, All, arith, rules}
+use Rattle.std.proofs.lemmas.Grind.{common_steps}
 use Rattle.std.proofs.lemmas.List.Elements.{All-tail}
 use Rattle.tb_work.specs.declared.item.Ticket.{Ticket}
 use Rattle.tb_core.specs.declared.parcel.Parcel.{Parcel}
@@ -29,3 +30,18 @@ pub invariant_of-self-in-Ok : goal.invariant_of-self-in-Ok
 invariant_of-self-in-Ok c =
     taken_off false c.self.inside.submitters c.self.inside.front c.try_take.new.self c.in-Some.ticket c.self.inside.queue.items c.pop_front.new.self.items c.self.inside.senders.items c.try_take.new.parcels.items
     c.self.invariant c.try_take.ensures.front c.in-Some.ensures.items c.in-Ok.ensures.ok
+
+pub returns-then-refused-clause-ok : goal.returns-then-refused-clause-ok
+returns-then-refused-clause-ok c = search rules
+
+pub returns-in-Ok-clause-ok : goal.returns-in-Ok-clause-ok
+returns-in-Ok-clause-ok c = search rules
+
+pub step_refused-requires-clause-empty : goal.step_refused-requires-clause-empty
+step_refused-requires-clause-empty c = grind (arith, common_steps)
+
+pub try_take-requires-clause-empty : goal.try_take-requires-clause-empty
+try_take-requires-clause-empty c = grind (arith, common_steps)
+
+pub returns-in-Err-clause-err : goal.returns-in-Err-clause-err
+returns-in-Err-clause-err c = grind (arith, common_steps)
