@@ -68,6 +68,7 @@ impl Front {
     {
         let batcher = Batcher::new(alloc, limit)?;
         if submitters < 1 || submitters > SUBMITTERS_MAX {
+            drop(batcher);
             return Err(Refusal::BadSubmitters);
         }
         Ok(Front {
@@ -234,7 +235,7 @@ impl Front {
     }
 
     /// One ticket, whose growth is refused.
-    fn step_refused(&mut self, parcels: &mut ArrayVec<Parcel, 2>, ticket: Ticket)
+    pub(crate) fn step_refused(&mut self, parcels: &mut ArrayVec<Parcel, 2>, ticket: Ticket)
         requires sender { ticket.sender ≤ self.old.submitters }
         requires empty { parcels.old.items ≡ [] }
         ensures took { take_result self.new parcels.new.items ≡ take_step true self.old ticket.sender ticket.item }

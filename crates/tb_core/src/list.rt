@@ -17,7 +17,7 @@ use crate::outcomes::Outcomes;
 use crate::parcel::Parcel;
 use arrayvec::ArrayVec;
 use std::alloc::Global;
-use std::mem;
+use tb_demux::Cutter;
 use tb_layout::NoMemory;
 use tb_work::{Item, Reply, Ticket};
 
@@ -28,20 +28,29 @@ pub struct Listed {
     pub replies: Vec<Reply>,
 }
 
+/// Puts all that a cutter gives after the others.
+fn put_all(cutter: &mut Cutter, replies: &mut Vec<Reply>) -> Result<(), NoMemory>
+    ensures { OnOk result (replies.new.items ≡ replies.old.items ++ cutter.old) }
+{
+    while let Some(reply) = cutter.next() {
+        replies.push(reply)?;
+    }
+    Ok(())
+}
+
 /// Puts the replies that a parcel comes to after the others.
 fn put(outcomes: Outcomes, replies: &mut Vec<Reply>) -> Result<(), NoMemory>
     ensures { OnOk result (replies.new.items ≡ replies.old.items ++ replies_in outcomes) }
 {
     match outcomes {
         Outcomes::Cut(mut cutter) => {
-            while let Some(reply) = cutter.next() {
-                replies.push(reply)?;
-            }
+            let put = put_all(&mut cutter, replies);
+            drop(cutter);
+            put
         }
-        Outcomes::One(reply) => replies.push(reply)?,
-        Outcomes::Nothing | Outcomes::Last => {}
+        Outcomes::One(reply) => Ok(replies.push(reply)?),
+        Outcomes::Nothing | Outcomes::Last => Ok(()),
     }
-    Ok(())
 }
 
 /// Applies a parcel to a ledger that goes on, and keeps the replies. A ledger that stops is want of memory here.
@@ -49,13 +58,19 @@ fn apply(ledger: &mut Ledger, replies: &mut Vec<Reply>, parcel: Parcel) -> Resul
     ensures { (clock : ℕ) (limit : ℕ) (sent : List Passage) → IsJoinedParcel limit parcel → GoesOn clock limit sent ledger.old replies.old.items
         → OnOk result (GoesOn clock limit (sent ++ passages_in parcel) ledger.new replies.new.items) }
 {
-    let Ok(outcomes) = ledger.try_apply(parcel) else {
-        return Err(NoMemory);
-    };
-    if ledger.stopped() {
-        return Err(NoMemory);
+    match ledger.try_apply(parcel) {
+        Ok(outcomes) => {
+            put(outcomes, replies)?;
+            if ledger.stopped() {
+                return Err(NoMemory);
+            }
+            Ok(())
+        }
+        Err(parcel) => {
+            drop(parcel);
+            Err(NoMemory)
+        }
     }
-    put(outcomes, replies)
 }
 
 /// Applies parcels in order, and leaves none.
@@ -68,10 +83,7 @@ fn apply_all(
     ensures applied { (clock : ℕ) (limit : ℕ) (sent : List Passage) → AreJoinedParcels limit parcels.old.items → GoesOn clock limit sent ledger.old replies.old.items
         → OnOk result (GoesOn clock limit (sent ++ all_passages_in parcels.old.items) ledger.new replies.new.items) }
 {
-    if parcels.is_empty() {
-        return Ok(());
-    }
-    for parcel in mem::replace(parcels, ArrayVec::new()) {
+    while let Some(parcel) = parcels.pop_at(0) {
         apply(ledger, replies, parcel)?;
     }
     Ok(())
@@ -94,7 +106,9 @@ impl Listing {
             → OnOk result (IsRunning clock limit (items ++ item ∷ []) self.new.front self.new.ledger self.new.replies.items) }
     {
         let mut ticket = Ticket { sender: 0, item };
-        self.front.try_take(parcels, &mut ticket)?;
+        let taken = self.front.try_take(parcels, &mut ticket);
+        drop(ticket);
+        taken?;
         apply_all(&mut self.ledger, &mut self.replies, parcels)
     }
 
@@ -151,9 +165,19 @@ pub fn run_list(alloc: Global, clock: u64, limit: u32, items: Vec<Item>) -> Resu
         ledger: Ledger::new(alloc, clock),
         replies,
     };
-    listing.take_all_and_finish(items)?;
-    Ok(Listed {
-        ledger: listing.ledger,
-        replies: listing.replies,
-    })
+    match listing.take_all_and_finish(items) {
+        Ok(()) => {
+            let Listing {
+                front,
+                ledger,
+                replies,
+            } = listing;
+            drop(front);
+            Ok(Listed { ledger, replies })
+        }
+        Err(refused) => {
+            drop(listing);
+            Err(refused)
+        }
+    }
 }

@@ -5,6 +5,7 @@ ghost use Rattle.tb_layout.specs.Limits.{clock_max, submitters_max};
 ghost use Rattle.tb_work.specs.declared.refusal.Refusal.TheVariants.{NoMemory as NoMemoryRefusal};
 ghost use Rattle.tb_core.specs.Front.{opening_refusal};
 ghost use Rattle.tb_core.specs.world.Pushing.{newcomer};
+ghost use Rattle.tb_core.specs.world.Shelf.{empty_shelf};
 ghost use Rattle.tb_core.specs.world.World.{left_by, new_world, IsMove, batch_push};
 
 mod event;
@@ -26,6 +27,7 @@ pub use run::run_world;
 use std::alloc::Global;
 use std::collections::VecDeque;
 use std::marker::Model;
+use std::mem;
 use tb_layout::NoMemory;
 use tb_work::{Refusal, Reply, Ticket};
 
@@ -86,14 +88,27 @@ fn newcomers(alloc: Global, submitters: u32) -> Result<Vec<Sender>, NoMemory>
     Ok(senders)
 }
 
+/// The senders, and the submitters' rings.
+fn sides(alloc: Global, submitters: u32) -> Result<(Vec<Sender>, Shelves), NoMemory>
+    requires { submitters ≤ submitters_max }
+    ensures senders { IfOk result (λ sides. sides.0.items ≡ replicate (submitters + 1) newcomer) }
+    ensures shelves { IfOk result (λ sides. sides.1 ≡ replicate submitters empty_shelf) }
+{
+    let senders = newcomers(alloc, submitters)?;
+    let shelves = Shelves::new(alloc, submitters)?;
+    Ok((senders, shelves))
+}
+
 /// Keeps what a parcel came to. A pulse leaves no outcome.
 fn keep(outcome: &mut Option<Outcomes>, outcomes: Outcomes)
     ensures { outcome.new ≡ left_by outcomes }
 {
-    *outcome = match outcomes {
+    let left = match outcomes {
         Outcomes::Nothing => None,
         outcomes => Some(outcomes),
     };
+    // A drop by name is proved once, and one by assignment at each place.
+    drop(mem::replace(outcome, left));
 }
 
 impl World {
@@ -109,10 +124,8 @@ impl World {
         ensures refusal { IfErr result (λ refusal. (opening_refusal limit submitters ≡ Some refusal) ⊎ ((opening_refusal limit submitters ≡ None) × (refusal ≡ NoMemoryRefusal))) }
     {
         let front = Front::new(alloc, limit, submitters)?;
-        let Ok(senders) = newcomers(alloc, submitters) else {
-            return Err(Refusal::NoMemory);
-        };
-        let Ok(shelves) = Shelves::new(alloc, submitters) else {
+        let Ok((senders, shelves)) = sides(alloc, submitters) else {
+            drop(front);
             return Err(Refusal::NoMemory);
         };
         Ok(World {
@@ -152,10 +165,12 @@ impl World {
     {
         let number = ticket.sender as usize;
         if number >= self.senders.len() {
+            drop(ticket);
             return Ok(false);
         }
         let sender = self.senders[number];
         if !sender.may_push(self.limit, self.submitters, ticket.sender, &ticket.item) {
+            drop(ticket);
             return Ok(false);
         }
         let next = sender.after(&ticket.item);
@@ -179,11 +194,14 @@ impl World {
             return Ok(false);
         };
         if refused {
-            self.parcels = self.front.take_as_refused(ticket);
+            self.front.step_refused(&mut self.parcels, ticket);
             return Ok(true);
         }
         match self.front.try_take(&mut self.parcels, &mut ticket) {
-            Ok(()) => Ok(true),
+            Ok(()) => {
+                drop(ticket);
+                Ok(true)
+            }
             Err(refused) => {
                 self.queue.push_front_reserved(ticket);
                 Err(refused)

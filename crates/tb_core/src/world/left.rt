@@ -7,6 +7,7 @@ ghost use Rattle.tb_core.specs.world.Left.{IsGiven, is_none};
 use crate::outcomes::Outcomes;
 use crate::world::shelf::Shelves;
 use std::marker::Model;
+use std::mem;
 use tb_demux::Cutter;
 use tb_layout::NoMemory;
 use tb_work::Reply;
@@ -45,7 +46,8 @@ impl Left {
     pub(crate) fn fill(&mut self, outcomes: Outcomes)
         ensures { self.new ≡ replies_in outcomes }
     {
-        *self = Left::of(outcomes);
+        // A drop by name is proved once, and one by assignment at each place.
+        drop(mem::replace(self, Left::of(outcomes)));
     }
 
     fn of(outcomes: Outcomes) -> Left
@@ -84,14 +86,15 @@ impl Left {
         };
         match shelves.give(reply) {
             Ok(()) => {
-                self.next = match &mut self.cutter {
+                let next = match &mut self.cutter {
                     Some(cutter) => cutter.next(),
                     None => None,
                 };
+                drop(mem::replace(&mut self.next, next));
                 Ok(true)
             }
             Err(reply) => {
-                self.next = Some(reply);
+                drop(mem::replace(&mut self.next, Some(reply)));
                 Err(NoMemory)
             }
         }

@@ -48,6 +48,11 @@ pub fn run_world(
     let Ok(mut world) = World::new(alloc, clock, limit, submitters) else {
         return Err(NoMemory);
     };
-    go_through(&mut world, events)?;
-    Ok(world)
+    match go_through(&mut world, events) {
+        Ok(()) => Ok(world),
+        Err(refused) => {
+            drop(world);
+            Err(refused)
+        }
+    }
 }

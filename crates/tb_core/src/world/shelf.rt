@@ -97,6 +97,7 @@ impl Shelves {
     {
         let submitter = reply.submitter as usize;
         if submitter >= self.shelves.len() {
+            drop(reply);
             return Ok(());
         }
         let shelf = &mut self.shelves[submitter];

@@ -7,8 +7,8 @@ use Rattle.tb_core.specs.Run.{Commits, IsThrough}
 use Rattle.tb_core.proofs.Runs.{run_is_listed}
 use Rattle.tb_core.proofs.list.run_list.Goals as goal
 
-done : (c : goal.Joined-listing-2) → IsThrough c.args.clock c.args.limit c.args.items.items c.take_all_and_finish.new.self.ledger c.take_all_and_finish.new.self.replies.items
-done c = c.in_ok-take_all_and_finish.ensures c.args.clock c.args.limit (record {
+done : (c : goal.After-drop) → IsThrough c.args.clock c.args.limit c.args.items.items c.take_all_and_finish.new.self.ledger c.take_all_and_finish.new.self.replies.items
+done c = c.in-Ok-take_all_and_finish.ensures c.args.clock c.args.limit (record {
   sent = [];
   under = ap (λ (f : FrontState). f.limit) c.in-Ok.ensures.front;
   passed = c.in-Ok.ensures.passes;
@@ -20,14 +20,14 @@ done c = c.in_ok-take_all_and_finish.ensures c.args.clock c.args.limit (record {
   unstopped = ap (λ (f : FrontState). f.stopped) c.in-Ok.ensures.front;
 })
 
-listed : (c : goal.Joined-listing-2) → IsListed c.args.clock c.args.items.items c.take_all_and_finish.new.self.ledger c.take_all_and_finish.new.self.replies.items
+listed : (c : goal.After-drop) → IsListed c.args.clock c.args.items.items c.take_all_and_finish.new.self.ledger c.take_all_and_finish.new.self.replies.items
 listed c = run_is_listed c.args.clock c.args.items.items c.take_all_and_finish.new.self.ledger c.take_all_and_finish.new.self.replies.items (done c).ran (done c).unmarked (done c).unstopped
 
-pub returns-clause-listed : goal.returns-clause-listed
-returns-clause-listed c = listed c
+pub returns-in-Ok-take_all_and_finish-clause-listed : goal.returns-in-Ok-take_all_and_finish-clause-listed
+returns-in-Ok-take_all_and_finish-clause-listed c = listed c
 
-pub returns-clause-ran : goal.returns-clause-ran
-returns-clause-ran c = (done c).ran
+pub returns-in-Ok-take_all_and_finish-clause-ran : goal.returns-in-Ok-take_all_and_finish-clause-ran
+returns-in-Ok-take_all_and_finish-clause-ran c = (done c).ran
 
-pub returns-clause-grouping : goal.returns-clause-grouping
-returns-clause-grouping c = λ within. record { joined = (done c).joined; within = subst (AreWithin c.args.limit) (sym (listed c).committed) within }
+pub returns-in-Ok-take_all_and_finish-clause-grouping : goal.returns-in-Ok-take_all_and_finish-clause-grouping
+returns-in-Ok-take_all_and_finish-clause-grouping c = λ within. record { joined = (done c).joined; within = subst (AreWithin c.args.limit) (sym (listed c).committed) within }

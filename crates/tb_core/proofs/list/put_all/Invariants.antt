@@ -1,5 +1,5 @@
 use Rattle.std.proofs.Common.{◌≡◌, ◌++◌, length}
-use Rattle.tb_core.proofs.list.put.Given as goal
+use Rattle.tb_core.proofs.list.put_all.Given as goal
 
 abbrev pub invariant-loop-reply : goal.invariant-loop-reply
 invariant-loop-reply l = l.replies.items ++ l.cutter ≡ l.initial.replies.items ++ l.initial.cutter
