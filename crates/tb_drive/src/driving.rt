@@ -157,10 +157,22 @@ fn start_one<'s, E, D: Driver + Send + 's, R: Wait + Sync>(
             ensures { IsLeftBy seated result }
         { seated.drive(rt, alloc, stop) },
     );
-    match started {
-        Ok(handle) => Ok(handle),
-        Err(_) => Err(DriveFault::NoThread),
-    }
+    started.ok().ok_or(DriveFault::NoThread)
+}
+
+/// Starts a submitter's thread, and puts its handle behind the others.
+fn start_next<'s, E, D: Driver + Send + 's, R: Wait + Sync>(
+    scope: &Scope<'s, E>,
+    rt: &'s R,
+    alloc: Global,
+    stop: &'s AtomicBool,
+    handles: &mut Vec<Started<D>>,
+    seated: Seated<D>,
+) -> Result<(), DriveFault>
+    ensures { OnOk result (map started_from handles.new.items ≡ map started_from handles.old.items ++ seated ∷ []) }
+{
+    handles.push(start_one(scope, rt, alloc, stop, seated)?)?;
+    Ok(())
 }
 
 /// Starts the submitters' threads, once there is room for their handles.
@@ -175,9 +187,30 @@ fn start_all<'s, E, D: Driver + Send + 's, R: Wait + Sync>(
 {
     let mut handles = Vec::with_capacity(alloc, all.len())?;
     for seated in all {
-        handles.push(start_one(scope, rt, alloc, stop, seated)?)?;
+        start_next(scope, rt, alloc, stop, &mut handles, seated)?;
     }
     Ok(handles)
+}
+
+/// Starts the submitters' threads, once there is room for all that they leave.
+fn start_submitters<'s, E, D: Driver + Send + 's, R: Wait + Sync>(
+    scope: &Scope<'s, E>,
+    rt: &'s R,
+    alloc: Global,
+    stop: &'s AtomicBool,
+    all: Vec<Seated<D>>,
+) -> Result<(Vec<Started<D>>, Left<D>), DriveFault>
+    ensures submitters { IfOk result (λ started. map started_from started.0.items ≡ all.items) }
+    ensures room { IfOk result (λ started. started.1 ≡ nothing_left) }
+{
+    let room = Left::new(alloc, all.len())?;
+    match start_all(scope, rt, alloc, stop, all) {
+        Ok(submitters) => Ok((submitters, room)),
+        Err(fault) => {
+            drop(room);
+            Err(fault)
+        }
+    }
 }
 
 /// Starts the control's thread.
@@ -195,10 +228,7 @@ fn start_control<'s, E, R: Wait + Sync>(
             ensures { IsControlEnd control_driver result }
         { control_driver.drive(rt, stop) },
     );
-    match started {
-        Ok(handle) => Ok(handle),
-        Err(_) => Err(DriveFault::NoThread),
-    }
+    started.ok().ok_or(DriveFault::NoThread)
 }
 
 /// The threads of all senders, with room for what those of the submitters leave.
@@ -222,14 +252,25 @@ fn start<'s, E, D: Driver + Send + 's, R: Wait + Sync>(
     ensures control { IfOk result (λ running. IsPromiseOf control_driver running.control.promise) }
     ensures room { IfOk result (λ running. running.room ≡ nothing_left) }
 {
-    let room = Left::new(alloc, all.len())?;
-    let submitters = start_all(scope, rt, alloc, stop, all)?;
-    let control = start_control(scope, rt, stop, control_driver)?;
-    Ok(Running {
-        submitters,
-        control,
-        room,
-    })
+    let (submitters, room) = match start_submitters(scope, rt, alloc, stop, all) {
+        Ok(started) => started,
+        Err(fault) => {
+            drop(control_driver);
+            return Err(fault);
+        }
+    };
+    match start_control(scope, rt, stop, control_driver) {
+        Ok(control) => Ok(Running {
+            submitters,
+            control,
+            room,
+        }),
+        Err(fault) => {
+            drop(submitters);
+            drop(room);
+            Err(fault)
+        }
+    }
 }
 
 /// Joins the submitters' threads, in their order.

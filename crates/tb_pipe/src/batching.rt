@@ -103,31 +103,30 @@ pub(crate) fn batch_all<R: Wait, G: Gate>(
     rt: &R,
     gate: &G,
     intake: &mut Intake,
-    front: Front,
+    front: &mut Front,
     batches: &mut Outlet<Parcel>,
 )
-    requires { IsBatched intake.old.limit intake.old.submitters intake.old.taken front (given batches.old) }
+    requires { IsBatched intake.old.limit intake.old.submitters intake.old.taken front.old (given batches.old) }
     ensures ring { SameOutlet batches.old batches.new }
     ensures intake { intake.new ≡ record intake.old { taken = intake.new.taken } }
     ensures all { AllBatched intake.old.limit intake.old.submitters intake.new.taken (given batches.new) }
 {
-    let mut front = front;
     let mut parcels = ArrayVec::new();
     let mut sealed = 0;
     let backoff = Backoff::new();
     for _ in rt.forever() {
         if front.finished() {
-            pass_group(rt, gate, &mut front, batches, sealed);
+            pass_group(rt, gate, front, batches, sealed);
             give_waiting(rt, batches, Parcel::Last);
             return;
         }
         match intake.take(rt) {
             Some(ticket) => {
-                sealed = pass_ticket(rt, gate, &mut front, batches, &mut parcels, ticket, sealed);
+                sealed = pass_ticket(rt, gate, front, batches, &mut parcels, ticket, sealed);
                 backoff.reset();
             }
             None => {
-                sealed = pass_group(rt, gate, &mut front, batches, sealed);
+                sealed = pass_group(rt, gate, front, batches, sealed);
                 backoff.snooze();
             }
         }

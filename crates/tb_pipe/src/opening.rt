@@ -1,7 +1,8 @@
 //! Opening a pipeline.
 
-ghost use Rattle.std.specs.Prelude.{◌≡◌, ◌≤◌, ◌<◌, ℕ, map, length, slice_index_or, None, OnOk, IfOk, IfErr};
+ghost use Rattle.std.specs.Prelude.{◌≡◌, ◌≤◌, ◌<◌, ℕ, [], map, length, slice_index_or, None, OnOk, IfOk, IfErr, IfSome};
 ghost use Rattle.tb_layout.specs.Limits.{clock_max};
+ghost use Rattle.tb_rings.specs.Ends.{given, taken, IsRing};
 ghost use Rattle.tb_submit.specs.Ends.{Origin, new_submitter, new_control, new_intake, origin_of, seat_at};
 ghost use Rattle.tb_submit.specs.Refusals.{IsRefusal, queue_refusal};
 ghost use Rattle.tb_work.specs.declared.refusal.Refusal.TheVariants as refusal;
@@ -9,8 +10,8 @@ ghost use Rattle.tb_work.specs.declared.refusal.Refusal.TheVariants as refusal;
 use crate::serving::Pipeline;
 use crate::stages::Stages;
 use std::alloc::Global;
-use tb_core::{Front, Ledger};
-use tb_rings::ring;
+use tb_core::{Front, Ledger, Outcomes, Parcel};
+use tb_rings::{Inlet, Outlet, ring};
 use tb_submit::{Control, Ends, Submitter, open_queue};
 use tb_work::Refusal;
 
@@ -22,6 +23,36 @@ pub struct Opened {
     pub pipeline: Pipeline,
     pub submitters: Vec<Submitter>,
     pub control: Control,
+}
+
+/// The rings between the stages: the batcher's to the committer, and the committer's to the demultiplexer.
+#[derive(Drop)]
+struct Rings {
+    batches: Outlet<Parcel>,
+    parcels: Inlet<Parcel>,
+    made: Outlet<Outcomes>,
+    outcomes: Inlet<Outcomes>,
+}
+
+/// The rings between the stages. None where memory is wanting.
+fn open_rings(alloc: Global) -> Option<Rings>
+    ensures pairs { IfSome result (λ rings. IsRing rings.batches rings.parcels × IsRing rings.made rings.outcomes) }
+    ensures empty { IfSome result (λ rings. (given rings.batches ≡ []) × (taken rings.parcels ≡ []) × (given rings.made ≡ []) × (taken rings.outcomes ≡ [])) }
+{
+    let Ok((batches, parcels)) = ring(alloc, STAGE_SLOTS) else {
+        return None;
+    };
+    let Ok((made, outcomes)) = ring(alloc, STAGE_SLOTS) else {
+        drop(batches);
+        drop(parcels);
+        return None;
+    };
+    Some(Rings {
+        batches,
+        parcels,
+        made,
+        outcomes,
+    })
 }
 
 /// A pipeline whose clock starts at a number of nanoseconds. The limit is the most events of a batch, the
@@ -49,21 +80,26 @@ pub fn open(
     ensures opens { OnOk result (queue_refusal limit capacity credit submitters ≡ None) }
     ensures refusal { IfErr result (λ why. IsRefusal (queue_refusal limit capacity credit submitters) (λ other. other ≡ refusal.NoMemory) why) }
 {
+    let ends = open_queue(alloc, limit, capacity, credit, submitters)?;
+    let Some(rings) = open_rings(alloc) else {
+        drop(ends);
+        return Err(Refusal::NoMemory);
+    };
+    let Ok(front) = Front::new(alloc, limit, submitters) else {
+        unreachable!()
+    };
     let Ends {
         submitters: opened,
         control,
         intake,
         outlets,
-    } = open_queue(alloc, limit, capacity, credit, submitters)?;
-    let Ok(front) = Front::new(alloc, limit, submitters) else {
-        unreachable!()
-    };
-    let Ok((batches, parcels)) = ring(alloc, STAGE_SLOTS) else {
-        return Err(Refusal::NoMemory);
-    };
-    let Ok((made, outcomes)) = ring(alloc, STAGE_SLOTS) else {
-        return Err(Refusal::NoMemory);
-    };
+    } = ends;
+    let Rings {
+        batches,
+        parcels,
+        made,
+        outcomes,
+    } = rings;
     let stages = Stages {
         intake,
         front,

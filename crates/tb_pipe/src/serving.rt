@@ -2,6 +2,7 @@
 
 ghost use Rattle.std.specs.Prelude.{◌≡◌, IfOk, IfErr};
 ghost use Rattle.tb_work.specs.declared.refusal.Refusal.TheVariants.{NoThread as NoThreadRefusal};
+ghost use Rattle.tb_pipe.specs.Run.{IsServed, served_of};
 
 use crate::gate::Gate;
 use crate::stages::{Remains, Stages};
@@ -12,9 +13,16 @@ use tb_submit::Intake;
 use tb_work::Refusal;
 
 /// A pipeline that is to be served: the stages between the submission queue and the replies.
-#[derive(Drop)]
 pub struct Pipeline {
     pub(crate) stages: Stages,
+}
+
+impl Drop for Pipeline {
+    /// The stages go in one call, so that a caller's proof needn't go through all that they hold.
+    fn drop(self) {
+        let Pipeline { stages } = self;
+        drop(stages);
+    }
 }
 
 impl Model for Pipeline {
@@ -28,9 +36,16 @@ impl Model for Pipeline {
 }
 
 /// A pipeline that was served.
-#[derive(Drop)]
 pub struct Served {
     pub(crate) remains: Remains,
+}
+
+impl Drop for Served {
+    /// The remains go in one call, as a pipeline's stages do.
+    fn drop(self) {
+        let Served { remains } = self;
+        drop(remains);
+    }
 }
 
 impl Model for Served {
@@ -41,6 +56,17 @@ impl Model for Served {
     ghost view = { λ s. served_of s.remains };
 
     ghost invariant = { λ s. IsServed s.remains };
+}
+
+impl Served {
+    /// What the stages left.
+    pub(crate) fn into_remains(self) -> Remains
+        ensures served { IsServed result }
+        ensures same { self ≡ served_of result }
+    {
+        let Served { remains } = self;
+        remains
+    }
 }
 
 impl Pipeline {
@@ -58,7 +84,8 @@ impl Pipeline {
         ensures submitters { IfOk result (λ served. served.submitters ≡ self.submitters) }
         ensures refused { IfErr result (λ back. (back.0 ≡ self.intake) × (back.1 ≡ NoThreadRefusal)) }
     {
-        match self.stages.serve(rt, gate) {
+        let Pipeline { stages } = self;
+        match stages.serve(rt, gate) {
             Ok(remains) => Ok(Served { remains }),
             Err(intake) => Err((intake, Refusal::NoThread)),
         }

@@ -62,5 +62,5 @@ pub fn settle(served: Served, ends: Vec<Ended>, control: ControlEnd) -> Report
     ensures long { length result.ends.items ≡ served.intake.submitters }
     ensures read { (k : ℕ) (d : EndedState) → (slice_index_or result.ends.items k d).read ≡ (slice_index_or ends.items k d).read }
 {
-    settle_remains(served.remains, ends, control)
+    settle_remains(served.into_remains(), ends, control)
 }

@@ -110,7 +110,7 @@ impl Stages {
     {
         let Stages {
             mut intake,
-            front,
+            mut front,
             mut batches,
             parcels,
             ledger,
@@ -119,14 +119,21 @@ impl Stages {
             outlets,
         } = self;
         let Some(committer) = start_committer(scope, rt, gate, parcels, made, ledger) else {
+            drop(front);
+            drop(batches);
+            drop(outcomes);
+            drop(outlets);
             return Err(intake);
         };
         let Some(demultiplexer) = start_demultiplexer(scope, rt, outcomes, outlets) else {
             give_waiting(rt, &mut batches, Parcel::Last);
-            committer.join(rt);
+            drop(committer.join(rt));
+            drop(front);
+            drop(batches);
             return Err(intake);
         };
-        batch_all(rt, gate, &mut intake, front, &mut batches);
+        batch_all(rt, gate, &mut intake, &mut front, &mut batches);
+        drop(front);
         Ok(Remains {
             intake,
             batches,
