@@ -8,9 +8,16 @@ use std::marker::Model;
 use tb_work::{Job, Stub};
 
 /// Packets of one operation that are committed together, seen as their jobs in order.
-#[derive(Drop)]
 pub struct Batch {
     parts: Parts,
+}
+
+impl Drop for Batch {
+    /// One call, so that no owner's proof goes through all that is held.
+    fn drop(self) {
+        let Batch { parts } = self;
+        drop(parts);
+    }
 }
 
 impl Model for Batch {
@@ -70,6 +77,7 @@ impl Batch {
         ensures jobs { result.jobs.items ≡ self }
         ensures parts { AreParts result }
     {
-        self.parts
+        let Batch { parts } = self;
+        parts
     }
 }

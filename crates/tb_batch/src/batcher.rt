@@ -21,12 +21,24 @@ use tb_work::{Job, Refusal};
 /// room for as much.
 /// So all room that it asks for stays linear in what is batched: a batch asks at most for what the one before came to
 /// and for twice what it comes to itself, and for a few jobs and failures.
-#[derive(Drop)]
 pub struct Batcher {
     alloc: Global,
     limit: u32,
     held: Option<Group>,
     before: Size,
+}
+
+impl Drop for Batcher {
+    /// One call, so that no owner's proof goes through all that is held.
+    fn drop(self) {
+        let Batcher {
+            alloc: _,
+            limit: _,
+            held,
+            before: _,
+        } = self;
+        drop(held);
+    }
 }
 
 impl Model for Batcher {

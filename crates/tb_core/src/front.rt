@@ -13,13 +13,20 @@ use tb_work::{Item, Job, Moment, Refusal, Ticket};
 
 /// Takes the tickets of a queue in order, joins neighbouring packets to batches, and hands these on
 /// with the pulses, and with the packets that come back uncommitted.
-#[derive(Drop)]
 pub struct Front {
     batcher: Batcher,
     submitters: u32,
     closed: bool,
     stopped: bool,
     ended: [bool; 17],
+}
+
+impl Drop for Front {
+    /// One call, so that no owner's proof goes through all that is held.
+    fn drop(self) {
+        let Front { batcher, submitters: _, closed: _, stopped: _, ended: _ } = self;
+        drop(batcher);
+    }
 }
 
 impl Model for Front {

@@ -28,13 +28,21 @@ use tb_work::{Accounts, Answer, Failures, Job, Moment, Outcome, Reply};
 const MOST_PLACES: u64 = 1 << 63;
 
 /// Commits what the front hands on, and keeps a journal of it.
-#[derive(Drop)]
 pub struct Ledger {
     opening: u64,
     machine: Machine,
     entries: Vec<Entry>,
     places: u64,
     stopped: bool,
+}
+
+impl Drop for Ledger {
+    /// One call, so that no owner's proof goes through all that is held.
+    fn drop(self) {
+        let Ledger { opening: _, machine, entries, places: _, stopped: _ } = self;
+        drop(machine);
+        drop(entries);
+    }
 }
 
 impl Model for Ledger {

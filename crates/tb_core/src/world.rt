@@ -33,7 +33,6 @@ use tb_work::{Refusal, Reply, Ticket};
 
 /// A queue, a front, a ledger and a cutter, with rings between them that have no bound. Each of its steps is one push
 /// or one pop, and they come in any order: whoever drives the stages in one thread, or tests a schedule, takes this.
-#[derive(Drop)]
 pub struct World {
     limit: u32,
     submitters: u32,
@@ -48,6 +47,37 @@ pub struct World {
     outcomes: VecDeque<Outcomes>,
     left: Left,
     shelves: Shelves,
+}
+
+impl Drop for World {
+    /// One call, so that no owner's proof goes through all that is held.
+    fn drop(self) {
+        let World {
+            limit: _,
+            submitters: _,
+            senders,
+            queue,
+            front,
+            parcels,
+            last_sent: _,
+            batches,
+            ledger,
+            outcome,
+            outcomes,
+            left,
+            shelves,
+        } = self;
+        drop(senders);
+        drop(queue);
+        drop(front);
+        drop(parcels);
+        drop(batches);
+        drop(ledger);
+        drop(outcome);
+        drop(outcomes);
+        drop(left);
+        drop(shelves);
+    }
 }
 
 impl Model for World {

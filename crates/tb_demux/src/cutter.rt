@@ -11,10 +11,18 @@ use std::vec::IntoIter;
 use tb_work::{Answer, Job, Outcome, Reply};
 
 /// The packets of one batch with its outcome, seen as the replies still to come.
-#[derive(Drop)]
 pub struct Cutter {
     jobs: IntoIter<Job>,
     source: Source,
+}
+
+impl Drop for Cutter {
+    /// One call, so that no owner's proof goes through all that is held.
+    fn drop(self) {
+        let Cutter { jobs, source } = self;
+        drop(jobs);
+        drop(source);
+    }
 }
 
 impl Model for Cutter {

@@ -11,9 +11,16 @@ use std::marker::Model;
 pub type FailureRoom = SmallVec<Failure, 2>;
 
 /// The failed events of a packet, seen as their list.
-#[derive(Drop)]
 pub struct Failures {
     failures: FailureRoom,
+}
+
+impl Drop for Failures {
+    /// One call, so that no owner's proof goes through all that is held.
+    fn drop(self) {
+        let Failures { failures } = self;
+        drop(failures);
+    }
 }
 
 impl Model for Failures {

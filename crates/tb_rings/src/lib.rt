@@ -10,15 +10,29 @@ use std::alloc::Global;
 use tb_layout::NoMemory;
 
 /// The end that gives.
-#[derive(Drop)]
 pub struct Outlet<T> {
     producer: Producer<T>,
 }
 
+impl<T: Drop> Drop for Outlet<T> {
+    /// One call, so that no owner's proof goes through all that is held.
+    fn drop(self) {
+        let Outlet { producer } = self;
+        drop(producer);
+    }
+}
+
 /// The end that takes.
-#[derive(Drop)]
 pub struct Inlet<T> {
     consumer: Consumer<T>,
+}
+
+impl<T: Drop> Drop for Inlet<T> {
+    /// One call, so that no owner's proof goes through all that is held.
+    fn drop(self) {
+        let Inlet { consumer } = self;
+        drop(consumer);
+    }
 }
 
 /// Both ends of a new ring of so many slots, in which nothing lies. With no slot it is always full.

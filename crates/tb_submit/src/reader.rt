@@ -14,10 +14,18 @@ use std::sync::{Arc, Wait};
 use tb_work::Ticket;
 
 /// Takes from the queue, gives out numbers, and takes in what ended senders know.
-#[derive(Drop)]
 pub(crate) struct Reader {
     queue: Arc<Queue, Global>,
     place: Place,
+}
+
+impl Drop for Reader {
+    /// One call, so that no owner's proof goes through all that is held.
+    fn drop(self) {
+        let Reader { queue, place } = self;
+        drop(queue);
+        drop(place);
+    }
 }
 
 impl Model for Reader {

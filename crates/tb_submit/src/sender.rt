@@ -11,13 +11,21 @@ use std::sync::{Arc, Wait};
 use tb_work::{Item, Ticket};
 
 /// One that may push.
-#[derive(Drop)]
 pub(crate) struct Sender {
     pub(crate) queue: Arc<Queue, Global>,
     pub(crate) place: Place,
     pub(crate) number: u32,
     pub(crate) submitters: u32,
     pub(crate) limit: u32,
+}
+
+impl Drop for Sender {
+    /// One call, so that no owner's proof goes through all that is held.
+    fn drop(self) {
+        let Sender { queue, place, number: _, submitters: _, limit: _ } = self;
+        drop(queue);
+        drop(place);
+    }
 }
 
 impl Model for Sender {
@@ -97,12 +105,19 @@ impl Sender {
 }
 
 /// One that pushed its last item. Its place goes to the reader once all have ended.
-#[derive(Drop)]
 pub(crate) struct EndedSender {
     pub(crate) place: Option<Place>,
     pub(crate) number: u32,
     pub(crate) submitters: u32,
     pub(crate) limit: u32,
+}
+
+impl Drop for EndedSender {
+    /// One call, so that no owner's proof goes through all that is held.
+    fn drop(self) {
+        let EndedSender { place, number: _, submitters: _, limit: _ } = self;
+        drop(place);
+    }
 }
 
 impl Model for EndedSender {

@@ -14,10 +14,18 @@ use std::marker::Model;
 use tb_layout::{Account, NoMemory, Transfer};
 
 /// The facts of a ledger: accounts and transfers in order of making, under their ids.
-#[derive(Drop)]
 pub struct Tables {
     maps: Maps,
     changes: Vec<Change<Places>>,
+}
+
+impl Drop for Tables {
+    /// One call, so that no owner's proof goes through all that is held.
+    fn drop(self) {
+        let Tables { maps, changes } = self;
+        drop(maps);
+        drop(changes);
+    }
 }
 
 impl Model for Tables {

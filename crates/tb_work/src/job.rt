@@ -16,13 +16,27 @@ use std::marker::Model;
 use tb_layout::{CREATE_ACCOUNTS, CREATE_TRANSFERS, FailureRoom, LOOKUP_ACCOUNTS};
 
 /// An admitted packet of a submitter, with its number and with room for its failures.
-#[derive(Drop)]
 pub struct Job {
     pub(crate) submitter: u32,
     pub(crate) number: u64,
     pub(crate) count: u32,
     pub(crate) packet: Packet,
     pub(crate) room: FailureRoom,
+}
+
+impl Drop for Job {
+    /// One call, so that no owner's proof goes through all that is held.
+    fn drop(self) {
+        let Job {
+            submitter: _,
+            number: _,
+            count: _,
+            packet,
+            room,
+        } = self;
+        drop(packet);
+        drop(room);
+    }
 }
 
 impl Model for Job {
@@ -56,7 +70,8 @@ fn is_last_linked(operation: u8, chunk: &[u8; 128]) -> bool
 }
 
 impl Job {
-    ghost use Rattle.tb_work.specs.Job.{stub_of, is_open, numbered_packet};
+    ghost use Rattle.tb_work.specs.Admission.{count_of};
+    ghost use Rattle.tb_work.specs.Job.{stub_of, is_lookup, is_open, numbered_packet};
 
     /// The packet as this submitter's packet of this number, with room for as many failures as it has
     /// events. Where it is not admitted or memory is refused, it comes back as it was. All memory that
@@ -114,7 +129,25 @@ impl Job {
     pub fn into_packet(self) -> Packet
         ensures { result ≡ self.packet }
     {
-        self.packet
+        let (packet, room) = self.into_packet_and_room();
+        drop(room);
+        packet
+    }
+
+    /// Its packet, and the room for its failures.
+    pub(crate) fn into_packet_and_room(self) -> (Packet, FailureRoom)
+        ensures packet { result.0 ≡ self.packet }
+        ensures empty { result.1.items ≡ [] }
+        ensures fits { is_lookup self.packet ≡ false → count_of self.packet ≤ result.1.capacity }
+    {
+        let Job {
+            submitter: _,
+            number: _,
+            count: _,
+            packet,
+            room,
+        } = self;
+        (packet, room)
     }
 
     /// Whether its last event is linked, so that nothing may be joined to it. A lookup never is.

@@ -11,6 +11,7 @@ ghost use Rattle.tb_work.specs.declared.outcome.Outcome.TheVariants.{Committed a
 use crate::job::Job;
 use crate::outcome::Outcome;
 use crate::packet::Packet;
+use crate::stub::Stub;
 use std::marker::Model;
 use tb_layout::{Answer, Failure, FailureRoom, Failures};
 
@@ -58,10 +59,15 @@ impl Reply {
         requires { IsOutcomeOf job.packet outcome }
         ensures { result ≡ reply_with outcome job }
     {
+        let Stub {
+            submitter,
+            number,
+            count: _,
+        } = job.stub();
         Reply {
-            submitter: job.submitter,
-            number: job.number,
-            packet: job.packet,
+            submitter,
+            number,
+            packet: job.into_packet(),
             outcome,
         }
     }
@@ -74,14 +80,12 @@ impl Reply {
         requires rise { RiseWithin offset (offset + count_of job.packet) failures.now }
         ensures { result ≡ reply_with (CommittedAt place (FailuresOf (map (from_offset offset) failures.now))) job }
     {
-        let count = job.stub().count;
-        let Job {
+        let Stub {
             submitter,
             number,
-            count: _,
-            packet,
-            mut room,
-        } = job;
+            count,
+        } = job.stub();
+        let (packet, mut room) = job.into_packet_and_room();
         rebase_into(&mut room, failures, offset, count);
         Reply {
             submitter,
