@@ -22,7 +22,13 @@ pub(crate) struct Sender {
 impl Drop for Sender {
     /// One call, so that no owner's proof goes through all that is held.
     fn drop(self) {
-        let Sender { queue, place, number: _, submitters: _, limit: _ } = self;
+        let Sender {
+            queue,
+            place,
+            number: _,
+            submitters: _,
+            limit: _,
+        } = self;
         drop(queue);
         drop(place);
     }
@@ -115,7 +121,12 @@ pub(crate) struct EndedSender {
 impl Drop for EndedSender {
     /// One call, so that no owner's proof goes through all that is held.
     fn drop(self) {
-        let EndedSender { place, number: _, submitters: _, limit: _ } = self;
+        let EndedSender {
+            place,
+            number: _,
+            submitters: _,
+            limit: _,
+        } = self;
         drop(place);
     }
 }

@@ -26,7 +26,7 @@ replies_all F [] each sender below = absurd (omega (arith, below))
 replies_all F (ended ∷ ends) each zero below = each 0 ended (omega arith)
 replies_all F (ended ∷ ends) each (suc sender) below = replies_all (λ k. F (suc k)) ends (λ k d within. each (suc k) d (omega (arith, within))) sender (omega (arith, below))
 
-settled : (c : goal.After-drop-reader-inside-2) → AreSettled c.args.intake c.args.ends.items c.args.control
+settled : (c : goal.After-drop-reader) → AreSettled c.args.intake c.args.ends.items c.args.control
 settled c =
     let intake = c.args.intake in
     let xs = c.args.ends.items in
