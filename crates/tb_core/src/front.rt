@@ -24,7 +24,13 @@ pub struct Front {
 impl Drop for Front {
     /// One call, so that no owner's proof goes through all that is held.
     fn drop(self) {
-        let Front { batcher, submitters: _, closed: _, stopped: _, ended: _ } = self;
+        let Front {
+            batcher,
+            submitters: _,
+            closed: _,
+            stopped: _,
+            ended: _,
+        } = self;
         drop(batcher);
     }
 }

@@ -39,7 +39,13 @@ pub struct Ledger {
 impl Drop for Ledger {
     /// One call, so that no owner's proof goes through all that is held.
     fn drop(self) {
-        let Ledger { opening: _, machine, entries, places: _, stopped: _ } = self;
+        let Ledger {
+            opening: _,
+            machine,
+            entries,
+            places: _,
+            stopped: _,
+        } = self;
         drop(machine);
         drop(entries);
     }

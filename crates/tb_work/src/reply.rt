@@ -59,14 +59,10 @@ impl Reply {
         requires { IsOutcomeOf job.packet outcome }
         ensures { result ≡ reply_with outcome job }
     {
-        let Stub {
-            submitter,
-            number,
-            count: _,
-        } = job.stub();
+        let stub = job.stub();
         Reply {
-            submitter,
-            number,
+            submitter: stub.submitter,
+            number: stub.number,
             packet: job.into_packet(),
             outcome,
         }
