@@ -7,6 +7,7 @@
 
 mod list;
 mod output;
+mod packet;
 mod program_fault;
 mod read;
 mod run;

@@ -39,7 +39,9 @@ fn text_of(
 {
     let listed = run_list(alloc, clock, limit, items)?;
     let mut out = String::new(alloc);
-    put_listing(&mut out, lines, &listed)?;
+    let put = put_listing(&mut out, lines, &listed);
+    drop(listed);
+    put?;
     Ok(out)
 }
 

@@ -1,16 +1,18 @@
 //! The plan of a script's items.
 
-ghost use Rattle.std.specs.Prelude.{◌≡◌, ◌<◌, ◌≤◌, [], ℕ, get_or, OnOk, IfOk};
+ghost use Rattle.std.specs.Prelude.{◌≡◌, ◌<◌, ◌≤◌, ◌++◌, [], ℕ, get_or, map, OnOk, IfOk, IsErr};
 ghost use Rattle.tb_layout.specs.Limits.{batch_max};
-ghost use Rattle.tb_program.specs.Plan.{Packet as PacketPlanned, Pulse as PulsePlanned, Close as ClosePlanned, RefusedPacket as RefusedPacketPlanned, RefusedPulse as RefusedPulsePlanned, number_in, pulse_as, planned_as, plan_behind, with_planned, halves_of};
+ghost use Rattle.tb_program.specs.Plan.{Packet as PacketPlanned, Pulse as PulsePlanned, Close as ClosePlanned, RefusedPacket as RefusedPacketPlanned, RefusedPulse as RefusedPulsePlanned, number_in, pulse_as, planned_as, plan_behind, with_planned, halves_of, queue_of, line_of};
 ghost use Rattle.tb_script.specs.declared.item.Item.TheVariants.{Packet as PacketItem};
+ghost use Rattle.tb_work.specs.declared.refusal.Refusal.TheVariants.{NoMemory as OutOfMemory};
 
 use crate::list::plan::Line;
+use crate::packet::packet_of;
 use std::alloc::Global;
 use std::marker::Model;
 use tb_layout::{MOMENT_MAX, NoMemory};
 use tb_script::{Item, Submission, SubmitterNumber};
-use tb_work::{Bytes, Job, Moment, Packet, Refusal};
+use tb_work::{Job, Moment, Refusal};
 
 /// What the items so far queue, and what is printed of each.
 #[derive(Drop)]
@@ -50,9 +52,28 @@ impl Plan {
         ensures { OnOk result (self.new ≡ with_planned self.old (PacketPlanned job)) }
     {
         let submitter = job.stub().submitter as usize;
-        self.lines.push(Line::Packet)?;
+        if self.lines.push(Line::Packet).is_err() {
+            drop(job);
+            return Err(NoMemory);
+        }
         self.queue.push(tb_work::Item::Packet(job))?;
         self.numbers[submitter] += 1;
+        Ok(())
+    }
+
+    /// Notes why a packet isn't queued. Want of memory is a failure of the plan and not of the packet.
+    fn refuse_packet(
+        &mut self,
+        submitter: SubmitterNumber,
+        refusal: Refusal,
+    ) -> Result<(), NoMemory>
+        ensures memory { refusal ≡ OutOfMemory → IsErr result }
+        ensures planned { OnOk result (self.new ≡ with_planned self.old (RefusedPacketPlanned submitter refusal)) }
+    {
+        if let Refusal::NoMemory = refusal {
+            return Err(NoMemory);
+        }
+        self.lines.push(Line::RefusedPacket(submitter, refusal))?;
         Ok(())
     }
 
@@ -66,23 +87,14 @@ impl Plan {
         requires { limit ≤ batch_max }
         ensures { OnOk result (self.new ≡ with_planned self.old (planned_as limit self.old.queue (PacketItem submission))) }
     {
-        let Submission {
-            submitter,
-            operation,
-            bytes,
-        } = submission;
-        let packet = Packet {
-            operation,
-            bytes: Bytes::from_vec(bytes.into_vec()),
-            user: 0,
-        };
+        let submitter = submission.submitter;
+        let packet = packet_of(submission);
         let number = self.numbers[submitter.get() as usize];
         match Job::new(alloc, submitter.get(), number, limit, packet) {
             Ok(job) => self.queue_packet(job),
-            Err((_, Refusal::NoMemory)) => Err(NoMemory),
-            Err((_, refusal)) => {
-                self.lines.push(Line::RefusedPacket(submitter, refusal))?;
-                Ok(())
+            Err((packet, refusal)) => {
+                drop(packet);
+                self.refuse_packet(submitter, refusal)
             }
         }
     }
@@ -121,6 +133,19 @@ impl Plan {
         }
     }
 
+    /// All items behind those so far.
+    #[tactic(auto, unfolding(crate::specs::Plan::plan_behind))]
+    fn add_all(&mut self, alloc: Global, limit: u32, items: Vec<Item>) -> Result<(), NoMemory>
+        requires { limit ≤ batch_max }
+        ensures queue { OnOk result (self.new.queue ≡ self.old.queue ++ queue_of (plan_behind limit self.old.queue items.items)) }
+        ensures lines { OnOk result (self.new.lines ≡ self.old.lines ++ map line_of (plan_behind limit self.old.queue items.items)) }
+    {
+        for item in items {
+            self.add(alloc, limit, item)?;
+        }
+        Ok(())
+    }
+
     /// What is queued, and what is printed.
     pub fn into_halves(self) -> (Vec<tb_work::Item>, Vec<Line>)
         ensures queue { result.0.items ≡ self.queue }
@@ -132,14 +157,17 @@ impl Plan {
 
 /// The plan of a script's items. A packet is moved into its job, with room for its failures; none of its bytes is
 /// copied.
-#[tactic(auto, unfolding(crate::specs::Plan::plan_behind))]
 pub fn plan_all(alloc: Global, limit: u32, items: Vec<Item>) -> Result<Plan, NoMemory>
     requires { limit ≤ batch_max }
     ensures { IfOk result (λ plan. plan ≡ halves_of (plan_behind limit [] items.items)) }
 {
     let mut plan = Plan::with_capacity(alloc, items.len())?;
-    for item in items {
-        plan.add(alloc, limit, item)?;
+    let added = plan.add_all(alloc, limit, items);
+    match added {
+        Ok(()) => Ok(plan),
+        Err(fault) => {
+            drop(plan);
+            Err(fault)
+        }
     }
-    Ok(plan)
 }

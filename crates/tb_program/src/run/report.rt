@@ -1,6 +1,6 @@
 //! What is printed of a run.
 
-ghost use Rattle.std.specs.Prelude.{◌≡◌, ◌<◌, ◌≤◌, ◌+◌, ◌^◌, ◌++◌, ◌∷◌, length, map, IfOk, IsSomeAnd, OnOk, string_bytes};
+ghost use Rattle.std.specs.Prelude.{◌≡◌, ◌<◌, ◌≤◌, ◌+◌, ◌^◌, ◌++◌, ◌∷◌, [], length, map, IfOk, IsSomeAnd, OnOk, string_bytes};
 ghost use Rattle.std.specs.List.{flat_map};
 ghost use Rattle.tb_core.specs.Ledger.{group_of, works};
 ghost use Rattle.tb_layout.specs.Limits.{submitters_max};
@@ -76,15 +76,14 @@ impl Replies {
 fn put_all_told(
     out: &mut String,
     submitter: u32,
-    told: Vec<Told>,
-    replies: Replies,
-) -> Result<(), NoMemory>
-    requires { IsAnswered told.items replies }
-    ensures { OnOk result (string_bytes out.new ≡ string_bytes out.old ++ told_text submitter told.items replies) }
+    told: &[Told],
+    replies: &mut Replies,
+) -> Result<(), AllocError>
+    requires { IsAnswered told.now replies.old }
+    ensures { OnOk result (string_bytes out.new ≡ string_bytes out.old ++ told_text submitter told.now replies.old) }
 {
-    let mut replies = replies;
     for told in told {
-        replies.put_told(out, submitter, told)?;
+        replies.put_told(out, submitter, *told)?;
     }
     Ok(())
 }
@@ -101,13 +100,16 @@ fn put_packets(
     ensures text { OnOk result (string_bytes out.new ≡ string_bytes out.old ++ told_text submitter (told_of driver) (ended.read ++ ended.lying)) }
 {
     let Some(Notes { told, replies, .. }) = driver.into_notes() else {
+        drop(ended);
         return Err(NoMemory);
     };
-    let replies = Replies {
+    let mut replies = Replies {
         read: replies.into_iter(),
         ended,
     };
-    put_all_told(out, submitter, told, replies)
+    let put = put_all_told(out, submitter, &told, &mut replies);
+    drop(replies);
+    Ok(put?)
 }
 
 /// The lines of all packets, by rising number of their submitters.
@@ -182,6 +184,56 @@ fn put_ledger(out: &mut String, ledger: &Ledger, refused_pulses: u64) -> Result<
     Ok(())
 }
 
+/// All lines of a run.
+fn put_run(
+    out: &mut String,
+    ledger: &Ledger,
+    drivers: Vec<ScriptDriver>,
+    ends: Vec<Ended>,
+    refused_pulses: u64,
+) -> Result<(), NoMemory>
+    requires few { length drivers.items ≤ submitters_max }
+    requires number { length ends.items ≡ length drivers.items }
+    requires answered { AreAllAnswered drivers.items ends.items }
+    requires places { length (works ledger.now) < 2 ^ 64 }
+    ensures done { OnOk result (AreAllDone drivers.items) }
+    ensures text { OnOk result (string_bytes out.new ≡ string_bytes out.old ++ run_text (map told_of drivers.items) (replies_of ends.items)
+        (works ledger.now) refused_pulses (replay ledger.now.opening (works ledger.now))) }
+{
+    put_all_packets(out, drivers, ends)?;
+    put_ledger(out, ledger, refused_pulses)
+}
+
+/// An empty text, with room for the shortest lines of what was committed.
+fn text_with_room(alloc: Global, ledger: &Ledger) -> Result<String, AllocError>
+    ensures { IfOk result (λ text. string_bytes text ≡ []) }
+{
+    let probable = (ledger.places() as usize).saturating_mul(SHORTEST_LINE);
+    String::with_capacity(alloc, probable)
+}
+
+/// A text with all lines of a run behind it.
+fn with_run(text: String, finished: Finished<ScriptDriver>) -> Result<String, NoMemory>
+    requires few { length finished.drivers.items ≤ submitters_max }
+    requires number { length finished.report.ends.items ≡ length finished.drivers.items }
+    requires answered { AreAllAnswered finished.drivers.items finished.report.ends.items }
+    ensures done { IfOk result (λ all. AreAllDone finished.drivers.items) }
+    ensures text { IfOk result (λ all. string_bytes all ≡ string_bytes text ++ run_text (map told_of finished.drivers.items) (replies_of finished.report.ends.items)
+        (works finished.report.ledger) finished.refused_pulses (replay finished.report.ledger.opening (works finished.report.ledger))) }
+{
+    let Finished {
+        report,
+        drivers,
+        refused_pulses,
+    } = finished;
+    let Report { ledger, ends } = report;
+    let mut out = text;
+    let put = put_run(&mut out, &ledger, drivers, ends, refused_pulses);
+    drop(ledger);
+    put?;
+    Ok(out)
+}
+
 /// The text of a run: its packets, its pulses, the pulses that were refused, the clock and the accounts. It begins with
 /// room for the shortest lines of what was committed.
 pub fn text_of(alloc: Global, finished: Finished<ScriptDriver>) -> Result<String, NoMemory>
@@ -192,15 +244,11 @@ pub fn text_of(alloc: Global, finished: Finished<ScriptDriver>) -> Result<String
     ensures text { IfOk result (λ text. string_bytes text ≡ run_text (map told_of finished.drivers.items) (replies_of finished.report.ends.items)
         (works finished.report.ledger) finished.refused_pulses (replay finished.report.ledger.opening (works finished.report.ledger))) }
 {
-    let Finished {
-        report,
-        drivers,
-        refused_pulses,
-    } = finished;
-    let Report { ledger, ends } = report;
-    let probable = (ledger.places() as usize).saturating_mul(SHORTEST_LINE);
-    let mut out = String::with_capacity(alloc, probable)?;
-    put_all_packets(&mut out, drivers, ends)?;
-    put_ledger(&mut out, &ledger, refused_pulses)?;
-    Ok(out)
+    match text_with_room(alloc, &finished.report.ledger) {
+        Ok(text) => with_run(text, finished),
+        Err(_) => {
+            drop(finished);
+            Err(NoMemory)
+        }
+    }
 }

@@ -1,32 +1,22 @@
 //! What each thread is to queue.
 
 ghost use Rattle.std.specs.Prelude.{◌≡◌, ◌++◌, ◌∷◌, [], List, false, ◌||◌, length, OnOk, IfOk};
-ghost use Rattle.tb_program.specs.Plan.{packet_of};
 ghost use Rattle.tb_program.specs.Sharing.{AreDealt, is_shut, moment_in, moments_in, shuts_in};
 ghost use Rattle.tb_script.specs.declared.item.Item.{Item as ItemValue};
 ghost use Rattle.tb_script.specs.declared.item.Item.TheVariants.{Packet as PacketItem};
 
+use crate::packet::packet_of;
 use std::alloc::Global;
 use tb_drive::ControlLines;
 use tb_layout::NoMemory;
 use tb_script::{Item, Submission};
-use tb_work::{Bytes, Packet};
+use tb_work::Packet;
 
 /// The items of a script by the threads that queue them: the packets of each submitter, and the control's lines.
 #[derive(Drop)]
 pub struct Shares {
     pub packets: Vec<Vec<Packet>>,
     pub lines: ControlLines,
-}
-
-fn packet_of(submission: Submission) -> Packet
-    ensures { result ≡ packet_of submission }
-{
-    Packet {
-        operation: submission.operation,
-        bytes: Bytes::from_vec(submission.bytes.into_vec()),
-        user: 0,
-    }
 }
 
 impl Shares {
