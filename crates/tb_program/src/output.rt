@@ -1,7 +1,7 @@
 //! The lines of the output.
 
 ghost use Rattle.std.specs.Io.KnownBytes.{Appends};
-ghost use Rattle.std.specs.Prelude.{◌≡◌, ◌++◌, OnOk, IfErr, codes, decimal, string_bytes};
+ghost use Rattle.std.specs.Prelude.{◌≡◌, ◌++◌, OnOk, IfErr, codes, string_bytes};
 ghost use Rattle.tb_program.specs.declared.program_fault.ProgramFault.TheVariants.{Write as WriteFault};
 ghost use Rattle.std.specs.List.{flat_map};
 ghost use Rattle.tb_program.specs.Output.{fault_line, refused_line, failure_text, found_debits, found_credits, found_text, answer_text, outcome_text, packet_front, reply_line, pulse_line, refused_pulse_line, clock_line, account_front, balances_text, account_line, state_text};
@@ -164,20 +164,14 @@ fn put_account_front(out: &mut String, id: u128, timestamp: u64) -> Result<(), A
     put_field(out, " ", timestamp)
 }
 
-/// What is pending of an account's debits or credits, and what is posted.
-fn put_sums(out: &mut String, pending: u128, posted: u128) -> Result<(), AllocError>
-    ensures { OnOk result (string_bytes out.new ≡ string_bytes out.old ++ codes " " ++ decimal pending ++ codes " " ++ decimal posted) }
-{
-    put_field(out, " ", pending)?;
-    put_field(out, " ", posted)
-}
-
 #[tactic(auto, unfolding(crate::specs::Output::balances_text))]
 fn put_balances(out: &mut String, account: &Account) -> Result<(), AllocError>
     ensures { OnOk result (string_bytes out.new ≡ string_bytes out.old ++ balances_text account.now) }
 {
-    put_sums(out, account.debits_pending, account.debits_posted)?;
-    put_sums(out, account.credits_pending, account.credits_posted)?;
+    put_field(out, " ", account.debits_pending)?;
+    put_field(out, " ", account.debits_posted)?;
+    put_field(out, " ", account.credits_pending)?;
+    put_field(out, " ", account.credits_posted)?;
     out.push_str("\n")
 }
 

@@ -1,6 +1,6 @@
 //! A script through the pipeline, with a thread for each sender.
 
-ghost use Rattle.std.specs.Prelude.{◌≡◌, ◌≤◌, ℕ, List, [], false, true, ◌++◌, ◌∷◌, length, map, IfOk, IfSome, IsErrOf, OnOk, string_bytes};
+ghost use Rattle.std.specs.Prelude.{◌≡◌, ◌≤◌, ℕ, List, [], false, true, length, map, IfOk, IfSome, IsErrOf, string_bytes};
 ghost use Rattle.std.specs.Io.KnownBytes.{Appends, Keeps};
 ghost use Rattle.tb_drive.specs.Lines.{lines_of, refused_of};
 ghost use Rattle.tb_drive.specs.Reported.{AreTogether};
@@ -60,19 +60,6 @@ fn open_for(alloc: Global, settings: &Settings) -> Result<Opened, NoMemory>
     }
 }
 
-/// A driver more, for these packets.
-fn add_driver(
-    alloc: Global,
-    drivers: &mut Vec<ScriptDriver>,
-    packets: Vec<Packet>,
-) -> Result<(), NoMemory>
-    ensures shares { OnOk result (map share_of drivers.new.items ≡ map share_of drivers.old.items ++ packets.items ∷ []) }
-    ensures new { AreNew drivers.old.items → OnOk result (AreNew drivers.new.items) }
-{
-    drivers.push(ScriptDriver::new(alloc, packets)?)?;
-    Ok(())
-}
-
 /// A driver for each submitter's packets, by rising number.
 fn drivers(alloc: Global, packets: Vec<Vec<Packet>>) -> Result<Vec<ScriptDriver>, NoMemory>
     ensures shares { IfOk result (λ drivers. map share_of drivers.items ≡ lists_of packets.items) }
@@ -80,7 +67,7 @@ fn drivers(alloc: Global, packets: Vec<Vec<Packet>>) -> Result<Vec<ScriptDriver>
 {
     let mut drivers = Vec::with_capacity(alloc, packets.len())?;
     for packets in packets {
-        add_driver(alloc, &mut drivers, packets)?;
+        drivers.push(ScriptDriver::new(alloc, packets)?)?;
     }
     Ok(drivers)
 }
@@ -119,10 +106,7 @@ fn output_for<T: Threads + Wait + Sync>(
     let drivers = drivers(alloc, packets)?;
     match open_for(alloc, &settings) {
         Ok(opened) => run_opened(rt, alloc, opened, drivers, lines),
-        Err(fault) => {
-            drop(drivers);
-            Err(ProgramFault::from(fault))
-        }
+        Err(fault) => Err(ProgramFault::from(fault)),
     }
 }
 

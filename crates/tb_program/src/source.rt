@@ -43,11 +43,7 @@ pub fn read_source<R: Read>(alloc: Global, reader: &mut R) -> Result<Source, Pro
     ensures { IfOk result (λ source. IfSome (R.remaining reader.old) (λ bytes. IsSource source bytes)) }
 {
     match read_script(alloc, reader)? {
-        Some(text) => {
-            let source = source_of(alloc, &text);
-            drop(text);
-            Ok(source?)
-        }
+        Some(text) => Ok(source_of(alloc, &text)?),
         None => Ok(source_of_fault(alloc, 0, "script too long")?),
     }
 }

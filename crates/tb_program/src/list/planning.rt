@@ -1,10 +1,9 @@
 //! The plan of a script's items.
 
-ghost use Rattle.std.specs.Prelude.{◌≡◌, ◌<◌, ◌≤◌, ◌++◌, [], ℕ, get_or, map, OnOk, IfOk, IsErr};
+ghost use Rattle.std.specs.Prelude.{◌≡◌, ◌<◌, ◌≤◌, [], ℕ, get_or, OnOk, IfOk};
 ghost use Rattle.tb_layout.specs.Limits.{batch_max};
-ghost use Rattle.tb_program.specs.Plan.{Packet as PacketPlanned, Pulse as PulsePlanned, Close as ClosePlanned, RefusedPacket as RefusedPacketPlanned, RefusedPulse as RefusedPulsePlanned, number_in, pulse_as, planned_as, plan_behind, with_planned, halves_of, queue_of, line_of};
+ghost use Rattle.tb_program.specs.Plan.{Packet as PacketPlanned, Pulse as PulsePlanned, Close as ClosePlanned, RefusedPacket as RefusedPacketPlanned, RefusedPulse as RefusedPulsePlanned, number_in, pulse_as, planned_as, plan_behind, with_planned, halves_of};
 ghost use Rattle.tb_script.specs.declared.item.Item.TheVariants.{Packet as PacketItem};
-ghost use Rattle.tb_work.specs.declared.refusal.Refusal.TheVariants.{NoMemory as OutOfMemory};
 
 use crate::list::plan::Line;
 use crate::packet::packet_of;
@@ -61,22 +60,6 @@ impl Plan {
         Ok(())
     }
 
-    /// Notes why a packet isn't queued. Want of memory is a failure of the plan and not of the packet.
-    fn refuse_packet(
-        &mut self,
-        submitter: SubmitterNumber,
-        refusal: Refusal,
-    ) -> Result<(), NoMemory>
-        ensures memory { refusal ≡ OutOfMemory → IsErr result }
-        ensures planned { OnOk result (self.new ≡ with_planned self.old (RefusedPacketPlanned submitter refusal)) }
-    {
-        if let Refusal::NoMemory = refusal {
-            return Err(NoMemory);
-        }
-        self.lines.push(Line::RefusedPacket(submitter, refusal))?;
-        Ok(())
-    }
-
     /// A packet behind the items so far.
     fn add_packet(
         &mut self,
@@ -92,9 +75,10 @@ impl Plan {
         let number = self.numbers[submitter.get() as usize];
         match Job::new(alloc, submitter.get(), number, limit, packet) {
             Ok(job) => self.queue_packet(job),
-            Err((packet, refusal)) => {
-                drop(packet);
-                self.refuse_packet(submitter, refusal)
+            Err((_, Refusal::NoMemory)) => Err(NoMemory),
+            Err((_, refusal)) => {
+                self.lines.push(Line::RefusedPacket(submitter, refusal))?;
+                Ok(())
             }
         }
     }
@@ -133,19 +117,6 @@ impl Plan {
         }
     }
 
-    /// All items behind those so far.
-    #[tactic(auto, unfolding(crate::specs::Plan::plan_behind))]
-    fn add_all(&mut self, alloc: Global, limit: u32, items: Vec<Item>) -> Result<(), NoMemory>
-        requires { limit ≤ batch_max }
-        ensures queue { OnOk result (self.new.queue ≡ self.old.queue ++ queue_of (plan_behind limit self.old.queue items.items)) }
-        ensures lines { OnOk result (self.new.lines ≡ self.old.lines ++ map line_of (plan_behind limit self.old.queue items.items)) }
-    {
-        for item in items {
-            self.add(alloc, limit, item)?;
-        }
-        Ok(())
-    }
-
     /// What is queued, and what is printed.
     pub fn into_halves(self) -> (Vec<tb_work::Item>, Vec<Line>)
         ensures queue { result.0.items ≡ self.queue }
@@ -157,17 +128,14 @@ impl Plan {
 
 /// The plan of a script's items. A packet is moved into its job, with room for its failures; none of its bytes is
 /// copied.
+#[tactic(auto, unfolding(crate::specs::Plan::plan_behind))]
 pub fn plan_all(alloc: Global, limit: u32, items: Vec<Item>) -> Result<Plan, NoMemory>
     requires { limit ≤ batch_max }
     ensures { IfOk result (λ plan. plan ≡ halves_of (plan_behind limit [] items.items)) }
 {
     let mut plan = Plan::with_capacity(alloc, items.len())?;
-    let added = plan.add_all(alloc, limit, items);
-    match added {
-        Ok(()) => Ok(plan),
-        Err(fault) => {
-            drop(plan);
-            Err(fault)
-        }
+    for item in items {
+        plan.add(alloc, limit, item)?;
     }
+    Ok(plan)
 }

@@ -1,14 +1,18 @@
-use Rattle.std.proofs.Common.{◌∙◌, ◌++◌, ◌∷◌, [], Vec, ap, sym}
+use Rattle.std.proofs.Common.{rules, ◌≡◌, ◌++◌, ◌∷◌, [], Vec, sym, subst}
 use Rattle.std.proofs.lemmas.List.{map-append}
 use Rattle.std.specs.declared.alloc.Global.{Global}
 use Rattle.tb_work.specs.declared.packet.Packet.{Packet}
+use Rattle.tb_program.specs.Drivers.{AreNew, share_of}
+use Rattle.tb_program.proofs.Noting.{one_more_new}
 use Rattle.tb_program.proofs.run.drivers.Goals as goal
 
 pub loop-packets-preserved : goal.loop-packets-preserved
 loop-packets-preserved c =
-    let packets = c.in-Some.packets in
+    let drivers = c.loop-packets.drivers.items in
+    let last = c.in_ok-new.field-0 in
+    let pushed : c.push.new.self.items ≡ drivers ++ last ∷ [] = search rules in
     record {
-      shares = c.in_ok-add_driver.ensures.shares ∙ ap (λ before. before ++ packets.items ∷ []) c.loop-packets.invariant.shares
-          ∙ sym (map-append (λ (share : Vec Packet Global). share.items) c.loop-packets.yielded (packets ∷ []));
-      new = c.in_ok-add_driver.ensures.new c.loop-packets.invariant.new;
+      shares = rw (pushed, map-append share_of drivers (last ∷ []), c.loop-packets.invariant.shares, c.in_ok-new.ensures.share)
+          (sym (map-append (λ (share : Vec Packet Global). share.items) c.loop-packets.yielded (_ ∷ [])));
+      new = subst AreNew (sym pushed) (one_more_new drivers last c.loop-packets.invariant.new c.in_ok-new.ensures.new);
     }
