@@ -1,5 +1,5 @@
 -- What `parse` answers for a word of digits.
-use Rattle.std.proofs.Common.{◌≡◌, ℕ, zero, suc, ◌+◌, ◌-◌, ◌*◌, ◌/◌, ◌%◌, ◌<◌, ◌≤◌, ◌^◌, true, false, List, ◌++◌, length, take, drop, get_or, get_or-take, refl, ap, ◌∙◌, arith, rules, lt-ltb, le-ltb, length-take-le, Some, None, Ok, Err, Result, inl, inr}
+use Rattle.std.proofs.Common.{◌≡◌, ℕ, zero, suc, ◌+◌, ◌-◌, ◌*◌, ◌/◌, ◌%◌, ◌<◌, ◌≤◌, ◌^◌, true, false, List, ◌∷◌, ◌++◌, length, take, drop, get_or, get_or-take, refl, ap, ◌∙◌, arith, rules, lt-ltb, le-ltb, length-take-le, Some, None, Ok, Err, Result, inl, inr}
 use Rattle.std.specs.Prelude.{◌==◌}
 use Rattle.std.specs.List.{list_all, position_or_len}
 use Rattle.std.specs.Char.{is_ascii_digit}
@@ -18,7 +18,8 @@ use Rattle.std.specs.Int.{bytes_low_first, to_le_bytes, w64, w128}
 use Rattle.std.proofs.lemmas.Bool.{cases_lt}
 use Rattle.std.proofs.lemmas.Grind.{common_steps}
 use Rattle.tb_script.specs.Number.{number_of, fitting}
-use Rattle.tb_script.specs.Text.{first_word, behind_first_word}
+use Rattle.tb_script.specs.Text.{words_of, first_word, behind_first_word}
+use Rattle.tb_script.proofs.Texts.{words_first}
 
 pub own : IsNumeralModel (λ ds. list_all is_ascii_digit ds ≡ true) (digits_value 10)
 own = numerals_by_value _ (search rules)
@@ -104,6 +105,15 @@ digits_read word (Err e) h digits short = elim (cases_lt 0 (length word)) [
 pub parsed : {E : Type 0} (word : List ℕ) (r : Result ℕ E) → ParsesUnsigned 128 10 word r →
     list_all is_ascii_digit word ≡ true → length word < 40 → result_ok r ≡ fitting (number_of word)
 parsed word r h digits short = digits_read word r (parse_digits own 128 word r h digits) digits short
+
+-- a line that begins with a number begins with a word
+pub number_first : (line : List ℕ) (n : ℕ) → number_of (first_word line) ≡ Some n → words_of line ≡ first_word line ∷ words_of (behind_first_word line)
+number_first line n number = elim (cases_lt 0 (position_or_len (λ byte. byte == 32) line)) [
+  | inl some ↦ words_first line some
+  | inr none ↦
+      let empty = no_number (first_word line) (omega (arith, length-take-le (position_or_len (λ byte. byte == 32) line) line (search rules), none)) in
+      cc
+]
 
 -- ---- the bytes of a number from its halves
 

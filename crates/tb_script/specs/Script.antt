@@ -108,6 +108,14 @@ with_event said layout words = do
   bytes ← event_of layout words
   Ok (with_bytes said bytes)
 
+-- the numbers of a packet's line: its submitter, at most this one, and its operation
+abbrev pub packet_numbers : ℕ → List (List ℕ) → Result (ℕ × ℕ) Fault
+packet_numbers most words = do
+  texts ← two_words words
+  submitter ← number_within 0 most texts.0
+  operation ← number_within 0 255 texts.1
+  Ok (submitter, operation)
+
 -- a line in its place, with the words behind its first
 unfoldable pub with_line : Said → Keyword → List (List ℕ) → Result Said Fault
 with_line said word.Clock words = do
@@ -131,10 +139,8 @@ with_line said word.Submitters words = do
   n ← number_within 1 submitters_max text
   Ok (set_to said (record said.settings { submitters = Some n }))
 with_line said word.Packet words = do
-  texts ← two_words words
-  submitter ← number_within 0 (submitters_of said.settings - 1) texts.0
-  operation ← number_within 0 255 texts.1
-  Ok (with_packet said submitter operation)
+  numbers ← packet_numbers (submitters_of said.settings - 1) words
+  Ok (with_packet said numbers.0 numbers.1)
 with_line said word.Account words = do
   bytes ← event_of Account words
   Ok (with_bytes said bytes)

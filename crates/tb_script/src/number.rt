@@ -1,13 +1,13 @@
 //! Numbers in decimal digits.
 
-ghost use Rattle.std.specs.Prelude.{true, ◌≡◌, ◌≤◌, Some, IfOk, IfSome};
+ghost use Rattle.std.specs.Prelude.{true, ◌≡◌, ◌≤◌, ◌∷◌, [], Some, IfOk, IfSome, map};
 ghost use Rattle.std.specs.List.{list_all};
 ghost use Rattle.std.specs.Char.{is_ascii_digit};
-ghost use Rattle.tb_script.specs.Text.{first_word, behind_first_word};
+ghost use Rattle.tb_script.specs.Text.{words_of, first_word, behind_first_word};
 ghost use Rattle.tb_script.specs.Number.{number_of, fitting, within, number_within};
 
 use crate::fault::Fault;
-use crate::text::split_word;
+use crate::text::{split_word, trim_spaces};
 
 fn are_digits(word: &[u8]) -> bool
     ensures { result ≡ list_all is_ascii_digit word.now }
@@ -57,6 +57,21 @@ pub fn leading_number(line: &[u8]) -> Option<(u64, &[u8])>
         return None;
     }
     Some((number, &line[digits..]))
+}
+
+/// The numbers that the words of a line spell, where these are two, of 1 to 19 digits each. Where a word ends is seen while
+/// its digits are read.
+#[inline(always)]
+pub fn two_short_numbers(line: &[u8]) -> Option<(u64, u64)>
+    ensures { IfSome result (λ both. map number_of (words_of line.now) ≡ Some both.0 ∷ Some both.1 ∷ []) }
+{
+    let (first, rest) = leading_number(trim_spaces(line))?;
+    let (second, rest) = leading_number(trim_spaces(rest))?;
+    if trim_spaces(rest).is_empty() {
+        Some((first, second))
+    } else {
+        None
+    }
 }
 
 /// The number that a word spells, if it fits, of any length.

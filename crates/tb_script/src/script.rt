@@ -4,14 +4,14 @@ ghost use Rattle.std.specs.Prelude.{◌≡◌, ◌++◌, List, [], IfOk, OnOk};
 ghost use Rattle.tb_script.specs.Text.{words_of};
 ghost use Rattle.tb_script.specs.Steps.{Gives, Tells, Leaves};
 ghost use Rattle.tb_script.specs.Keyword.{no_word, one_word, two_words};
-ghost use Rattle.tb_script.specs.Script.{Said, nothing_said, items_of, has_begun, is_in_place, with_packet, with_pulse, with_close, with_bytes, with_event, set_to, with_line, with_keyword, with_words, is_text as is_text_line, after_line, InBounds};
+ghost use Rattle.tb_script.specs.Script.{Said, nothing_said, items_of, has_begun, is_in_place, with_packet, with_pulse, with_close, with_bytes, with_event, set_to, packet_numbers, with_line, with_keyword, with_words, is_text as is_text_line, after_line, InBounds};
 
 use crate::bytes::Bytes;
 use crate::event::{Draft, Layout, assign_all, hex_bytes};
 use crate::fault::{Fault, LineError};
 use crate::item::{Item, Settings, Submission};
 use crate::keyword::{Keyword, keyword_of};
-use crate::number::number_within;
+use crate::number::{in_bounds, number_within, two_short_numbers};
 use crate::submitter_number::SubmitterNumber;
 use crate::text::Words;
 use std::alloc::Global;
@@ -68,6 +68,23 @@ fn two_words(words: Words) -> Result<(&[u8], &[u8]), Fault>
         (Some(word), Some(more), None) => Ok((word, more)),
         _ => Err(Fault::WrongNumberOfWords),
     }
+}
+
+/// The numbers of a packet's line: its submitter, at most this one, and its operation.
+#[inline(always)]
+fn packet_numbers(words: Words, most: u32) -> Result<(u32, u8), Fault>
+    ensures { Tells (λ both. (both.0, both.1)) result (packet_numbers most (words_of words.entry.rest.now)) }
+{
+    let most = u128::from(most);
+    if let Some((submitter, operation)) = two_short_numbers(words.rest) {
+        let submitter = in_bounds(Some(u128::from(submitter)), 0, most)?;
+        let operation = in_bounds(Some(u128::from(operation)), 0, 255)?;
+        return Ok((submitter as u32, operation as u8));
+    }
+    let (submitter, operation) = two_words(words)?;
+    let submitter = number_within(submitter, 0, most)?;
+    let operation = number_within(operation, 0, 255)?;
+    Ok((submitter as u32, operation as u8))
 }
 
 /// Whether a line is text.
@@ -226,15 +243,9 @@ impl Script {
     fn take_packet(&mut self, alloc: Global, words: Words) -> Result<(), LineError>
         ensures { Leaves result self.new (with_line self.old Keyword.Packet (words_of words.entry.rest.now)) }
     {
-        let (submitter, operation) = two_words(words)?;
         let most = self.settings.submitters().saturating_sub(1);
-        let submitter = number_within(submitter, 0, u128::from(most))?;
-        let operation = number_within(operation, 0, 255)?;
-        self.begin_packet(
-            alloc,
-            SubmitterNumber::new(submitter as u32),
-            operation as u8,
-        )?;
+        let (submitter, operation) = packet_numbers(words, most)?;
+        self.begin_packet(alloc, SubmitterNumber::new(submitter), operation)?;
         Ok(())
     }
 
