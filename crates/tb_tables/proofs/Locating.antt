@@ -1,13 +1,12 @@
 -- Look-ups in the maps.
-use Rattle.std.proofs.Common.{refl, sym, ap, subst, ◌∙◌, ◌≡◌, ℕ, true, List, [], ◌∷◌, nat_eq, slice_get, length, arith, ◌==◌, Option, Some, None, IsSome, find, option_map}
+use Rattle.std.proofs.Common.{sym, ap, ◌∙◌, ◌≡◌, ℕ, true, List, [], ◌∷◌, nat_eq, slice_get, length, arith, ◌==◌, Option, Some, None, IsSome, find, option_map}
 use Rattle.std.proofs.lemmas.List.{length-map}
 use Rattle.std.proofs.lemmas.Option.{slice_get-map}
-use Rattle.tb_tables.proofs.Words.{position, position_or_len, keys_of, lookup, Account, Transfer, Facts, account_with, IsPlaceAmong, IsPlaceOf, IsPlaceOfTransfer, transfer_with, MayResolve, IsLawful, sums_of, with_sums, AreAt, Hold, AreGrounded, row_in, MayPost, Places, Row, has_account, IsGrounded}
+use Rattle.tb_tables.proofs.Words.{position, position_or_len, keys_of, lookup, Account, Transfer, Facts, account_with, IsPlaceAmong, IsPlaceOf, IsPlaceOfTransfer, transfer_with, MayResolve, sums_of, with_sums, AreAt, Hold, AreGrounded, row_in, MayPost, Places, Row, has_account, IsGrounded}
 use Rattle.tb_tables.proofs.Stored.{rows, lookup-rows, key-placed, key-of-position, first-of-key}
 use Rattle.indexmap.proofs.MapLemmas.{Found-position, Missing-position}
 use Rattle.std.proofs.lemmas.List.Folds.{find_at}
 use Rattle.tb_tables.proofs.Grounding.{all-found}
-use Rattle.tb_tables.proofs.Expecting.{find-at}
 
 -- the place of a key, as the map tells it
 placed : {X V : Type 0} (key : X → ℕ) (made : X → V) (xs : List X) {es : List (ℕ × V)} → es ≡ rows key made xs → (id : ℕ) (place : Option ℕ) → place ≡ position (nat_eq id) (keys_of es) → IsPlaceAmong xs (find (λ x. key x == id) xs) place

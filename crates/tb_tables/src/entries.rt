@@ -23,21 +23,21 @@ pub fn push_account(accounts: &mut ById<Account>, account: Account) -> Result<()
 }
 
 /// The row of a transfer that nothing resolved.
-fn new_row(transfer: Transfer) -> Row
-    ensures { result ≡ new_row transfer }
+fn new_row(transfer: &Transfer) -> Row
+    ensures { result ≡ new_row transfer.now }
 {
     let status = if transfer.is_pending() {
         Some(Status::Pending)
     } else {
         None
     };
-    Row::new(&transfer, status)
+    Row::new(transfer, status)
 }
 
-/// Puts a new transfer after the others.
-pub fn push_transfer(transfers: &mut ById<Row>, transfer: Transfer) -> Result<(), NoMemory>
-    requires { get nat_eq transfers.old transfer.id ≡ None }
-    ensures ok { OnOk result (transfers.new.entries ≡ transfers.old.entries ++ (transfer.id, new_row transfer) ∷ []) }
+/// Puts a new transfer after the others. It is read once it has its place.
+pub fn push_transfer(transfers: &mut ById<Row>, transfer: &Transfer) -> Result<(), NoMemory>
+    requires { get nat_eq transfers.old transfer.now.id ≡ None }
+    ensures ok { OnOk result (transfers.new.entries ≡ transfers.old.entries ++ (transfer.now.id, new_row transfer.now) ∷ []) }
     ensures err { OnErr result (transfers.new.entries ≡ transfers.old.entries) }
 {
     transfers.entry(transfer.id)?.or_insert(new_row(transfer));

@@ -93,7 +93,7 @@ impl Maps {
     {
         let place = self.transfers.len();
         expect(&mut self.expiries, transfer, place)?;
-        if let Err(refused) = push_transfer(&mut self.transfers, *transfer) {
+        if let Err(refused) = push_transfer(&mut self.transfers, transfer) {
             forget(&mut self.expiries, transfer, place);
             return Err(refused);
         }
