@@ -23,6 +23,9 @@ use tb_layout::NoMemory;
 use tb_script::Script;
 use tb_work::Item;
 
+/// As many bytes as the line of a committed packet without failures mostly has.
+const USUAL_LINE: usize = 32;
+
 /// The lines of a plan whose queue is listed.
 fn text_of(
     alloc: Global,
@@ -38,7 +41,7 @@ fn text_of(
         → IfOk result (λ text. string_bytes text ≡ plan_text clock plan) }
 {
     let listed = run_list(alloc, clock, limit, items)?;
-    let mut out = String::new(alloc);
+    let mut out = String::with_capacity(alloc, lines.len().saturating_mul(USUAL_LINE))?;
     let put = put_listing(&mut out, lines, &listed);
     drop(listed);
     put?;
