@@ -1,6 +1,7 @@
 //! What no clause tells: worked examples by name, the gate's calls, threads, and memory that is refused.
 //!
-//! Who owns a pipeline or a report drops it by name: a proof goes through all that is let go where a function ends.
+//! Who owns a report drops it by name: its parts are let go where a function ends, at each way out, and a proof goes
+//! through them.
 
 ghost use Rattle.std.specs.Prelude.{◌≡◌, ◌++◌, ◌∷◌, [], IfOk, OnOk, length, map};
 ghost use Rattle.tb_submit.specs.Ends.{origin_of, end_origin, control_seat};

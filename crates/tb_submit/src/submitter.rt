@@ -112,9 +112,9 @@ impl Submitter {
     /// Queues a packet; its number is the count of this submitter's packets before it. A refused packet
     /// comes back as it was, and no number is used. It is refused 7 or 8 once a reply that was read said
     /// Shutdown or Stopped (whichever came first), then by what `admit` says of it, then InFlight where
-    /// as many packets as the credit are queued and their replies unread, then NoMemory, then Full. The
-    /// one allocation of a packet's way is made here, and not before the credit allows it: room for its
-    /// failures.
+    /// as many packets as the credit are queued and their replies unread, then NoMemory, then Full.
+    /// Room for its failures is made here, and not before the credit allows it: for a packet of more than
+    /// two events it takes an allocation.
     pub fn submit<R: Wait>(
         &mut self,
         rt: &R,

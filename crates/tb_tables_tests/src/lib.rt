@@ -1,4 +1,4 @@
-//! The tests of tb_tables, among them plain lists with the contract of its maps, in a crate of their own so that
+//! The tests of tb_tables, among them plain lists with the contract of `Tables` but for its calls by places, in a crate of their own so that
 //! tb_tables isn't proved twice.
 //!
 //! `change` stands outside the tests since specs/ speaks of it, which a check reads without the tests too.

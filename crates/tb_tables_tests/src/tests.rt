@@ -1,4 +1,4 @@
-//! What no clause says: each call once with ample memory.
+//! What no clause says: each call once with ample memory, and hundreds of events in the maps and in plain lists.
 
 ghost use Rattle.std.specs.Prelude.{◌≡◌, []};
 ghost use Rattle.tb_tables.specs.Facts.{no_facts};

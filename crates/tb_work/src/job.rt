@@ -74,8 +74,8 @@ impl Job {
     ghost use Rattle.tb_work.specs.Job.{stub_of, is_lookup, is_open, numbered_packet};
 
     /// The packet as this submitter's packet of this number, with room for as many failures as it has
-    /// events. Where it is not admitted or memory is refused, it comes back as it was. All memory that
-    /// its way takes is taken here; it costs that room, which for up to two events lies in the job itself.
+    /// events. Where it is not admitted or memory is refused, it comes back as it was. It
+    /// costs that room, which for up to two events lies in the job itself.
     pub fn new(
         alloc: Global,
         submitter: u32,

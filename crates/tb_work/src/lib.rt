@@ -1,7 +1,7 @@
 //! Packets on their way: what submitters hand in, what the queue carries, and what comes back.
 //!
-//! A `Job` is a packet that was admitted, with room for its failures, so that no call between
-//! `Job::new` and its reply takes memory. A `Reply` carries the packet back as it was handed in. What
+//! A `Job` is a packet that was admitted, with room for its failures, so that handing them back takes
+//! no memory. A `Reply` carries the packet back as it was handed in. What
 //! a type promises (an admitted packet, failures that rise below the packet's count, a moment in
 //! range) is kept by the type.
 #![tactic(auto)]

@@ -1,6 +1,4 @@
-//! The World, by worked examples.
-//!
-//! Who owns a World drops it by name, at one place: a proof goes through all that is let go where a function ends.
+//! The World, by worked examples. Who owns a World drops it by name, at one place.
 
 use super::made::{Made, item};
 use super::told::{Noted, Told, assert_noted, assert_told};

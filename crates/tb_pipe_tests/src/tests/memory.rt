@@ -41,57 +41,45 @@ fn open_again(alloc: Global, told: &mut bool) -> Result<Lone, Fail>
     }
 }
 
-/// Submits a packet with this account, once more where that is refused for want of memory; whether it was.
-fn submit_again<R: Wait>(
+/// Submits a packet with this account. It takes no memory, since the room for one failure lies in the job.
+fn submit_account<R: Wait>(
     rt: &R,
     alloc: Global,
     submitter: &mut Submitter,
     id: u8,
-) -> Result<bool, Fail>
+) -> Result<(), Fail>
     ensures { origin_of submitter.new ≡ origin_of submitter.old }
 {
     let packet = packet_again(alloc, id)?;
-    match submit(rt, alloc, submitter, packet) {
-        Ok(_) => Ok(false),
-        Err((back, refusal)) => {
-            holds(refusal == Refusal::NoMemory, "not for want of memory")?;
-            let queued = submit(rt, alloc, submitter, back).is_ok();
-            holds(queued, "it is refused once more")?;
-            Ok(true)
-        }
-    }
+    let queued = submit(rt, alloc, submitter, packet).is_ok();
+    holds(queued, "a packet of one event is refused")
 }
 
-/// Two accounts, a pulse, and four accounts, each in its packet; whether a packet was refused at first.
+/// Two accounts, a pulse, and four accounts, each in its packet.
 fn queue_seven<R: Wait>(
     rt: &R,
     alloc: Global,
     submitter: &mut Submitter,
     control: &mut Control,
-) -> Result<bool, Fail>
+) -> Result<(), Fail>
     ensures submitter { origin_of submitter.new ≡ origin_of submitter.old }
     ensures control { control.new.seat ≡ control.old.seat }
 {
-    let mut told = false;
     for id in 1..7u8 {
         if id == 3 {
             queue_pulse(rt, control, 5)?;
         }
-        if submit_again(rt, alloc, submitter, id)? {
-            told = true;
-        }
+        submit_account(rt, alloc, submitter, id)?;
     }
-    Ok(told)
+    Ok(())
 }
 
-/// A pipeline with all that is queued for it; a want of memory meanwhile is told.
+/// A pipeline with all that is queued for it; a want of memory at its opening is told.
 fn seven_queued<R: Wait>(rt: &R, alloc: Global, told: &mut bool) -> Result<Lone, Fail>
     ensures { IfOk result (λ lone. AreTogether lone.pipeline (lone.submitter ∷ []) lone.control) }
 {
     let mut lone = open_again(alloc, told)?;
-    if queue_seven(rt, alloc, &mut lone.submitter, &mut lone.control)? {
-        *told = true;
-    }
+    queue_seven(rt, alloc, &mut lone.submitter, &mut lone.control)?;
     Ok(lone)
 }
 
@@ -228,8 +216,8 @@ fn queue_three<R: Wait>(
     ensures submitter { origin_of submitter.new ≡ origin_of submitter.old }
     ensures control { control.new.seat ≡ control.old.seat }
 {
-    submit_again(rt, alloc, submitter, 1)?;
-    submit_again(rt, alloc, submitter, 2)?;
+    submit_account(rt, alloc, submitter, 1)?;
+    submit_account(rt, alloc, submitter, 2)?;
     queue_pulse(rt, control, 5)
 }
 
