@@ -1,4 +1,3 @@
-pub mod Printing
 mod Answered
 mod Handing
 mod Noting

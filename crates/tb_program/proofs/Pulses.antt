@@ -6,7 +6,7 @@ use Rattle.std.proofs.lemmas.List.Folds.{flat_map-map}
 use Rattle.tb_core.specs.Ledger.{LedgerState, group_of, packets_of, size_of, works}
 use Rattle.tb_core.specs.declared.journal.Entry.{Entry}
 use Rattle.tb_work.specs.declared.stub.Stub.{Stub}
-use Rattle.tb_program.specs.Output.{pulse_line}
+use Rattle.tb_text.specs.Output.{pulse_line}
 use Rattle.tb_program.specs.RunText.{pulses_text}
 
 -- those of some packets and pulses, and of others behind them

@@ -8,7 +8,7 @@ use Rattle.tb_work.specs.declared.packet.Packet as packets
 use Rattle.tb_script.specs.declared.item.Item.{Item}
 use Rattle.tb_script.specs.declared.item.Item.TheVariants.{Packet}
 use Rattle.tb_script.specs.declared.item.Submission.{Submission}
-use Rattle.tb_program.specs.Plan.{packet_of}
+use Rattle.tb_text.specs.Plan.{packet_of}
 use Rattle.tb_program.specs.Drivers.{lists_of}
 use Rattle.tb_program.specs.Sharing.{AreDealt, packet_by, packets_by, shares_of}
 

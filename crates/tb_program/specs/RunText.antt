@@ -14,7 +14,7 @@ use Rattle.tb_drive.specs.Seen.{jobs_in}
 use Rattle.tb_pipe.specs.Pulses.{IsPrefixOf, moments_committed, moments_queued}
 use Rattle.tb_script.specs.Script.{Said, clock_of, limit_of, submitters_of, items_of, script_of}
 use Rattle.tb_program.specs.Noting.{IsHandedIn}
-use Rattle.tb_program.specs.Output.{reply_line, refused_line, pulse_line, refused_pulse_line, state_text}
+use Rattle.tb_text.specs.Output.{reply_line, refused_line, pulse_line, refused_pulse_line, state_text}
 use Rattle.tb_program.specs.Sharing.{moments_in, shares_of, shuts_in}
 use Rattle.tb_program.specs.declared.run.notes.Told.{Told}
 use Rattle.tb_program.specs.declared.run.notes.Told.TheVariants.{Queued, Refused}

@@ -5,7 +5,7 @@ use Rattle.std.specs.declared.alloc.Global.{Global}
 use Rattle.tb_work.specs.declared.packet.Packet as packets
 use Rattle.tb_script.specs.declared.item.Item.{Item}
 use Rattle.tb_script.specs.declared.item.Item.TheVariants.{Packet, Pulse, Shut}
-use Rattle.tb_program.specs.Plan.{packet_of}
+use Rattle.tb_text.specs.Plan.{packet_of}
 
 abbrev pub packet_by : ℕ → Item → List packets.Packet
 packet_by submitter (Packet submission) = if submission.submitter == submitter then packet_of submission ∷ [] else []

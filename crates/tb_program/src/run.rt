@@ -7,29 +7,30 @@ ghost use Rattle.tb_drive.specs.Reported.{AreTogether};
 ghost use Rattle.tb_layout.specs.Limits.{submitters_max};
 ghost use Rattle.tb_program.specs.Drivers.{AreNew, lists_of, share_of};
 ghost use Rattle.tb_program.specs.Noting.{AreFresh, HaveCredit};
-ghost use Rattle.tb_program.specs.Output.{out, is_faultless};
+ghost use Rattle.tb_text.specs.Output.{out, is_faultless};
 ghost use Rattle.tb_program.specs.RunText.{IsRunOf, IsRunText, IsTextOf};
 ghost use Rattle.tb_script.specs.Script.{InBounds, clock_of, credit_of, limit_of, submitters_of};
 
 mod driver;
+mod fault;
 mod notes;
 mod report;
 mod share;
 
-use crate::output::write_out;
-use crate::program_fault::ProgramFault;
 use crate::run::driver::ScriptDriver;
+use crate::run::fault::program_fault_of;
 use crate::run::report::text_of;
 use crate::run::share::{Shares, share_out};
-use crate::source::{Source, read_source};
 use std::alloc::Global;
 use std::io::{Read, Write};
 use std::sync::Wait;
 use std::thread::Threads;
+use tb_command::ProgramFault;
 use tb_drive::{ControlLines, drive_all};
 use tb_layout::NoMemory;
 use tb_pipe::{Opened, open};
 use tb_script::{Script, Settings};
+use tb_text::{Source, read_source, write_out};
 use tb_work::{Packet, Refusal};
 
 /// The pipeline that a script's settings open. They are all in range, so that only want of memory refuses it.
@@ -89,8 +90,10 @@ fn run_opened<T: Threads + Wait + Sync>(
     ensures { IfOk result (λ text. IsRunText opened.pipeline.clock opened.pipeline.intake.limit (map share_of drivers.items)
         (lines_of lines.moments.items lines.shuts) (refused_of lines.moments.items) (string_bytes text)) }
 {
-    let finished = drive_all(rt, alloc, opened, drivers, lines)?;
-    Ok(text_of(alloc, finished)?)
+    match drive_all(rt, alloc, opened, drivers, lines) {
+        Ok(finished) => Ok(text_of(alloc, finished)?),
+        Err(fault) => Err(program_fault_of(fault)),
+    }
 }
 
 /// The output for a script that has no fault.

@@ -1,6 +1,7 @@
 //! What no clause says: worked examples by name, and each call once with ample memory.
 
-use std::test::Fail;
+use std::alloc::Global;
+use std::process::Abort;
 use tb_layout::Account;
 use tb_work::{Bytes, Packet};
 
@@ -21,22 +22,21 @@ fn account(id: u128, flags: u16) -> Account {
 }
 
 /// A packet of so many zero bytes.
-fn packet_of(rt: &HostRuntime, operation: u8, length: usize) -> Result<Packet, Fail> {
-    let mut bytes = Vec::with_capacity(rt.alloc(), length)?;
-    bytes.resize(length, 0)?;
-    Ok(Packet {
+fn packet_of(rt: &(impl Abort + Alloc<A = Global>), operation: u8, length: usize) -> Packet {
+    let mut bytes = Vec::new(rt.alloc());
+    bytes.resize(length, 0).expect(rt, "memory");
+    Packet {
         operation,
         bytes: Bytes::from_vec(bytes),
         user: 7,
-    })
+    }
 }
 
 /// A packet that asks for accounts with these ids and flags.
-fn packet_of_accounts(rt: &HostRuntime, events: &[(u128, u16)]) -> Result<Packet, Fail> {
+fn packet_of_accounts(rt: &(impl Abort + Alloc<A = Global>), events: &[(u128, u16)]) -> Packet {
     let mut accounts = Vec::new(rt.alloc());
     for (id, flags) in events {
-        accounts.push(account(*id, *flags))?;
+        accounts.push(account(*id, *flags)).expect(rt, "memory");
     }
-    let made = Packet::of_accounts(rt.alloc(), accounts.as_slice(), 7);
-    Ok(made.ok().ok_or("no memory")?)
+    Packet::of_accounts(rt.alloc(), accounts.as_slice(), 7).expect(rt, "memory")
 }

@@ -11,7 +11,6 @@ ghost use Rattle.tb_program.specs.Drivers.{IsDone, told_of};
 ghost use Rattle.tb_program.specs.RunText.{behind_told, ledger_text, packets_text, pulses_text, refused_pulses_text, run_text, told_line, told_text};
 ghost use Rattle.tb_program.specs.declared.run.notes.Told.TheVariants.{Queued};
 
-use crate::output::{put_pulse, put_refused, put_refused_pulse, put_reply, put_state};
 use crate::run::driver::ScriptDriver;
 use crate::run::notes::{Notes, Told};
 use std::alloc::{AllocError, Global};
@@ -22,6 +21,7 @@ use tb_drive::Finished;
 use tb_layout::NoMemory;
 use tb_pipe::Report;
 use tb_submit::Ended;
+use tb_text::{put_pulse, put_refused, put_refused_pulse, put_reply, put_state};
 use tb_work::Reply;
 
 /// The shortest line of a packet, as `packet 0 0 committed 0` and its end.

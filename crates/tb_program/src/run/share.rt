@@ -5,11 +5,11 @@ ghost use Rattle.tb_program.specs.Sharing.{AreDealt, is_shut, moment_in, moments
 ghost use Rattle.tb_script.specs.declared.item.Item.{Item as ItemValue};
 ghost use Rattle.tb_script.specs.declared.item.Item.TheVariants.{Packet as PacketItem};
 
-use crate::packet::packet_of;
 use std::alloc::Global;
 use tb_drive::ControlLines;
 use tb_layout::NoMemory;
 use tb_script::{Item, Submission};
+use tb_text::packet_of;
 use tb_work::Packet;
 
 /// The items of a script by the threads that queue them: the packets of each submitter, and the control's lines.

@@ -1,9 +1,8 @@
 use super::packet_of;
-use std::test::Fail;
 use tb_work::{Refusal, admit};
 
 #[test]
-fn admission_table(rt: HostRuntime) -> Result<(), Fail> {
+fn admission_table(rt: HostRuntime) {
     for (length, wanted) in [
         (0, Ok(0)),
         (1, Err(Refusal::InvalidDataSize)),
@@ -14,48 +13,45 @@ fn admission_table(rt: HostRuntime) -> Result<(), Fail> {
         (1_048_448, Err(Refusal::TooMuchData)),
         (1_048_449, Err(Refusal::InvalidDataSize)),
     ] {
-        assert_eq!(rt; admit(8190, &packet_of(&rt, 129, length)?), wanted);
+        assert_eq!(rt; admit(8190, &packet_of(&rt, 129, length)), wanted);
     }
     for operation in 0..=255 {
-        let answer = admit(8190, &packet_of(&rt, operation, 0)?);
+        let answer = admit(8190, &packet_of(&rt, operation, 0));
         if (129..=131).contains(&operation) {
             assert_eq!(rt; answer, Ok(0));
         } else {
             assert_eq!(rt; answer, Err(Refusal::InvalidOperation));
         }
     }
-    Ok(())
 }
 
 #[test]
-fn refused_sizes_and_operations(rt: HostRuntime) -> Result<(), Fail> {
+fn refused_sizes_and_operations(rt: HostRuntime) {
     assert_eq!(rt;
-        admit(4, &packet_of(&rt, 129, 127)?),
+        admit(4, &packet_of(&rt, 129, 127)),
         Err(Refusal::InvalidDataSize)
     );
     assert_eq!(rt;
-        admit(4, &packet_of(&rt, 200, 127)?),
+        admit(4, &packet_of(&rt, 200, 127)),
         Err(Refusal::InvalidOperation)
     );
-    Ok(())
 }
 
 #[test]
-fn lookups_are_counted_in_ids(rt: HostRuntime) -> Result<(), Fail> {
-    assert_eq!(rt; admit(4, &packet_of(&rt, 131, 64)?), Ok(4));
+fn lookups_are_counted_in_ids(rt: HostRuntime) {
+    assert_eq!(rt; admit(4, &packet_of(&rt, 131, 64)), Ok(4));
     assert_eq!(rt;
-        admit(4, &packet_of(&rt, 131, 80)?),
+        admit(4, &packet_of(&rt, 131, 80)),
         Err(Refusal::TooMuchData)
     );
     assert_eq!(rt;
-        admit(4, &packet_of(&rt, 131, 24)?),
+        admit(4, &packet_of(&rt, 131, 24)),
         Err(Refusal::InvalidDataSize)
     );
-    Ok(())
 }
 
 #[test]
-fn numbers_and_names(rt: HostRuntime) -> Result<(), Fail> {
+fn numbers_and_names(rt: HostRuntime) {
     for (refusal, number, name) in [
         (Refusal::InvalidOperation, 1, "InvalidOperation"),
         (Refusal::InvalidDataSize, 2, "InvalidDataSize"),
@@ -74,5 +70,4 @@ fn numbers_and_names(rt: HostRuntime) -> Result<(), Fail> {
         assert_eq!(rt; refusal.number(), number);
         assert_eq!(rt; refusal.name(), name);
     }
-    Ok(())
 }

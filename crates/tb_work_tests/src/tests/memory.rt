@@ -25,19 +25,17 @@ fn job_refused_memory(rt: HostRuntime) -> Result<(), Fail> {
 }
 
 #[test]
-fn packet_of_accounts_refused_memory(rt: HostRuntime) -> Result<(), Fail> {
+fn packet_of_accounts_refused_memory(rt: HostRuntime) {
     match Packet::of_accounts(rt.alloc(), &[Account::default()], 7) {
         Ok(packet) => assert_eq!(rt; packet.bytes.as_slice().len(), 128),
         Err(refused) => assert_eq!(rt; refused, NoMemory),
     }
-    Ok(())
 }
 
 #[test]
-fn packet_of_transfers_refused_memory(rt: HostRuntime) -> Result<(), Fail> {
+fn packet_of_transfers_refused_memory(rt: HostRuntime) {
     match Packet::of_transfers(rt.alloc(), &[Transfer::default()], 7) {
         Ok(packet) => assert_eq!(rt; packet.bytes.as_slice().len(), 128),
         Err(refused) => assert_eq!(rt; refused, NoMemory),
     }
-    Ok(())
 }

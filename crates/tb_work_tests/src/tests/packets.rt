@@ -1,39 +1,40 @@
 //! Packets made of accounts and of transfers.
 
 use super::account;
-use std::test::Fail;
+use std::alloc::Global;
+use std::process::Abort;
 use tb_layout::{Account, Transfer, read_account, read_transfer};
 use tb_work::{Packet, Refusal, admit};
 
 /// A packet of these accounts, with user word 7.
-fn of_accounts(rt: &HostRuntime, accounts: &[Account]) -> Result<Packet, Fail> {
-    let made = Packet::of_accounts(rt.alloc(), accounts, 7);
-    Ok(made.ok().ok_or("no memory")?)
+fn of_accounts(rt: &(impl Abort + Alloc<A = Global>), accounts: &[Account]) -> Packet {
+    Packet::of_accounts(rt.alloc(), accounts, 7).expect(rt, "memory")
 }
 
 /// A packet of these transfers, with user word 7.
-fn of_transfers(rt: &HostRuntime, transfers: &[Transfer]) -> Result<Packet, Fail> {
-    let made = Packet::of_transfers(rt.alloc(), transfers, 7);
-    Ok(made.ok().ok_or("no memory")?)
+fn of_transfers(rt: &(impl Abort + Alloc<A = Global>), transfers: &[Transfer]) -> Packet {
+    Packet::of_transfers(rt.alloc(), transfers, 7).expect(rt, "memory")
 }
 
 /// How many of so many accounts are admitted, in one packet.
-fn admitted_accounts(rt: &HostRuntime, count: usize) -> Result<Result<u32, Refusal>, Fail> {
+fn admitted_accounts(rt: &(impl Abort + Alloc<A = Global>), count: usize) -> Result<u32, Refusal> {
     let mut accounts = Vec::new(rt.alloc());
-    accounts.resize(count, account(1, 0))?;
-    Ok(admit(8190, &of_accounts(rt, accounts.as_slice())?))
+    accounts.resize(count, account(1, 0)).expect(rt, "memory");
+    admit(8190, &of_accounts(rt, accounts.as_slice()))
 }
 
 /// How many of so many transfers are admitted, in one packet.
-fn admitted_transfers(rt: &HostRuntime, count: usize) -> Result<Result<u32, Refusal>, Fail> {
+fn admitted_transfers(rt: &(impl Abort + Alloc<A = Global>), count: usize) -> Result<u32, Refusal> {
     let mut transfers = Vec::new(rt.alloc());
-    transfers.resize(count, Transfer::default())?;
-    Ok(admit(8190, &of_transfers(rt, transfers.as_slice())?))
+    transfers
+        .resize(count, Transfer::default())
+        .expect(rt, "memory");
+    admit(8190, &of_transfers(rt, transfers.as_slice()))
 }
 
 #[test]
-fn a_packet_of_two_accounts(rt: HostRuntime) -> Result<(), Fail> {
-    let packet = of_accounts(&rt, &[account(258, 1), account(2, 0)])?;
+fn a_packet_of_two_accounts(rt: HostRuntime) {
+    let packet = of_accounts(&rt, &[account(258, 1), account(2, 0)]);
     assert_eq!(rt; (packet.operation, packet.user), (129, 7));
     let bytes = packet.bytes.as_slice();
     assert_eq!(rt; bytes.len(), 256);
@@ -43,11 +44,10 @@ fn a_packet_of_two_accounts(rt: HostRuntime) -> Result<(), Fail> {
     let (chunks, _) = bytes.as_chunks::<128>();
     assert_eq!(rt; read_account(&chunks[0]), account(258, 1));
     assert_eq!(rt; read_account(&chunks[1]), account(2, 0));
-    Ok(())
 }
 
 #[test]
-fn a_packet_of_one_transfer(rt: HostRuntime) -> Result<(), Fail> {
+fn a_packet_of_one_transfer(rt: HostRuntime) {
     let transfer = Transfer {
         id: 1,
         debit_account_id: 2,
@@ -56,7 +56,7 @@ fn a_packet_of_one_transfer(rt: HostRuntime) -> Result<(), Fail> {
         timeout: 5,
         ..Transfer::default()
     };
-    let packet = of_transfers(&rt, &[transfer])?;
+    let packet = of_transfers(&rt, &[transfer]);
     assert_eq!(rt; (packet.operation, packet.user), (130, 7));
     let (chunks, _) = packet.bytes.as_slice().as_chunks::<128>();
     assert_eq!(rt; chunks.len(), 1);
@@ -66,21 +66,18 @@ fn a_packet_of_one_transfer(rt: HostRuntime) -> Result<(), Fail> {
         [1, 2, 3, 4, 5]
     );
     assert_eq!(rt; read_transfer(chunk), transfer);
-    Ok(())
 }
 
 #[test]
-fn largest_packets_of_accounts(rt: HostRuntime) -> Result<(), Fail> {
-    assert_eq!(rt; admitted_accounts(&rt, 0)?, Ok(0));
-    assert_eq!(rt; admitted_accounts(&rt, 8190)?, Ok(8190));
-    assert_eq!(rt; admitted_accounts(&rt, 8191)?, Err(Refusal::TooMuchData));
-    Ok(())
+fn largest_packets_of_accounts(rt: HostRuntime) {
+    assert_eq!(rt; admitted_accounts(&rt, 0), Ok(0));
+    assert_eq!(rt; admitted_accounts(&rt, 8190), Ok(8190));
+    assert_eq!(rt; admitted_accounts(&rt, 8191), Err(Refusal::TooMuchData));
 }
 
 #[test]
-fn largest_packets_of_transfers(rt: HostRuntime) -> Result<(), Fail> {
-    assert_eq!(rt; admitted_transfers(&rt, 0)?, Ok(0));
-    assert_eq!(rt; admitted_transfers(&rt, 8190)?, Ok(8190));
-    assert_eq!(rt; admitted_transfers(&rt, 8191)?, Err(Refusal::TooMuchData));
-    Ok(())
+fn largest_packets_of_transfers(rt: HostRuntime) {
+    assert_eq!(rt; admitted_transfers(&rt, 0), Ok(0));
+    assert_eq!(rt; admitted_transfers(&rt, 8190), Ok(8190));
+    assert_eq!(rt; admitted_transfers(&rt, 8191), Err(Refusal::TooMuchData));
 }

@@ -23,3 +23,6 @@ commit-requires c =
     let body = c.deref-else-parts.ensures.value ∙ are.body in
     let count = ap (λ body. length body / 128) body ∙ may.count in
     record { operation = may.kind; whole = ap (λ body. length body % 128) body ∙ may.whole; limit = omega (arith, count, are.lawful.few); empty = search rules; room = omega (arith, count, are.room.for_failures other) }
+
+pub returns-then-parts-clause-state : goal.returns-then-parts-clause-state
+returns-then-parts-clause-state c = search rules

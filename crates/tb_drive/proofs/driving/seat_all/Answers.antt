@@ -26,3 +26,6 @@ loop-submitter-preserved g c =
       long = omega (arith, c.loop-submitter.invariant.long, ap length drivers, ap length submitters);
       seen = others_have g.D.Driver.has_seen drivers submitters c.loop-submitter.invariant.seen;
     }
+
+pub loop-submitter-init : goal.loop-submitter-init
+loop-submitter-init g c = search rules

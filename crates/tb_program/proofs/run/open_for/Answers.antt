@@ -1,4 +1,4 @@
-use Rattle.std.proofs.Common.{◌≡◌, ℕ, ◌≤◌, le-ltb, None, refl}
+use Rattle.std.proofs.Common.{rules, ◌≡◌, ℕ, ◌≤◌, le-ltb, None, refl}
 use Rattle.tb_layout.specs.Limits.{batch_max, capacity_max, submitters_max}
 use Rattle.tb_submit.specs.Refusals.{queue_refusal}
 use Rattle.tb_script.specs.Script.{limit_of, capacity_of, credit_of, submitters_of}
@@ -22,3 +22,6 @@ returns-in-Ok-clause-fresh c = are_fresh _ _ _ c.in-Ok.ensures.submitters
 
 pub returns-in-Ok-clause-credit : goal.returns-in-Ok-clause-credit
 returns-in-Ok-clause-credit c = rw (c.credit.ensures) at (have_credit _ _ _ c.in-Ok.ensures.submitters)
+
+pub returns-in-Ok-clause-clock : goal.returns-in-Ok-clause-clock
+returns-in-Ok-clause-clock c = search rules

@@ -21,20 +21,20 @@ drive_all-requires-clause-seen g c κs within = λ k driver submitter driver_is 
     (subst (λ (read : List Replied). HasSeenOf driver [] read) (sym fresh.1) (c.requires.new k driver driver_is))
 
 pub text_of-requires-clause-answered : goal.text_of-requires-clause-answered
-text_of-requires-clause-answered g c = all_answered c.in_ok-finished.ensures.reported
+text_of-requires-clause-answered g c = all_answered c.in-Ok.ensures.reported
 
-pub returns : goal.returns
-returns g c =
+pub returns-in_ok-text_of-in-Ok : goal.returns-in_ok-text_of-in-Ok
+returns-in_ok-text_of-in-Ok g c =
     let opened = c.args.opened in
-    let reported = c.in_ok-finished.ensures.reported in
-    let finished = c.in_ok-finished.finished in
+    let reported = c.in-Ok.ensures.reported in
+    let finished = c.in-Ok.finished in
     let ledger = finished.report.ledger in
     let drivers = finished.drivers.items in
     let told = map told_of drivers in
     let lines = lines_of c.args.lines.moments.items c.args.lines.shuts in
     let state = replay ledger.opening (works ledger) in
     let replies = replies_of finished.report.ends.items in
-    let shares : map share_of drivers ≡ map share_of c.args.drivers.items = c.in_ok-finished.ensures.shares in
+    let shares : map share_of drivers ≡ map share_of c.args.drivers.items = c.in-Ok.ensures.shares in
     let long = length-map c.args.drivers.items share_of ∙ c.requires.number ∙ c.requires.together.2 in
     record {
       queue = reported.queue;
@@ -49,6 +49,6 @@ returns g c =
       control = ap reported.queued long ∙ reported.control ∙ ap (λ queued. queued ++ lines) c.requires.silent;
       pulses = subst (λ queued. IsPrefixOf (moments_committed (works ledger)) (moments_queued (queued ++ lines))) c.requires.silent reported.pulses;
       number = length-map drivers told_of ∙ sym (length-map drivers share_of) ∙ ap length shares;
-      handed = subst (λ all. AreHandedIn all told reported.queued) shares (all_handed_in reported c.in_ok-text_of.ensures.done);
-      printed = subst (λ refused. string_bytes c.in_ok-text_of.field-0 ≡ run_text told replies (works ledger) refused state) c.in_ok-finished.ensures.refused c.in_ok-text_of.ensures.text;
+      handed = subst (λ all. AreHandedIn all told reported.queued) shares (all_handed_in reported c.in_ok-text_of-in-Ok.ensures.done);
+      printed = subst (λ refused. string_bytes c.in_ok-text_of-in-Ok.field-0 ≡ run_text told replies (works ledger) refused state) c.in-Ok.ensures.refused c.in_ok-text_of-in-Ok.ensures.text;
     }

@@ -1,4 +1,4 @@
-use Rattle.std.proofs.Common.{◌≡◌, ◌≢◌, ◌<◌, ◌+◌, ⊎_elim, ℕ, zero, suc, List, [], ◌∷◌, ◌++◌, map, take, length, get_or, set, Some, sym, refl, ap, ◌∙◌, subst, arith, append_assoc, length-set, get_or-set_other}
+use Rattle.std.proofs.Common.{rules, ◌≡◌, ◌≢◌, ◌<◌, ◌+◌, ⊎_elim, ℕ, zero, suc, List, [], ◌∷◌, ◌++◌, map, take, length, get_or, set, Some, sym, refl, ap, ◌∙◌, subst, arith, append_assoc, length-set, get_or-set_other}
 use Rattle.std.proofs.lemmas.List.{map-append, take_more, get_or-set_same}
 use Rattle.std.proofs.lemmas.Bool.{cases_eq}
 use Rattle.tb_work.specs.Reply.{Replied}
@@ -102,3 +102,6 @@ loop-k-preserved c =
       replies = λ j d o below. one_further (λ i (e : EndedState). (q : Outlet Replied) → e.read ++ e.lying ≡ given (get_or os i q)) ls k c.settle.new.self inside
           (λ q. c.settle.ensures.replies ∙ ap given (y_same ∙ same_at os k y q among)) (λ i e before q. inv.replies i e q before) j d below o;
     }
+
+pub loop-k-init : goal.loop-k-init
+loop-k-init c = search rules

@@ -1,4 +1,4 @@
-use Rattle.std.proofs.Common.{◌∷◌, [], ◌∙◌, ap, sym, subst, arith, length, length-append}
+use Rattle.std.proofs.Common.{rules, ◌∷◌, [], ◌∙◌, ap, sym, subst, arith, length, length-append}
 use Rattle.tb_work.specs.declared.item.Item.TheVariants.{Pulse}
 use Rattle.tb_submit.specs.Ends.{SenderState}
 use Rattle.tb_submit.specs.Lists.{ArePulses}
@@ -13,3 +13,6 @@ invariant_of-self g c =
       subst ArePulses (sym queued) (pulses_more before c.new.result c.self.invariant.1),
       ap (λ (s : SenderState). s.seat.number) c.in-Ok.ensures.ok ∙ c.self.invariant.2 ∙ sym (ap (λ (s : SenderState). s.seat.submitters) c.in-Ok.ensures.ok),
     )
+
+pub returns-clause-ok : goal.returns-clause-ok
+returns-clause-ok g c = search rules

@@ -1,0 +1,29 @@
+-- The exit status of each outcome, and the line that is printed of it.
+use Rattle.std.specs.Prelude.{ℕ, Bool, true, false, List, [], Result, Ok, Err, codes}
+use Rattle.tb_command.specs.declared.program_fault.ProgramFault.{ProgramFault}
+use Rattle.tb_command.specs.declared.program_fault.ProgramFault.TheVariants.{Read, Write, NoMemory, NoThread}
+use Rattle.tb_command.specs.declared.ending.Ending.{Ending}
+use Rattle.tb_command.specs.declared.ending.Ending.TheVariants.{Done, FaultyScript, Usage, Failed}
+
+abbrev pub ending_of : Result Bool ProgramFault → Ending
+ending_of (Ok true) = Done
+ending_of (Ok false) = FaultyScript
+ending_of (Err fault) = Failed fault
+
+abbrev pub status_of : Ending → ℕ
+status_of Done = 0
+status_of FaultyScript = 1
+status_of Usage = 1
+status_of (Failed fault) = 2
+
+abbrev pub fault_text : ProgramFault → List ℕ
+fault_text Read = codes "fault read failed\n"
+fault_text Write = []
+fault_text NoMemory = codes "fault no memory\n"
+fault_text NoThread = codes "fault no thread\n"
+
+abbrev pub text_of : Ending → List ℕ
+text_of Done = []
+text_of FaultyScript = []
+text_of Usage = codes "usage: tbpipe list|run\n"
+text_of (Failed fault) = fault_text fault

@@ -1,0 +1,15 @@
+-- What the arguments ask for.
+use Rattle.std.specs.Prelude.{ℕ, List, [], ◌∷◌, bytes_eq, codes, if◌then◌else◌}
+use Rattle.tb_command.specs.declared.request.Request.{Request}
+use Rattle.tb_command.specs.declared.request.Request.TheVariants.{List as ListAsked, Run, Usage}
+
+abbrev pub asked_by : List ℕ → Request
+asked_by word =
+    if bytes_eq word (codes "list") then ListAsked
+    else if bytes_eq word (codes "run") then Run
+    else Usage
+
+-- the first word is the program's name
+abbrev pub request_of : List (List ℕ) → Request
+request_of (program ∷ word ∷ []) = asked_by word
+request_of words = Usage

@@ -1,0 +1,53 @@
+//! How the program ends.
+
+ghost use Rattle.std.specs.Prelude.{◌≡◌};
+ghost use Rattle.tb_command.specs.Ending.{ending_of, status_of, text_of};
+
+use crate::program_fault::ProgramFault;
+
+/// How the program ends, once what is to be written of a script is written.
+#[derive(Drop)]
+pub enum Ending {
+    Done,
+    FaultyScript,
+    Usage,
+    Failed(ProgramFault),
+}
+
+/// How it ends after a script.
+pub fn ending_of(outcome: Result<bool, ProgramFault>) -> Ending
+    ensures { result ≡ ending_of outcome }
+{
+    match outcome {
+        Ok(true) => Ending::Done,
+        Ok(false) => Ending::FaultyScript,
+        Err(fault) => Ending::Failed(fault),
+    }
+}
+
+impl Ending {
+    /// The exit status.
+    pub fn status(&self) -> u8
+        ensures { result ≡ status_of self.now }
+    {
+        match self {
+            Ending::Done => 0,
+            Ending::FaultyScript | Ending::Usage => 1,
+            Ending::Failed(_) => 2,
+        }
+    }
+
+    /// What is printed last. Of a failed write nothing is, since nothing more can be written.
+    pub fn text(&self) -> &'static str
+        ensures { result.now ≡ text_of self.now }
+    {
+        match self {
+            Ending::Done | Ending::FaultyScript => "",
+            Ending::Usage => "usage: tbpipe list|run\n",
+            Ending::Failed(ProgramFault::Read) => "fault read failed\n",
+            Ending::Failed(ProgramFault::Write) => "",
+            Ending::Failed(ProgramFault::NoMemory) => "fault no memory\n",
+            Ending::Failed(ProgramFault::NoThread) => "fault no thread\n",
+        }
+    }
+}

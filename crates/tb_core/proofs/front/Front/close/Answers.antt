@@ -1,0 +1,5 @@
+use Rattle.std.proofs.Common.{rules}
+use Rattle.tb_core.proofs.front.Front.close.Goals as goal
+
+pub returns-clause-took : goal.returns-clause-took
+returns-clause-took c = search rules

@@ -1,0 +1,5 @@
+use Rattle.std.proofs.Common.{rules}
+use Rattle.tb_core.proofs.ledger.Ledger.halts_at.Goals as goal
+
+pub returns-else-self : goal.returns-else-self
+returns-else-self c = search rules

@@ -1,0 +1,5 @@
+use Rattle.std.proofs.Common.{rules}
+use Rattle.tb_machine.proofs.event.is_transient.Goals as goal
+
+pub returns-else-code-number-4 : goal.returns-else-code-number-4
+returns-else-code-number-4 c = search rules

@@ -1,0 +1,3 @@
+pub mod Plan
+pub mod Output
+pub mod Source

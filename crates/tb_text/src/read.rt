@@ -1,0 +1,33 @@
+//! The bytes of a script.
+
+ghost use Rattle.std.specs.Prelude.{IfOk, IfSome};
+ghost use Rattle.tb_text.specs.Output.{IsWhole};
+
+use std::alloc::Global;
+use std::io::Read;
+use tb_command::ProgramFault;
+
+const MOST_BYTES: usize = 16_777_216;
+
+const MOST_READS: u32 = 16_777_217;
+
+/// All bytes of a reader, or None where there are more than a script may have.
+pub fn read_script<R: Read>(alloc: Global, reader: &mut R) -> Result<Option<Vec<u8>>, ProgramFault>
+    ensures { IfOk result (λ text. IfSome (R.remaining reader.old) (λ bytes. IsWhole text bytes)) }
+{
+    let mut text = Vec::new(alloc);
+    let mut buffer = [0u8; 4096];
+    for _ in 0..MOST_READS {
+        let Ok(count) = reader.read(&mut buffer) else {
+            return Err(ProgramFault::Read);
+        };
+        if count == 0 {
+            return Ok(Some(text));
+        }
+        text.extend_from_slice(&buffer[..count])?;
+        if text.len() > MOST_BYTES {
+            return Ok(None);
+        }
+    }
+    Err(ProgramFault::Read)
+}

@@ -1,0 +1,49 @@
+//! The script that a reader has.
+
+ghost use Rattle.std.specs.Prelude.{◌≡◌, IfOk, IfSome};
+ghost use Rattle.tb_script.specs.Script.{script_of};
+ghost use Rattle.tb_text.specs.Source.{IsSource, IsTold, IsFaultAt};
+
+use crate::output::put_fault;
+use crate::read::read_script;
+use std::alloc::Global;
+use std::io::Read;
+use tb_command::ProgramFault;
+use tb_layout::NoMemory;
+use tb_script::{Script, ScriptError, parse};
+
+/// What a reader has: a script, or the one line that is printed of a faulty one.
+#[derive(Drop)]
+pub enum Source {
+    Script(Script),
+    Faulty(String),
+}
+
+fn source_of_fault(alloc: Global, line: usize, text: &str) -> Result<Source, NoMemory>
+    ensures { IfOk result (λ source. IsFaultAt line text.now source) }
+{
+    let mut out = String::new(alloc);
+    put_fault(&mut out, line, text)?;
+    Ok(Source::Faulty(out))
+}
+
+/// What the text of a script says.
+fn source_of(alloc: Global, text: &[u8]) -> Result<Source, NoMemory>
+    ensures { IfOk result (λ source. IsTold source (script_of text.now)) }
+{
+    match parse(alloc, text) {
+        Ok(script) => Ok(Source::Script(script)),
+        Err(ScriptError::NoMemory) => Err(NoMemory),
+        Err(ScriptError::Faulty(line, fault)) => source_of_fault(alloc, line, fault.text()),
+    }
+}
+
+/// Reads to the end, or as far as a script may be long, and parses what was read.
+pub fn read_source<R: Read>(alloc: Global, reader: &mut R) -> Result<Source, ProgramFault>
+    ensures { IfOk result (λ source. IfSome (R.remaining reader.old) (λ bytes. IsSource source bytes)) }
+{
+    match read_script(alloc, reader)? {
+        Some(text) => Ok(source_of(alloc, &text)?),
+        None => Ok(source_of_fault(alloc, 0, "script too long")?),
+    }
+}
