@@ -12,12 +12,12 @@ fn of_rows(
     setup: &str,
     packets: usize,
     pulses: usize,
-    rows: &[(&str, u32)],
+    rows: &str,
 ) -> Result<(String, String), Fail> {
     let mut script = format!(in alloc; "{setup}")?;
     let mut answers = String::new(alloc);
-    for (k, row) in rows.iter().enumerate() {
-        let (fields, code) = *row;
+    for (k, row) in rows.lines().enumerate() {
+        let (code, fields) = row.split_once(' ').ok_or("no fields")?;
         let number = packets.saturating_add(k);
         let place = number.saturating_add(pulses);
         write!(script, "packet 0 130\ntransfer {fields}\n")?;
@@ -41,7 +41,7 @@ fn answers(
     setup: &str,
     packets: usize,
     pulses: usize,
-    rows: &[(&str, u32)],
+    rows: &str,
 ) -> Result<(), Fail> {
     let (script, answers) = of_rows(alloc, setup, packets, pulses, rows)?;
     has(rt, alloc, script.as_str(), answers.as_str())
@@ -81,312 +81,119 @@ packet 0 130
 transfer id=50 debit_account_id=1 credit_account_id=99 amount=1 ledger=1 code=1
 ";
 
-/// Transfers behind `LEDGER`, one after another, and what each is answered.
-const CODES: [(&str, u32); 107] = [
-    ("id=60 timestamp=1", 3),
-    ("id=60 timestamp=1 flags=16", 3),
-    ("id=60 flags=16", 4),
-    ("flags=16", 4),
-    ("amount=1", 5),
-    ("id=340282366920938463463374607431768211455", 6),
-    (
-        "id=1 debit_account_id=1 credit_account_id=2 amount=10 user_data_128=5 user_data_64=6 user_data_32=7 ledger=1 code=1 flags=2",
-        36,
-    ),
-    (
-        "id=1 debit_account_id=1 credit_account_id=2 amount=10 user_data_128=5 user_data_64=6 user_data_32=7 ledger=1 code=1 flags=2 pending_id=9",
-        36,
-    ),
-    (
-        "id=1 debit_account_id=1 credit_account_id=2 amount=10 user_data_128=5 user_data_64=6 user_data_32=7 ledger=1 code=1 pending_id=9",
-        40,
-    ),
-    (
-        "id=1 debit_account_id=9 credit_account_id=2 amount=10 user_data_128=5 user_data_64=6 user_data_32=7 ledger=1 code=1 pending_id=9",
-        40,
-    ),
-    (
-        "id=1 debit_account_id=9 credit_account_id=2 amount=10 user_data_128=5 user_data_64=6 user_data_32=7 ledger=1 code=1",
-        37,
-    ),
-    (
-        "id=1 debit_account_id=9 credit_account_id=9 amount=10 user_data_128=5 user_data_64=6 user_data_32=7 ledger=1 code=1",
-        37,
-    ),
-    (
-        "id=1 debit_account_id=1 credit_account_id=9 amount=10 user_data_128=5 user_data_64=6 user_data_32=7 ledger=1 code=1",
-        38,
-    ),
-    (
-        "id=1 debit_account_id=1 credit_account_id=9 amount=9 user_data_128=5 user_data_64=6 user_data_32=7 ledger=1 code=1",
-        38,
-    ),
-    (
-        "id=1 debit_account_id=1 credit_account_id=2 amount=9 user_data_128=5 user_data_64=6 user_data_32=7 ledger=1 code=1",
-        39,
-    ),
-    (
-        "id=1 debit_account_id=1 credit_account_id=2 amount=9 user_data_128=4 user_data_64=6 user_data_32=7 ledger=1 code=1",
-        39,
-    ),
-    (
-        "id=1 debit_account_id=1 credit_account_id=2 amount=10 user_data_128=4 user_data_64=6 user_data_32=7 ledger=1 code=1",
-        41,
-    ),
-    (
-        "id=1 debit_account_id=1 credit_account_id=2 amount=10 user_data_128=4 user_data_64=4 user_data_32=7 ledger=1 code=1",
-        41,
-    ),
-    (
-        "id=1 debit_account_id=1 credit_account_id=2 amount=10 user_data_128=5 user_data_64=4 user_data_32=7 ledger=1 code=1",
-        42,
-    ),
-    (
-        "id=1 debit_account_id=1 credit_account_id=2 amount=10 user_data_128=5 user_data_64=4 user_data_32=4 ledger=1 code=1",
-        42,
-    ),
-    (
-        "id=1 debit_account_id=1 credit_account_id=2 amount=10 user_data_128=5 user_data_64=6 user_data_32=4 ledger=1 code=1",
-        43,
-    ),
-    (
-        "id=1 debit_account_id=1 credit_account_id=2 amount=10 user_data_128=5 user_data_64=6 user_data_32=4 timeout=1 ledger=1 code=1",
-        43,
-    ),
-    (
-        "id=1 debit_account_id=1 credit_account_id=2 amount=10 user_data_128=5 user_data_64=6 user_data_32=7 timeout=1 ledger=1 code=1",
-        44,
-    ),
-    (
-        "id=1 debit_account_id=1 credit_account_id=2 amount=10 user_data_128=5 user_data_64=6 user_data_32=7 timeout=1 ledger=2 code=1",
-        44,
-    ),
-    (
-        "id=1 debit_account_id=1 credit_account_id=2 amount=10 user_data_128=5 user_data_64=6 user_data_32=7 ledger=2 code=1",
-        67,
-    ),
-    (
-        "id=1 debit_account_id=1 credit_account_id=2 amount=10 user_data_128=5 user_data_64=6 user_data_32=7 ledger=2 code=2",
-        67,
-    ),
-    (
-        "id=1 debit_account_id=1 credit_account_id=2 amount=10 user_data_128=5 user_data_64=6 user_data_32=7 ledger=1 code=2",
-        45,
-    ),
-    (
-        "id=1 debit_account_id=1 credit_account_id=2 amount=10 user_data_128=5 user_data_64=6 user_data_32=7 ledger=1 code=1",
-        46,
-    ),
-    ("id=4 amount=100 pending_id=3 flags=4", 46),
-    ("id=4 amount=100 pending_id=3 timeout=1 flags=4", 44),
-    ("id=6 pending_id=5 flags=8", 46),
-    (
-        "id=6 amount=340282366920938463463374607431768211455 pending_id=5 flags=8",
-        39,
-    ),
-    (
-        "id=50 debit_account_id=1 credit_account_id=2 amount=1 ledger=1 code=1",
-        68,
-    ),
-    ("id=50 flags=6", 68),
-    ("id=60 flags=6", 7),
-    ("id=60 flags=10 pending_id=2", 7),
-    ("id=60 flags=12", 7),
-    ("id=60 flags=4", 14),
-    ("id=60 flags=8 timeout=1", 14),
-    (
-        "id=60 flags=4 pending_id=340282366920938463463374607431768211455",
-        15,
-    ),
-    (
-        "id=60 flags=4 pending_id=340282366920938463463374607431768211455 timeout=1",
-        15,
-    ),
-    ("id=60 flags=4 pending_id=60", 16),
-    ("id=60 flags=8 pending_id=60 timeout=1", 16),
-    ("id=60 flags=4 pending_id=2 timeout=1", 17),
-    ("id=60 flags=4 pending_id=99 timeout=1", 17),
-    ("id=61 flags=4 pending_id=99", 25),
-    ("id=61 flags=4 pending_id=2", 68),
-    ("id=60 flags=4 pending_id=1", 26),
-    ("id=60 flags=4 pending_id=1 debit_account_id=9", 26),
-    ("id=60 flags=4 pending_id=2 debit_account_id=9", 27),
-    (
-        "id=60 flags=4 pending_id=2 debit_account_id=9 credit_account_id=9",
-        27,
-    ),
-    ("id=60 flags=4 pending_id=2 credit_account_id=9", 28),
-    (
-        "id=60 flags=4 pending_id=2 credit_account_id=9 ledger=9",
-        28,
-    ),
-    ("id=60 flags=4 pending_id=2 ledger=9", 29),
-    ("id=60 flags=4 pending_id=2 ledger=9 code=9", 29),
-    ("id=60 flags=4 pending_id=2 code=9", 30),
-    ("id=60 flags=4 pending_id=2 code=9 amount=101", 30),
-    ("id=60 flags=4 pending_id=2 amount=101", 31),
-    (
-        "id=60 flags=8 pending_id=2 amount=340282366920938463463374607431768211455",
-        31,
-    ),
-    ("id=60 flags=4 pending_id=3 amount=101", 31),
-    ("id=60 flags=8 pending_id=2 amount=99", 32),
-    ("id=60 flags=8 pending_id=3 amount=99", 32),
-    ("id=60 flags=8 pending_id=3", 33),
-    (
-        "id=60 flags=4 pending_id=7 amount=340282366920938463463374607431768211455",
-        33,
-    ),
-    (
-        "id=60 flags=4 pending_id=5 amount=340282366920938463463374607431768211455",
-        34,
-    ),
-    ("id=60 flags=8 pending_id=9", 34),
-    ("id=60 flags=8 pending_id=11", 35),
-    ("id=60 credit_account_id=2 ledger=1 code=1", 8),
-    ("id=60 ledger=1 code=1", 8),
-    (
-        "id=60 debit_account_id=340282366920938463463374607431768211455 credit_account_id=2 ledger=1 code=1",
-        9,
-    ),
-    (
-        "id=60 debit_account_id=340282366920938463463374607431768211455 ledger=1 code=1",
-        9,
-    ),
-    ("id=60 debit_account_id=1 ledger=1 code=1", 10),
-    (
-        "id=60 debit_account_id=1 credit_account_id=340282366920938463463374607431768211455 ledger=1 code=1",
-        11,
-    ),
-    (
-        "id=60 debit_account_id=1 credit_account_id=340282366920938463463374607431768211455 pending_id=9 ledger=1 code=1",
-        11,
-    ),
-    (
-        "id=60 debit_account_id=1 credit_account_id=1 ledger=1 code=1",
-        12,
-    ),
-    (
-        "id=60 debit_account_id=1 credit_account_id=1 pending_id=9 ledger=1 code=1",
-        12,
-    ),
-    (
-        "id=60 debit_account_id=1 credit_account_id=2 pending_id=9 ledger=1 code=1",
-        13,
-    ),
-    (
-        "id=60 debit_account_id=1 credit_account_id=2 pending_id=9 timeout=1 ledger=1 code=1",
-        13,
-    ),
-    (
-        "id=60 debit_account_id=1 credit_account_id=2 timeout=1 ledger=1 code=1",
-        17,
-    ),
-    (
-        "id=60 debit_account_id=1 credit_account_id=2 timeout=1 code=1",
-        17,
-    ),
-    ("id=60 debit_account_id=1 credit_account_id=2 code=1", 19),
-    ("id=60 debit_account_id=1 credit_account_id=2", 19),
-    ("id=60 debit_account_id=1 credit_account_id=2 ledger=1", 20),
-    ("id=60 debit_account_id=99 credit_account_id=2 ledger=1", 20),
-    (
-        "id=62 debit_account_id=99 credit_account_id=2 ledger=1 code=1",
-        21,
-    ),
-    (
-        "id=62 debit_account_id=1 credit_account_id=2 ledger=1 code=1",
-        68,
-    ),
-    (
-        "id=63 debit_account_id=98 credit_account_id=99 ledger=1 code=1",
-        21,
-    ),
-    (
-        "id=64 debit_account_id=1 credit_account_id=99 ledger=1 code=1",
-        22,
-    ),
-    (
-        "id=60 debit_account_id=1 credit_account_id=3 ledger=1 code=1",
-        23,
-    ),
-    (
-        "id=60 debit_account_id=1 credit_account_id=3 ledger=7 code=1",
-        23,
-    ),
-    (
-        "id=60 debit_account_id=1 credit_account_id=2 ledger=7 code=1",
-        24,
-    ),
-    (
-        "id=60 debit_account_id=1 credit_account_id=2 amount=340282366920938463463374607431768211455 ledger=7 code=1 flags=2",
-        24,
-    ),
-    (
-        "id=60 debit_account_id=1 credit_account_id=9 amount=340282366920938463463374607431768211455 ledger=1 code=1 flags=2",
-        47,
-    ),
-    (
-        "id=60 debit_account_id=1 credit_account_id=2 amount=340282366920938463463374607431768211455 ledger=1 code=1 flags=2",
-        47,
-    ),
-    (
-        "id=60 debit_account_id=9 credit_account_id=7 amount=340282366920938463463374607431768211455 ledger=1 code=1 flags=2",
-        48,
-    ),
-    (
-        "id=60 debit_account_id=6 credit_account_id=2 amount=340282366920938463463374607431768211455 ledger=1 code=1 flags=2",
-        48,
-    ),
-    (
-        "id=60 debit_account_id=6 credit_account_id=9 amount=340282366920938463463374607431768211455 ledger=1 code=1",
-        49,
-    ),
-    (
-        "id=60 debit_account_id=6 credit_account_id=2 amount=340282366920938463463374607431768211455 ledger=1 code=1",
-        49,
-    ),
-    (
-        "id=60 debit_account_id=9 credit_account_id=2 amount=340282366920938463463374607431768211455 ledger=1 code=1",
-        50,
-    ),
-    (
-        "id=60 debit_account_id=8 credit_account_id=2 amount=340282366920938463463374607431768211455 ledger=1 code=1",
-        50,
-    ),
-    (
-        "id=60 debit_account_id=8 credit_account_id=9 amount=340282366920938463463374607431768211455 ledger=1 code=1",
-        51,
-    ),
-    (
-        "id=60 debit_account_id=8 credit_account_id=7 amount=340282366920938463463374607431768211455 ledger=1 code=1",
-        51,
-    ),
-    (
-        "id=60 debit_account_id=9 credit_account_id=7 amount=340282366920938463463374607431768211455 ledger=1 code=1",
-        52,
-    ),
-    (
-        "id=65 debit_account_id=4 credit_account_id=2 amount=1 ledger=1 code=1",
-        54,
-    ),
-    (
-        "id=66 debit_account_id=4 credit_account_id=5 amount=1 ledger=1 code=1",
-        54,
-    ),
-    (
-        "id=67 debit_account_id=1 credit_account_id=5 amount=1 ledger=1 code=1",
-        55,
-    ),
-    (
-        "id=67 debit_account_id=1 credit_account_id=2 amount=1 ledger=1 code=1",
-        68,
-    ),
-];
+/// Transfers behind `LEDGER`, one after another: the code that each is answered, and its fields.
+const CODES: &str = "3 id=60 timestamp=1
+3 id=60 timestamp=1 flags=16
+4 id=60 flags=16
+4 flags=16
+5 amount=1
+6 id=340282366920938463463374607431768211455
+36 id=1 debit_account_id=1 credit_account_id=2 amount=10 user_data_128=5 user_data_64=6 user_data_32=7 ledger=1 code=1 flags=2
+36 id=1 debit_account_id=1 credit_account_id=2 amount=10 user_data_128=5 user_data_64=6 user_data_32=7 ledger=1 code=1 flags=2 pending_id=9
+40 id=1 debit_account_id=1 credit_account_id=2 amount=10 user_data_128=5 user_data_64=6 user_data_32=7 ledger=1 code=1 pending_id=9
+40 id=1 debit_account_id=9 credit_account_id=2 amount=10 user_data_128=5 user_data_64=6 user_data_32=7 ledger=1 code=1 pending_id=9
+37 id=1 debit_account_id=9 credit_account_id=2 amount=10 user_data_128=5 user_data_64=6 user_data_32=7 ledger=1 code=1
+37 id=1 debit_account_id=9 credit_account_id=9 amount=10 user_data_128=5 user_data_64=6 user_data_32=7 ledger=1 code=1
+38 id=1 debit_account_id=1 credit_account_id=9 amount=10 user_data_128=5 user_data_64=6 user_data_32=7 ledger=1 code=1
+38 id=1 debit_account_id=1 credit_account_id=9 amount=9 user_data_128=5 user_data_64=6 user_data_32=7 ledger=1 code=1
+39 id=1 debit_account_id=1 credit_account_id=2 amount=9 user_data_128=5 user_data_64=6 user_data_32=7 ledger=1 code=1
+39 id=1 debit_account_id=1 credit_account_id=2 amount=9 user_data_128=4 user_data_64=6 user_data_32=7 ledger=1 code=1
+41 id=1 debit_account_id=1 credit_account_id=2 amount=10 user_data_128=4 user_data_64=6 user_data_32=7 ledger=1 code=1
+41 id=1 debit_account_id=1 credit_account_id=2 amount=10 user_data_128=4 user_data_64=4 user_data_32=7 ledger=1 code=1
+42 id=1 debit_account_id=1 credit_account_id=2 amount=10 user_data_128=5 user_data_64=4 user_data_32=7 ledger=1 code=1
+42 id=1 debit_account_id=1 credit_account_id=2 amount=10 user_data_128=5 user_data_64=4 user_data_32=4 ledger=1 code=1
+43 id=1 debit_account_id=1 credit_account_id=2 amount=10 user_data_128=5 user_data_64=6 user_data_32=4 ledger=1 code=1
+43 id=1 debit_account_id=1 credit_account_id=2 amount=10 user_data_128=5 user_data_64=6 user_data_32=4 timeout=1 ledger=1 code=1
+44 id=1 debit_account_id=1 credit_account_id=2 amount=10 user_data_128=5 user_data_64=6 user_data_32=7 timeout=1 ledger=1 code=1
+44 id=1 debit_account_id=1 credit_account_id=2 amount=10 user_data_128=5 user_data_64=6 user_data_32=7 timeout=1 ledger=2 code=1
+67 id=1 debit_account_id=1 credit_account_id=2 amount=10 user_data_128=5 user_data_64=6 user_data_32=7 ledger=2 code=1
+67 id=1 debit_account_id=1 credit_account_id=2 amount=10 user_data_128=5 user_data_64=6 user_data_32=7 ledger=2 code=2
+45 id=1 debit_account_id=1 credit_account_id=2 amount=10 user_data_128=5 user_data_64=6 user_data_32=7 ledger=1 code=2
+46 id=1 debit_account_id=1 credit_account_id=2 amount=10 user_data_128=5 user_data_64=6 user_data_32=7 ledger=1 code=1
+46 id=4 amount=100 pending_id=3 flags=4
+44 id=4 amount=100 pending_id=3 timeout=1 flags=4
+46 id=6 pending_id=5 flags=8
+39 id=6 amount=340282366920938463463374607431768211455 pending_id=5 flags=8
+68 id=50 debit_account_id=1 credit_account_id=2 amount=1 ledger=1 code=1
+68 id=50 flags=6
+7 id=60 flags=6
+7 id=60 flags=10 pending_id=2
+7 id=60 flags=12
+14 id=60 flags=4
+14 id=60 flags=8 timeout=1
+15 id=60 flags=4 pending_id=340282366920938463463374607431768211455
+15 id=60 flags=4 pending_id=340282366920938463463374607431768211455 timeout=1
+16 id=60 flags=4 pending_id=60
+16 id=60 flags=8 pending_id=60 timeout=1
+17 id=60 flags=4 pending_id=2 timeout=1
+17 id=60 flags=4 pending_id=99 timeout=1
+25 id=61 flags=4 pending_id=99
+68 id=61 flags=4 pending_id=2
+26 id=60 flags=4 pending_id=1
+26 id=60 flags=4 pending_id=1 debit_account_id=9
+27 id=60 flags=4 pending_id=2 debit_account_id=9
+27 id=60 flags=4 pending_id=2 debit_account_id=9 credit_account_id=9
+28 id=60 flags=4 pending_id=2 credit_account_id=9
+28 id=60 flags=4 pending_id=2 credit_account_id=9 ledger=9
+29 id=60 flags=4 pending_id=2 ledger=9
+29 id=60 flags=4 pending_id=2 ledger=9 code=9
+30 id=60 flags=4 pending_id=2 code=9
+30 id=60 flags=4 pending_id=2 code=9 amount=101
+31 id=60 flags=4 pending_id=2 amount=101
+31 id=60 flags=8 pending_id=2 amount=340282366920938463463374607431768211455
+31 id=60 flags=4 pending_id=3 amount=101
+32 id=60 flags=8 pending_id=2 amount=99
+32 id=60 flags=8 pending_id=3 amount=99
+33 id=60 flags=8 pending_id=3
+33 id=60 flags=4 pending_id=7 amount=340282366920938463463374607431768211455
+34 id=60 flags=4 pending_id=5 amount=340282366920938463463374607431768211455
+34 id=60 flags=8 pending_id=9
+35 id=60 flags=8 pending_id=11
+8 id=60 credit_account_id=2 ledger=1 code=1
+8 id=60 ledger=1 code=1
+9 id=60 debit_account_id=340282366920938463463374607431768211455 credit_account_id=2 ledger=1 code=1
+9 id=60 debit_account_id=340282366920938463463374607431768211455 ledger=1 code=1
+10 id=60 debit_account_id=1 ledger=1 code=1
+11 id=60 debit_account_id=1 credit_account_id=340282366920938463463374607431768211455 ledger=1 code=1
+11 id=60 debit_account_id=1 credit_account_id=340282366920938463463374607431768211455 pending_id=9 ledger=1 code=1
+12 id=60 debit_account_id=1 credit_account_id=1 ledger=1 code=1
+12 id=60 debit_account_id=1 credit_account_id=1 pending_id=9 ledger=1 code=1
+13 id=60 debit_account_id=1 credit_account_id=2 pending_id=9 ledger=1 code=1
+13 id=60 debit_account_id=1 credit_account_id=2 pending_id=9 timeout=1 ledger=1 code=1
+17 id=60 debit_account_id=1 credit_account_id=2 timeout=1 ledger=1 code=1
+17 id=60 debit_account_id=1 credit_account_id=2 timeout=1 code=1
+19 id=60 debit_account_id=1 credit_account_id=2 code=1
+19 id=60 debit_account_id=1 credit_account_id=2
+20 id=60 debit_account_id=1 credit_account_id=2 ledger=1
+20 id=60 debit_account_id=99 credit_account_id=2 ledger=1
+21 id=62 debit_account_id=99 credit_account_id=2 ledger=1 code=1
+68 id=62 debit_account_id=1 credit_account_id=2 ledger=1 code=1
+21 id=63 debit_account_id=98 credit_account_id=99 ledger=1 code=1
+22 id=64 debit_account_id=1 credit_account_id=99 ledger=1 code=1
+23 id=60 debit_account_id=1 credit_account_id=3 ledger=1 code=1
+23 id=60 debit_account_id=1 credit_account_id=3 ledger=7 code=1
+24 id=60 debit_account_id=1 credit_account_id=2 ledger=7 code=1
+24 id=60 debit_account_id=1 credit_account_id=2 amount=340282366920938463463374607431768211455 ledger=7 code=1 flags=2
+47 id=60 debit_account_id=1 credit_account_id=9 amount=340282366920938463463374607431768211455 ledger=1 code=1 flags=2
+47 id=60 debit_account_id=1 credit_account_id=2 amount=340282366920938463463374607431768211455 ledger=1 code=1 flags=2
+48 id=60 debit_account_id=9 credit_account_id=7 amount=340282366920938463463374607431768211455 ledger=1 code=1 flags=2
+48 id=60 debit_account_id=6 credit_account_id=2 amount=340282366920938463463374607431768211455 ledger=1 code=1 flags=2
+49 id=60 debit_account_id=6 credit_account_id=9 amount=340282366920938463463374607431768211455 ledger=1 code=1
+49 id=60 debit_account_id=6 credit_account_id=2 amount=340282366920938463463374607431768211455 ledger=1 code=1
+50 id=60 debit_account_id=9 credit_account_id=2 amount=340282366920938463463374607431768211455 ledger=1 code=1
+50 id=60 debit_account_id=8 credit_account_id=2 amount=340282366920938463463374607431768211455 ledger=1 code=1
+51 id=60 debit_account_id=8 credit_account_id=9 amount=340282366920938463463374607431768211455 ledger=1 code=1
+51 id=60 debit_account_id=8 credit_account_id=7 amount=340282366920938463463374607431768211455 ledger=1 code=1
+52 id=60 debit_account_id=9 credit_account_id=7 amount=340282366920938463463374607431768211455 ledger=1 code=1
+54 id=65 debit_account_id=4 credit_account_id=2 amount=1 ledger=1 code=1
+54 id=66 debit_account_id=4 credit_account_id=5 amount=1 ledger=1 code=1
+55 id=67 debit_account_id=1 credit_account_id=5 amount=1 ledger=1 code=1
+68 id=67 debit_account_id=1 credit_account_id=2 amount=1 ledger=1 code=1
+";
 
 #[test]
 fn transfer_codes(rt: HostRuntime) -> Result<(), Fail> {
-    answers(&rt, rt.alloc(), LEDGER, 3, 1, CODES.as_slice())
+    answers(&rt, rt.alloc(), LEDGER, 3, 1, CODES)
 }
 
 /// A clock so late that a long timeout overflows. Account 8 has a credit pending and one posted; the
@@ -403,27 +210,15 @@ transfer id=1 debit_account_id=1 credit_account_id=8 amount=1 ledger=1 code=1
 transfer id=2 debit_account_id=1 credit_account_id=8 amount=1 ledger=1 code=1 flags=2
 ";
 
-/// Transfers behind `LATE_LEDGER`, and what each is answered.
-const LATE_CODES: [(&str, u32); 4] = [
-    (
-        "id=60 debit_account_id=9 credit_account_id=8 amount=340282366920938463463374607431768211454 timeout=4294967295 ledger=1 code=1 flags=2",
-        52,
-    ),
-    (
-        "id=60 debit_account_id=1 credit_account_id=2 amount=1 timeout=4294967295 ledger=1 code=1 flags=2",
-        53,
-    ),
-    (
-        "id=60 debit_account_id=4 credit_account_id=2 amount=1 timeout=4294967295 ledger=1 code=1 flags=2",
-        53,
-    ),
-    (
-        "id=61 debit_account_id=4 credit_account_id=2 amount=1 timeout=1 ledger=1 code=1 flags=2",
-        54,
-    ),
-];
+/// Transfers behind `LATE_LEDGER`: the code that each is answered, and its fields.
+const LATE_CODES: &str =
+    "52 id=60 debit_account_id=9 credit_account_id=8 amount=340282366920938463463374607431768211454 timeout=4294967295 ledger=1 code=1 flags=2
+53 id=60 debit_account_id=1 credit_account_id=2 amount=1 timeout=4294967295 ledger=1 code=1 flags=2
+53 id=60 debit_account_id=4 credit_account_id=2 amount=1 timeout=4294967295 ledger=1 code=1 flags=2
+54 id=61 debit_account_id=4 credit_account_id=2 amount=1 timeout=1 ledger=1 code=1 flags=2
+";
 
 #[test]
 fn late_transfer_codes(rt: HostRuntime) -> Result<(), Fail> {
-    answers(&rt, rt.alloc(), LATE_LEDGER, 2, 0, LATE_CODES.as_slice())
+    answers(&rt, rt.alloc(), LATE_LEDGER, 2, 0, LATE_CODES)
 }
