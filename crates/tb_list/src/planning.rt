@@ -129,14 +129,14 @@ impl Plan {
 }
 
 /// The plan of a script's items. A packet is moved into its job, with room for its failures; none of its bytes is
-/// copied.
+/// copied. The items are taken out of the list, which keeps its own memory.
 #[tactic(auto, unfolding(tb_text::specs::Plan::plan_behind))]
-pub fn plan_all(alloc: Global, limit: u32, items: Vec<Item>) -> Result<Plan, NoMemory>
+pub fn plan_all(alloc: Global, limit: u32, items: &mut Vec<Item>) -> Result<Plan, NoMemory>
     requires { limit ≤ batch_max }
-    ensures { IfOk result (λ plan. plan ≡ halves_of (plan_behind limit [] items.items)) }
+    ensures { IfOk result (λ plan. plan ≡ halves_of (plan_behind limit [] items.old.items)) }
 {
     let mut plan = Plan::with_capacity(alloc, items.len())?;
-    for item in items {
+    for item in items.drain(..) {
         plan.add(alloc, limit, item)?;
     }
     Ok(plan)

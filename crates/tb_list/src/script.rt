@@ -16,7 +16,7 @@ use tb_command::ProgramFault;
 use tb_core::run_list;
 use tb_layout::NoMemory;
 use tb_script::Script;
-use tb_text::{Source, read_source, write_out};
+use tb_text::{Source, read_script, source_of, write_out};
 use tb_work::Item;
 
 /// As many bytes as the line of a committed packet without failures mostly has.
@@ -48,17 +48,19 @@ fn text_of(
 fn output_for(alloc: Global, script: Script) -> Result<String, NoMemory>
     ensures { IfOk result (λ text. string_bytes text ≡ listing script) }
 {
-    let (settings, items) = script.finish()?;
+    let (settings, mut items) = script.finish()?;
     let limit = settings.limit();
-    let (queue, lines) = plan_all(alloc, limit, items)?.into_halves();
+    let (queue, lines) = plan_all(alloc, limit, &mut items)?.into_halves();
     text_of(alloc, settings.clock(), limit, queue, &lines)
 }
 
-/// The output for all that a reader has, and whether its script has no fault.
+/// The output for all that a reader has, and whether its script has no fault. The text and its list of items are let go
+/// last: once large blocks were freed, the C library copies what grows where it would move its pages.
 fn output_of<R: Read>(alloc: Global, reader: &mut R) -> Result<(String, bool), ProgramFault>
     ensures { IfOk result (λ both. IfSome (R.remaining reader.old) (λ bytes. (string_bytes both.0 ≡ out bytes) × (both.1 ≡ is_faultless bytes))) }
 {
-    match read_source(alloc, reader)? {
+    let text = read_script(alloc, reader)?;
+    match source_of(alloc, &text)? {
         Source::Script(script) => Ok((output_for(alloc, script)?, true)),
         Source::Faulty(line) => Ok((line, false)),
     }

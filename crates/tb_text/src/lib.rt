@@ -12,4 +12,5 @@ pub use output::{
     put_close, put_pulse, put_refused, put_refused_pulse, put_reply, put_state, write_out,
 };
 pub use packet::packet_of;
-pub use source::{Source, read_source};
+pub use read::read_script;
+pub use source::{Source, read_source, source_of};

@@ -1,7 +1,8 @@
 //! The script that a reader has.
 
-ghost use Rattle.std.specs.Prelude.{◌≡◌, IfOk, IfSome};
+ghost use Rattle.std.specs.Prelude.{◌≡◌, ℕ, List, IfOk, IfSome};
 ghost use Rattle.tb_script.specs.Script.{script_of};
+ghost use Rattle.tb_text.specs.Output.{IsWhole};
 ghost use Rattle.tb_text.specs.Source.{IsSource, IsTold, IsFaultAt};
 
 use crate::output::put_fault;
@@ -27,8 +28,8 @@ fn source_of_fault(alloc: Global, line: usize, text: &str) -> Result<Source, NoM
     Ok(Source::Faulty(out))
 }
 
-/// What the text of a script says.
-fn source_of(alloc: Global, text: &[u8]) -> Result<Source, NoMemory>
+/// What the bytes of a script say.
+fn source_of_bytes(alloc: Global, text: &[u8]) -> Result<Source, NoMemory>
     ensures { IfOk result (λ source. IsTold source (script_of text.now)) }
 {
     match parse(alloc, text) {
@@ -38,12 +39,20 @@ fn source_of(alloc: Global, text: &[u8]) -> Result<Source, NoMemory>
     }
 }
 
+/// What the text that was read says, or the fault of a text that is too long.
+pub fn source_of(alloc: Global, text: &Option<Vec<u8>>) -> Result<Source, NoMemory>
+    ensures { IfOk result (λ source. (bytes : List ℕ) → IsWhole text.now bytes → IsSource source bytes) }
+{
+    match text {
+        Some(text) => source_of_bytes(alloc, text),
+        None => source_of_fault(alloc, 0, "script too long"),
+    }
+}
+
 /// Reads to the end, or as far as a script may be long, and parses what was read.
 pub fn read_source<R: Read>(alloc: Global, reader: &mut R) -> Result<Source, ProgramFault>
     ensures { IfOk result (λ source. IfSome (R.remaining reader.old) (λ bytes. IsSource source bytes)) }
 {
-    match read_script(alloc, reader)? {
-        Some(text) => Ok(source_of(alloc, &text)?),
-        None => Ok(source_of_fault(alloc, 0, "script too long")?),
-    }
+    let text = read_script(alloc, reader)?;
+    Ok(source_of(alloc, &text)?)
 }
