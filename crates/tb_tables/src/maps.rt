@@ -1,16 +1,18 @@
 //! The maps: accounts, transfers and failed ids, with the index of expiries.
 
-ghost use Rattle.std.specs.Prelude.{◌≡◌, Some, None, OnOk, OnErr, false, length, slice_get};
+ghost use Rattle.std.specs.Prelude.{◌≡◌, ◌≢◌, Some, None, Ok, IfOk, OnOk, OnErr, is_some, not, true, false, length, slice_get};
 ghost use Rattle.std.specs.List.{AllByRecursion};
 ghost use Rattle.std.specs.Option.{option_map};
 
 use crate::by_id::{ById, Ids};
 use crate::change::Change;
-use crate::entries::{place_of, pop_account, pop_failed, push_account, push_failed, push_transfer};
+use crate::entries::{
+    place_of, pop_account, pop_failed, pop_transfer, push_account, push_failed, push_transfer,
+};
 use crate::places::Places;
 use crate::row::Row;
 use crate::status::Status;
-use crate::storing::{apply, expect, forget, forget_resolved, take_back};
+use crate::storing::{apply, expect, forget_resolved, take_back};
 use crate::timeouts::expire_all;
 use std::alloc::Global;
 use std::collections::BTreeSet;
@@ -82,23 +84,27 @@ impl Maps {
         Ok(())
     }
 
-    /// Adds a transfer whose accounts, and whose pending transfer, have these places.
-    pub fn store(&mut self, transfer: &Transfer, places: Places) -> Result<(), NoMemory>
+    /// Adds a transfer whose accounts, and whose pending transfer, have these places, unless one with its id is
+    /// there; whether it was added.
+    pub fn store(&mut self, transfer: &Transfer, places: Places) -> Result<bool, NoMemory>
         requires at { HavePlaces self.old.facts transfer.now places }
-        requires may { MayStore self.old.facts transfer.now places.pending }
-        ensures ok { OnOk result (self.new.facts ≡ with_transfer self.old.facts transfer.now) }
-        ensures err { OnErr result (self.new.facts ≡ self.old.facts) }
+        requires may { transfer_with self.old.facts transfer.now.id ≡ None → MayStore self.old.facts transfer.now places.pending }
+        ensures new { IfOk result (λ added. added ≡ not (is_some (transfer_with self.old.facts transfer.now.id))) }
+        ensures added { result ≡ Ok true → self.new.facts ≡ with_transfer self.old.facts transfer.now }
+        ensures same { result ≢ Ok true → self.new.facts ≡ self.old.facts }
         ensures pairs { KeepsPairs (length self.old.facts.transfers) (has_pair self.old.pairs) (has_pair self.new.pairs) }
         ensures sound { IsSound (has_pair self.old.pairs) self.old.facts }
     {
         let place = self.transfers.len();
-        expect(&mut self.expiries, transfer, place)?;
-        if let Err(refused) = push_transfer(&mut self.transfers, transfer) {
-            forget(&mut self.expiries, transfer, place);
+        if !push_transfer(&mut self.transfers, transfer)? {
+            return Ok(false);
+        }
+        if let Err(refused) = expect(&mut self.expiries, transfer, place) {
+            pop_transfer(&mut self.transfers);
             return Err(refused);
         }
         apply(&mut self.accounts, &mut self.transfers, places, *transfer);
-        Ok(())
+        Ok(true)
     }
 
     /// Takes a change back, which is the last one.

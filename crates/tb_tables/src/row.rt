@@ -95,6 +95,12 @@ impl Row {
         }
     }
 
+    /// A row that holds the place of one to come. A row that is written where it stands is read field by field from
+    /// its transfer, and not all at once.
+    pub fn blank() -> Row {
+        Row::new(&Transfer::default(), None)
+    }
+
     /// The transfer.
     pub fn transfer(&self) -> Transfer
         ensures { result ≡ self.now.transfer }

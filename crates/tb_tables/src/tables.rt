@@ -1,6 +1,6 @@
 //! The tables.
 
-ghost use Rattle.std.specs.Prelude.{◌≡◌, ◌<◌, ◌≤◌, Some, None, [], OnOk, OnErr, false, length, slice_get};
+ghost use Rattle.std.specs.Prelude.{◌≡◌, ◌≢◌, ◌<◌, ◌≤◌, Some, None, [], Ok, IfOk, OnOk, OnErr, is_some, not, true, false, length, slice_get};
 ghost use Rattle.std.specs.Option.{option_map};
 
 use crate::change::Change;
@@ -83,17 +83,21 @@ impl Tables {
         Ok(())
     }
 
-    /// Adds a transfer whose accounts, and whose pending transfer, have these places.
-    fn store(&mut self, transfer: &Transfer, places: Places) -> Result<(), NoMemory>
+    /// Adds a transfer whose accounts, and whose pending transfer, have these places, unless one with its id is
+    /// there; whether it was added.
+    fn store(&mut self, transfer: &Transfer, places: Places) -> Result<bool, NoMemory>
         requires at { HavePlaces self.old.now transfer.now places }
-        requires may { MayStore self.old.now transfer.now places.pending }
-        ensures ok { OnOk result (self.new ≡ with_change self.old (with_transfer self.old.now transfer.now)) }
-        ensures err { OnErr result (self.new ≡ self.old) }
+        requires may { transfer_with self.old.now transfer.now.id ≡ None → MayStore self.old.now transfer.now places.pending }
+        ensures new { IfOk result (λ added. added ≡ not (is_some (transfer_with self.old.now transfer.now.id))) }
+        ensures added { result ≡ Ok true → self.new ≡ with_change self.old (with_transfer self.old.now transfer.now) }
+        ensures same { result ≢ Ok true → self.new ≡ self.old }
     {
         self.changes.reserve(1)?;
-        self.maps.store(transfer, places)?;
+        if !self.maps.store(transfer, places)? {
+            return Ok(false);
+        }
         note(&mut self.changes, Change::Transfer(places));
-        Ok(())
+        Ok(true)
     }
 
     /// Adds a plain or pending transfer after those that are there.
@@ -103,7 +107,8 @@ impl Tables {
         ensures err { OnErr result (self.new ≡ self.old) }
     {
         let places = self.maps.places_of(&transfer);
-        self.store(&transfer, places)
+        self.store(&transfer, places)?;
+        Ok(())
     }
 
     /// Adds a plain or pending transfer after those that are there, between the accounts at two places. These aren't
@@ -120,8 +125,27 @@ impl Tables {
         ensures ok { OnOk result (self.new ≡ with_change self.old (with_transfer self.old.now transfer)) }
         ensures err { OnErr result (self.new ≡ self.old) }
     {
+        self.add_new_between(&transfer, debit, credit)?;
+        Ok(())
+    }
+
+    /// Adds a plain or pending transfer after those that are there, between the accounts at two places, unless one
+    /// with its id is there; whether it was added. The id is looked up once.
+    pub fn add_new_between(
+        &mut self,
+        transfer: &Transfer,
+        debit: usize,
+        credit: usize,
+    ) -> Result<bool, NoMemory>
+        requires may { transfer_with self.old.now transfer.now.id ≡ None → MayAdd self.old.now transfer.now }
+        requires debit { IsPlaceOf self.old.now transfer.now.debit_account_id (Some debit) }
+        requires credit { IsPlaceOf self.old.now transfer.now.credit_account_id (Some credit) }
+        ensures new { IfOk result (λ added. added ≡ not (is_some (transfer_with self.old.now transfer.now.id))) }
+        ensures added { result ≡ Ok true → self.new ≡ with_change self.old (with_transfer self.old.now transfer.now) }
+        ensures same { result ≢ Ok true → self.new ≡ self.old }
+    {
         self.store(
-            &transfer,
+            transfer,
             Places {
                 debit,
                 credit,
@@ -151,7 +175,8 @@ impl Tables {
         ensures err { OnErr result (self.new ≡ self.old) }
     {
         let places = self.maps.places_resolved(&transfer, pending);
-        self.store(&transfer, places)
+        self.store(&transfer, places)?;
+        Ok(())
     }
 
     /// The account with this id, with its balances.

@@ -1,40 +1,47 @@
-use Rattle.std.proofs.Common.{◌∙◌, ap, not, ◌&&◌, option_map}
-use Rattle.tb_tables.proofs.Words.{facts_of, its_pair, row_in, stored_in}
-use Rattle.tb_tables.proofs.Locating.{row-found, transfers-length}
+use Rattle.std.proofs.Common.{◌∙◌, sym, ap, ◌≡◌, None, Ok}
+use Rattle.tb_tables.proofs.Words.{facts_of, stored_in, transfer_with}
+use Rattle.tb_tables.proofs.Locating.{none-there, told-new, transfers-length}
 use Rattle.tb_tables.proofs.Stepping as stepping
 use Rattle.tb_tables.proofs.maps.Maps.store.Goals as goal
 
-pub push_transfer-requires : goal.push_transfer-requires
-push_transfer-requires c =
-    let old = stored_in c.self.inside in
-    let may = rw (← c.self.view_is) at c.requires.may in
-    row-found c.self.invariant.hold c.args.transfer.now.id ∙ ap (option_map (row_in (facts_of old))) (stepping.no-other (facts_of old) c.args.transfer.now c.args.places.pending may)
+pub returns-then-not-branch-clause-new : goal.returns-then-not-branch-clause-new
+returns-then-not-branch-clause-new c = rw (← c.self.view_is) (sym c.if-not-branch.true ∙ c.in_ok-push_transfer.ensures.new ∙ told-new c.self.invariant.hold c.args.transfer.now.id)
 
-pub invariant_of-self-in-Err : goal.invariant_of-self-in-Err
-invariant_of-self-in-Err c =
-    let old = stored_in c.self.inside in
+pub returns-clause-new : goal.returns-clause-new
+returns-clause-new c = rw (← c.self.view_is) (sym c.if-not-branch.false ∙ c.in_ok-push_transfer.ensures.new ∙ told-new c.self.invariant.hold c.args.transfer.now.id)
+
+pub expect-requires : goal.expect-requires
+expect-requires c =
+    let facts = facts_of (stored_in c.self.inside) in
     let t = c.args.transfer.now in
-    let place = c.len-place.ensures.len ∙ transfers-length c.self.invariant.hold in
-    let put = rw place at c.in_ok-expect.ensures.ok in
-    let taken = rw place at c.forget.ensures in
-    rw (c.in-Err.ensures.err) (stepping.same-held (λ m p. taken m p ∙ ap (λ b. not (its_pair (facts_of old) t m p) && b) (put m p) ∙ stepping.refused old c.self.invariant t m p) c.self.invariant)
+    let none : transfer_with facts t.id ≡ None = none-there (transfer_with facts t.id) (sym (sym c.if-not-branch.false ∙ c.in_ok-push_transfer.ensures.new ∙ told-new c.self.invariant.hold t.id)) in
+    stepping.fits facts t c.args.places.pending ((rw (← c.self.view_is) at c.requires.may) none)
 
 pub apply-requires : goal.apply-requires
 apply-requires c =
+    let facts = facts_of (stored_in c.self.inside) in
+    let t = c.args.transfer.now in
+    let none : transfer_with facts t.id ≡ None = none-there (transfer_with facts t.id) (sym (sym c.if-not-branch.false ∙ c.in_ok-push_transfer.ensures.new ∙ told-new c.self.invariant.hold t.id)) in
     let r = rw (← c.self.view_is) at c.requires in
-    let pushed = stepping.pushed (stored_in c.self.inside) c.self.invariant c.args.transfer.now c.args.places r.at r.may c.in_default.ensures.ok in
+    let pushed = stepping.pushed (stored_in c.self.inside) c.self.invariant t c.args.places r.at (r.may none) (c.in_ok-push_transfer.ensures.added (ap Ok c.if-not-branch.false)) in
     (pushed.step, pushed.before)
 
 pub invariant_of-self-2 : goal.invariant_of-self-2
 invariant_of-self-2 c =
+    let facts = facts_of (stored_in c.self.inside) in
+    let t = c.args.transfer.now in
+    let none : transfer_with facts t.id ≡ None = none-there (transfer_with facts t.id) (sym (sym c.if-not-branch.false ∙ c.in_ok-push_transfer.ensures.new ∙ told-new c.self.invariant.hold t.id)) in
     let r = rw (← c.self.view_is) at c.requires in
-    let pushed = stepping.pushed (stored_in c.self.inside) c.self.invariant c.args.transfer.now c.args.places r.at r.may c.in_default.ensures.ok in
-    let put = rw (c.len-place.ensures.len ∙ transfers-length c.self.invariant.hold) at c.in_ok-expect.ensures.ok in
+    let pushed = stepping.pushed (stored_in c.self.inside) c.self.invariant t c.args.places r.at (r.may none) (c.in_ok-push_transfer.ensures.added (ap Ok c.if-not-branch.false)) in
+    let put = rw (c.len-place.ensures.len ∙ transfers-length c.self.invariant.hold) at c.in_default.ensures.ok in
     (pushed.stored (c.apply.ensures pushed.step pushed.before) put).0
 
-pub returns-clause-ok : goal.returns-clause-ok
-returns-clause-ok c =
+pub returns-clause-added : goal.returns-clause-added
+returns-clause-added c = λ _.
+    let facts = facts_of (stored_in c.self.inside) in
+    let t = c.args.transfer.now in
+    let none : transfer_with facts t.id ≡ None = none-there (transfer_with facts t.id) (sym (sym c.if-not-branch.false ∙ c.in_ok-push_transfer.ensures.new ∙ told-new c.self.invariant.hold t.id)) in
     let r = rw (← c.self.view_is) at c.requires in
-    let pushed = stepping.pushed (stored_in c.self.inside) c.self.invariant c.args.transfer.now c.args.places r.at r.may c.in_default.ensures.ok in
-    let put = rw (c.len-place.ensures.len ∙ transfers-length c.self.invariant.hold) at c.in_ok-expect.ensures.ok in
+    let pushed = stepping.pushed (stored_in c.self.inside) c.self.invariant t c.args.places r.at (r.may none) (c.in_ok-push_transfer.ensures.added (ap Ok c.if-not-branch.false)) in
+    let put = rw (c.len-place.ensures.len ∙ transfers-length c.self.invariant.hold) at c.in_default.ensures.ok in
     rw (← c.self.view_is) (pushed.stored (c.apply.ensures pushed.step pushed.before) put).1
