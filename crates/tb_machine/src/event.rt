@@ -161,12 +161,11 @@ fn examine_moving(
     ensures stored { result ≡ Ok 0 → tables.new ≡ with_change tables.old (add_transfer tables.old.now (stored_transfer tables.old.now timestamp event.old)) }
     ensures same { result ≢ Ok 0 → tables.new ≡ tables.old }
 {
-    let target = Target::Between(sides);
-    let code = new_transfer_verdict(tables, target, timestamp, event).number();
+    let code = new_transfer_verdict(tables, Target::Between(sides), timestamp, event).number();
     if code == 0 && store_new(tables, sides, timestamp, event)? {
         return Ok(0);
     }
-    Ok(transfer_verdict(tables, target, timestamp, event).number())
+    Ok(transfer_verdict(tables, Target::Between(sides), timestamp, event).number())
 }
 
 /// Stores a post or a void whose checks find nothing.

@@ -35,7 +35,8 @@ fn new_row(transfer: &Transfer) -> Row
     Row::new(transfer, status)
 }
 
-/// Puts a transfer after the others, unless its id is there; whether it was put. It is read once it has its place.
+/// Puts a transfer after the others, unless its id is there; whether it was put. Its row is written where it stands:
+/// made before, it would be moved there.
 pub fn push_transfer(transfers: &mut ById<Row>, transfer: &Transfer) -> Result<bool, NoMemory>
     ensures new { IfOk result (λ added. added ≡ not (is_some (get nat_eq transfers.old transfer.now.id))) }
     ensures added { result ≡ Ok true → transfers.new.entries ≡ transfers.old.entries ++ (transfer.now.id, new_row transfer.now) ∷ [] }
@@ -47,7 +48,8 @@ pub fn push_transfer(transfers: &mut ById<Row>, transfer: &Transfer) -> Result<b
             Ok(false)
         }
         Entry::Vacant(entry) => {
-            *entry.insert(Row::blank()) = new_row(transfer);
+            let row = entry.insert(Row::default());
+            *row = new_row(transfer);
             Ok(true)
         }
     }

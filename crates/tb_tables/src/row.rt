@@ -10,7 +10,7 @@ use tb_layout::Transfer;
 
 /// A transfer, and its status where it is a pending one: 136 bytes, where a `Transfer` and a status beside it would be
 /// padded to 144.
-#[derive(Clone, Copy)]
+#[derive(Clone, Copy, Default)]
 pub struct Row {
     id: Halves,
     debit_account_id: Halves,
@@ -93,12 +93,6 @@ impl Row {
             timestamp: transfer.timestamp,
             status,
         }
-    }
-
-    /// A row that holds the place of one to come. A row that is written where it stands is read field by field from
-    /// its transfer, and not all at once.
-    pub fn blank() -> Row {
-        Row::new(&Transfer::default(), None)
     }
 
     /// The transfer.
