@@ -1,19 +1,21 @@
 //! What the two operations that change the facts make of their events.
 
-ghost use Rattle.std.specs.Prelude.{◌≡◌, ◌≢◌, ◌≤◌, ℕ, List, Ok, IfOk, OnOk, OnErr, is_some, not, true};
+ghost use Rattle.std.specs.Prelude.{◌≡◌, ◌≢◌, ◌≤◌, ℕ, List, None, Ok, IfOk, OnOk, OnErr, is_some, not, true};
 ghost use Rattle.tb_layout.specs.Account.{account_of};
 ghost use Rattle.tb_layout.specs.Transfer.{transfer_of};
+ghost use Rattle.tb_layout.specs.AccountCode.{number_of as account_number};
 ghost use Rattle.tb_layout.specs.TransferCode.{number_of};
-ghost use Rattle.tb_tables.specs.Facts.{add_transfer, transfer_with};
+ghost use Rattle.tb_tables.specs.Facts.{account_with, add_account, add_transfer, transfer_with};
 ghost use Rattle.tb_tables.specs.History.{with_change, Extends};
 ghost use Rattle.tb_layout.specs.Limits.{clock_max};
 ghost use Rattle.tb_machine.specs.Chain.{Operation};
 ghost use Rattle.tb_machine.specs.TransferVerdict.{stored_transfer, new_transfer_verdict as new_verdict_of, transfer_verdict as verdict_of};
+ghost use Rattle.tb_machine.specs.AccountVerdict.{verdict_beside};
 ghost use Rattle.tb_machine.specs.Prefetch.{IsTarget};
 ghost use Rattle.tb_machine.specs.declared.prefetch.Target.TheVariants.{Between, Named};
 ghost use Rattle.tb_machine.specs.Operations as spec;
 
-use crate::account_verdict::account_verdict;
+use crate::account_verdict::{account_verdict, new_account_verdict};
 use crate::prefetch::{Sides, Target};
 use crate::resolved::resolved;
 use crate::transfer_verdict::{new_transfer_verdict, transfer_verdict};
@@ -63,11 +65,11 @@ impl Event for Account {
     }
 
     fn examine(&mut self, tables: &mut Tables, timestamp: u64) -> Result<u32, NoMemory> {
-        let code = account_verdict(tables, self).number();
-        if code == 0 {
-            tables.add_account(Account { timestamp, ..*self })?;
+        let code = new_account_verdict(self).number();
+        if code == 0 && store_new_account(tables, timestamp, self)? {
+            return Ok(0);
         }
-        Ok(code)
+        Ok(account_verdict(tables, self).number())
     }
 
     fn remember(&self, _tables: &mut Tables, _code: u32) -> Result<(), NoMemory> {
@@ -114,6 +116,27 @@ fn is_transient(code: u32) -> bool
         || code == TransferCode::PendingTransferNotFound.number()
         || code == TransferCode::ExceedsCredits.number()
         || code == TransferCode::ExceedsDebits.number()
+}
+
+/// Stores an account that passes its checks if its id is new, unless it isn't; whether it was stored. The timestamp is
+/// set where the event lies.
+#[inline(always)]
+fn store_new_account(
+    tables: &mut Tables,
+    timestamp: u64,
+    event: &mut Account,
+) -> Result<bool, NoMemory>
+    requires { account_number (verdict_beside None event.old) ≡ 0 }
+    ensures new { IfOk result (λ added. added ≡ not (is_some (account_with tables.old.now event.old.id))) }
+    ensures added { result ≡ Ok true → tables.new ≡ with_change tables.old (add_account tables.old.now (record event.old { timestamp = timestamp })) }
+    ensures same { result ≢ Ok true → tables.new ≡ tables.old }
+    ensures event { OnOk result (event.new ≡ event.old) }
+{
+    let own_timestamp = event.timestamp;
+    event.timestamp = timestamp;
+    let added = tables.add_new_account(event)?;
+    event.timestamp = own_timestamp;
+    Ok(added)
 }
 
 /// Stores a plain or pending transfer that passes its checks if its id is new, unless it isn't; whether it was stored.

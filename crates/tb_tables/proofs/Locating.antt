@@ -16,6 +16,10 @@ placed key made xs {es} are id (Some place) is =
     let first = sym (ap (λ es. position_or_len (nat_eq id) (keys_of es)) are ∙ first-of-key key made id xs) ∙ (Found-position (nat_eq id) es place (sym is)).or_len in
     (there.0, there.1, find_at (λ x. key x == id) xs ∙ ap (slice_get xs) first ∙ there.1)
 
+as-some : {X Y : Type 0} (f : X → Y) (found : Option X) → not (is_some (option_map f found)) ≡ not (is_some found)
+as-some f None = refl
+as-some f (Some x) = refl
+
 -- what isn't there
 pub none-there : {X : Type 0} (found : Option X) → not (is_some found) ≡ true → found ≡ None
 none-there None new = refl
@@ -48,11 +52,10 @@ module _ {facts : Facts} {accounts : List (ℕ × Account)} {transfers : List (�
 
   -- whether an id is new, as the map tells it
   pub told-new : (id : ℕ) → not (is_some (lookup (nat_eq id) transfers)) ≡ not (is_some (transfer_with facts id))
-  told-new id = ap (λ found. not (is_some found)) (row-found id) ∙ by (transfer_with facts id)
-    where
-      by : (found : Option Transfer) → not (is_some (option_map (row_in facts) found)) ≡ not (is_some found)
-      by None = refl
-      by (Some t) = refl
+  told-new id = ap (λ found. not (is_some found)) (row-found id) ∙ as-some (row_in facts) (transfer_with facts id)
+
+  pub told-new-account : (id : ℕ) → not (is_some (lookup (nat_eq id) accounts)) ≡ not (is_some (account_with facts id))
+  told-new-account id = ap (λ found. not (is_some found)) (account-found id) ∙ as-some (with_sums (sums_of facts)) (account_with facts id)
 
   pub transfers-length : length transfers ≡ length facts.transfers
   transfers-length = ap length hold.transfers_are ∙ length-map facts.transfers (λ (t : Transfer). (t.id, row_in facts t))

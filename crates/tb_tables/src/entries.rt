@@ -13,14 +13,23 @@ use crate::status::Status;
 use indexmap::map::Entry;
 use tb_layout::{Account, NoMemory, Transfer};
 
-/// Puts a new account after the others.
-pub fn push_account(accounts: &mut ById<Account>, account: Account) -> Result<(), NoMemory>
-    requires { get nat_eq accounts.old account.id ≡ None }
-    ensures ok { OnOk result (accounts.new.entries ≡ accounts.old.entries ++ (account.id, account) ∷ []) }
-    ensures err { OnErr result (accounts.new.entries ≡ accounts.old.entries) }
+/// Puts an account after the others, unless its id is there; whether it was put. It is written where it stands.
+pub fn push_account(accounts: &mut ById<Account>, account: &Account) -> Result<bool, NoMemory>
+    ensures new { IfOk result (λ added. added ≡ not (is_some (get nat_eq accounts.old account.now.id))) }
+    ensures added { result ≡ Ok true → accounts.new.entries ≡ accounts.old.entries ++ (account.now.id, account.now) ∷ [] }
+    ensures same { result ≢ Ok true → accounts.new.entries ≡ accounts.old.entries }
 {
-    accounts.insert(account.id, account)?;
-    Ok(())
+    match accounts.entry(account.id)? {
+        Entry::Occupied(entry) => {
+            entry.into_mut();
+            Ok(false)
+        }
+        Entry::Vacant(entry) => {
+            let stored = entry.insert(Account::default());
+            *stored = *account;
+            Ok(true)
+        }
+    }
 }
 
 /// The row of a transfer that nothing resolved.

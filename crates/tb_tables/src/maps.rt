@@ -61,16 +61,18 @@ impl Maps {
         }
     }
 
-    /// Adds an account.
-    pub fn add_account(&mut self, account: Account) -> Result<(), NoMemory>
-        requires new { account_with self.old.facts account.id ≡ None }
-        requires no_balances { HasNoBalances account }
-        ensures ok { OnOk result (self.new ≡ record self.old { facts = with_account self.old.facts account }) }
-        ensures err { OnErr result (self.new ≡ self.old) }
+    /// Adds an account, unless one with its id is there; whether it was added.
+    pub fn add_account(&mut self, account: &Account) -> Result<bool, NoMemory>
+        requires { HasNoBalances account.now }
+        ensures new { IfOk result (λ added. added ≡ not (is_some (account_with self.old.facts account.now.id))) }
+        ensures added { result ≡ Ok true → self.new ≡ record self.old { facts = with_account self.old.facts account.now } }
+        ensures same { result ≢ Ok true → self.new ≡ self.old }
         ensures sound { IsSound (has_pair self.old.pairs) self.old.facts }
     {
-        push_account(&mut self.accounts, account)?;
-        Ok(())
+        if !push_account(&mut self.accounts, account)? {
+            return Ok(false);
+        }
+        Ok(true)
     }
 
     /// Adds an id to those that failed.

@@ -65,10 +65,24 @@ impl Tables {
         ensures ok { OnOk result (self.new ≡ with_change self.old (with_account self.old.now account)) }
         ensures err { OnErr result (self.new ≡ self.old) }
     {
-        self.changes.reserve(1)?;
-        self.maps.add_account(account)?;
-        note(&mut self.changes, Change::Account);
+        self.add_new_account(&account)?;
         Ok(())
+    }
+
+    /// Adds an account after those that are there, with its timestamp and no balances of its own, unless one with its
+    /// id is there; whether it was added. The id is looked up once.
+    pub fn add_new_account(&mut self, account: &Account) -> Result<bool, NoMemory>
+        requires { HasNoBalances account.now }
+        ensures new { IfOk result (λ added. added ≡ not (is_some (account_with self.old.now account.now.id))) }
+        ensures added { result ≡ Ok true → self.new ≡ with_change self.old (with_account self.old.now account.now) }
+        ensures same { result ≢ Ok true → self.new ≡ self.old }
+    {
+        self.changes.reserve(1)?;
+        if !self.maps.add_account(account)? {
+            return Ok(false);
+        }
+        note(&mut self.changes, Change::Account);
+        Ok(true)
     }
 
     /// Adds an id to those that failed.

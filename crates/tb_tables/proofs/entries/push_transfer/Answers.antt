@@ -1,20 +1,16 @@
-use Rattle.std.proofs.Common.{◌≡◌, ◌∙◌, ℕ, List, [], ◌∷◌, Some, None, sym, ap, arith, rules, nat_eq}
+use Rattle.std.proofs.Common.{◌≡◌, ◌∙◌, Some, None, sym, ap, rules, nat_eq}
 use Rattle.indexmap.specs.IndexMap.{get}
 use Rattle.indexmap.proofs.CallerLemmas.{insert_entry-new}
-use Rattle.tb_tables.proofs.Words.{insert_entry, lookup, new_row, Row}
+use Rattle.tb_tables.proofs.Words.{insert_entry, new_row}
+use Rattle.tb_tables.proofs.Stored.{kept-entry}
 use Rattle.tb_tables.proofs.entries.push_transfer.Goals as goal
-
--- an entry put in as it is
-kept : (es : List (ℕ × Row)) (id : ℕ) (row : Row) → lookup (nat_eq id) es ≡ Some row → insert_entry nat_eq es id row ≡ es
-kept [] id row found = cc
-kept (e ∷ es) id row found = grind (arith, kept es id row)
 
 pub returns-in-Occupied-clause-same : goal.returns-in-Occupied-clause-same
 returns-in-Occupied-clause-same c = λ _.
     let t = c.args.transfer.now in
     let old = c.args.transfers.now in
     let found : get nat_eq old t.id ≡ Some c.into_mut.result.now = sym (rw c.in-Occupied.is at c.in_ok-entry.ensures.value) ∙ c.into_mut.ensures.value in
-    (search rules) ∙ (rw c.in-Occupied.is at c.in_ok-entry.ensures.update).1 c.into_mut.result.now ∙ kept old.entries t.id c.into_mut.result.now found
+    (search rules) ∙ (rw c.in-Occupied.is at c.in_ok-entry.ensures.update).1 c.into_mut.result.now ∙ kept-entry old.entries t.id c.into_mut.result.now found
 
 pub returns-in-Vacant-clause-added : goal.returns-in-Vacant-clause-added
 returns-in-Vacant-clause-added c = λ _.
