@@ -1,5 +1,7 @@
 -- Look-ups in the maps.
-use Rattle.std.proofs.Common.{refl, sym, ap, ◌∙◌, ◌≡◌, ℕ, true, not, List, [], ◌∷◌, nat_eq, slice_get, length, arith, ◌==◌, Option, Some, None, IsSome, is_some, find, option_map}
+use Rattle.std.proofs.Common.{refl, sym, ap, ◌∙◌, ◌≡◌, ℕ, true, not, List, [], ◌∷◌, nat_eq, slice_get, length, arith, ◌==◌, Option, Some, None, IsSome, is_some, find, option_map, Bool, Result, Ok, Err, false, ◌≢◌}
+use Rattle.std.specs.Result.{result_eq}
+use mathlib.Core.Bool.{beq as bool_eq}
 use Rattle.std.proofs.lemmas.List.{length-map}
 use Rattle.std.proofs.lemmas.Option.{slice_get-map}
 use Rattle.tb_tables.proofs.Words.{position, position_or_len, keys_of, lookup, Account, Transfer, Facts, account_with, IsPlaceAmong, IsPlaceOf, IsPlaceOfTransfer, transfer_with, MayResolve, sums_of, with_sums, AreAt, Hold, AreGrounded, row_in, MayPost, Places, Row, has_account, IsGrounded}
@@ -24,6 +26,15 @@ as-some f (Some x) = refl
 pub none-there : {X : Type 0} (found : Option X) → not (is_some found) ≡ true → found ≡ None
 none-there None new = refl
 none-there (Some x) new = cc
+
+-- whether what was asked for was done
+pub is-done : {E : Type 0} (same : E → E → Bool) (result : Result Bool E) → true ≡ result_eq bool_eq same result (Ok true) → result ≡ Ok true
+is-done same (Ok true) is = refl
+is-done same (Ok false) is = cc
+is-done same (Err x) is = cc
+
+pub isn't-done : {E : Type 0} (same : E → E → Bool) (result : Result Bool E) → false ≡ result_eq bool_eq same result (Ok true) → result ≢ Ok true
+isn't-done same result isn't is = let no = rw is at isn't in cc
 
 -- what a post or a void names stands at the place that was found
 pub may-post : {facts : Facts} {t : Transfer} {place : ℕ} → MayResolve facts t → IsPlaceOfTransfer facts t.pending_id (Some place) → MayPost facts t place

@@ -1,18 +1,16 @@
 //! The maps: accounts, transfers and failed ids, with the index of expiries.
 
-ghost use Rattle.std.specs.Prelude.{◌≡◌, ◌≢◌, Some, None, Ok, IfOk, OnOk, OnErr, is_some, not, true, false, length, slice_get};
+ghost use Rattle.std.specs.Prelude.{◌≡◌, ◌≢◌, ◌<◌, ◌^◌, Some, None, Ok, IfOk, OnOk, OnErr, is_some, not, true, false, length, slice_get};
 ghost use Rattle.std.specs.List.{AllByRecursion};
 ghost use Rattle.std.specs.Option.{option_map};
 
 use crate::by_id::{ById, Ids};
 use crate::change::Change;
-use crate::entries::{
-    place_of, pop_account, pop_failed, pop_transfer, push_account, push_failed, push_transfer,
-};
+use crate::entries::{place_of, pop_account, pop_failed, push_account, push_failed, push_transfer};
 use crate::places::Places;
 use crate::row::Row;
 use crate::status::Status;
-use crate::storing::{apply, expect, forget_resolved, take_back};
+use crate::storing::{apply, expect, forget, forget_resolved, take_back};
 use crate::timeouts::expire_all;
 use std::alloc::Global;
 use std::collections::BTreeSet;
@@ -42,7 +40,8 @@ impl Model for Maps {
 
 impl Maps {
     ghost use Rattle.tb_tables.specs.Facts.{no_facts, account_with, IsPlaceOf, IsPlaceOfTransfer, transfer_with, is_failed, add_account as with_account, add_transfer as with_transfer, add_failed as with_failed};
-    ghost use Rattle.tb_tables.specs.Status.{status_with, status_if_pending, expire_due as with_due_expired};
+    ghost use Rattle.tb_layout.specs.Transfer.{is_pending};
+    ghost use Rattle.tb_tables.specs.Status.{expires_at, status_with, status_if_pending, expire_due as with_due_expired};
     ghost use Rattle.tb_tables.specs.Balances.{with_balances as balanced, balanced_account};
     ghost use Rattle.tb_tables.specs.Expiries.{has_pair};
     ghost use Rattle.tb_tables.specs.Changes.{before};
@@ -90,6 +89,7 @@ impl Maps {
     /// there; whether it was added.
     pub fn store(&mut self, transfer: &Transfer, places: Places) -> Result<bool, NoMemory>
         requires at { HavePlaces self.old.facts transfer.now places }
+        requires fits { is_pending transfer.now ≡ true → expires_at transfer.now < 2 ^ 64 }
         requires may { transfer_with self.old.facts transfer.now.id ≡ None → MayStore self.old.facts transfer.now places.pending }
         ensures new { IfOk result (λ added. added ≡ not (is_some (transfer_with self.old.facts transfer.now.id))) }
         ensures added { result ≡ Ok true → self.new.facts ≡ with_transfer self.old.facts transfer.now }
@@ -98,15 +98,14 @@ impl Maps {
         ensures sound { IsSound (has_pair self.old.pairs) self.old.facts }
     {
         let place = self.transfers.len();
-        if !push_transfer(&mut self.transfers, transfer)? {
-            return Ok(false);
+        expect(&mut self.expiries, transfer, place)?;
+        let added = push_transfer(&mut self.transfers, transfer);
+        if added == Ok(true) {
+            apply(&mut self.accounts, &mut self.transfers, places, *transfer);
+        } else {
+            forget(&mut self.expiries, transfer, place);
         }
-        if let Err(refused) = expect(&mut self.expiries, transfer, place) {
-            pop_transfer(&mut self.transfers);
-            return Err(refused);
-        }
-        apply(&mut self.accounts, &mut self.transfers, places, *transfer);
-        Ok(true)
+        added
     }
 
     /// Takes a change back, which is the last one.
