@@ -13,7 +13,7 @@ use Rattle.tb_layout.specs.TransferCode.{number_of}
 use Rattle.tb_layout.specs.Transfer.{is_pending, is_post, is_void, is_resolving}
 use Rattle.tb_tables.specs.Facts.{Facts, account_with, IsPlaceOf, IsPlaceOfTransfer, transfer_with}
 use Rattle.tb_tables.specs.Balances.{balanced_account, with_balances, debits, credits}
-use Rattle.tb_tables.specs.Status.{status_of, is_due}
+use Rattle.tb_tables.specs.Status.{status_of, is_due, expires_at}
 use Rattle.tb_tables.specs.declared.status.Status.{Status}
 use Rattle.tb_tables.specs.declared.status.Status.TheVariants.{Pending, Posted, Voided, Expired}
 use Rattle.tb_tables.specs.Conditions.{MayAdd, MayResolve}
@@ -143,6 +143,10 @@ pub has_credit : (facts : Facts) (timestamp : ℕ) (event : Transfer) → number
 has_credit facts timestamp event ok plain None is none = let there = (stands_between facts timestamp event ok plain).credit_there in cc
 has_credit facts timestamp event ok plain (Some place) is at = cc
 
+-- when it expires can be written down
+pub fits : (facts : Facts) (timestamp : ℕ) (event : Transfer) → timestamp ≤ clock_max → number_of (new_transfer_verdict facts timestamp event) ≡ 0 → is_resolving event ≡ false → expires_at (record event { timestamp = timestamp }) < 2 ^ 64
+fits facts timestamp event clock ok plain = omega (arith, expires_by timestamp event.timeout clock (stands_between facts timestamp event ok plain).checks.1.1.1.1.1.1.1.1.0)
+
 pub may_add : (facts : Facts) (timestamp : ℕ) (event : Transfer) → timestamp ≤ clock_max → number_of (new_transfer_verdict facts timestamp event) ≡ 0 → is_resolving event ≡ false → transfer_with facts event.id ≡ None →
     MayAdd facts (stored_transfer facts timestamp event)
 may_add facts timestamp event clock ok plain new =
@@ -159,7 +163,7 @@ may_add facts timestamp event clock ok plain new =
       credit_there = subst IsSome (sym found.credit_there) refl;
       debits_fit = subst (λ k. debits facts k + event.amount < 2 ^ 128) debit_id (omega (arith, at_most u128_max (debits facts found.debit.id + event.amount) found.checks.1.1.1.1.1.1.0));
       credits_fit = subst (λ k. credits facts k + event.amount < 2 ^ 128) credit_id (omega (arith, at_most u128_max (credits facts found.credit.id + event.amount) found.checks.1.1.1.1.1.1.1.0));
-      expiry_fits = omega (arith, expires_by timestamp event.timeout clock found.checks.1.1.1.1.1.1.1.1.0);
+      expiry_fits = fits facts timestamp event clock ok plain;
     })
 
 -- ---- a post or a void

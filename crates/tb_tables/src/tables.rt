@@ -1,6 +1,6 @@
 //! The tables.
 
-ghost use Rattle.std.specs.Prelude.{◌≡◌, ◌≢◌, ◌<◌, ◌≤◌, Some, None, [], Ok, IfOk, OnOk, OnErr, is_some, not, true, false, length, slice_get};
+ghost use Rattle.std.specs.Prelude.{◌≡◌, ◌≢◌, ◌<◌, ◌≤◌, ◌^◌, Some, None, [], Ok, IfOk, OnOk, OnErr, is_some, not, true, false, length, slice_get};
 ghost use Rattle.std.specs.Option.{option_map};
 
 use crate::change::Change;
@@ -42,7 +42,8 @@ impl Model for Tables {
 
 impl Tables {
     ghost use Rattle.tb_tables.specs.Facts.{no_facts, account_with, IsPlaceOf, IsPlaceOfTransfer, transfer_with, is_failed, add_account as with_account, add_transfer as with_transfer, add_failed as with_failed};
-    ghost use Rattle.tb_tables.specs.Status.{status_with, status_if_pending, expire_due as with_due_expired};
+    ghost use Rattle.tb_layout.specs.Transfer.{is_pending};
+    ghost use Rattle.tb_tables.specs.Status.{expires_at, status_with, status_if_pending, expire_due as with_due_expired};
     ghost use Rattle.tb_tables.specs.Balances.{with_balances as balanced, balanced_account};
     ghost use Rattle.tb_tables.specs.Conditions.{HasNoBalances, MayAdd, MayResolve};
     ghost use Rattle.tb_tables.specs.History.{with_change, mark_of, back_to, without_past};
@@ -101,6 +102,7 @@ impl Tables {
     /// there; whether it was added.
     fn store(&mut self, transfer: &Transfer, places: Places) -> Result<bool, NoMemory>
         requires at { HavePlaces self.old.now transfer.now places }
+        requires fits { is_pending transfer.now ≡ true → expires_at transfer.now < 2 ^ 64 }
         requires may { transfer_with self.old.now transfer.now.id ≡ None → MayStore self.old.now transfer.now places.pending }
         ensures new { IfOk result (λ added. added ≡ not (is_some (transfer_with self.old.now transfer.now.id))) }
         ensures added { result ≡ Ok true → self.new ≡ with_change self.old (with_transfer self.old.now transfer.now) }
@@ -151,6 +153,7 @@ impl Tables {
         debit: usize,
         credit: usize,
     ) -> Result<bool, NoMemory>
+        requires fits { is_pending transfer.now ≡ true → expires_at transfer.now < 2 ^ 64 }
         requires may { transfer_with self.old.now transfer.now.id ≡ None → MayAdd self.old.now transfer.now }
         requires debit { IsPlaceOf self.old.now transfer.now.debit_account_id (Some debit) }
         requires credit { IsPlaceOf self.old.now transfer.now.credit_account_id (Some credit) }

@@ -1,4 +1,4 @@
-use Rattle.std.proofs.Common.{◌∙◌, sym, ap, ◌≡◌, None, not, ◌&&◌}
+use Rattle.std.proofs.Common.{◌∙◌, sym, ap, not, ◌&&◌}
 use Rattle.tb_tables.proofs.Words.{facts_of, its_pair, stored_in, transfer_with}
 use Rattle.tb_tables.proofs.Locating.{is-done, isn't-done, none-there, told-new, transfers-length}
 use Rattle.tb_tables.proofs.Stepping as stepping
