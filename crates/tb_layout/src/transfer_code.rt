@@ -70,6 +70,7 @@ impl TransferCode {
     ghost use Rattle.tb_layout.specs.TransferCode.{number_of};
 
     /// The number that a failure carries. 0 is no failure.
+    #[inline(always)]
     pub fn number(self) -> u32
         ensures { result ≡ number_of self }
     {

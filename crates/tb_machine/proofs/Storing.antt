@@ -13,7 +13,7 @@ use Rattle.tb_layout.specs.TransferCode.{number_of}
 use Rattle.tb_layout.specs.Transfer.{is_pending, is_post, is_void, is_resolving}
 use Rattle.tb_tables.specs.Facts.{Facts, account_with, IsPlaceOf, IsPlaceOfTransfer, transfer_with}
 use Rattle.tb_tables.specs.Balances.{balanced_account, with_balances, debits, credits}
-use Rattle.tb_tables.specs.Status.{status_of, is_due}
+use Rattle.tb_tables.specs.Status.{status_of, is_due, expires_at}
 use Rattle.tb_tables.specs.declared.status.Status.{Status}
 use Rattle.tb_tables.specs.declared.status.Status.TheVariants.{Pending, Posted, Voided, Expired}
 use Rattle.tb_tables.specs.Conditions.{MayAdd, MayResolve}
@@ -21,7 +21,7 @@ use Rattle.tb_tables.proofs.Finding.{found-id}
 use Rattle.tb_layout.specs.Limits.{clock_max, nanoseconds_per_second}
 use Rattle.tb_machine.specs.AccountVerdict.{u128_max}
 use Rattle.tb_machine.specs.Table.{first_row}
-use Rattle.tb_machine.specs.TransferVerdict.{transfer_verdict, event_checks, against_id, stored_checks, new_id_checks, resolving_checks, resolving_verdict, against_named, pending_checks, against_status, moving_checks, moving_verdict, between_found, balance_checks, resolved_transfer, resolved_transfer_of, stored_transfer, has_exclusive_flags}
+use Rattle.tb_machine.specs.TransferVerdict.{transfer_verdict, new_transfer_verdict, event_checks, against_id, of_new_id, stored_checks, new_id_checks, resolving_checks, resolving_verdict, against_named, pending_checks, against_status, moving_checks, moving_verdict, between_found, balance_checks, resolved_transfer, resolved_transfer_of, stored_transfer, has_exclusive_flags}
 
 -- ---- where a table doesn't end in a failure, none of its checks applies
 
@@ -57,22 +57,30 @@ not_not false h = cc
 
 -- ---- any event
 
--- its id is new, and its flags don't exclude each other
-record IsNew (facts : Facts) (timestamp : ℕ) (event : Transfer) : Type 0 where
-  new : transfer_with facts event.id ≡ None
+-- its flags don't exclude each other, and it passes the checks of its kind
+record IsFine (facts : Facts) (timestamp : ℕ) (event : Transfer) : Type 0 where
   apart : has_exclusive_flags event ≡ false
   rest : number_of (if is_resolving event then resolving_verdict facts timestamp event else moving_verdict facts timestamp event) ≡ 0
 
-is_new : (facts : Facts) (timestamp : ℕ) (event : Transfer) → number_of (transfer_verdict facts timestamp event) ≡ 0 → IsNew facts timestamp event
-is_new facts timestamp event ok = by (transfer_with facts event.id) refl (passes (event_checks event) (against_id facts timestamp (transfer_with facts event.id) event) refl ok).rest
+fine : (facts : Facts) (timestamp : ℕ) (event : Transfer) → number_of (new_transfer_verdict facts timestamp event) ≡ 0 → IsFine facts timestamp event
+fine facts timestamp event ok =
+    let new_ok = (passes (event_checks event) (of_new_id facts timestamp event) refl ok).rest in
+    let p = passes (new_id_checks facts event) (if is_resolving event then resolving_verdict facts timestamp event else moving_verdict facts timestamp event) refl new_ok in
+    record { apart = p.none.1.0; rest = p.rest }
+
+-- where its id is new, the verdict is that on a new one
+pub of_new : (facts : Facts) (timestamp : ℕ) (event : Transfer) → transfer_with facts event.id ≡ None → transfer_verdict facts timestamp event ≡ new_transfer_verdict facts timestamp event
+of_new facts timestamp event new = ap (λ found. first_row (event_checks event) (against_id facts timestamp found event)) new
+
+-- an event that passes has a new id
+pub is_new : (facts : Facts) (timestamp : ℕ) (event : Transfer) → number_of (transfer_verdict facts timestamp event) ≡ 0 → transfer_with facts event.id ≡ None
+is_new facts timestamp event ok = by (transfer_with facts event.id) (passes (event_checks event) (against_id facts timestamp (transfer_with facts event.id) event) refl ok).rest
   where
-    by : (found : Option Transfer) → transfer_with facts event.id ≡ found → number_of (against_id facts timestamp found event) ≡ 0 → IsNew facts timestamp event
-    by (Some stored) is ok =
+    by : (found : Option Transfer) → number_of (against_id facts timestamp found event) ≡ 0 → found ≡ None
+    by (Some stored) ok =
         let exists : 46 ≡ 0 = (passes (stored_checks stored (resolved_transfer_of (transfer_with facts stored.pending_id) event)) Exists refl ok).rest in
         absurd (omega (arith, exists))
-    by None is ok =
-        let p = passes (new_id_checks facts event) (if is_resolving event then resolving_verdict facts timestamp event else moving_verdict facts timestamp event) refl ok in
-        record { new = is; apart = p.none.1.0; rest = p.rest }
+    by None ok = refl
 
 -- ---- a plain or pending transfer
 
@@ -119,40 +127,43 @@ resolves_nothing None event plain = refl
 resolves_nothing (Some pending) event plain = ap (λ b. if b then resolved_transfer pending event else event) plain
 
 -- a plain or pending transfer whose checks find nothing is between two accounts
-stands_between : (facts : Facts) (timestamp : ℕ) (event : Transfer) → number_of (transfer_verdict facts timestamp event) ≡ 0 → is_resolving event ≡ false → IsBetween facts timestamp event
+stands_between : (facts : Facts) (timestamp : ℕ) (event : Transfer) → number_of (new_transfer_verdict facts timestamp event) ≡ 0 → is_resolving event ≡ false → IsBetween facts timestamp event
 stands_between facts timestamp event ok plain =
     is_between facts timestamp event
-    (sym (ap (λ b. number_of (if b then resolving_verdict facts timestamp event else moving_verdict facts timestamp event)) plain) ∙ (is_new facts timestamp event ok).rest)
+    (sym (ap (λ b. number_of (if b then resolving_verdict facts timestamp event else moving_verdict facts timestamp event)) plain) ∙ (fine facts timestamp event ok).rest)
 
 -- so that each has a place
-pub has_debit : (facts : Facts) (timestamp : ℕ) (event : Transfer) → number_of (transfer_verdict facts timestamp event) ≡ 0 → is_resolving event ≡ false →
+pub has_debit : (facts : Facts) (timestamp : ℕ) (event : Transfer) → number_of (new_transfer_verdict facts timestamp event) ≡ 0 → is_resolving event ≡ false →
     (place : Option ℕ) → place ≡ None → IsPlaceOf facts event.debit_account_id place → ⊥
 has_debit facts timestamp event ok plain None is none = let there = (stands_between facts timestamp event ok plain).debit_there in cc
 has_debit facts timestamp event ok plain (Some place) is at = cc
 
-pub has_credit : (facts : Facts) (timestamp : ℕ) (event : Transfer) → number_of (transfer_verdict facts timestamp event) ≡ 0 → is_resolving event ≡ false →
+pub has_credit : (facts : Facts) (timestamp : ℕ) (event : Transfer) → number_of (new_transfer_verdict facts timestamp event) ≡ 0 → is_resolving event ≡ false →
     (place : Option ℕ) → place ≡ None → IsPlaceOf facts event.credit_account_id place → ⊥
 has_credit facts timestamp event ok plain None is none = let there = (stands_between facts timestamp event ok plain).credit_there in cc
 has_credit facts timestamp event ok plain (Some place) is at = cc
 
-pub may_add : (facts : Facts) (timestamp : ℕ) (event : Transfer) → timestamp ≤ clock_max → number_of (transfer_verdict facts timestamp event) ≡ 0 → is_resolving event ≡ false →
+-- when it expires can be written down
+pub fits : (facts : Facts) (timestamp : ℕ) (event : Transfer) → timestamp ≤ clock_max → number_of (new_transfer_verdict facts timestamp event) ≡ 0 → is_resolving event ≡ false → expires_at (record event { timestamp = timestamp }) < 2 ^ 64
+fits facts timestamp event clock ok plain = omega (arith, expires_by timestamp event.timeout clock (stands_between facts timestamp event ok plain).checks.1.1.1.1.1.1.1.1.0)
+
+pub may_add : (facts : Facts) (timestamp : ℕ) (event : Transfer) → timestamp ≤ clock_max → number_of (new_transfer_verdict facts timestamp event) ≡ 0 → is_resolving event ≡ false → transfer_with facts event.id ≡ None →
     MayAdd facts (stored_transfer facts timestamp event)
-may_add facts timestamp event clock ok plain =
-    let id = is_new facts timestamp event ok in
+may_add facts timestamp event clock ok plain new =
     let found = stands_between facts timestamp event ok plain in
     let debit_id = found-id (λ (account : Account). account.id) event.debit_account_id facts.accounts found.debit found.debit_there in
     let credit_id = found-id (λ (account : Account). account.id) event.credit_account_id facts.accounts found.credit found.credit_there in
     let stored : stored_transfer facts timestamp event ≡ record event { timestamp = timestamp } = ap (λ (e : Transfer). record e { timestamp = timestamp }) (resolves_nothing (transfer_with facts event.pending_id) event plain) in
     subst (MayAdd facts) (sym stored)
     (record {
-      new = id.new;
+      new = new;
       not_post = or-left (is_post event) (is_void event) plain;
       not_void = or-right (is_post event) (is_void event) plain;
       debit_there = subst IsSome (sym found.debit_there) refl;
       credit_there = subst IsSome (sym found.credit_there) refl;
       debits_fit = subst (λ k. debits facts k + event.amount < 2 ^ 128) debit_id (omega (arith, at_most u128_max (debits facts found.debit.id + event.amount) found.checks.1.1.1.1.1.1.0));
       credits_fit = subst (λ k. credits facts k + event.amount < 2 ^ 128) credit_id (omega (arith, at_most u128_max (credits facts found.credit.id + event.amount) found.checks.1.1.1.1.1.1.1.0));
-      expiry_fits = omega (arith, expires_by timestamp event.timeout clock found.checks.1.1.1.1.1.1.1.1.0);
+      expiry_fits = fits facts timestamp event clock ok plain;
     })
 
 -- ---- a post or a void
@@ -206,7 +217,8 @@ stored_is facts timestamp event pending named resolves =
 
 pub may_resolve : (facts : Facts) (timestamp : ℕ) (event : Transfer) → number_of (transfer_verdict facts timestamp event) ≡ 0 → is_resolving event ≡ true → MayResolve facts (stored_transfer facts timestamp event)
 may_resolve facts timestamp event ok resolves =
-    let id = is_new facts timestamp event ok in
+    let new = is_new facts timestamp event ok in
+    let id = fine facts timestamp event (sym (ap number_of (of_new facts timestamp event new)) ∙ ok) in
     let verdict : number_of (resolving_verdict facts timestamp event) ≡ 0 =
     sym (ap (λ b. number_of (if b then resolving_verdict facts timestamp event else moving_verdict facts timestamp event)) resolves) ∙ id.rest in
     let one = names facts timestamp event verdict in
@@ -214,7 +226,7 @@ may_resolve facts timestamp event ok resolves =
     let pending_id = found-id (λ (transfer : Transfer). transfer.id) event.pending_id facts.transfers one.pending one.named in
     subst (MayResolve facts) (sym (stored_is facts timestamp event one.pending one.named resolves))
     (record {
-      new = id.new;
+      new = new;
       post_or_void = kind.0;
       not_pending = kind.1;
       pending = one.pending;

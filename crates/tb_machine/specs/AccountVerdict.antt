@@ -43,8 +43,9 @@ abbrev pub against : Option Account → Account → AccountCode
 against (Some existing) event = against_existing existing event
 against None event = of_new event
 
-abbrev pub account_verdict : Facts → Account → AccountCode
-account_verdict facts event =
+-- an event, where the account with its id is the other, if there is one
+abbrev pub verdict_beside : Option Account → Account → AccountCode
+verdict_beside found event =
     first_row (
     (not (event.timestamp == 0), TimestampMustBeZero) ∷
     (not (event.reserved == 0), ReservedField) ∷
@@ -52,4 +53,7 @@ account_verdict facts event =
     (event.id == 0, IdMustNotBeZero) ∷
     (event.id == u128_max, IdMustNotBeIntMax) ∷
     []
-    ) (against (account_with facts event.id) event)
+    ) (against found event)
+
+abbrev pub account_verdict : Facts → Account → AccountCode
+account_verdict facts event = verdict_beside (account_with facts event.id) event

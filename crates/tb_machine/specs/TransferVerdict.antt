@@ -178,5 +178,9 @@ event_checks event =
     (event.id == u128_max, IdMustNotBeIntMax) ∷
     []
 
+-- an event, if its id is new
+abbrev pub new_transfer_verdict : Facts → ℕ → Transfer → TransferCode
+new_transfer_verdict facts timestamp event = first_row (event_checks event) (of_new_id facts timestamp event)
+
 abbrev pub transfer_verdict : Facts → ℕ → Transfer → TransferCode
 transfer_verdict facts timestamp event = first_row (event_checks event) (against_id facts timestamp (transfer_with facts event.id) event)

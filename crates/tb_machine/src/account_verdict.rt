@@ -1,6 +1,6 @@
 //! The checks of an event that asks for an account, in their order.
 
-ghost use Rattle.std.specs.Prelude.{◌≡◌};
+ghost use Rattle.std.specs.Prelude.{◌≡◌, None};
 ghost use Rattle.tb_machine.specs.AccountVerdict as spec;
 
 use tb_layout::{Account, AccountCode};
@@ -59,9 +59,10 @@ fn of_new(event: &Account) -> AccountCode
     AccountCode::Ok
 }
 
-/// The first check that the event fails, or Ok.
-pub fn account_verdict(tables: &Tables, event: &Account) -> AccountCode
-    ensures { result ≡ spec.account_verdict tables.now.now event.now }
+/// The first check that an event fails, or Ok, where the account with its id is the other, if there is one.
+#[inline(always)]
+fn verdict_beside(found: Option<Account>, event: &Account) -> AccountCode
+    ensures { result ≡ spec.verdict_beside found event.now }
 {
     if event.timestamp != 0 {
         return AccountCode::TimestampMustBeZero;
@@ -78,8 +79,24 @@ pub fn account_verdict(tables: &Tables, event: &Account) -> AccountCode
     if event.id == u128::MAX {
         return AccountCode::IdMustNotBeIntMax;
     }
-    match tables.account(event.id) {
+    match found {
         Some(existing) => against_existing(&existing, event),
         None => of_new(event),
     }
+}
+
+/// The first check that the event fails if no account has its id, or Ok.
+#[inline(always)]
+pub fn new_account_verdict(event: &Account) -> AccountCode
+    ensures { result ≡ spec.verdict_beside None event.now }
+{
+    verdict_beside(None, event)
+}
+
+/// The first check that the event fails, or Ok.
+#[inline(never)]
+pub fn account_verdict(tables: &Tables, event: &Account) -> AccountCode
+    ensures { result ≡ spec.account_verdict tables.now.now event.now }
+{
+    verdict_beside(tables.account(event.id), event)
 }

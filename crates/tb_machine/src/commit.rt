@@ -23,13 +23,14 @@ const CLOCK_EXHAUSTED: u32 = 201;
 /// Stores the event, at the timestamp after the clock, where its checks find nothing, and answers the number of its
 /// result. An event for which the clock can't be raised isn't checked.
 #[inline(always)]
-fn examine_at<E: Event>(clock: u64, tables: &mut Tables, event: &E) -> Result<u32, NoMemory>
+fn examine_at<E: Event>(clock: u64, tables: &mut Tables, event: E) -> Result<u32, NoMemory>
     requires { clock ≤ clock_max }
     ensures extends { Extends tables.old tables.new }
-    ensures code { IfOk result (λ code. code ≡ verdict_at E.operation tables.old.now (spec.next_timestamp clock) event.now) }
-    ensures stored { result ≡ Ok 0 → tables.new.now ≡ facts_with E.operation tables.old.now (spec.next_timestamp clock) event.now }
+    ensures code { IfOk result (λ code. code ≡ verdict_at E.operation tables.old.now (spec.next_timestamp clock) event) }
+    ensures stored { result ≡ Ok 0 → tables.new.now ≡ facts_with E.operation tables.old.now (spec.next_timestamp clock) event }
     ensures same { result ≢ Ok 0 → tables.new ≡ tables.old }
 {
+    let mut event = event;
     match next_timestamp(clock) {
         Some(timestamp) => event.examine(tables, timestamp),
         None => Ok(CLOCK_EXHAUSTED),
@@ -50,7 +51,7 @@ fn examine_all<'a, E: Event>(
 {
     let mut clock = clock;
     for (index, chunk) in chunks.iter().enumerate() {
-        let code = examine_at(clock, tables, &E::read(chunk))?;
+        let code = examine_at(clock, tables, E::read(chunk))?;
         if code != 0 {
             return Ok(Some(Fault {
                 index,
@@ -114,10 +115,9 @@ fn commit_event<E: Event>(
     ensures len { vec_len out.new ≤ vec_len out.old + 1 }
     ensures capacity { vec_capacity out.new ≡ vec_capacity out.old }
 {
-    let event = E::read(chunk);
-    let code = examine_at(clock, tables, &event)?;
+    let code = examine_at(clock, tables, E::read(chunk))?;
     if code != 0 {
-        event.remember(tables, code)?;
+        E::read(chunk).remember(tables, code)?;
         out.push_reserved(Failure {
             index: index as u32,
             code,

@@ -1,22 +1,24 @@
 //! What the two operations that change the facts make of their events.
 
-ghost use Rattle.std.specs.Prelude.{◌≡◌, ◌≢◌, ◌≤◌, ℕ, List, Ok, IfOk, OnOk, OnErr};
+ghost use Rattle.std.specs.Prelude.{◌≡◌, ◌≢◌, ◌≤◌, ℕ, List, None, Ok, IfOk, OnOk, OnErr, is_some, not, true};
 ghost use Rattle.tb_layout.specs.Account.{account_of};
 ghost use Rattle.tb_layout.specs.Transfer.{transfer_of};
+ghost use Rattle.tb_layout.specs.AccountCode.{number_of as account_number};
 ghost use Rattle.tb_layout.specs.TransferCode.{number_of};
-ghost use Rattle.tb_tables.specs.Facts.{add_transfer};
+ghost use Rattle.tb_tables.specs.Facts.{account_with, add_account, add_transfer, transfer_with};
 ghost use Rattle.tb_tables.specs.History.{with_change, Extends};
 ghost use Rattle.tb_layout.specs.Limits.{clock_max};
 ghost use Rattle.tb_machine.specs.Chain.{Operation};
-ghost use Rattle.tb_machine.specs.TransferVerdict.{stored_transfer, transfer_verdict as verdict_of};
+ghost use Rattle.tb_machine.specs.TransferVerdict.{stored_transfer, new_transfer_verdict as new_verdict_of, transfer_verdict as verdict_of};
+ghost use Rattle.tb_machine.specs.AccountVerdict.{verdict_beside};
 ghost use Rattle.tb_machine.specs.Prefetch.{IsTarget};
 ghost use Rattle.tb_machine.specs.declared.prefetch.Target.TheVariants.{Between, Named};
 ghost use Rattle.tb_machine.specs.Operations as spec;
 
-use crate::account_verdict::account_verdict;
+use crate::account_verdict::{account_verdict, new_account_verdict};
 use crate::prefetch::{Sides, Target};
 use crate::resolved::resolved;
-use crate::transfer_verdict::transfer_verdict;
+use crate::transfer_verdict::{new_transfer_verdict, transfer_verdict};
 use tb_layout::{
     Account, NoMemory, Transfer, TransferCode, is_chunk_linked, read_account, read_transfer,
 };
@@ -36,11 +38,11 @@ pub trait Event: Copy {
     fn is_chunk_linked(chunk: &[u8; 128]) -> bool
         ensures { result ≡ operation.is_linked (event_of chunk.now) };
 
-    /// Stores the event where its checks find nothing, and answers the number of its result.
-    fn examine(&self, tables: &mut Tables, timestamp: u64) -> Result<u32, NoMemory>
+    /// Stores the event, which gets its timestamp, where its checks find nothing, and answers the number of its result.
+    fn examine(&mut self, tables: &mut Tables, timestamp: u64) -> Result<u32, NoMemory>
         requires { timestamp ≤ clock_max }
-        ensures code { IfOk result (λ code. code ≡ operation.verdict tables.old.now timestamp self.now) }
-        ensures stored { result ≡ Ok 0 → tables.new ≡ with_change tables.old (operation.stored tables.old.now timestamp self.now) }
+        ensures code { IfOk result (λ code. code ≡ operation.verdict tables.old.now timestamp self.old) }
+        ensures stored { result ≡ Ok 0 → tables.new ≡ with_change tables.old (operation.stored tables.old.now timestamp self.old) }
         ensures same { result ≢ Ok 0 → tables.new ≡ tables.old };
 
     /// Notes what the event's failing with this code leaves behind.
@@ -62,12 +64,12 @@ impl Event for Account {
         is_chunk_linked(chunk)
     }
 
-    fn examine(&self, tables: &mut Tables, timestamp: u64) -> Result<u32, NoMemory> {
-        let code = account_verdict(tables, self).number();
-        if code == 0 {
-            tables.add_account(Account { timestamp, ..*self })?;
+    fn examine(&mut self, tables: &mut Tables, timestamp: u64) -> Result<u32, NoMemory> {
+        let code = new_account_verdict(self).number();
+        if code == 0 && store_new_account(tables, timestamp, self)? {
+            return Ok(0);
         }
-        Ok(code)
+        Ok(account_verdict(tables, self).number())
     }
 
     fn remember(&self, _tables: &mut Tables, _code: u32) -> Result<(), NoMemory> {
@@ -88,13 +90,11 @@ impl Event for Transfer {
         is_chunk_linked(chunk)
     }
 
-    fn examine(&self, tables: &mut Tables, timestamp: u64) -> Result<u32, NoMemory> {
-        let target = Target::of(tables, self);
-        let code = transfer_verdict(tables, target, timestamp, self).number();
-        if code == 0 {
-            store(tables, target, timestamp, self)?;
+    fn examine(&mut self, tables: &mut Tables, timestamp: u64) -> Result<u32, NoMemory> {
+        match Target::of(tables, self) {
+            Target::Between(sides) => examine_moving(tables, sides, timestamp, self),
+            Target::Named(pending) => examine_resolving(tables, pending, timestamp, self),
         }
-        Ok(code)
     }
 
     fn remember(&self, tables: &mut Tables, code: u32) -> Result<(), NoMemory> {
@@ -118,18 +118,43 @@ fn is_transient(code: u32) -> bool
         || code == TransferCode::ExceedsDebits.number()
 }
 
-/// Stores a plain or pending transfer whose checks find nothing.
-fn store_between(
+/// Stores an account that passes its checks if its id is new, unless it isn't; whether it was stored. The timestamp is
+/// set where the event lies.
+#[inline(always)]
+fn store_new_account(
+    tables: &mut Tables,
+    timestamp: u64,
+    event: &mut Account,
+) -> Result<bool, NoMemory>
+    requires { account_number (verdict_beside None event.old) ≡ 0 }
+    ensures new { IfOk result (λ added. added ≡ not (is_some (account_with tables.old.now event.old.id))) }
+    ensures added { result ≡ Ok true → tables.new ≡ with_change tables.old (add_account tables.old.now (record event.old { timestamp = timestamp })) }
+    ensures same { result ≢ Ok true → tables.new ≡ tables.old }
+    ensures event { OnOk result (event.new ≡ event.old) }
+{
+    let own_timestamp = event.timestamp;
+    event.timestamp = timestamp;
+    let added = tables.add_new_account(event)?;
+    event.timestamp = own_timestamp;
+    Ok(added)
+}
+
+/// Stores a plain or pending transfer that passes its checks if its id is new, unless it isn't; whether it was stored.
+/// The timestamp is set where the event lies, since a copy of it would cost more.
+#[inline(always)]
+fn store_new(
     tables: &mut Tables,
     sides: Sides,
     timestamp: u64,
-    event: &Transfer,
-) -> Result<(), NoMemory>
-    requires target { IsTarget tables.old.now event.now (Between sides) }
+    event: &mut Transfer,
+) -> Result<bool, NoMemory>
+    requires target { IsTarget tables.old.now event.old (Between sides) }
     requires clock { timestamp ≤ clock_max }
-    requires ok { number_of (verdict_of tables.old.now timestamp event.now) ≡ 0 }
-    ensures ok { OnOk result (tables.new ≡ with_change tables.old (add_transfer tables.old.now (stored_transfer tables.old.now timestamp event.now))) }
-    ensures err { OnErr result (tables.new ≡ tables.old) }
+    requires ok { number_of (new_verdict_of tables.old.now timestamp event.old) ≡ 0 }
+    ensures new { IfOk result (λ added. added ≡ not (is_some (transfer_with tables.old.now event.old.id))) }
+    ensures added { result ≡ Ok true → tables.new ≡ with_change tables.old (add_transfer tables.old.now (stored_transfer tables.old.now timestamp event.old)) }
+    ensures same { result ≢ Ok true → tables.new ≡ tables.old }
+    ensures event { OnOk result (event.new ≡ event.old) }
 {
     let Some(debit) = sides.debit else {
         unreachable!()
@@ -137,14 +162,37 @@ fn store_between(
     let Some(credit) = sides.credit else {
         unreachable!()
     };
-    let transfer = Transfer {
-        timestamp,
-        ..*event
-    };
-    tables.add_transfer_between(transfer, debit, credit)
+    let own_timestamp = event.timestamp;
+    event.timestamp = timestamp;
+    let added = tables.add_new_between(event, debit, credit)?;
+    event.timestamp = own_timestamp;
+    Ok(added)
+}
+
+/// Stores a plain or pending transfer where its checks find nothing, and answers the number of its result. Its id is
+/// looked up where it is stored: most are new.
+#[inline(always)]
+fn examine_moving(
+    tables: &mut Tables,
+    sides: Sides,
+    timestamp: u64,
+    event: &mut Transfer,
+) -> Result<u32, NoMemory>
+    requires target { IsTarget tables.old.now event.old (Between sides) }
+    requires clock { timestamp ≤ clock_max }
+    ensures code { IfOk result (λ code. code ≡ number_of (verdict_of tables.old.now timestamp event.old)) }
+    ensures stored { result ≡ Ok 0 → tables.new ≡ with_change tables.old (add_transfer tables.old.now (stored_transfer tables.old.now timestamp event.old)) }
+    ensures same { result ≢ Ok 0 → tables.new ≡ tables.old }
+{
+    let code = new_transfer_verdict(tables, Target::Between(sides), timestamp, event).number();
+    if code == 0 && store_new(tables, sides, timestamp, event)? {
+        return Ok(0);
+    }
+    Ok(transfer_verdict(tables, Target::Between(sides), timestamp, event).number())
 }
 
 /// Stores a post or a void whose checks find nothing.
+#[inline(never)]
 fn store_resolved(
     tables: &mut Tables,
     pending: Option<usize>,
@@ -167,21 +215,23 @@ fn store_resolved(
     tables.resolve_at(transfer, place)
 }
 
-/// Stores a transfer whose checks find nothing.
-fn store(
+/// Stores a post or a void where its checks find nothing, and answers the number of its result.
+#[inline(never)]
+fn examine_resolving(
     tables: &mut Tables,
-    target: Target,
+    pending: Option<usize>,
     timestamp: u64,
     event: &Transfer,
-) -> Result<(), NoMemory>
-    requires target { IsTarget tables.old.now event.now target }
-    requires clock { timestamp ≤ clock_max }
-    requires ok { number_of (verdict_of tables.old.now timestamp event.now) ≡ 0 }
-    ensures ok { OnOk result (tables.new ≡ with_change tables.old (add_transfer tables.old.now (stored_transfer tables.old.now timestamp event.now))) }
-    ensures err { OnErr result (tables.new ≡ tables.old) }
+) -> Result<u32, NoMemory>
+    requires { IsTarget tables.old.now event.now (Named pending) }
+    ensures code { IfOk result (λ code. code ≡ number_of (verdict_of tables.old.now timestamp event.now)) }
+    ensures stored { result ≡ Ok 0 → tables.new ≡ with_change tables.old (add_transfer tables.old.now (stored_transfer tables.old.now timestamp event.now)) }
+    ensures same { result ≢ Ok 0 → tables.new ≡ tables.old }
 {
-    match target {
-        Target::Between(sides) => store_between(tables, sides, timestamp, event),
-        Target::Named(pending) => store_resolved(tables, pending, timestamp, event),
+    let target = Target::Named(pending);
+    let code = transfer_verdict(tables, target, timestamp, event).number();
+    if code == 0 {
+        store_resolved(tables, pending, timestamp, event)?;
     }
+    Ok(code)
 }

@@ -111,6 +111,7 @@ fn between_found(tables: &Tables, sides: Sides, timestamp: u64, event: &Transfer
 }
 
 /// The first check that a plain or pending transfer fails, or Ok.
+#[inline(always)]
 pub fn moving_verdict(
     tables: &Tables,
     sides: Sides,

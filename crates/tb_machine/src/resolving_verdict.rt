@@ -75,6 +75,7 @@ fn against_pending(
 }
 
 /// The first check that a post or a void fails, or Ok.
+#[inline(never)]
 pub fn resolving_verdict(
     tables: &Tables,
     pending: Option<usize>,

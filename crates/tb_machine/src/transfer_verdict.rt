@@ -1,6 +1,6 @@
 //! The checks of an event that asks for a transfer, in their order.
 
-ghost use Rattle.std.specs.Prelude.{◌≡◌, ℕ, Some};
+ghost use Rattle.std.specs.Prelude.{◌≡◌, ℕ, Some, None};
 ghost use Rattle.tb_tables.specs.Facts.{IsPlaceOfTransfer, transfer_with};
 ghost use Rattle.tb_machine.specs.TransferVerdict as spec;
 ghost use Rattle.tb_machine.specs.Prefetch.{IsTarget};
@@ -53,6 +53,7 @@ fn against_stored(stored: &Transfer, event: &Transfer) -> TransferCode
 }
 
 /// An event whose id is that of the transfer at a place.
+#[inline(never)]
 fn against_place(tables: &Tables, place: usize, event: &Transfer) -> TransferCode
     requires { IsPlaceOfTransfer tables.now.now event.now.id (Some place) }
     ensures { (timestamp : ℕ) → result ≡ spec.against_id tables.now.now timestamp (transfer_with tables.now.now event.now.id) event.now }
@@ -74,6 +75,7 @@ fn has_exclusive_flags(event: &Transfer) -> bool
 
 /// The first check that an event fails whose id is that of no transfer, or Ok. The accounts, or the pending transfer,
 /// were looked up before.
+#[inline(always)]
 fn of_new_id(tables: &Tables, target: Target, timestamp: u64, event: &Transfer) -> TransferCode
     requires { IsTarget tables.now.now event.now target }
     ensures { result ≡ spec.of_new_id tables.now.now timestamp event.now }
@@ -90,15 +92,19 @@ fn of_new_id(tables: &Tables, target: Target, timestamp: u64, event: &Transfer) 
     }
 }
 
-/// The first check that the event fails, or Ok.
-pub fn transfer_verdict(
+/// The first check that an event fails, or Ok, where the transfer with its id stands at a place, or there is none.
+#[inline(always)]
+fn verdict_beside(
     tables: &Tables,
     target: Target,
     timestamp: u64,
     event: &Transfer,
+    found: Option<usize>,
 ) -> TransferCode
-    requires { IsTarget tables.now.now event.now target }
-    ensures { result ≡ spec.transfer_verdict tables.now.now timestamp event.now }
+    requires target { IsTarget tables.now.now event.now target }
+    requires found { (place : ℕ) → found ≡ Some place → IsPlaceOfTransfer tables.now.now event.now.id (Some place) }
+    ensures new { found ≡ None → result ≡ spec.new_transfer_verdict tables.now.now timestamp event.now }
+    ensures any { IsPlaceOfTransfer tables.now.now event.now.id found → result ≡ spec.transfer_verdict tables.now.now timestamp event.now }
 {
     if event.timestamp != 0 {
         return TransferCode::TimestampMustBeZero;
@@ -112,8 +118,37 @@ pub fn transfer_verdict(
     if event.id == u128::MAX {
         return TransferCode::IdMustNotBeIntMax;
     }
-    match tables.place_of_transfer(event.id) {
+    match found {
         Some(place) => against_place(tables, place, event),
         None => of_new_id(tables, target, timestamp, event),
     }
+}
+
+/// The first check that the event fails if no transfer has its id, or Ok.
+#[inline(always)]
+pub fn new_transfer_verdict(
+    tables: &Tables,
+    target: Target,
+    timestamp: u64,
+    event: &Transfer,
+) -> TransferCode
+    requires { IsTarget tables.now.now event.now target }
+    ensures { result ≡ spec.new_transfer_verdict tables.now.now timestamp event.now }
+{
+    verdict_beside(tables, target, timestamp, event, None)
+}
+
+/// The first check that the event fails, or Ok.
+#[inline(never)]
+pub fn transfer_verdict(
+    tables: &Tables,
+    target: Target,
+    timestamp: u64,
+    event: &Transfer,
+) -> TransferCode
+    requires { IsTarget tables.now.now event.now target }
+    ensures { result ≡ spec.transfer_verdict tables.now.now timestamp event.now }
+{
+    let found = tables.place_of_transfer(event.id);
+    verdict_beside(tables, target, timestamp, event, found)
 }

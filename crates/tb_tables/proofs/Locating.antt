@@ -1,5 +1,7 @@
 -- Look-ups in the maps.
-use Rattle.std.proofs.Common.{sym, ap, ◌∙◌, ◌≡◌, ℕ, true, List, [], ◌∷◌, nat_eq, slice_get, length, arith, ◌==◌, Option, Some, None, IsSome, find, option_map}
+use Rattle.std.proofs.Common.{refl, sym, ap, ◌∙◌, ◌≡◌, ℕ, true, not, List, [], ◌∷◌, nat_eq, slice_get, length, arith, ◌==◌, Option, Some, None, IsSome, is_some, find, option_map, Bool, Result, Ok, Err, false, ◌≢◌}
+use Rattle.std.specs.Result.{result_eq}
+use mathlib.Core.Bool.{beq as bool_eq}
 use Rattle.std.proofs.lemmas.List.{length-map}
 use Rattle.std.proofs.lemmas.Option.{slice_get-map}
 use Rattle.tb_tables.proofs.Words.{position, position_or_len, keys_of, lookup, Account, Transfer, Facts, account_with, IsPlaceAmong, IsPlaceOf, IsPlaceOfTransfer, transfer_with, MayResolve, sums_of, with_sums, AreAt, Hold, AreGrounded, row_in, MayPost, Places, Row, has_account, IsGrounded}
@@ -15,6 +17,24 @@ placed key made xs {es} are id (Some place) is =
     let there = key-placed key made xs are place (key-of-position id es place (sym is)) in
     let first = sym (ap (λ es. position_or_len (nat_eq id) (keys_of es)) are ∙ first-of-key key made id xs) ∙ (Found-position (nat_eq id) es place (sym is)).or_len in
     (there.0, there.1, find_at (λ x. key x == id) xs ∙ ap (slice_get xs) first ∙ there.1)
+
+as-some : {X Y : Type 0} (f : X → Y) (found : Option X) → not (is_some (option_map f found)) ≡ not (is_some found)
+as-some f None = refl
+as-some f (Some x) = refl
+
+-- what isn't there
+pub none-there : {X : Type 0} (found : Option X) → not (is_some found) ≡ true → found ≡ None
+none-there None new = refl
+none-there (Some x) new = cc
+
+-- whether what was asked for was done
+pub is-done : {E : Type 0} (same : E → E → Bool) (result : Result Bool E) → true ≡ result_eq bool_eq same result (Ok true) → result ≡ Ok true
+is-done same (Ok true) is = refl
+is-done same (Ok false) is = cc
+is-done same (Err x) is = cc
+
+pub isn't-done : {E : Type 0} (same : E → E → Bool) (result : Result Bool E) → false ≡ result_eq bool_eq same result (Ok true) → result ≢ Ok true
+isn't-done same result isn't is = let no = rw is at isn't in cc
 
 -- what a post or a void names stands at the place that was found
 pub may-post : {facts : Facts} {t : Transfer} {place : ℕ} → MayResolve facts t → IsPlaceOfTransfer facts t.pending_id (Some place) → MayPost facts t place
@@ -40,6 +60,13 @@ module _ {facts : Facts} {accounts : List (ℕ × Account)} {transfers : List (�
 
   pub row-found : (id : ℕ) → lookup (nat_eq id) transfers ≡ option_map (row_in facts) (transfer_with facts id)
   row-found id = ap (lookup (nat_eq id)) hold.transfers_are ∙ lookup-rows (λ (t : Transfer). t.id) (row_in facts) id facts.transfers
+
+  -- whether an id is new, as the map tells it
+  pub told-new : (id : ℕ) → not (is_some (lookup (nat_eq id) transfers)) ≡ not (is_some (transfer_with facts id))
+  told-new id = ap (λ found. not (is_some found)) (row-found id) ∙ as-some (row_in facts) (transfer_with facts id)
+
+  pub told-new-account : (id : ℕ) → not (is_some (lookup (nat_eq id) accounts)) ≡ not (is_some (account_with facts id))
+  told-new-account id = ap (λ found. not (is_some found)) (account-found id) ∙ as-some (with_sums (sums_of facts)) (account_with facts id)
 
   pub transfers-length : length transfers ≡ length facts.transfers
   transfers-length = ap length hold.transfers_are ∙ length-map facts.transfers (λ (t : Transfer). (t.id, row_in facts t))

@@ -4,7 +4,7 @@ use Rattle.std.proofs.lemmas.Option.{slice_get-get_or, slice_get-map}
 use Rattle.std.proofs.lemmas.List.{length-map}
 use Rattle.std.proofs.lemmas.Map.Keys.{IsDistinct-head, IsDistinct-tail}
 use Rattle.indexmap.proofs.MapLemmas.{Found-position}
-use Rattle.tb_tables.proofs.Words.{list_any, AllByRecursion, IsDistinct, position_or_len, keys_of, lookup, lookup_key, nat_tests, set_value_at}
+use Rattle.tb_tables.proofs.Words.{list_any, insert_entry, AllByRecursion, IsDistinct, position_or_len, keys_of, lookup, lookup_key, nat_tests, set_value_at}
 use Rattle.tb_tables.proofs.Laws.{==_swap}
 
 -- each under its key, with what is made of it
@@ -86,3 +86,8 @@ key-of-position id es i p =
     let f = Found-position (nat_eq id) es i p in
     let at = slice_get-get_or (keys_of es) i 0 (omega (arith, f.within, length-map es (λ e. e.0))) in
     at ∙ ap Some (key-found id es (get_or (keys_of es) i 0) (f.key ∙ at))
+
+-- an entry put in as it is
+pub kept-entry : {V : Type 0} (es : List (ℕ × V)) (id : ℕ) (value : V) → lookup (nat_eq id) es ≡ Some value → insert_entry nat_eq es id value ≡ es
+kept-entry [] id value found = cc
+kept-entry (e ∷ es) id value found = grind (arith, kept-entry es id value)

@@ -1,6 +1,6 @@
 //! Entries of the maps, in order of making.
 
-ghost use Rattle.std.specs.Prelude.{◌≡◌, ◌<◌, ◌++◌, ◌∷◌, ◌==◌, [], ℕ, None, Some, OnOk, OnErr, IsSome, false, nat_eq, slice_get, List};
+ghost use Rattle.std.specs.Prelude.{◌≡◌, ◌<◌, ◌++◌, ◌∷◌, ◌==◌, ◌≢◌, [], ℕ, None, Some, Ok, IfOk, OnOk, OnErr, IsSome, is_some, not, true, false, nat_eq, slice_get, List};
 ghost use Rattle.std.specs.List.{list_any};
 ghost use Rattle.indexmap.specs.IndexMap.{get, keys, index_map_len, set_value_at, IsUnique};
 ghost use Rattle.tb_tables.specs.Row.{Row as RowRecord};
@@ -10,16 +10,26 @@ ghost use Rattle.tb_tables.specs.Storing.{new_row, status_after};
 use crate::by_id::{ById, Ids};
 use crate::row::Row;
 use crate::status::Status;
+use indexmap::map::Entry;
 use tb_layout::{Account, NoMemory, Transfer};
 
-/// Puts a new account after the others.
-pub fn push_account(accounts: &mut ById<Account>, account: Account) -> Result<(), NoMemory>
-    requires { get nat_eq accounts.old account.id ≡ None }
-    ensures ok { OnOk result (accounts.new.entries ≡ accounts.old.entries ++ (account.id, account) ∷ []) }
-    ensures err { OnErr result (accounts.new.entries ≡ accounts.old.entries) }
+/// Puts an account after the others, unless its id is there; whether it was put. It is written where it stands.
+pub fn push_account(accounts: &mut ById<Account>, account: &Account) -> Result<bool, NoMemory>
+    ensures new { IfOk result (λ added. added ≡ not (is_some (get nat_eq accounts.old account.now.id))) }
+    ensures added { result ≡ Ok true → accounts.new.entries ≡ accounts.old.entries ++ (account.now.id, account.now) ∷ [] }
+    ensures same { result ≢ Ok true → accounts.new.entries ≡ accounts.old.entries }
 {
-    accounts.insert(account.id, account)?;
-    Ok(())
+    match accounts.entry(account.id)? {
+        Entry::Occupied(entry) => {
+            entry.into_mut();
+            Ok(false)
+        }
+        Entry::Vacant(entry) => {
+            let stored = entry.insert(Account::default());
+            *stored = *account;
+            Ok(true)
+        }
+    }
 }
 
 /// The row of a transfer that nothing resolved.
@@ -34,14 +44,24 @@ fn new_row(transfer: &Transfer) -> Row
     Row::new(transfer, status)
 }
 
-/// Puts a new transfer after the others. It is read once it has its place.
-pub fn push_transfer(transfers: &mut ById<Row>, transfer: &Transfer) -> Result<(), NoMemory>
-    requires { get nat_eq transfers.old transfer.now.id ≡ None }
-    ensures ok { OnOk result (transfers.new.entries ≡ transfers.old.entries ++ (transfer.now.id, new_row transfer.now) ∷ []) }
-    ensures err { OnErr result (transfers.new.entries ≡ transfers.old.entries) }
+/// Puts a transfer after the others, unless its id is there; whether it was put. Its row is written where it stands:
+/// made before, it would be moved there.
+pub fn push_transfer(transfers: &mut ById<Row>, transfer: &Transfer) -> Result<bool, NoMemory>
+    ensures new { IfOk result (λ added. added ≡ not (is_some (get nat_eq transfers.old transfer.now.id))) }
+    ensures added { result ≡ Ok true → transfers.new.entries ≡ transfers.old.entries ++ (transfer.now.id, new_row transfer.now) ∷ [] }
+    ensures same { result ≢ Ok true → transfers.new.entries ≡ transfers.old.entries }
 {
-    transfers.entry(transfer.id)?.or_insert(new_row(transfer));
-    Ok(())
+    match transfers.entry(transfer.id)? {
+        Entry::Occupied(entry) => {
+            entry.into_mut();
+            Ok(false)
+        }
+        Entry::Vacant(entry) => {
+            let row = entry.insert(Row::default());
+            *row = new_row(transfer);
+            Ok(true)
+        }
+    }
 }
 
 /// Puts a new failed id after the others.

@@ -7,7 +7,7 @@ use std::marker::Model;
 const HALF: u128 = 1 << 64;
 
 /// A number in two halves. A row of such numbers isn't padded to 16 bytes.
-#[derive(Clone, Copy)]
+#[derive(Clone, Copy, Default)]
 pub struct Halves {
     low: u64,
     high: u64,

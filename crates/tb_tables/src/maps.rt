@@ -1,6 +1,6 @@
 //! The maps: accounts, transfers and failed ids, with the index of expiries.
 
-ghost use Rattle.std.specs.Prelude.{◌≡◌, Some, None, OnOk, OnErr, false, length, slice_get};
+ghost use Rattle.std.specs.Prelude.{◌≡◌, ◌≢◌, ◌<◌, ◌^◌, Some, None, Ok, IfOk, OnOk, OnErr, is_some, not, true, false, length, slice_get};
 ghost use Rattle.std.specs.List.{AllByRecursion};
 ghost use Rattle.std.specs.Option.{option_map};
 
@@ -40,7 +40,8 @@ impl Model for Maps {
 
 impl Maps {
     ghost use Rattle.tb_tables.specs.Facts.{no_facts, account_with, IsPlaceOf, IsPlaceOfTransfer, transfer_with, is_failed, add_account as with_account, add_transfer as with_transfer, add_failed as with_failed};
-    ghost use Rattle.tb_tables.specs.Status.{status_with, status_if_pending, expire_due as with_due_expired};
+    ghost use Rattle.tb_layout.specs.Transfer.{is_pending};
+    ghost use Rattle.tb_tables.specs.Status.{expires_at, status_with, status_if_pending, expire_due as with_due_expired};
     ghost use Rattle.tb_tables.specs.Balances.{with_balances as balanced, balanced_account};
     ghost use Rattle.tb_tables.specs.Expiries.{has_pair};
     ghost use Rattle.tb_tables.specs.Changes.{before};
@@ -59,16 +60,18 @@ impl Maps {
         }
     }
 
-    /// Adds an account.
-    pub fn add_account(&mut self, account: Account) -> Result<(), NoMemory>
-        requires new { account_with self.old.facts account.id ≡ None }
-        requires no_balances { HasNoBalances account }
-        ensures ok { OnOk result (self.new ≡ record self.old { facts = with_account self.old.facts account }) }
-        ensures err { OnErr result (self.new ≡ self.old) }
+    /// Adds an account, unless one with its id is there; whether it was added.
+    pub fn add_account(&mut self, account: &Account) -> Result<bool, NoMemory>
+        requires { HasNoBalances account.now }
+        ensures new { IfOk result (λ added. added ≡ not (is_some (account_with self.old.facts account.now.id))) }
+        ensures added { result ≡ Ok true → self.new ≡ record self.old { facts = with_account self.old.facts account.now } }
+        ensures same { result ≢ Ok true → self.new ≡ self.old }
         ensures sound { IsSound (has_pair self.old.pairs) self.old.facts }
     {
-        push_account(&mut self.accounts, account)?;
-        Ok(())
+        if !push_account(&mut self.accounts, account)? {
+            return Ok(false);
+        }
+        Ok(true)
     }
 
     /// Adds an id to those that failed.
@@ -82,23 +85,27 @@ impl Maps {
         Ok(())
     }
 
-    /// Adds a transfer whose accounts, and whose pending transfer, have these places.
-    pub fn store(&mut self, transfer: &Transfer, places: Places) -> Result<(), NoMemory>
+    /// Adds a transfer whose accounts, and whose pending transfer, have these places, unless one with its id is
+    /// there; whether it was added.
+    pub fn store(&mut self, transfer: &Transfer, places: Places) -> Result<bool, NoMemory>
         requires at { HavePlaces self.old.facts transfer.now places }
-        requires may { MayStore self.old.facts transfer.now places.pending }
-        ensures ok { OnOk result (self.new.facts ≡ with_transfer self.old.facts transfer.now) }
-        ensures err { OnErr result (self.new.facts ≡ self.old.facts) }
+        requires fits { is_pending transfer.now ≡ true → expires_at transfer.now < 2 ^ 64 }
+        requires may { transfer_with self.old.facts transfer.now.id ≡ None → MayStore self.old.facts transfer.now places.pending }
+        ensures new { IfOk result (λ added. added ≡ not (is_some (transfer_with self.old.facts transfer.now.id))) }
+        ensures added { result ≡ Ok true → self.new.facts ≡ with_transfer self.old.facts transfer.now }
+        ensures same { result ≢ Ok true → self.new.facts ≡ self.old.facts }
         ensures pairs { KeepsPairs (length self.old.facts.transfers) (has_pair self.old.pairs) (has_pair self.new.pairs) }
         ensures sound { IsSound (has_pair self.old.pairs) self.old.facts }
     {
         let place = self.transfers.len();
         expect(&mut self.expiries, transfer, place)?;
-        if let Err(refused) = push_transfer(&mut self.transfers, transfer) {
+        let added = push_transfer(&mut self.transfers, transfer);
+        if added == Ok(true) {
+            apply(&mut self.accounts, &mut self.transfers, places, *transfer);
+        } else {
             forget(&mut self.expiries, transfer, place);
-            return Err(refused);
         }
-        apply(&mut self.accounts, &mut self.transfers, places, *transfer);
-        Ok(())
+        added
     }
 
     /// Takes a change back, which is the last one.

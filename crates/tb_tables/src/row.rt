@@ -10,7 +10,7 @@ use tb_layout::Transfer;
 
 /// A transfer, and its status where it is a pending one: 136 bytes, where a `Transfer` and a status beside it would be
 /// padded to 144.
-#[derive(Clone, Copy)]
+#[derive(Clone, Copy, Default)]
 pub struct Row {
     id: Halves,
     debit_account_id: Halves,

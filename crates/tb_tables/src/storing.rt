@@ -192,7 +192,8 @@ fn forget_change(
     }
 }
 
-/// Takes the pairs of the transfers that some changes resolved out of the index.
+/// Takes the pairs of the transfers that some changes resolved out of the index. Where that is empty, the changes
+/// aren't gone through.
 pub fn forget_resolved(
     expiries: &mut BTreeSet<(u64, usize)>,
     transfers: &ById<Row>,
@@ -202,6 +203,9 @@ pub fn forget_resolved(
     ensures { (facts : Facts) → AllByRecursion (λ change. CanForget facts change transfers.now.entries) changes.now → (m p : ℕ)
         → is_indexed expiries.new m p ≡ (not (is_resolved_at p changes.now && is_spent_at facts m p) && is_indexed expiries.old m p) }
 {
+    if expiries.is_empty() {
+        return;
+    }
     for change in changes {
         forget_change(expiries, transfers, change);
     }

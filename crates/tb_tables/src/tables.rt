@@ -1,6 +1,6 @@
 //! The tables.
 
-ghost use Rattle.std.specs.Prelude.{◌≡◌, ◌<◌, ◌≤◌, Some, None, [], OnOk, OnErr, false, length, slice_get};
+ghost use Rattle.std.specs.Prelude.{◌≡◌, ◌≢◌, ◌<◌, ◌≤◌, ◌^◌, Some, None, [], Ok, IfOk, OnOk, OnErr, is_some, not, true, false, length, slice_get};
 ghost use Rattle.std.specs.Option.{option_map};
 
 use crate::change::Change;
@@ -42,7 +42,8 @@ impl Model for Tables {
 
 impl Tables {
     ghost use Rattle.tb_tables.specs.Facts.{no_facts, account_with, IsPlaceOf, IsPlaceOfTransfer, transfer_with, is_failed, add_account as with_account, add_transfer as with_transfer, add_failed as with_failed};
-    ghost use Rattle.tb_tables.specs.Status.{status_with, status_if_pending, expire_due as with_due_expired};
+    ghost use Rattle.tb_layout.specs.Transfer.{is_pending};
+    ghost use Rattle.tb_tables.specs.Status.{expires_at, status_with, status_if_pending, expire_due as with_due_expired};
     ghost use Rattle.tb_tables.specs.Balances.{with_balances as balanced, balanced_account};
     ghost use Rattle.tb_tables.specs.Conditions.{HasNoBalances, MayAdd, MayResolve};
     ghost use Rattle.tb_tables.specs.History.{with_change, mark_of, back_to, without_past};
@@ -65,10 +66,24 @@ impl Tables {
         ensures ok { OnOk result (self.new ≡ with_change self.old (with_account self.old.now account)) }
         ensures err { OnErr result (self.new ≡ self.old) }
     {
-        self.changes.reserve(1)?;
-        self.maps.add_account(account)?;
-        note(&mut self.changes, Change::Account);
+        self.add_new_account(&account)?;
         Ok(())
+    }
+
+    /// Adds an account after those that are there, with its timestamp and no balances of its own, unless one with its
+    /// id is there; whether it was added. The id is looked up once.
+    pub fn add_new_account(&mut self, account: &Account) -> Result<bool, NoMemory>
+        requires { HasNoBalances account.now }
+        ensures new { IfOk result (λ added. added ≡ not (is_some (account_with self.old.now account.now.id))) }
+        ensures added { result ≡ Ok true → self.new ≡ with_change self.old (with_account self.old.now account.now) }
+        ensures same { result ≢ Ok true → self.new ≡ self.old }
+    {
+        self.changes.reserve(1)?;
+        if !self.maps.add_account(account)? {
+            return Ok(false);
+        }
+        note(&mut self.changes, Change::Account);
+        Ok(true)
     }
 
     /// Adds an id to those that failed.
@@ -83,17 +98,22 @@ impl Tables {
         Ok(())
     }
 
-    /// Adds a transfer whose accounts, and whose pending transfer, have these places.
-    fn store(&mut self, transfer: &Transfer, places: Places) -> Result<(), NoMemory>
+    /// Adds a transfer whose accounts, and whose pending transfer, have these places, unless one with its id is
+    /// there; whether it was added.
+    fn store(&mut self, transfer: &Transfer, places: Places) -> Result<bool, NoMemory>
         requires at { HavePlaces self.old.now transfer.now places }
-        requires may { MayStore self.old.now transfer.now places.pending }
-        ensures ok { OnOk result (self.new ≡ with_change self.old (with_transfer self.old.now transfer.now)) }
-        ensures err { OnErr result (self.new ≡ self.old) }
+        requires fits { is_pending transfer.now ≡ true → expires_at transfer.now < 2 ^ 64 }
+        requires may { transfer_with self.old.now transfer.now.id ≡ None → MayStore self.old.now transfer.now places.pending }
+        ensures new { IfOk result (λ added. added ≡ not (is_some (transfer_with self.old.now transfer.now.id))) }
+        ensures added { result ≡ Ok true → self.new ≡ with_change self.old (with_transfer self.old.now transfer.now) }
+        ensures same { result ≢ Ok true → self.new ≡ self.old }
     {
         self.changes.reserve(1)?;
-        self.maps.store(transfer, places)?;
+        if !self.maps.store(transfer, places)? {
+            return Ok(false);
+        }
         note(&mut self.changes, Change::Transfer(places));
-        Ok(())
+        Ok(true)
     }
 
     /// Adds a plain or pending transfer after those that are there.
@@ -103,7 +123,8 @@ impl Tables {
         ensures err { OnErr result (self.new ≡ self.old) }
     {
         let places = self.maps.places_of(&transfer);
-        self.store(&transfer, places)
+        self.store(&transfer, places)?;
+        Ok(())
     }
 
     /// Adds a plain or pending transfer after those that are there, between the accounts at two places. These aren't
@@ -120,8 +141,28 @@ impl Tables {
         ensures ok { OnOk result (self.new ≡ with_change self.old (with_transfer self.old.now transfer)) }
         ensures err { OnErr result (self.new ≡ self.old) }
     {
+        self.add_new_between(&transfer, debit, credit)?;
+        Ok(())
+    }
+
+    /// Adds a plain or pending transfer after those that are there, between the accounts at two places, unless one
+    /// with its id is there; whether it was added. The id is looked up once.
+    pub fn add_new_between(
+        &mut self,
+        transfer: &Transfer,
+        debit: usize,
+        credit: usize,
+    ) -> Result<bool, NoMemory>
+        requires fits { is_pending transfer.now ≡ true → expires_at transfer.now < 2 ^ 64 }
+        requires may { transfer_with self.old.now transfer.now.id ≡ None → MayAdd self.old.now transfer.now }
+        requires debit { IsPlaceOf self.old.now transfer.now.debit_account_id (Some debit) }
+        requires credit { IsPlaceOf self.old.now transfer.now.credit_account_id (Some credit) }
+        ensures new { IfOk result (λ added. added ≡ not (is_some (transfer_with self.old.now transfer.now.id))) }
+        ensures added { result ≡ Ok true → self.new ≡ with_change self.old (with_transfer self.old.now transfer.now) }
+        ensures same { result ≢ Ok true → self.new ≡ self.old }
+    {
         self.store(
-            &transfer,
+            transfer,
             Places {
                 debit,
                 credit,
@@ -151,7 +192,8 @@ impl Tables {
         ensures err { OnErr result (self.new ≡ self.old) }
     {
         let places = self.maps.places_resolved(&transfer, pending);
-        self.store(&transfer, places)
+        self.store(&transfer, places)?;
+        Ok(())
     }
 
     /// The account with this id, with its balances.

@@ -1,6 +1,19 @@
-use Rattle.std.proofs.Common.{◌∙◌, nat_eq}
+use Rattle.std.proofs.Common.{◌≡◌, ◌∙◌, None, Some, sym, rules, nat_eq}
+use Rattle.indexmap.specs.IndexMap.{get}
 use Rattle.indexmap.proofs.CallerLemmas.{insert_entry-new}
+use Rattle.tb_tables.proofs.Stored.{kept-entry}
 use Rattle.tb_tables.proofs.entries.push_account.Goals as goal
 
-pub returns-clause-ok : goal.returns-clause-ok
-returns-clause-ok c = c.in_ok-insert.ensures.entries ∙ insert_entry-new nat_eq c.args.accounts.now c.args.account.id c.args.account c.requires
+pub returns-in-Occupied-clause-same : goal.returns-in-Occupied-clause-same
+returns-in-Occupied-clause-same c = λ _.
+    let a = c.args.account.now in
+    let old = c.args.accounts.now in
+    let found : get nat_eq old a.id ≡ Some c.into_mut.result.now = sym (rw c.in-Occupied.is at c.in_ok-entry.ensures.value) ∙ c.into_mut.ensures.value in
+    (search rules) ∙ (rw c.in-Occupied.is at c.in_ok-entry.ensures.update).1 c.into_mut.result.now ∙ kept-entry old.entries a.id c.into_mut.result.now found
+
+pub returns-in-Vacant-clause-added : goal.returns-in-Vacant-clause-added
+returns-in-Vacant-clause-added c = λ _.
+    let a = c.args.account.now in
+    let old = c.args.accounts.now in
+    let none : get nat_eq old a.id ≡ None = rw c.in-Vacant.is at c.in_ok-entry.ensures.found in
+    (search rules) ∙ (rw c.in-Vacant.is at c.in_ok-entry.ensures.update).1 a ∙ insert_entry-new nat_eq old a.id a none
