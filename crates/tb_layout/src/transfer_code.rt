@@ -71,7 +71,6 @@ impl TransferCode {
 
     /// The number that a failure carries. 0 is no failure.
     #[inline(always)]
-    #[inline(always)]
     pub fn number(self) -> u32
         ensures { result ≡ number_of self }
     {

@@ -54,7 +54,6 @@ fn against_stored(stored: &Transfer, event: &Transfer) -> TransferCode
 
 /// An event whose id is that of the transfer at a place.
 #[inline(never)]
-#[inline(never)]
 fn against_place(tables: &Tables, place: usize, event: &Transfer) -> TransferCode
     requires { IsPlaceOfTransfer tables.now.now event.now.id (Some place) }
     ensures { (timestamp : ℕ) → result ≡ spec.against_id tables.now.now timestamp (transfer_with tables.now.now event.now.id) event.now }

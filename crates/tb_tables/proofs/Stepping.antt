@@ -1,7 +1,6 @@
 -- A transfer stored in the maps, and taken back.
 use Rattle.std.proofs.Common.{sym, ap, subst, arith, ◌∙◌, ◌≡◌, ℕ, ◌<◌, ◌^◌, Bool, true, false, true≢false, not, List, [], ◌∷◌, ◌++◌, map, filter, length, append-nil, ◌==◌, ◌&&◌, ◌||◌, Option, Some, None}
 use Rattle.std.proofs.lemmas.List.Elements.{filter-append}
-use Rattle.std.proofs.lemmas.Option.{slice_get_past}
 use Rattle.tb_tables.proofs.Words.{list_any, nat_tests, Account, Transfer as TransferRecord, is_pending, expires_at, is_resolving, Facts, transfer_with, is_expired, add_transfer, is_resolved, is_reserving, IsLawful, has_id, before, AreAt, Stored, AreGrounded, facts_of, is_pair, AreExpiries, IsSound, AreHeld, Allow, MayStore, IsKept, Hold, new_row, Step, IsBefore, IsAfter, HavePlaces, IsStored, row_in, transfer_rows, Places, Row, IsUndoable, KeepsPairs, its_pair}
 use Rattle.tb_tables.specs.declared.change.Change.TheVariants.{Transfer}
 use Rattle.tb_tables.proofs.Laws.{find-none, any-push, reserving-same, reserving-other, resolves_nothing, add_transfer_lawful}
@@ -125,10 +124,6 @@ pushed old kept t places at may is =
         transfers_are = after.transfers_are ∙ ap (λ row. transfer_rows new (facts_of old).transfers ++ (t.id, row) ∷ []) (row-new step) ∙ sym (map_push (λ (x : TransferRecord). (x.id, row_in new x)) (facts_of old).transfers t);
       }) put);
     }
-
--- its pair put into the index and taken out again: it wasn't there
-pub refused : (old : Stored) → IsKept old → (t : TransferRecord) (m p : ℕ) → (not (its_pair (facts_of old) t m p) && (its_pair (facts_of old) t m p || old.is_indexed m p)) ≡ old.is_indexed m p
-refused old kept t m p = grind (arith, nat_tests, kept.timed m p, slice_get_past (facts_of old).transfers p)
 
 -- ---- the last taken back
 
