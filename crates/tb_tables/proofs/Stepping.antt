@@ -1,8 +1,8 @@
 -- A transfer stored in the maps, and taken back.
-use Rattle.std.proofs.Common.{sym, ap, subst, arith, ◌∙◌, ◌≡◌, ℕ, ◌<◌, ◌^◌, Bool, true, false, true≢false, not, List, [], ◌∷◌, ◌++◌, map, filter, length, append-nil, ◌==◌, ◌&&◌, ◌||◌, Option, Some, None}
+use Rattle.std.proofs.Common.{sym, ap, subst, arith, ◌∙◌, ◌≡◌, ℕ, Bool, true, false, not, List, [], ◌∷◌, ◌++◌, map, filter, length, append-nil, ◌==◌, ◌&&◌, ◌||◌, Option, Some, None}
 use Rattle.std.proofs.lemmas.List.Elements.{filter-append}
 use Rattle.std.proofs.lemmas.Option.{slice_get_past}
-use Rattle.tb_tables.proofs.Words.{list_any, nat_tests, Account, Transfer as TransferRecord, is_pending, expires_at, is_resolving, Facts, transfer_with, is_expired, add_transfer, is_resolved, is_reserving, IsLawful, has_id, before, AreAt, Stored, AreGrounded, facts_of, is_pair, AreExpiries, IsSound, AreHeld, Allow, MayStore, IsKept, Hold, new_row, Step, IsBefore, IsAfter, HavePlaces, IsStored, row_in, transfer_rows, Places, Row, IsUndoable, KeepsPairs, its_pair}
+use Rattle.tb_tables.proofs.Words.{list_any, nat_tests, Account, Transfer as TransferRecord, is_resolving, Facts, transfer_with, is_expired, add_transfer, is_resolved, is_reserving, IsLawful, has_id, before, AreAt, Stored, AreGrounded, facts_of, is_pair, AreExpiries, IsSound, AreHeld, Allow, MayStore, IsKept, Hold, new_row, Step, IsBefore, IsAfter, HavePlaces, IsStored, row_in, transfer_rows, Places, Row, IsUndoable, KeepsPairs, its_pair}
 use Rattle.tb_tables.specs.declared.change.Change.TheVariants.{Transfer}
 use Rattle.tb_tables.proofs.Laws.{find-none, any-push, reserving-same, reserving-other, resolves_nothing, add_transfer_lawful}
 use Rattle.tb_tables.proofs.Added.{resolve_lawful}
@@ -24,11 +24,6 @@ expired-is facts ordered id = ap (list_any (λ other. other == id)) ordered ∙ 
 pub no-other : (facts : Facts) (t : TransferRecord) (pending : Option ℕ) → MayStore facts t pending → transfer_with facts t.id ≡ None
 no-other facts t None may = may.new
 no-other facts t (Some place) may = may.may.new
-
--- the moment at which it expires can be written down
-pub fits : (facts : Facts) (t : TransferRecord) (pending : Option ℕ) → MayStore facts t pending → is_pending t ≡ true → expires_at t < 2 ^ 64
-fits facts t None may is = may.expiry_fits
-fits facts t (Some place) may is = absurd (true≢false (sym is ∙ may.may.not_pending))
 
 pub allows : (indexed : ℕ → ℕ → Bool) (facts : Facts) (t : TransferRecord) (places : Places) → IsSound indexed facts → AreAt facts.accounts places t.debit_account_id t.credit_account_id → MayStore facts t places.pending → Allow facts t places
 allows indexed facts t places sound are_at may = record {
