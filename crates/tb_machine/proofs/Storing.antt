@@ -138,11 +138,6 @@ pub has_debit : (facts : Facts) (timestamp : ℕ) (event : Transfer) → number_
 has_debit facts timestamp event ok plain None is none = let there = (stands_between facts timestamp event ok plain).debit_there in cc
 has_debit facts timestamp event ok plain (Some place) is at = cc
 
-pub has_credit : (facts : Facts) (timestamp : ℕ) (event : Transfer) → number_of (new_transfer_verdict facts timestamp event) ≡ 0 → is_resolving event ≡ false →
-    (place : Option ℕ) → place ≡ None → IsPlaceOf facts event.credit_account_id place → ⊥
-has_credit facts timestamp event ok plain None is none = let there = (stands_between facts timestamp event ok plain).credit_there in cc
-has_credit facts timestamp event ok plain (Some place) is at = cc
-
 -- when it expires can be written down
 pub fits : (facts : Facts) (timestamp : ℕ) (event : Transfer) → timestamp ≤ clock_max → number_of (new_transfer_verdict facts timestamp event) ≡ 0 → is_resolving event ≡ false → expires_at (record event { timestamp = timestamp }) < 2 ^ 64
 fits facts timestamp event clock ok plain = omega (arith, expires_by timestamp event.timeout clock (stands_between facts timestamp event ok plain).checks.1.1.1.1.1.1.1.1.0)
