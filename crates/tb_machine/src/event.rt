@@ -118,7 +118,7 @@ fn is_transient(code: u32) -> bool
         || code == TransferCode::ExceedsDebits.number()
 }
 
-/// Stores an account that passes its checks if its id is new, unless it isn't; whether it was stored. The timestamp is
+/// Stores an account that passes the checks of one with a new id, where its id is new; whether it is. The timestamp is
 /// set where the event lies.
 #[inline(always)]
 fn store_new_account(
@@ -139,8 +139,8 @@ fn store_new_account(
     Ok(added)
 }
 
-/// Stores a plain or pending transfer that passes its checks if its id is new, unless it isn't; whether it was stored.
-/// The timestamp is set where the event lies, since a copy of it would cost more.
+/// Stores a plain or pending transfer that passes the checks of one with a new id, where its id is new; whether it is.
+/// The timestamp is set where the event lies: a copy of it would cost more.
 #[inline(always)]
 fn store_new(
     tables: &mut Tables,

@@ -86,7 +86,7 @@ impl Maps {
     }
 
     /// Adds a transfer whose accounts, and whose pending transfer, have these places, unless one with its id is
-    /// there; whether it was added.
+    /// there; whether it was added. When it expires goes into the index first, and out again where it isn't added.
     pub fn store(&mut self, transfer: &Transfer, places: Places) -> Result<bool, NoMemory>
         requires at { HavePlaces self.old.facts transfer.now places }
         requires fits { is_pending transfer.now ≡ true → expires_at transfer.now < 2 ^ 64 }
