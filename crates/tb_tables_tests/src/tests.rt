@@ -150,3 +150,29 @@ fn each_call_by_places(rt: HostRuntime) -> Result<(), Fail> {
     let mut tables = Tables::new(rt.alloc());
     calls_by_places(&mut tables)
 }
+
+fn adds_a_new_account(tables: &mut Tables) -> Result<(), Fail>
+    requires { tables.old ≡ record { now = no_facts; past = [] } }
+{
+    holds(tables.add_new_account(&account(1))?)?;
+    holds(!tables.add_new_account(&account(1))?)?;
+    holds(tables.accounts() == 1)
+}
+
+fn adds_a_new_transfer(tables: &mut Tables) -> Result<(), Fail>
+    requires { tables.old ≡ record { now = no_facts; past = [] } }
+{
+    tables.add_account(account(1))?;
+    tables.add_account(account(2))?;
+    holds(tables.add_new_between(&transfer(1, 100, 0, 0), 0, 1)?)?;
+    holds(!tables.add_new_between(&transfer(1, 100, 0, 0), 0, 1)?)?;
+    holds(debits(tables) == Some((0, 100)))
+}
+
+#[test]
+fn each_call_that_looks_first(rt: HostRuntime) -> Result<(), Fail> {
+    let mut accounts = Tables::new(rt.alloc());
+    adds_a_new_account(&mut accounts)?;
+    let mut transfers = Tables::new(rt.alloc());
+    adds_a_new_transfer(&mut transfers)
+}
