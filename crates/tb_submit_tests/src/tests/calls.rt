@@ -1,32 +1,45 @@
-use super::{Says, answer, ends_of, holds, kind_of, pulse, submit};
+use super::{Says, answer, pulse, queue_of, submit};
 use std::alloc::Global;
 use std::process::Abort;
 use std::sync::Wait;
-use std::test::Fail;
-use tb_submit::{Control, Ended, Ends, Intake, Submitter};
-use tb_work::Refusal;
+use tb_submit::{Control, Ends, Intake, Submitter};
+use tb_work::{Item, Refusal, Ticket};
 
-/// Takes so many tickets, and then None.
-fn take_all<R: Wait>(rt: &R, intake: &mut Intake, wanted: &[(u8, u32)]) -> Result<(), Fail> {
-    for kind in wanted {
-        let ticket = intake.take(rt).ok_or("nothing is queued")?;
-        holds(kind_of(&ticket) == *kind)?;
+#[derive(Clone, Copy, Debug, PartialEq, Eq)]
+enum Kind {
+    Packet,
+    Pulse,
+    End,
+    Close,
+}
+
+fn kind_of(item: &Item) -> Kind {
+    match item {
+        Item::Packet(_) => Kind::Packet,
+        Item::Pulse(_) => Kind::Pulse,
+        Item::End => Kind::End,
+        Item::Close => Kind::Close,
     }
-    holds(intake.take(rt).is_none())
 }
 
-fn one_submitter(ends: &mut Ends) -> Result<Submitter, Fail> {
-    Ok(ends.submitters.pop().ok_or("no submitter")?)
+/// Takes tickets of these kinds and senders, and then None.
+fn take_all(rt: &(impl Abort + Wait), intake: &mut Intake, wanted: &[(Kind, u32)]) {
+    for (kind, sender) in wanted {
+        let ticket = intake.take(rt).expect(rt, "a ticket");
+        assert_eq!(rt; (kind_of(&ticket.item), ticket.sender), (*kind, *sender));
+    }
+    assert!(rt; intake.take(rt).is_none());
 }
 
-fn end<R: Wait>(rt: &R, submitter: Submitter) -> Result<Ended, Refusal> {
+/// Ends a submitter: why it was refused.
+fn end(rt: &impl Wait, submitter: Submitter) -> Option<Refusal> {
     match submitter.end(rt) {
-        Ok(ended) => Ok(ended),
-        Err((_, refusal)) => Err(refusal),
+        Ok(_) => None,
+        Err((_, refusal)) => Some(refusal),
     }
 }
 
-fn shut<R: Wait>(rt: &R, control: Control) -> Option<Refusal> {
+fn shut(rt: &impl Wait, control: Control) -> Option<Refusal> {
     match control.shut(rt) {
         Ok(_) => None,
         Err((_, refusal)) => Some(refusal),
@@ -35,82 +48,84 @@ fn shut<R: Wait>(rt: &R, control: Control) -> Option<Refusal> {
 
 /// The queue gives what was put in it, in order.
 #[test]
-fn first_in_first_out(rt: HostRuntime) -> Result<(), Fail> {
-    let mut ends = ends_of(rt.alloc(), 4, 4, 4)?;
-    let mut submitter = one_submitter(&mut ends)?;
-    assert_eq!(rt; submit(&rt, rt.alloc(), &mut submitter, 129, 128)?, Ok(0));
-    assert_eq!(rt; pulse(&rt, &mut ends.control, 5)?, Ok(()));
-    assert!(rt; end(&rt, submitter).is_ok());
+fn first_in_first_out(rt: HostRuntime) {
+    let (mut submitter, mut ends) = queue_of(&rt, 4, 4, 4);
+    assert_eq!(rt; submit(&rt, &mut submitter, 129, 128), Ok(0));
+    assert_eq!(rt; pulse(&rt, &mut ends.control, 5), Ok(()));
+    assert_eq!(rt; end(&rt, submitter), None);
     assert_eq!(rt; shut(&rt, ends.control), None);
-    take_all(
-        &rt,
-        &mut ends.intake,
-        [(b'P', 0), (b'M', 1), (b'E', 0), (b'C', 1)].as_slice(),
-    )
+    let wanted = [
+        (Kind::Packet, 0),
+        (Kind::Pulse, 1),
+        (Kind::End, 0),
+        (Kind::Close, 1),
+    ];
+    take_all(&rt, &mut ends.intake, wanted.as_slice());
+    drop(ends.intake);
+}
+
+/// The submitter comes back from an end for which the queue is too full.
+fn refused_submitter(rt: &(impl Abort + Wait), submitter: Submitter) -> Submitter {
+    let (submitter, refusal) = submitter.end(rt).err().expect(rt, "the queue is full");
+    assert_eq!(rt; refusal, Refusal::Full);
+    submitter
+}
+
+/// The control comes back from an end for which the queue is too full.
+fn refused_control(rt: &(impl Abort + Wait), control: Control) -> Control {
+    let (control, refusal) = control.end(rt).err().expect(rt, "the queue is full");
+    assert_eq!(rt; refusal, Refusal::Full);
+    control
 }
 
 /// An end that is refused may be tried again.
 #[test]
-fn ends_of_a_full_queue(rt: HostRuntime) -> Result<(), Fail> {
-    let mut ends = ends_of(rt.alloc(), 4, 1, 4)?;
-    assert_eq!(rt; pulse(&rt, &mut ends.control, 5)?, Ok(()));
-    let Err((submitter, refusal)) = one_submitter(&mut ends)?.end(&rt) else {
-        return Err("room in a full queue")?;
-    };
-    assert_eq!(rt; refusal, Refusal::Full);
-    let Err((control, refusal)) = ends.control.end(&rt) else {
-        return Err("room in a full queue")?;
-    };
-    assert_eq!(rt; refusal, Refusal::Full);
-    take_all(&rt, &mut ends.intake, [(b'M', 1)].as_slice())?;
-    assert!(rt; end(&rt, submitter).is_ok());
+fn ends_of_a_full_queue(rt: HostRuntime) {
+    let (submitter, mut ends) = queue_of(&rt, 4, 1, 4);
+    assert_eq!(rt; pulse(&rt, &mut ends.control, 5), Ok(()));
+    let submitter = refused_submitter(&rt, submitter);
+    let control = refused_control(&rt, ends.control);
+    take_all(&rt, &mut ends.intake, [(Kind::Pulse, 1)].as_slice());
+    assert_eq!(rt; end(&rt, submitter), None);
     assert_eq!(rt; shut(&rt, control), Some(Refusal::Full));
-    take_all(&rt, &mut ends.intake, [(b'E', 0)].as_slice())
-}
-
-fn submit_one<R: Wait>(
-    rt: &R,
-    alloc: Global,
-    ends: &mut Ends,
-) -> Result<(u32, Result<u64, Refusal>), Fail> {
-    if ends.submitters.len() == 0 {
-        return Err("no submitter")?;
-    }
-    let before = ends.submitters[0].in_flight();
-    Ok((
-        before,
-        submit(rt, alloc, &mut ends.submitters[0], 129, 128)?,
-    ))
+    take_all(&rt, &mut ends.intake, [(Kind::End, 0)].as_slice());
+    drop(ends.intake);
 }
 
 /// Three packets use up a credit of three, and two of them are answered.
-fn use_credit<R: Wait + Abort>(rt: &R, alloc: Global, ends: &mut Ends) -> Result<(), Fail> {
+fn use_credit(
+    rt: &(impl Abort + Wait + Alloc<A = Global>),
+    submitter: &mut Submitter,
+    ends: &mut Ends,
+) {
     for wanted in [
         (0, Ok(0)),
         (1, Ok(1)),
         (2, Ok(2)),
         (3, Err(Refusal::InFlight)),
     ] {
-        assert_eq!(rt; submit_one(rt, alloc, ends)?, wanted);
+        let before = submitter.in_flight();
+        assert_eq!(rt; (before, submit(rt, submitter, 129, 128)), wanted);
     }
-    answer(rt, alloc, ends, Says::Committed)?;
-    answer(rt, alloc, ends, Says::Committed)
+    answer(rt, ends, Says::Committed);
+    answer(rt, ends, Says::Committed);
 }
 
 /// One reply is read before the submitter ends, and the other afterwards.
-fn read_both<R: Wait + Abort>(rt: &R, submitter: Submitter) -> Result<(), Fail> {
+fn read_both(rt: &(impl Abort + Wait), submitter: Submitter) {
     let mut submitter = submitter;
     assert!(rt; submitter.reply().is_some());
     assert_eq!(rt; (submitter.in_flight(), submitter.queued()), (2, 3));
-    let mut ended = end(rt, submitter).ok().ok_or("the queue is full")?;
+    let mut ended = submitter.end(rt).ok().expect(rt, "room in the queue");
     assert!(rt; ended.reply().is_some());
     assert!(rt; ended.reply().is_none());
-    Ok(())
+    drop(ended);
 }
 
 #[test]
-fn credit_of_three(rt: HostRuntime) -> Result<(), Fail> {
-    let mut ends = ends_of(rt.alloc(), 4, 8, 3)?;
-    use_credit(&rt, rt.alloc(), &mut ends)?;
-    read_both(&rt, one_submitter(&mut ends)?)
+fn credit_of_three(rt: HostRuntime) {
+    let (mut submitter, mut ends) = queue_of(&rt, 4, 8, 3);
+    use_credit(&rt, &mut submitter, &mut ends);
+    read_both(&rt, submitter);
+    drop(ends);
 }

@@ -1,46 +1,49 @@
-use super::{holds, look_of, made_look};
-use std::alloc::Global;
+use super::{look_of, made_look};
+use std::alloc::{AllocError, Global};
+use std::process::Abort;
 use std::sync::Wait;
-use std::test::Fail;
 use tb_submit::{Submitter, open_queue};
 use tb_work::{Bytes, Packet, Refusal};
 
-/// Tried with each allocation refused in turn, by `tools/refuse-each-growth`: the packet is queued as
-/// number 0, or comes back as it was and none is queued.
-fn submit_or_not<R: Wait>(rt: &R, alloc: Global, submitter: &mut Submitter) -> Result<(), Fail> {
+fn packet(alloc: Global) -> Result<Packet, AllocError> {
     let mut bytes = Vec::new(alloc);
-    let Ok(()) = bytes.resize(512, 7) else {
-        return Ok(());
-    };
-    let packet = Packet {
+    bytes.resize(512, 7)?;
+    Ok(Packet {
         operation: 129,
         bytes: Bytes::from_vec(bytes),
         user: 1000,
-    };
-    if submitter.queued() != 0 {
-        return Err("a packet is queued")?;
-    }
+    })
+}
+
+/// The packet is queued as number 0, or comes back as it was and none is queued.
+fn submit_or_not(
+    rt: &(impl Abort + Wait),
+    alloc: Global,
+    submitter: &mut Submitter,
+    packet: Packet,
+) {
+    assert!(rt; submitter.queued() == 0);
     match submitter.submit(rt, alloc, packet) {
-        Ok(number) => holds(number == 0 && submitter.queued() == 1),
+        Ok(number) => assert_eq!(rt; (number, submitter.queued()), (0, 1)),
         Err((back, refusal)) => {
-            holds(refusal == Refusal::NoMemory && look_of(&back) == made_look(129, 512))?;
-            holds(submitter.queued() == 0 && submitter.in_flight() == 0)
+            assert_eq!(rt; refusal, Refusal::NoMemory);
+            assert!(rt; look_of(&back) == made_look(129, 512));
+            assert_eq!(rt; (submitter.queued(), submitter.in_flight()), (0, 0));
         }
     }
 }
 
+/// Tried with each allocation refused in turn, by `tools/refuse-each-growth`.
 #[test]
-fn submit_refused_memory(rt: HostRuntime) -> Result<(), Fail> {
+fn submit_refused_memory(rt: HostRuntime) {
     match open_queue(rt.alloc(), 4, 4, 4, 2) {
         Ok(mut ends) => {
-            if ends.submitters.len() == 0 {
-                return Err("no submitter")?;
+            assert!(rt; ends.submitters.len() == 2);
+            if let Ok(packet) = packet(rt.alloc()) {
+                submit_or_not(&rt, rt.alloc(), &mut ends.submitters[0], packet);
             }
-            submit_or_not(&rt, rt.alloc(), &mut ends.submitters[0])
+            drop(ends);
         }
-        Err(refusal) => {
-            assert_eq!(rt; refusal, Refusal::NoMemory);
-            Ok(())
-        }
+        Err(refusal) => assert_eq!(rt; refusal, Refusal::NoMemory),
     }
 }

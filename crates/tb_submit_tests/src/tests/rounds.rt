@@ -1,56 +1,49 @@
-use super::{Says, answer, ends_of};
+use super::{Says, answer, packet_of, queue_of};
 use std::alloc::Global;
+use std::process::Abort;
 use std::sync::Wait;
-use std::test::Fail;
-use tb_submit::Ends;
-use tb_work::{Bytes, Packet};
+use tb_submit::{Ends, Submitter};
+use tb_work::{Packet, Reply};
 
 /// A packet goes through the queue and comes back with its reply; its number, and the packet.
-fn round<R: Wait>(
-    rt: &R,
-    alloc: Global,
+fn round(
+    rt: &(impl Abort + Wait + Alloc<A = Global>),
+    submitter: &mut Submitter,
     ends: &mut Ends,
     packet: Packet,
-) -> Result<(u64, Packet), Fail> {
-    if ends.submitters.len() == 0 || ends.submitters[0].queued() >= 1 << 56 {
-        return Err("no submitter, or too many packets")?;
-    }
-    let Ok(number) = ends.submitters[0].submit(rt, alloc, packet) else {
-        return Err("refused")?;
-    };
-    answer(rt, alloc, ends, Says::Committed)?;
-    if ends.submitters.len() == 0 {
-        return Err("no submitter")?;
-    }
-    let reply = ends.submitters[0].reply().ok_or("no reply")?;
-    Ok((number, reply.packet))
+) -> (u64, Packet) {
+    assert!(rt; submitter.queued() < 1 << 56);
+    let submitted = submitter.submit(rt, rt.alloc(), packet);
+    let number = submitted.ok().expect(rt, "the packet is queued");
+    answer(rt, ends, Says::Committed);
+    let Reply {
+        packet,
+        outcome,
+        ..
+    } = submitter.reply().expect(rt, "a reply");
+    drop(outcome);
+    (number, packet)
 }
 
 /// Credit and places come back with each reply: one packet goes round so many times.
-fn rounds<R: Wait>(rt: &R, alloc: Global, ends: &mut Ends, count: u64) -> Result<(), Fail> {
-    let mut bytes = Vec::new(alloc);
-    bytes.resize(128, 0)?;
-    let mut packet = Packet {
-        operation: 129,
-        bytes: Bytes::from_vec(bytes),
-        user: 7,
-    };
+fn rounds(rt: &(impl Abort + Wait + Alloc<A = Global>), count: u64) {
+    let (mut submitter, mut ends) = queue_of(rt, 4, 1, 1);
+    let mut packet = packet_of(rt, 129, 128);
     for place in 0..count {
-        let (number, back) = round(rt, alloc, ends, packet)?;
-        if number != place {
-            return Err("another number")?;
-        }
+        let (number, back) = round(rt, &mut submitter, &mut ends, packet);
+        assert_eq!(rt; number, place);
         packet = back;
     }
-    Ok(())
+    drop(submitter);
+    drop(ends);
 }
 
 #[test]
-fn a_thousand_rounds(rt: HostRuntime) -> Result<(), Fail> {
-    rounds(&rt, rt.alloc(), &mut ends_of(rt.alloc(), 4, 1, 1)?, 1000)
+fn a_thousand_rounds(rt: HostRuntime) {
+    rounds(&rt, 1000);
 }
 
 #[test]
-fn two_thousand_rounds(rt: HostRuntime) -> Result<(), Fail> {
-    rounds(&rt, rt.alloc(), &mut ends_of(rt.alloc(), 4, 1, 1)?, 2000)
+fn two_thousand_rounds(rt: HostRuntime) {
+    rounds(&rt, 2000);
 }

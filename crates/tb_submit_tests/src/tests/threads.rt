@@ -1,6 +1,6 @@
 use std::alloc::Global;
+use std::process::Abort;
 use std::sync::Wait;
-use std::test::Fail;
 use std::thread;
 use std::thread::Threads;
 use tb_submit::{Control, Ends, Intake, Submitter, open_queue};
@@ -110,34 +110,28 @@ fn take_all<R: Wait>(rt: &R, intake: &mut Intake, senders: u32) -> Counts {
     counts
 }
 
-/// So many submitters, each in a thread, and one taker; None where a thread can't be started.
-fn run<R: Threads + Wait + Sync>(
+/// So many submitters, each in a thread, and one taker.
+fn run<R: Abort + Threads + Wait + Sync>(
     rt: &R,
     alloc: Global,
     submitters: u32,
     count: u64,
-) -> Option<Counts> {
-    let Ok(
-        Ends {
-            submitters: senders,
-            control,
-            mut intake,
-            outlets: _,
-        },
-    ) = open_queue(alloc, 4, 64, 10_000, submitters)
-    else {
-        return None;
-    };
-    let _ = control.end(rt).ok()?;
-    thread::scope(thread::scope_env(), rt, |scope| -> Option<Counts> {
+) -> Counts {
+    let ends = open_queue(alloc, 4, 64, 10_000, submitters).expect(rt, "a queue");
+    let Ends {
+        submitters: senders,
+        control,
+        mut intake,
+        outlets: _,
+    } = ends;
+    assert!(rt; control.end(rt).is_ok());
+    thread::scope(thread::scope_env(), rt, |scope| -> Counts {
         let mut drivers = Vec::new(alloc);
         for submitter in senders {
-            let Ok(driver) = scope.spawn(move || submit_all(rt, alloc, submitter, count)) else {
-                return None;
-            };
-            if drivers.push(driver).is_err() {
-                return None;
-            }
+            let started = scope.spawn(move || submit_all(rt, alloc, submitter, count));
+            drivers
+                .push(started.ok().expect(rt, "a thread"))
+                .expect(rt, "memory");
         }
         let mut counts = take_all(rt, &mut intake, submitters.wrapping_add(1));
         for driver in drivers {
@@ -145,18 +139,17 @@ fn run<R: Threads + Wait + Sync>(
                 counts.torn = true;
             }
         }
-        Some(counts)
+        counts
     })
 }
 
 #[test]
-fn sixteen_senders_and_one_taker(rt: HostRuntime) -> Result<(), Fail> {
-    let counts = run(&rt, rt.alloc(), 16, 10_000).ok_or("no thread or no memory")?;
+fn sixteen_senders_and_one_taker(rt: HostRuntime) {
+    let counts = run(&rt, rt.alloc(), 16, 10_000);
     assert!(rt; !counts.torn);
     assert_eq!(rt; counts.ended, 17);
     for sender in 0..16usize {
         assert_eq!(rt; counts.next[sender], 10_000);
     }
     assert_eq!(rt; counts.next[16], 0);
-    Ok(())
 }
