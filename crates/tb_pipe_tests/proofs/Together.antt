@@ -1,6 +1,5 @@
 -- A run from opening to the report, put together from what the calls say.
 use Rattle.std.proofs.Common.{◌≡◌, ℕ, List, ap, subst}
-use Rattle.std.specs.Prelude.{Result, Ok, Err, IfOk}
 use Rattle.tb_core.specs.Grouping.{IsGrouping}
 use Rattle.tb_core.specs.Ledger.{LedgerState, works}
 use Rattle.tb_core.specs.Report.{LawfulReport}
@@ -8,7 +7,6 @@ use Rattle.tb_machine.specs.Replay.{replay}
 use Rattle.tb_submit.specs.Ends.{EndedState, IntakeState, replies_of}
 use Rattle.tb_work.specs.declared.item.Item.{Item}
 use Rattle.tb_pipe.specs.Run.{PipelineState, ServedState}
-use Rattle.tb_pipe.specs.declared.settling.Report.{Report}
 use Rattle.tb_pipe_tests.specs.Together.{IsOpenedAs, IsRun}
 
 -- what serving leaves of a pipeline, settled
@@ -29,8 +27,3 @@ pub run_as : (clock limit submitters : ℕ) (pipeline : PipelineState) (ledger :
 run_as clock limit submitters pipeline ledger ends opened run =
     subst (λ n. IsRun n limit submitters ledger ends) opened.0
     (subst (λ n. IsRun pipeline.clock n submitters ledger ends) opened.1 (subst (λ n. IsRun pipeline.clock pipeline.intake.limit n ledger ends) opened.2 run))
-
-pub runs_as : {E : Type 0} (clock limit submitters : ℕ) (pipeline : PipelineState) (result : Result Report E) → IsOpenedAs clock limit submitters pipeline →
-    IfOk result (λ report. IsRun pipeline.clock pipeline.intake.limit pipeline.intake.submitters report.ledger report.ends.items) → IfOk result (λ report. IsRun clock limit submitters report.ledger report.ends.items)
-runs_as clock limit submitters pipeline (Ok report) opened run = run_as clock limit submitters pipeline report.ledger report.ends.items opened run
-runs_as clock limit submitters pipeline (Err e) opened run = tt

@@ -1,16 +1,16 @@
 //! What no clause tells: worked examples by name, the gate's calls, threads, and memory that is refused.
 //!
-//! Who owns a report drops it by name: its parts are let go where a function ends, at each way out, and a proof goes
-//! through them.
+//! The helpers give up where something fails that isn't looked at, in place of handing it up: at each way out of a
+//! function all that it owns is let go, and a proof goes through its parts. So a report is dropped by name too. Only what
+//! is tried with refused memory hands that up.
 
-ghost use Rattle.std.specs.Prelude.{◌≡◌, ◌++◌, ◌∷◌, [], IfOk, OnOk, length, map};
+ghost use Rattle.std.specs.Prelude.{◌≡◌, ◌++◌, ◌∷◌, [], IfOk, length, map};
 ghost use Rattle.tb_submit.specs.Ends.{origin_of, end_origin, control_seat};
 ghost use Rattle.tb_pipe_tests.specs.Together.{AreTogether, IsOpenedAs, IsRun};
 
 use std::alloc::{AllocError, Global};
 use std::process::Abort;
 use std::sync::Wait;
-use std::test::Fail;
 use std::thread::Threads;
 use tb_core::Entry;
 use tb_pipe::{Gate, Opened, Pipeline, Report, open, settle};
@@ -31,10 +31,6 @@ const CREATE_TRANSFERS: u8 = 130;
 /// How often a test gives way before it gives up.
 const MOST_TURNS: u32 = 1_000_000;
 
-fn holds(fact: bool, otherwise: &'static str) -> Result<(), Fail> {
-    if fact { Ok(()) } else { Err(otherwise)? }
-}
-
 /// A packet of accounts with this one account, or without events where the id is 0. The user word is the id.
 fn packet_of(alloc: Global, operation: u8, id: u8) -> Result<Packet, AllocError> {
     let mut bytes = Vec::new(alloc);
@@ -52,6 +48,11 @@ fn packet_of(alloc: Global, operation: u8, id: u8) -> Result<Packet, AllocError>
     })
 }
 
+/// What a packet is known by: its operation, how many bytes it has, and its user word.
+fn look_of(packet: &Packet) -> (u8, usize, u64) {
+    (packet.operation, packet.bytes.as_slice().len(), packet.user)
+}
+
 /// What a reply tells of its packet's place.
 #[derive(Clone, Copy, Debug, PartialEq, Eq)]
 enum Told {
@@ -60,12 +61,14 @@ enum Told {
     Stopped,
 }
 
-fn told_by(reply: &Reply) -> Told {
-    match &reply.outcome {
+fn told_by(reply: Reply) -> Told {
+    let told = match &reply.outcome {
         Outcome::Committed { place, answer: _ } => Told::Committed(*place),
         Outcome::Shutdown => Told::Shutdown,
         Outcome::Stopped => Told::Stopped,
-    }
+    };
+    drop(reply);
+    told
 }
 
 /// A pipeline whose clock starts at 0, opened under limit 4.
@@ -115,8 +118,19 @@ fn opened_lone(alloc: Global, capacity: u32, credit: u32) -> Result<Lone, Refusa
     }
 }
 
+/// The same with ample memory.
+fn open_lone(rt: &impl Abort, alloc: Global, capacity: u32, credit: u32) -> Lone
+    ensures together { AreTogether result.pipeline (result.submitter ∷ []) result.control }
+    ensures as_asked { IsOpenedAs 0 4 1 result.pipeline }
+{
+    match opened_lone(alloc, capacity, credit) {
+        Ok(lone) => lone,
+        Err(_) => panic!(rt; "it isn't opened"),
+    }
+}
+
 /// Submits a packet: its number. Where it is refused it comes back.
-fn submit<R: Wait>(
+fn submit<R: Wait + Abort>(
     rt: &R,
     alloc: Global,
     submitter: &mut Submitter,
@@ -124,49 +138,47 @@ fn submit<R: Wait>(
 ) -> Result<u64, (Packet, Refusal)>
     ensures { origin_of submitter.new ≡ origin_of submitter.old }
 {
-    if submitter.queued() >= 1 << 56 {
-        return Err((packet, Refusal::TooMuchData));
-    }
+    assert!(rt; submitter.queued() < 1 << 56);
     submitter.submit(rt, alloc, packet)
 }
 
-/// Queues a packet of an operation with one account, or without events where the id is 0.
-fn queue<R: Wait>(
+/// The answer to a packet of an operation with one account: its number, or why it is refused.
+fn answer_to<R: Wait + Abort>(
     rt: &R,
     alloc: Global,
     submitter: &mut Submitter,
     operation: u8,
     id: u8,
-) -> Result<(), Fail>
+) -> Result<u64, Refusal>
     ensures { origin_of submitter.new ≡ origin_of submitter.old }
 {
-    let packet = packet_of(alloc, operation, id)?;
-    let queued = submit(rt, alloc, submitter, packet).is_ok();
-    holds(queued, "the packet is refused")
+    let packet = packet_of(alloc, operation, id).expect(rt, "memory");
+    submit(rt, alloc, submitter, packet).map_err(|refused| refused.1)
 }
 
-fn queue_pulse<R: Wait>(rt: &R, control: &mut Control, moment: u64) -> Result<(), Fail>
+/// Queues a packet of an operation with one account, or without events where the id is 0.
+fn queue<R: Wait + Abort>(rt: &R, alloc: Global, submitter: &mut Submitter, operation: u8, id: u8)
+    ensures { origin_of submitter.new ≡ origin_of submitter.old }
+{
+    assert!(rt; answer_to(rt, alloc, submitter, operation, id).is_ok());
+}
+
+fn queue_pulse<R: Wait + Abort>(rt: &R, control: &mut Control, moment: u64)
     ensures { control.new.seat ≡ control.old.seat }
 {
-    if control.queued() >= 1 << 56 {
-        return Err("too many pulses are queued")?;
-    }
-    let queued = control.pulse(rt, moment).is_ok();
-    holds(queued, "the pulse is refused")
+    assert!(rt; control.queued() < 1 << 56);
+    assert!(rt; control.pulse(rt, moment).is_ok());
 }
 
-fn end_control<R: Wait>(rt: &R, control: Control, shut: bool) -> Result<ControlEnd, Fail>
-    ensures { IfOk result (λ end. end.seat ≡ control.seat) }
+fn end_control<R: Wait + Abort>(rt: &R, control: Control, shut: bool) -> ControlEnd
+    ensures { result.seat ≡ control.seat }
 {
     let ended = if shut {
         control.shut(rt)
     } else {
         control.end(rt)
     };
-    match ended {
-        Ok(end) => Ok(end),
-        Err(_) => Err("the queue is full")?,
-    }
+    ended.ok().expect(rt, "there is a place for the end")
 }
 
 /// Room for an end of each of up to 16 submitters, asked for once more where it is refused.
@@ -179,54 +191,40 @@ fn room_for_ends(alloc: Global) -> Result<Vec<Ended>, AllocError>
     }
 }
 
-/// Ends a submitter, and puts its end behind the others.
-fn end_one<R: Wait>(rt: &R, ends: &mut Vec<Ended>, submitter: Submitter) -> Result<(), Refusal>
-    ensures { OnOk result (map end_origin ends.new.items ≡ map end_origin ends.old.items ++ origin_of submitter ∷ []) }
+/// Ends a submitter, and puts its end behind the others, for which there is room.
+fn end_one<R: Wait + Abort>(rt: &R, ends: &mut Vec<Ended>, submitter: Submitter)
+    ensures { map end_origin ends.new.items ≡ map end_origin ends.old.items ++ origin_of submitter ∷ [] }
 {
-    match submitter.end(rt) {
-        Ok(ended) => put(ends, ended),
-        Err((_, refusal)) => Err(refusal),
-    }
+    let ended = submitter
+        .end(rt)
+        .ok()
+        .expect(rt, "there is a place for the end");
+    put(rt, ends, ended);
 }
 
-fn put(ends: &mut Vec<Ended>, ended: Ended) -> Result<(), Refusal>
-    ensures { OnOk result (ends.new.items ≡ ends.old.items ++ ended ∷ []) }
+fn put(rt: &impl Abort, ends: &mut Vec<Ended>, ended: Ended)
+    ensures { ends.new.items ≡ ends.old.items ++ ended ∷ [] }
 {
-    match ends.push(ended) {
-        Ok(()) => Ok(()),
-        Err(_) => Err(Refusal::NoMemory),
-    }
+    ends.push(ended).expect(rt, "there is room");
 }
 
-fn end_all<R: Wait>(
-    rt: &R,
-    alloc: Global,
-    submitters: Vec<Submitter>,
-) -> Result<Vec<Ended>, Refusal>
-    ensures { IfOk result (λ ends. map end_origin ends.items ≡ map origin_of submitters.items) }
+fn end_all<R: Wait + Abort>(rt: &R, alloc: Global, submitters: Vec<Submitter>) -> Vec<Ended>
+    ensures { map end_origin result.items ≡ map origin_of submitters.items }
 {
-    let Ok(mut ends) = room_for_ends(alloc) else {
-        return Err(Refusal::NoMemory);
-    };
+    let mut ends = room_for_ends(alloc).expect(rt, "memory");
     for submitter in submitters {
-        end_one(rt, &mut ends, submitter)?;
+        end_one(rt, &mut ends, submitter);
     }
-    Ok(ends)
+    ends
 }
 
 /// Queues accounts, each in its packet.
-fn queue_accounts<R: Wait>(
-    rt: &R,
-    alloc: Global,
-    submitter: &mut Submitter,
-    ids: &[u8],
-) -> Result<(), Fail>
+fn queue_accounts<R: Wait + Abort>(rt: &R, alloc: Global, submitter: &mut Submitter, ids: &[u8])
     ensures { origin_of submitter.new ≡ origin_of submitter.old }
 {
     for id in ids {
-        queue(rt, alloc, submitter, CREATE_ACCOUNTS, *id)?;
+        queue(rt, alloc, submitter, CREATE_ACCOUNTS, *id);
     }
-    Ok(())
 }
 
 /// The ends of all submitters, and the control's.
@@ -234,29 +232,6 @@ fn queue_accounts<R: Wait>(
 struct Ends {
     submitters: Vec<Ended>,
     control: ControlEnd,
-}
-
-/// Ends the control, queues accounts behind it, and ends the submitter.
-fn end_lone<R: Wait>(
-    rt: &R,
-    alloc: Global,
-    submitter: Submitter,
-    control: Control,
-    shut: bool,
-    behind: &[u8],
-) -> Result<Ends, Fail>
-    ensures own { IfOk result (λ ends. map end_origin ends.submitters.items ≡ origin_of submitter ∷ []) }
-    ensures control { IfOk result (λ ends. ends.control.seat ≡ control.seat) }
-{
-    let mut submitter = submitter;
-    let mut submitters = room_for_ends(alloc)?;
-    let control = end_control(rt, control, shut)?;
-    queue_accounts(rt, alloc, &mut submitter, behind)?;
-    end_one(rt, &mut submitters, submitter)?;
-    Ok(Ends {
-        submitters,
-        control,
-    })
 }
 
 /// Serves what is queued, once all have ended, and settles.
@@ -277,107 +252,100 @@ fn finish<R: Threads + Wait + Sync, G: Gate>(
 }
 
 /// Ends the control, queues accounts behind it, ends the submitter, serves what is queued, and settles.
-fn finish_lone<R: Threads + Wait + Sync, G: Gate>(
+fn finish_lone<R: Threads + Wait + Sync + Abort, G: Gate>(
     rt: &R,
     alloc: Global,
     lone: Lone,
     shut: bool,
     behind: &[u8],
     gate: &G,
-) -> Result<Report, Fail>
+) -> Report
     requires { AreTogether lone.pipeline (lone.submitter ∷ []) lone.control }
-    ensures { IfOk result (λ report. IsRun lone.pipeline.clock lone.pipeline.intake.limit lone.pipeline.intake.submitters report.ledger report.ends.items) }
+    ensures { IsRun lone.pipeline.clock lone.pipeline.intake.limit lone.pipeline.intake.submitters result.ledger result.ends.items }
 {
     let Lone {
         pipeline,
-        submitter,
+        mut submitter,
         control,
     } = lone;
-    match end_lone(rt, alloc, submitter, control, shut, behind) {
-        Ok(ends) => finish_started(rt, pipeline, ends, gate),
-        Err(fail) => {
-            drop(pipeline);
-            Err(fail)
-        }
-    }
+    let control = end_control(rt, control, shut);
+    queue_accounts(rt, alloc, &mut submitter, behind);
+    let mut submitters = room_for_ends(alloc).expect(rt, "memory");
+    end_one(rt, &mut submitters, submitter);
+    let ends = Ends {
+        submitters,
+        control,
+    };
+    finish_started(rt, pipeline, ends, gate)
 }
 
 /// Serves and settles as `finish` does, where threads can be started.
-fn finish_started<R: Threads + Wait + Sync, G: Gate>(
+fn finish_started<R: Threads + Wait + Sync + Abort, G: Gate>(
     rt: &R,
     pipeline: Pipeline,
     ends: Ends,
     gate: &G,
-) -> Result<Report, Fail>
+) -> Report
     requires own { map end_origin ends.submitters.items ≡ pipeline.submitters }
     requires control { ends.control.seat ≡ control_seat pipeline.intake }
-    ensures { IfOk result (λ report. IsRun pipeline.clock pipeline.intake.limit pipeline.intake.submitters report.ledger report.ends.items) }
+    ensures { IsRun pipeline.clock pipeline.intake.limit pipeline.intake.submitters result.ledger result.ends.items }
 {
     match finish(rt, pipeline, ends, gate) {
-        Ok(report) => Ok(report),
-        Err(back) => {
-            drop(back);
-            Err("a thread can't be started")?
-        }
+        Ok(report) => report,
+        Err(_) => panic!(rt; "a thread can't be started"),
     }
 }
 
 /// Compares the clock of a run with one submitter, and what the replies tell that it has not read.
-fn assert_run(
-    rt: &impl Abort,
-    alloc: Global,
-    report: Report,
-    wanted_clock: u64,
-    wanted: &[Told],
-) -> Result<(), Fail> {
+fn assert_run(rt: &impl Abort, report: Report, wanted_clock: u64, wanted: &[Told]) {
     let mut report = report;
-    let asserted = assert_report(rt, alloc, &mut report, wanted_clock, 0, wanted);
+    assert_report(rt, &mut report, wanted_clock, 0, wanted);
     drop(report);
-    asserted
 }
 
 /// Compares a report's clock, and what the replies tell that a submitter has not read.
 fn assert_report(
     rt: &impl Abort,
-    alloc: Global,
     report: &mut Report,
     wanted_clock: u64,
     submitter: usize,
     wanted: &[Told],
-) -> Result<(), Fail> {
+) {
     assert_eq!(rt; clock(report), wanted_clock);
-    let told = replies(alloc, report, submitter)?;
-    assert_eq!(rt; told.as_slice(), wanted);
-    Ok(())
+    let ended = report
+        .ends
+        .get_mut(submitter)
+        .expect(rt, "there is such a submitter");
+    for told in wanted {
+        assert_eq!(rt; next_told(ended), Some(*told));
+    }
+    assert_eq!(rt; next_told(ended), None);
 }
 
-/// What the replies tell that a submitter has not read, in order.
-fn replies(alloc: Global, report: &mut Report, submitter: usize) -> Result<Vec<Told>, Fail> {
-    let mut told = Vec::new(alloc);
-    let ended = report.ends.get_mut(submitter).ok_or("no such submitter")?;
-    for _ in 0..MOST_TURNS {
-        match ended.reply() {
-            Some(reply) => told.push(told_by(&reply))?,
-            None => return Ok(told),
-        }
-    }
-    Err("replies without end")?
+/// What the next reply tells that a submitter has not read.
+fn next_told(ended: &mut Ended) -> Option<Told> {
+    let reply = ended.reply()?;
+    Some(told_by(reply))
 }
 
-/// The number of packets of each entry of the journal, 0 for a pulse.
-fn entries(alloc: Global, report: &Report) -> Result<Vec<usize>, Fail> {
-    let mut counts = Vec::new(alloc);
-    for entry in report.ledger.journal() {
-        counts.push(match entry {
-            Entry::Batch {
-                operation: _,
-                body: _,
-                stubs,
-            } => stubs.len(),
-            Entry::Pulse { moment: _ } => 0,
-        })?;
+/// Compares the number of packets of each entry of the journal, 0 for a pulse.
+fn assert_entries(rt: &impl Abort, report: &Report, wanted: &[usize]) {
+    let journal = report.ledger.journal();
+    assert_eq!(rt; journal.len(), wanted.len());
+    for (entry, packets) in journal.iter().zip(wanted) {
+        assert_eq!(rt; packets_of(entry), *packets);
     }
-    Ok(counts)
+}
+
+fn packets_of(entry: &Entry) -> usize {
+    match entry {
+        Entry::Batch {
+            operation: _,
+            body: _,
+            stubs,
+        } => stubs.len(),
+        Entry::Pulse { moment: _ } => 0,
+    }
 }
 
 fn clock(report: &Report) -> u64 {

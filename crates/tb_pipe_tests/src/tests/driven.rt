@@ -12,7 +12,6 @@ use std::alloc::Global;
 use std::process::Abort;
 use std::snapshot::Snapshot;
 use std::sync::Wait;
-use std::test::Fail;
 use std::thread;
 use std::thread::{Promise, Threads};
 use tb_pipe::{Open, Opened, Pipeline, Report, settle};
@@ -101,7 +100,7 @@ fn wait_for_reply(submitter: &mut Submitter) -> Option<Told>
 {
     for _ in 0..MOST_TURNS {
         if let Some(reply) = submitter.reply() {
-            return Some(told_by(&reply));
+            return Some(told_by(reply));
         }
         thread::yield_now();
     }
@@ -109,7 +108,7 @@ fn wait_for_reply(submitter: &mut Submitter) -> Option<Told>
 }
 
 /// Queues a packet with this account and waits for its reply.
-fn round<R: Wait>(rt: &R, alloc: Global, submitter: &mut Submitter, id: u8) -> Option<Told>
+fn round<R: Wait + Abort>(rt: &R, alloc: Global, submitter: &mut Submitter, id: u8) -> Option<Told>
     ensures { origin_of submitter.new ≡ origin_of submitter.old }
 {
     let packet = packet_of(alloc, CREATE_ACCOUNTS, id).ok()?;
@@ -118,7 +117,7 @@ fn round<R: Wait>(rt: &R, alloc: Global, submitter: &mut Submitter, id: u8) -> O
 }
 
 /// Why a packet of an unknown operation, without events, is refused; it takes no memory.
-fn refusal<R: Wait>(rt: &R, alloc: Global, submitter: &mut Submitter) -> Option<Refusal>
+fn refusal<R: Wait + Abort>(rt: &R, alloc: Global, submitter: &mut Submitter) -> Option<Refusal>
     ensures { origin_of submitter.new ≡ origin_of submitter.old }
 {
     let packet = packet_of(alloc, 200, 0).ok()?;
@@ -128,7 +127,7 @@ fn refusal<R: Wait>(rt: &R, alloc: Global, submitter: &mut Submitter) -> Option<
     }
 }
 
-fn drive_round_close<R: Wait>(
+fn drive_round_close<R: Wait + Abort>(
     rt: &R,
     alloc: Global,
     submitter: Submitter,
@@ -148,7 +147,12 @@ fn drive_round_close<R: Wait>(
     }
 }
 
-fn drive_read_two<R: Wait>(rt: &R, alloc: Global, submitter: Submitter, control: Control) -> Driven
+fn drive_read_two<R: Wait + Abort>(
+    rt: &R,
+    alloc: Global,
+    submitter: Submitter,
+    control: Control,
+) -> Driven
     ensures { (end_origin result.ended ≡ origin_of submitter) × (result.control.seat ≡ control.seat) }
 {
     let mut submitter = submitter;
@@ -168,7 +172,7 @@ fn read_one(submitter: &mut Submitter, next: &mut u64)
     ensures { origin_of submitter.new ≡ origin_of submitter.old }
 {
     if let Some(reply) = submitter.reply() {
-        if told_by(&reply) == Told::Committed(*next) {
+        if told_by(reply) == Told::Committed(*next) {
             *next = next.wrapping_add(1);
         }
     }
@@ -176,7 +180,7 @@ fn read_one(submitter: &mut Submitter, next: &mut u64)
 
 /// Submits a packet until it is queued or refused for another reason than a full queue or the credit, and reads
 /// replies meanwhile.
-fn submit_trying<R: Wait>(
+fn submit_trying<R: Wait + Abort>(
     rt: &R,
     alloc: Global,
     submitter: &mut Submitter,
@@ -197,7 +201,7 @@ fn submit_trying<R: Wait>(
     }
 }
 
-fn submit_fifty<R: Wait>(rt: &R, alloc: Global, submitter: &mut Submitter) -> u64
+fn submit_fifty<R: Wait + Abort>(rt: &R, alloc: Global, submitter: &mut Submitter) -> u64
     ensures { origin_of submitter.new ≡ origin_of submitter.old }
 {
     let mut next = 0;
@@ -209,7 +213,12 @@ fn submit_fifty<R: Wait>(rt: &R, alloc: Global, submitter: &mut Submitter) -> u6
     next
 }
 
-fn drive_fifty<R: Wait>(rt: &R, alloc: Global, submitter: Submitter, control: Control) -> Driven
+fn drive_fifty<R: Wait + Abort>(
+    rt: &R,
+    alloc: Global,
+    submitter: Submitter,
+    control: Control,
+) -> Driven
     ensures { (end_origin result.ended ≡ origin_of submitter) × (result.control.seat ≡ control.seat) }
 {
     let mut submitter = submitter;
@@ -225,7 +234,7 @@ fn drive_fifty<R: Wait>(rt: &R, alloc: Global, submitter: Submitter, control: Co
     }
 }
 
-fn drive<R: Wait>(
+fn drive<R: Wait + Abort>(
     rt: &R,
     alloc: Global,
     submitter: Submitter,
@@ -250,9 +259,10 @@ pub(super) struct Driving {
     pub(super) control: Control,
 }
 
-/// A thread drives the last submitter and the control. The report, and what the driver saw. From opening to the
+/// A thread drives the last submitter and the control. The report, and what the driver saw; there is room for the last
+/// end. From opening to the
 /// report it is proved lawful by the clauses of the calls alone.
-pub(super) fn run<R: Threads + Wait + Sync>(
+pub(super) fn run<R: Threads + Wait + Sync + Abort>(
     rt: &R,
     alloc: Global,
     driving: Driving,
@@ -300,11 +310,7 @@ pub(super) fn run<R: Threads + Wait + Sync>(
                 control,
                 saw,
             } = driver.join(rt);
-            let Ok(()) = put(&mut ends, ended) else {
-                drop(served);
-                drop(control);
-                return Err(Refusal::NoMemory);
-            };
+            put(rt, &mut ends, ended);
             Ok((settle(served, ends, control), saw))
         },
     )
@@ -330,48 +336,28 @@ pub(super) fn drive_lone(lone: Lone, ends: Vec<Ended>) -> Driving
     }
 }
 
-/// Ends all but the last.
-fn end_all_but_last<R: Wait>(
-    rt: &R,
-    alloc: Global,
-    submitters: Vec<Submitter>,
-) -> Result<(Vec<Ended>, Submitter), Fail>
-    ensures { IfOk result (λ ends. map end_origin ends.0.items ++ origin_of ends.1 ∷ [] ≡ map origin_of submitters.items) }
-{
-    let mut submitters = submitters;
-    let last = submitters.pop().ok_or("no submitter")?;
-    let ends = end_all(rt, alloc, submitters)?;
-    Ok((ends, last))
-}
-
 /// Opens for so many submitters, of which all but the last end at once.
-fn opened_driving<R: Wait>(
+fn opened_driving<R: Wait + Abort>(
     rt: &R,
     alloc: Global,
     capacity: u32,
     credit: u32,
     submitters: u32,
-) -> Result<Driving, Fail>
-    ensures own { IfOk result (λ driving. map end_origin driving.ends.items ++ origin_of driving.last ∷ [] ≡ driving.pipeline.submitters) }
-    ensures control { IfOk result (λ driving. driving.control.seat ≡ control_seat driving.pipeline.intake) }
+) -> Driving
+    ensures own { map end_origin result.ends.items ++ origin_of result.last ∷ [] ≡ result.pipeline.submitters }
+    ensures control { result.control.seat ≡ control_seat result.pipeline.intake }
 {
     let Opened {
         pipeline,
-        submitters,
+        mut submitters,
         control,
-    } = opened(alloc, capacity, credit, submitters)?;
-    match end_all_but_last(rt, alloc, submitters) {
-        Ok((ends, last)) => Ok(Driving {
-            pipeline,
-            ends,
-            last,
-            control,
-        }),
-        Err(fail) => {
-            drop(pipeline);
-            drop(control);
-            Err(fail)
-        }
+    } = opened(alloc, capacity, credit, submitters).expect(rt, "it is opened");
+    let last = submitters.pop().expect(rt, "there is a submitter");
+    Driving {
+        pipeline,
+        ends: end_all(rt, alloc, submitters),
+        last,
+        control,
     }
 }
 
@@ -383,33 +369,32 @@ fn assert_driven<R: Threads + Wait + Sync + Abort>(
     course: Course,
     wanted: Saw,
     wanted_clock: u64,
-) -> Result<(), Fail>
+)
     requires own { map end_origin driving.ends.items ++ origin_of driving.last ∷ [] ≡ driving.pipeline.submitters }
     requires control { driving.control.seat ≡ control_seat driving.pipeline.intake }
 {
-    let (report, saw) = run(rt, alloc, driving, course)?;
-    let clock = clock(&report);
+    let (report, saw) = run(rt, alloc, driving, course)
+        .ok()
+        .expect(rt, "threads can be started");
+    assert_eq!(rt; (saw, clock(&report)), (wanted, wanted_clock));
     drop(report);
-    assert_eq!(rt; (saw, clock), (wanted, wanted_clock));
-    Ok(())
 }
 
 #[test]
-fn close_between_two_packets(rt: HostRuntime) -> Result<(), Fail> {
+fn close_between_two_packets(rt: HostRuntime) {
     let wanted = Saw::Replies(
         Some(Told::Committed(0)),
         Some(Told::Shutdown),
         Some(Refusal::Shutdown),
     );
     for submitters in [1, 2, 16] {
-        let driving = opened_driving(&rt, rt.alloc(), 64, 64, submitters)?;
-        assert_driven(&rt, rt.alloc(), driving, Course::RoundClose, wanted, 1)?;
+        let driving = opened_driving(&rt, rt.alloc(), 64, 64, submitters);
+        assert_driven(&rt, rt.alloc(), driving, Course::RoundClose, wanted, 1);
     }
-    Ok(())
 }
 
 #[test]
-fn one_place_one_credit(rt: HostRuntime) -> Result<(), Fail> {
-    let driving = opened_driving(&rt, rt.alloc(), 1, 1, 1)?;
-    assert_driven(&rt, rt.alloc(), driving, Course::Fifty, Saw::Places(50), 50)
+fn one_place_one_credit(rt: HostRuntime) {
+    let driving = opened_driving(&rt, rt.alloc(), 1, 1, 1);
+    assert_driven(&rt, rt.alloc(), driving, Course::Fifty, Saw::Places(50), 50);
 }

@@ -4,7 +4,6 @@ use super::queued::{Step, run_queued};
 use super::{CREATE_ACCOUNTS, CREATE_TRANSFERS, MOST_TURNS, Told, assert_run};
 use std::sync::atomic::Ordering::SeqCst;
 use std::sync::atomic::{AtomicBool, AtomicU64};
-use std::test::Fail;
 use std::thread;
 use tb_pipe::Gate;
 
@@ -67,12 +66,12 @@ const EMPTY: [Step; 2] = [
 ];
 
 #[test]
-fn batcher_and_committer_overlap(rt: HostRuntime) -> Result<(), Fail> {
+fn batcher_and_committer_overlap(rt: HostRuntime) {
     let gate = Meeting::new(2, true);
-    let report = run_queued(&rt, rt.alloc(), &EMPTY, false, &[], &gate)?;
+    let report = run_queued(&rt, rt.alloc(), &EMPTY, false, &[], &gate);
     assert!(rt; !gate.marked.load(SeqCst));
     let places = [Told::Committed(0), Told::Committed(1)];
-    assert_run(&rt, rt.alloc(), report, 0, &places)
+    assert_run(&rt, report, 0, &places);
 }
 
 /// The same two in turn, twenty in all.
@@ -93,9 +92,9 @@ fn twenty_places() -> [Told; 20] {
 }
 
 #[test]
-fn six_batches_sealed_ahead(rt: HostRuntime) -> Result<(), Fail> {
+fn six_batches_sealed_ahead(rt: HostRuntime) {
     let gate = Meeting::new(6, false);
-    let report = run_queued(&rt, rt.alloc(), &twenty_in_turn(), false, &[], &gate)?;
+    let report = run_queued(&rt, rt.alloc(), &twenty_in_turn(), false, &[], &gate);
     assert!(rt; !gate.marked.load(SeqCst));
-    assert_run(&rt, rt.alloc(), report, 0, &twenty_places())
+    assert_run(&rt, report, 0, &twenty_places());
 }

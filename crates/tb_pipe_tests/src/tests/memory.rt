@@ -2,22 +2,21 @@
 //! is refused differs from run to run, since the stages and the test itself take memory at once: so the tests look at
 //! the answers alone, and ask once more for what they need themselves.
 
-ghost use Rattle.std.specs.Prelude.{◌≡◌, ◌∷◌, [], IfOk};
-ghost use Rattle.tb_submit.specs.Ends.{origin_of};
+ghost use Rattle.std.specs.Prelude.{◌≡◌, ◌++◌, ◌∷◌, [], IfOk, map};
+ghost use Rattle.tb_submit.specs.Ends.{control_seat, end_origin, origin_of};
 ghost use Rattle.tb_pipe_tests.specs.Together.{AreTogether};
 
-use super::driven::{Course, Saw, drive_lone, run};
+use super::driven::{Course, Driving, Saw, drive_lone, run};
 use super::{
-    CREATE_ACCOUNTS, Lone, Told, clock, end_lone, finish, holds, opened_lone, packet_of,
-    queue_pulse, room_for_ends, submit, told_by,
+    CREATE_ACCOUNTS, Ends, Lone, Told, clock, end_control, end_one, finish, next_told, opened_lone,
+    packet_of, queue_pulse, room_for_ends, submit,
 };
 use std::alloc::{AllocError, Global};
 use std::process::Abort;
 use std::sync::Wait;
-use std::test::Fail;
 use std::thread::Threads;
 use tb_pipe::{Open, Report};
-use tb_submit::{Control, Intake, Submitter};
+use tb_submit::{Control, Ended, Intake, Submitter};
 use tb_work::{Item, Packet, Refusal, Ticket};
 
 fn packet_again(alloc: Global, id: u8) -> Result<Packet, AllocError> {
@@ -28,81 +27,74 @@ fn packet_again(alloc: Global, id: u8) -> Result<Packet, AllocError> {
 }
 
 /// A pipeline of one submitter, opened once more where that is refused for want of memory, which is told.
-fn open_again(alloc: Global, told: &mut bool) -> Result<Lone, Fail>
+fn open_again(rt: &impl Abort, alloc: Global, told: &mut bool) -> Result<Lone, Refusal>
     ensures { IfOk result (λ lone. AreTogether lone.pipeline (lone.submitter ∷ []) lone.control) }
 {
     match opened_lone(alloc, 64, 64) {
         Ok(lone) => Ok(lone),
         Err(refusal) => {
-            holds(refusal == Refusal::NoMemory, "not for want of memory")?;
+            assert_eq!(rt; refusal, Refusal::NoMemory);
             *told = true;
-            Ok(opened_lone(alloc, 64, 64)?)
+            opened_lone(alloc, 64, 64)
         }
     }
 }
 
 /// Submits a packet with this account. It takes no memory, since the room for one failure lies in the job.
-fn submit_account<R: Wait>(
+fn submit_account<R: Wait + Abort>(
     rt: &R,
     alloc: Global,
     submitter: &mut Submitter,
     id: u8,
-) -> Result<(), Fail>
+) -> Result<(), AllocError>
     ensures { origin_of submitter.new ≡ origin_of submitter.old }
 {
     let packet = packet_again(alloc, id)?;
-    let queued = submit(rt, alloc, submitter, packet).is_ok();
-    holds(queued, "a packet of one event is refused")
+    assert!(rt; submit(rt, alloc, submitter, packet).is_ok());
+    Ok(())
 }
 
 /// Two accounts, a pulse, and four accounts, each in its packet.
-fn queue_seven<R: Wait>(
+fn queue_seven<R: Wait + Abort>(
     rt: &R,
     alloc: Global,
     submitter: &mut Submitter,
     control: &mut Control,
-) -> Result<(), Fail>
+) -> Result<(), AllocError>
     ensures submitter { origin_of submitter.new ≡ origin_of submitter.old }
     ensures control { control.new.seat ≡ control.old.seat }
 {
     for id in 1..7u8 {
         if id == 3 {
-            queue_pulse(rt, control, 5)?;
+            queue_pulse(rt, control, 5);
         }
         submit_account(rt, alloc, submitter, id)?;
     }
     Ok(())
 }
 
-/// A pipeline with all that is queued for it; a want of memory at its opening is told.
-fn seven_queued<R: Wait>(rt: &R, alloc: Global, told: &mut bool) -> Result<Lone, Fail>
-    ensures { IfOk result (λ lone. AreTogether lone.pipeline (lone.submitter ∷ []) lone.control) }
-{
-    let mut lone = open_again(alloc, told)?;
-    queue_seven(rt, alloc, &mut lone.submitter, &mut lone.control)?;
-    Ok(lone)
-}
-
-/// The report, or the intake where a thread couldn't be started.
-fn serve_seven<R: Threads + Wait + Sync>(
+/// Ends both, and serves: the report, or the intake where a thread couldn't be started. There is room for the end.
+fn serve_seven<R: Threads + Wait + Sync + Abort>(
     rt: &R,
-    alloc: Global,
     lone: Lone,
-) -> Result<Result<Report, (Intake, Refusal)>, Fail>
-    requires { AreTogether lone.pipeline (lone.submitter ∷ []) lone.control }
+    room: Vec<Ended>,
+) -> Result<Report, (Intake, Refusal)>
+    requires together { AreTogether lone.pipeline (lone.submitter ∷ []) lone.control }
+    requires none { room.items ≡ [] }
 {
     let Lone {
         pipeline,
         submitter,
         control,
     } = lone;
-    match end_lone(rt, alloc, submitter, control, false, &[]) {
-        Ok(ends) => Ok(finish(rt, pipeline, ends, &Open)),
-        Err(fail) => {
-            drop(pipeline);
-            Err(fail)
-        }
-    }
+    let control = end_control(rt, control, false);
+    let mut submitters = room;
+    end_one(rt, &mut submitters, submitter);
+    let ends = Ends {
+        submitters,
+        control,
+    };
+    finish(rt, pipeline, ends, &Open)
 }
 
 /// What a ticket says: a packet with its number, or a pulse with its moment.
@@ -138,7 +130,7 @@ fn seven_replies(report: &mut Report) -> [Option<Told>; 7] {
     let mut replies = [None; 7];
     if let Some(ended) = report.ends.get_mut(0) {
         for k in 0..7usize {
-            replies[k] = ended.reply().map(|reply| told_by(&reply));
+            replies[k] = next_told(ended);
         }
     }
     replies
@@ -175,19 +167,36 @@ fn assert_none_taken<R: Wait + Abort>(rt: &R, intake: &mut Intake, refusal: Refu
     assert_eq!(rt; ten_tickets(rt, intake), ALL_TICKETS);
 }
 
-#[test]
-fn each_growth_refused_memory(rt: HostRuntime) -> Result<(), Fail> {
-    let mut told = false;
-    let lone = seven_queued(&rt, rt.alloc(), &mut told)?;
-    match serve_seven(&rt, rt.alloc(), lone)? {
+/// Serves all that was queued, and compares what became of it.
+fn assert_each_growth<R: Threads + Wait + Sync + Abort>(
+    rt: &R,
+    lone: Lone,
+    room: Vec<Ended>,
+    told: bool,
+)
+    requires together { AreTogether lone.pipeline (lone.submitter ∷ []) lone.control }
+    requires none { room.items ≡ [] }
+{
+    match serve_seven(rt, lone, room) {
         Ok(mut report) => {
-            assert_seven(&rt, &mut report, told);
+            assert_seven(rt, &mut report, told);
             drop(report);
         }
         Err((mut intake, refusal)) => {
-            assert_none_taken(&rt, &mut intake, refusal);
+            assert_none_taken(rt, &mut intake, refusal);
             drop(intake);
         }
+    }
+}
+
+#[test]
+fn each_growth_refused_memory(rt: HostRuntime) -> Result<(), Refusal> {
+    let mut told = false;
+    let mut lone = open_again(&rt, rt.alloc(), &mut told)?;
+    let queued = queue_seven(&rt, rt.alloc(), &mut lone.submitter, &mut lone.control);
+    match (queued, room_for_ends(rt.alloc())) {
+        (Ok(()), Ok(room)) => assert_each_growth(&rt, lone, room, told),
+        _ => return Err(Refusal::NoMemory),
     }
     Ok(())
 }
@@ -207,46 +216,51 @@ const ALL_TICKETS: [Option<(u32, Said)>; 10] = [
 ];
 
 /// Two accounts, each in its packet, and a pulse.
-fn queue_three<R: Wait>(
+fn queue_three<R: Wait + Abort>(
     rt: &R,
     alloc: Global,
     submitter: &mut Submitter,
     control: &mut Control,
-) -> Result<(), Fail>
+) -> Result<(), AllocError>
     ensures submitter { origin_of submitter.new ≡ origin_of submitter.old }
     ensures control { control.new.seat ≡ control.old.seat }
 {
     submit_account(rt, alloc, submitter, 1)?;
     submit_account(rt, alloc, submitter, 2)?;
-    queue_pulse(rt, control, 5)
+    queue_pulse(rt, control, 5);
+    Ok(())
 }
 
-/// A pipeline for which these three are queued.
-fn three_queued<R: Wait>(rt: &R, alloc: Global) -> Result<Lone, Fail>
-    ensures { IfOk result (λ lone. AreTogether lone.pipeline (lone.submitter ∷ []) lone.control) }
+/// Drives what is queued. Where the first commit is refused the journal stays empty, and the submitter is told twice,
+/// and then by a refusal.
+fn assert_first_commit<R: Threads + Wait + Sync + Abort + Print>(
+    rt: &R,
+    alloc: Global,
+    driving: Driving,
+)
+    requires own { map end_origin driving.ends.items ++ origin_of driving.last ∷ [] ≡ driving.pipeline.submitters }
+    requires control { driving.control.seat ≡ control_seat driving.pipeline.intake }
 {
-    let mut lone = open_again(alloc, &mut false)?;
-    queue_three(rt, alloc, &mut lone.submitter, &mut lone.control)?;
-    Ok(lone)
-}
-
-/// Where the first commit is refused the journal stays empty, and the submitter is told twice, and then by a refusal.
-/// `tools/refuse-each-growth` counts the lines that this prints: some allocation is that commit's.
-#[test]
-fn first_commit_refused_memory(rt: HostRuntime) -> Result<(), Fail> {
-    let ends = room_for_ends(rt.alloc())?;
-    let lone = three_queued(&rt, rt.alloc())?;
-    match run(&rt, rt.alloc(), drive_lone(lone, ends), Course::ReadTwo) {
+    match run(rt, alloc, driving, Course::ReadTwo) {
         Ok((report, saw)) => {
-            let places = report.ledger.places();
-            let clock = clock(&report);
-            drop(report);
-            if places == 0 {
-                assert_eq!(rt; (saw, clock), (ALL_STOPPED, 0));
+            if report.ledger.places() == 0 {
+                assert_eq!(rt; (saw, clock(&report)), (ALL_STOPPED, 0));
                 let _ = println!(rt; "the first commit is refused");
             }
+            drop(report);
         }
         Err(refusal) => assert_eq!(rt; refusal, Refusal::NoThread),
+    }
+}
+
+/// `tools/refuse-each-growth` counts the lines that this prints: some allocation is the first commit's.
+#[test]
+fn first_commit_refused_memory(rt: HostRuntime) -> Result<(), Refusal> {
+    let mut lone = open_again(&rt, rt.alloc(), &mut false)?;
+    let queued = queue_three(&rt, rt.alloc(), &mut lone.submitter, &mut lone.control);
+    match (queued, room_for_ends(rt.alloc())) {
+        (Ok(()), Ok(room)) => assert_first_commit(&rt, rt.alloc(), drive_lone(lone, room)),
+        _ => return Err(Refusal::NoMemory),
     }
     Ok(())
 }

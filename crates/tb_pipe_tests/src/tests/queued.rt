@@ -1,17 +1,16 @@
 //! Runs of which all is queued before they are served.
 
-ghost use Rattle.std.specs.Prelude.{◌≡◌, ◌∷◌, [], IfOk, map};
+ghost use Rattle.std.specs.Prelude.{◌≡◌, map};
 ghost use Rattle.tb_submit.specs.Ends.{end_origin, origin_of};
-ghost use Rattle.tb_pipe_tests.specs.Together.{IsRun};
+ghost use Rattle.tb_pipe_tests.specs.Together.{AreTogether, IsRun};
 
 use super::{
-    CREATE_ACCOUNTS, Ends, Told, assert_report, assert_run, end_all, end_control, entries,
-    finish_lone, finish_started, holds, opened, opened_lone, packet_of, queue, queue_pulse, submit,
+    CREATE_ACCOUNTS, Ends, Told, answer_to, assert_entries, assert_report, assert_run, end_all,
+    end_control, finish_lone, finish_started, open_lone, opened, queue, queue_pulse,
 };
 use std::alloc::Global;
 use std::process::Abort;
 use std::sync::Wait;
-use std::test::Fail;
 use std::thread::Threads;
 use tb_pipe::{Gate, Open, Opened, Report};
 use tb_submit::{Control, Submitter};
@@ -26,44 +25,38 @@ pub(super) enum Step {
     Pulse(u64),
 }
 
-fn queue_steps<R: Wait>(
+fn queue_steps<R: Wait + Abort>(
     rt: &R,
     alloc: Global,
     submitter: &mut Submitter,
     control: &mut Control,
     steps: &[Step],
-) -> Result<(), Fail>
+)
     ensures submitter { origin_of submitter.new ≡ origin_of submitter.old }
     ensures control { control.new.seat ≡ control.old.seat }
 {
     for step in steps {
         match *step {
-            Step::Packet(operation, id) => queue(rt, alloc, submitter, operation, id)?,
-            Step::Pulse(moment) => queue_pulse(rt, control, moment)?,
+            Step::Packet(operation, id) => queue(rt, alloc, submitter, operation, id),
+            Step::Pulse(moment) => queue_pulse(rt, control, moment),
         }
     }
-    Ok(())
 }
 
 /// Some steps, the control's end or its Close, and some accounts, each in its packet.
-pub(super) fn run_queued<R: Threads + Wait + Sync, G: Gate>(
+pub(super) fn run_queued<R: Threads + Wait + Sync + Abort, G: Gate>(
     rt: &R,
     alloc: Global,
     steps: &[Step],
     shut: bool,
     behind: &[u8],
     gate: &G,
-) -> Result<Report, Fail>
-    ensures { IfOk result (λ report. IsRun 0 4 1 report.ledger report.ends.items) }
+) -> Report
+    ensures { IsRun 0 4 1 result.ledger result.ends.items }
 {
-    let mut lone = opened_lone(alloc, 64, 64)?;
-    match queue_steps(rt, alloc, &mut lone.submitter, &mut lone.control, steps) {
-        Ok(()) => finish_lone(rt, alloc, lone, shut, behind, gate),
-        Err(fail) => {
-            drop(lone);
-            Err(fail)
-        }
-    }
+    let mut lone = open_lone(rt, alloc, 64, 64);
+    queue_steps(rt, alloc, &mut lone.submitter, &mut lone.control, steps);
+    finish_lone(rt, alloc, lone, shut, behind, gate)
 }
 
 const TWO_AND_FOUR: [Step; 7] = [
@@ -86,43 +79,28 @@ const SIX_PLACES: [Told; 6] = [
 ];
 
 /// Two packets are joined before the pulse, and four after it.
-fn assert_pulse_between(rt: &impl Abort, alloc: Global, report: &mut Report) -> Result<(), Fail> {
-    let counts = entries(alloc, report)?;
-    assert_eq!(rt; counts.as_slice(), [2, 0, 4].as_slice());
-    assert_report(rt, alloc, report, 9, 0, &SIX_PLACES)
-}
-
 #[test]
-fn pulse_between_batches(rt: HostRuntime) -> Result<(), Fail> {
+fn pulse_between_batches(rt: HostRuntime) {
     for shut in [false, true] {
-        let mut report = run_queued(&rt, rt.alloc(), &TWO_AND_FOUR, shut, &[], &Open)?;
-        let asserted = assert_pulse_between(&rt, rt.alloc(), &mut report);
-        drop(report);
-        asserted?;
+        let report = run_queued(&rt, rt.alloc(), &TWO_AND_FOUR, shut, &[], &Open);
+        assert_entries(&rt, &report, &[2, 0, 4]);
+        assert_run(&rt, report, 9, &SIX_PLACES);
     }
-    Ok(())
 }
 
 #[test]
-fn packet_behind_shut(rt: HostRuntime) -> Result<(), Fail> {
+fn packet_behind_shut(rt: HostRuntime) {
     let ahead = [Step::Packet(CREATE_ACCOUNTS, 1)];
-    let report = run_queued(&rt, rt.alloc(), &ahead, true, &[2], &Open)?;
+    let report = run_queued(&rt, rt.alloc(), &ahead, true, &[2], &Open);
     assert_eq!(rt; report.ledger.machine().accounts(), 1);
-    let told = [Told::Committed(0), Told::Shutdown];
-    assert_run(&rt, rt.alloc(), report, 1, &told)
+    assert_run(&rt, report, 1, &[Told::Committed(0), Told::Shutdown]);
 }
 
 /// So many of six packets are ahead of the Close.
-fn closes_after<R: Threads + Wait + Sync>(
-    rt: &R,
-    alloc: Global,
-    count: usize,
-) -> Result<Report, Fail> {
+fn closes_after<R: Threads + Wait + Sync + Abort>(rt: &R, alloc: Global, count: usize) -> Report {
+    assert!(rt; count <= 6);
     let ids = [1, 2, 3, 4, 5, 6];
     let steps = ids.map(|id| Step::Packet(CREATE_ACCOUNTS, id));
-    if count > 6 {
-        return Err("more than six")?;
-    }
     run_queued(rt, alloc, &steps[..count], true, &ids[count..], &Open)
 }
 
@@ -138,17 +116,15 @@ fn told_where(count: usize) -> [Told; 6] {
 }
 
 #[test]
-fn close_anywhere(rt: HostRuntime) -> Result<(), Fail> {
+fn close_anywhere(rt: HostRuntime) {
     for count in 0..7usize {
-        let report = closes_after(&rt, rt.alloc(), count)?;
-        let told = told_where(count);
-        assert_run(&rt, rt.alloc(), report, count as u64, &told)?;
+        let report = closes_after(&rt, rt.alloc(), count);
+        assert_run(&rt, report, count as u64, &told_where(count));
     }
-    Ok(())
 }
 
 /// Submits four packets, and sees before each how many are in flight.
-fn submit_four<R: Wait>(rt: &R, alloc: Global, submitter: &mut Submitter) -> Result<(), Fail>
+fn submit_four<R: Wait + Abort>(rt: &R, alloc: Global, submitter: &mut Submitter)
     ensures { origin_of submitter.new ≡ origin_of submitter.old }
 {
     for (in_flight, wanted) in [
@@ -157,106 +133,91 @@ fn submit_four<R: Wait>(rt: &R, alloc: Global, submitter: &mut Submitter) -> Res
         (2, Ok(2)),
         (3, Err(Refusal::InFlight)),
     ] {
-        holds(
-            submitter.in_flight() == in_flight,
-            "another number in flight",
-        )?;
-        let packet = packet_of(alloc, CREATE_ACCOUNTS, 1)?;
-        let number = submit(rt, alloc, submitter, packet).map_err(|refused| refused.1);
-        holds(number == wanted, "another answer")?;
+        assert_eq!(rt; submitter.in_flight(), in_flight);
+        let answer = answer_to(rt, alloc, submitter, CREATE_ACCOUNTS, 1);
+        assert_eq!(rt; answer, wanted);
     }
-    Ok(())
 }
 
-fn three_unread<R: Threads + Wait + Sync>(rt: &R, alloc: Global) -> Result<Report, Fail>
-    ensures { IfOk result (λ report. IsRun 0 4 1 report.ledger report.ends.items) }
+fn three_unread<R: Threads + Wait + Sync + Abort>(rt: &R, alloc: Global) -> Report
+    ensures { IsRun 0 4 1 result.ledger result.ends.items }
 {
-    let mut lone = opened_lone(alloc, 8, 3)?;
-    match submit_four(rt, alloc, &mut lone.submitter) {
-        Ok(()) => finish_lone(rt, alloc, lone, false, &[], &Open),
-        Err(fail) => {
-            drop(lone);
-            Err(fail)
-        }
-    }
+    let mut lone = open_lone(rt, alloc, 8, 3);
+    submit_four(rt, alloc, &mut lone.submitter);
+    finish_lone(rt, alloc, lone, false, &[], &Open)
 }
 
 #[test]
-fn replies_after_settle(rt: HostRuntime) -> Result<(), Fail> {
-    let report = three_unread(&rt, rt.alloc())?;
+fn replies_after_settle(rt: HostRuntime) {
+    let report = three_unread(&rt, rt.alloc());
     let told = [Told::Committed(0), Told::Committed(1), Told::Committed(2)];
-    assert_run(&rt, rt.alloc(), report, 3, &told)
+    assert_run(&rt, report, 3, &told);
 }
 
 /// Each submitter queues a packet with the account after its number.
-fn queue_each<R: Wait>(
-    rt: &R,
-    alloc: Global,
-    submitters: Vec<Submitter>,
-) -> Result<Vec<Submitter>, Fail>
-    ensures { IfOk result (λ after. map origin_of after.items ≡ map origin_of submitters.items) }
+fn queue_each<R: Wait + Abort>(rt: &R, alloc: Global, submitters: Vec<Submitter>) -> Vec<Submitter>
+    ensures { map origin_of result.items ≡ map origin_of submitters.items }
 {
     let mut after = Vec::new(alloc);
     let mut id = 1u8;
     for mut submitter in submitters {
-        queue(rt, alloc, &mut submitter, CREATE_ACCOUNTS, id)?;
+        queue(rt, alloc, &mut submitter, CREATE_ACCOUNTS, id);
         id = id.wrapping_add(1);
-        after.push(submitter)?;
+        after.push(submitter).expect(rt, "memory");
     }
-    Ok(after)
+    after
 }
 
 /// Ends the control, has each submitter queue a packet, and ends them all.
-fn end_each<R: Wait>(
+fn end_each<R: Wait + Abort>(
     rt: &R,
     alloc: Global,
     submitters: Vec<Submitter>,
     control: Control,
-) -> Result<Ends, Fail>
-    ensures own { IfOk result (λ ends. map end_origin ends.submitters.items ≡ map origin_of submitters.items) }
-    ensures control { IfOk result (λ ends. ends.control.seat ≡ control.seat) }
+) -> Ends
+    ensures own { map end_origin result.submitters.items ≡ map origin_of submitters.items }
+    ensures control { result.control.seat ≡ control.seat }
 {
-    let submitters = queue_each(rt, alloc, submitters)?;
-    let control = end_control(rt, control, false)?;
-    let submitters = end_all(rt, alloc, submitters)?;
-    Ok(Ends {
+    let submitters = queue_each(rt, alloc, submitters);
+    let control = end_control(rt, control, false);
+    let submitters = end_all(rt, alloc, submitters);
+    Ends {
         submitters,
         control,
-    })
+    }
 }
 
-fn one_of_each<R: Threads + Wait + Sync>(rt: &R, alloc: Global) -> Result<Report, Fail>
-    ensures { IfOk result (λ report. IsRun 0 4 16 report.ledger report.ends.items) }
+/// Each of the submitters queues a packet and ends, and the pipeline serves them.
+fn finish_each<R: Threads + Wait + Sync + Abort>(rt: &R, alloc: Global, opened: Opened) -> Report
+    requires { AreTogether opened.pipeline opened.submitters.items opened.control }
+    ensures { IsRun opened.pipeline.clock opened.pipeline.intake.limit opened.pipeline.intake.submitters result.ledger result.ends.items }
 {
     let Opened {
         pipeline,
         submitters,
         control,
-    } = opened(alloc, 64, 64, 16)?;
-    match end_each(rt, alloc, submitters, control) {
-        Ok(ends) => finish_started(rt, pipeline, ends, &Open),
-        Err(fail) => {
-            drop(pipeline);
-            Err(fail)
-        }
+    } = opened;
+    let ends = end_each(rt, alloc, submitters, control);
+    finish_started(rt, pipeline, ends, &Open)
+}
+
+fn one_of_each<R: Threads + Wait + Sync + Abort>(rt: &R, alloc: Global) -> Report
+    ensures { IsRun 0 4 16 result.ledger result.ends.items }
+{
+    match opened(alloc, 64, 64, 16) {
+        Ok(opened) => finish_each(rt, alloc, opened),
+        Err(_) => panic!(rt; "it isn't opened"),
     }
 }
 
 /// Four batches of four packets, and a reply to each submitter.
-fn assert_one_of_each(rt: &impl Abort, alloc: Global, report: &mut Report) -> Result<(), Fail> {
-    let counts = entries(alloc, report)?;
-    assert_eq!(rt; counts.as_slice(), [4, 4, 4, 4].as_slice());
+#[test]
+fn sixteen_submitters(rt: HostRuntime) {
+    let mut report = one_of_each(&rt, rt.alloc());
+    assert_entries(&rt, &report, &[4, 4, 4, 4]);
     for sender in 0..16u8 {
         let told = [Told::Committed(u64::from(sender))];
-        assert_report(rt, alloc, report, 16, usize::from(sender), &told)?;
+        assert_report(&rt, &mut report, 16, usize::from(sender), &told);
     }
-    Ok(())
-}
-
-#[test]
-fn sixteen_submitters(rt: HostRuntime) -> Result<(), Fail> {
-    let mut report = one_of_each(&rt, rt.alloc())?;
-    let asserted = assert_one_of_each(&rt, rt.alloc(), &mut report);
     drop(report);
-    asserted
 }

@@ -1,16 +1,16 @@
 //! From opening to the content of a reply.
 
-ghost use Rattle.std.specs.Prelude.{◌≡◌, ◌∷◌, [], IfOk, IfSome};
+ghost use Rattle.std.specs.Prelude.{◌≡◌, ◌∷◌, []};
 ghost use Rattle.tb_submit.specs.Ends.{end_origin, ended_with, control_seat, sender_with, with_item};
 ghost use Rattle.tb_work.specs.Job.{numbered_packet};
 ghost use Rattle.tb_work.specs.declared.item.Item.TheVariants as item;
 ghost use Rattle.tb_work.specs.declared.packet.Packet.{Packet as PacketValue};
 ghost use Rattle.tb_pipe_tests.specs.OnePacket.{IsReplyToOne, IsRunOfOne, one_and_end};
 
-use super::{CREATE_ACCOUNTS, Lone, lone_of, put, room_for_ends};
+use super::{CREATE_ACCOUNTS, Lone, lone_of, look_of, put, room_for_ends};
 use std::alloc::{AllocError, Global};
+use std::process::Abort;
 use std::sync::Wait;
-use std::test::Fail;
 use std::thread::Threads;
 use tb_layout::Failure;
 use tb_pipe::{Open, Pipeline, Report, open, settle};
@@ -26,117 +26,86 @@ struct Queued {
 }
 
 /// Queues a packet, and ends.
-fn queue_and_end<R: Wait>(
+fn queue_and_end<R: Wait + Abort>(
     rt: &R,
     alloc: Global,
     submitter: Submitter,
     packet: Packet,
-) -> Result<Ended, Fail>
+) -> Ended
     requires { submitter.queued ≡ [] }
-    ensures { IfOk result (λ ended. ended ≡ ended_with (with_item submitter (item.Packet (numbered_packet submitter.origin.seat.number 0 packet))) item.End) }
+    ensures { result ≡ ended_with (with_item submitter (item.Packet (numbered_packet submitter.origin.seat.number 0 packet))) item.End }
 {
     let mut submitter = submitter;
-    let Ok(_number) = submitter.submit(rt, alloc, packet) else {
-        return Err("the packet is refused")?;
-    };
-    match submitter.end(rt) {
-        Ok(ended) => Ok(ended),
-        Err(_) => Err("the queue is full")?,
-    }
+    submitter
+        .submit(rt, alloc, packet)
+        .ok()
+        .expect(rt, "the packet is queued");
+    submitter
+        .end(rt)
+        .ok()
+        .expect(rt, "there is a place for the end")
 }
 
-fn end_alone<R: Wait>(rt: &R, control: Control) -> Result<ControlEnd, Fail>
-    ensures { IfOk result (λ end. end ≡ sender_with control item.End) }
+fn end_alone<R: Wait + Abort>(rt: &R, control: Control) -> ControlEnd
+    ensures { result ≡ sender_with control item.End }
 {
-    match control.end(rt) {
-        Ok(end) => Ok(end),
-        Err(_) => Err("the queue is full")?,
-    }
-}
-
-/// Queues a packet, and ends both senders.
-fn end_both<R: Wait>(
-    rt: &R,
-    alloc: Global,
-    submitter: Submitter,
-    control: Control,
-    packet: Packet,
-) -> Result<(Ended, ControlEnd), Fail>
-    requires { submitter.queued ≡ [] }
-    ensures ended { IfOk result (λ ends. ends.0 ≡ ended_with (with_item submitter (item.Packet (numbered_packet submitter.origin.seat.number 0 packet))) item.End) }
-    ensures control { IfOk result (λ ends. ends.1 ≡ sender_with control item.End) }
-{
-    let ended = queue_and_end(rt, alloc, submitter, packet)?;
-    Ok((ended, end_alone(rt, control)?))
+    control
+        .end(rt)
+        .ok()
+        .expect(rt, "there is a place for the end")
 }
 
 /// A pipeline of one submitter, for which a packet is queued.
-fn queue_one<R: Wait>(rt: &R, alloc: Global, packet: Packet) -> Result<Queued, Fail>
-    ensures own { IfOk result (λ queued. end_origin queued.ended ∷ [] ≡ queued.pipeline.submitters) }
-    ensures control { IfOk result (λ queued. queued.control ≡ record { seat = control_seat queued.pipeline.intake; queued = item.End ∷ [] }) }
-    ensures opened { IfOk result (λ queued. (queued.pipeline.clock ≡ 0) × (queued.pipeline.intake.submitters ≡ 1)) }
-    ensures queued { IfOk result (λ queued. (queued.ended.queued ≡ one_and_end packet) × (queued.ended.read ≡ [])) }
+fn queue_one<R: Wait + Abort>(rt: &R, alloc: Global, packet: Packet) -> Queued
+    ensures own { end_origin result.ended ∷ [] ≡ result.pipeline.submitters }
+    ensures control { result.control ≡ record { seat = control_seat result.pipeline.intake; queued = item.End ∷ [] } }
+    ensures opened { (result.pipeline.clock ≡ 0) × (result.pipeline.intake.submitters ≡ 1) }
+    ensures queued { (result.ended.queued ≡ one_and_end packet) × (result.ended.read ≡ []) }
 {
-    let Ok(opened) = open(alloc, 0, 4, 64, 64, 1) else {
-        return Err("the opening is refused")?;
-    };
-    let Lone {
-        pipeline,
-        submitter,
-        control,
-    } = lone_of(opened);
-    match end_both(rt, alloc, submitter, control, packet) {
-        Ok((ended, control)) => Ok(Queued {
-            pipeline,
-            ended,
-            control,
-        }),
-        Err(fail) => {
-            drop(pipeline);
-            Err(fail)
+    match open(alloc, 0, 4, 64, 64, 1) {
+        Ok(opened) => {
+            let Lone {
+                pipeline,
+                submitter,
+                control,
+            } = lone_of(opened);
+            let ended = queue_and_end(rt, alloc, submitter, packet);
+            let control = end_alone(rt, control);
+            Queued {
+                pipeline,
+                ended,
+                control,
+            }
         }
+        Err(_) => panic!(rt; "it isn't opened"),
     }
 }
 
-/// The ends of the submitters, of which there is one; None where there is no room.
-fn only_end(alloc: Global, ended: Ended) -> Option<Vec<Ended>>
-    ensures { IfSome result (λ ends. ends.items ≡ ended ∷ []) }
+/// The ends of the submitters, of which there is one.
+fn only_end(rt: &impl Abort, alloc: Global, ended: Ended) -> Vec<Ended>
+    ensures { result.items ≡ ended ∷ [] }
 {
-    let Ok(mut ends) = room_for_ends(alloc) else {
-        return None;
-    };
-    match put(&mut ends, ended) {
-        Ok(()) => Some(ends),
-        Err(_) => None,
-    }
+    let mut ends = room_for_ends(alloc).expect(rt, "memory");
+    put(rt, &mut ends, ended);
+    ends
 }
 
 /// Serves it, and settles.
-fn settle_one<R: Threads + Wait + Sync>(
-    rt: &R,
-    alloc: Global,
-    queued: Queued,
-) -> Result<Report, Fail>
+fn settle_one<R: Threads + Wait + Sync + Abort>(rt: &R, alloc: Global, queued: Queued) -> Report
     requires own { end_origin queued.ended ∷ [] ≡ queued.pipeline.submitters }
     requires control { queued.control ≡ record { seat = control_seat queued.pipeline.intake; queued = item.End ∷ [] } }
     requires opened { (queued.pipeline.clock ≡ 0) × (queued.pipeline.intake.submitters ≡ 1) }
-    ensures { (packet : PacketValue) → queued.ended.queued ≡ one_and_end packet → queued.ended.read ≡ [] → IfOk result (λ report. IsRunOfOne 0 packet report.ledger report.ends.items) }
+    ensures { (packet : PacketValue) → queued.ended.queued ≡ one_and_end packet → queued.ended.read ≡ [] → IsRunOfOne 0 packet result.ledger result.ends.items }
 {
     let Queued {
         pipeline,
         ended,
         control,
     } = queued;
-    let Some(ends) = only_end(alloc, ended) else {
-        drop(pipeline);
-        return Err("there is no room for an end")?;
-    };
+    let ends = only_end(rt, alloc, ended);
     match pipeline.serve(rt, &Open) {
-        Ok(served) => Ok(settle(served, ends, control)),
-        Err(back) => {
-            drop(back);
-            Err("a thread can't be started")?
-        }
+        Ok(served) => settle(served, ends, control),
+        Err(_) => panic!(rt; "a thread can't be started"),
     }
 }
 
@@ -155,18 +124,14 @@ fn only_reply(report: &mut Report) -> Reply
 }
 
 /// One packet from `open` to its reply. What the reply says is known from the clauses of the calls alone.
-fn reply_to_one<R: Threads + Wait + Sync>(
-    rt: &R,
-    alloc: Global,
-    packet: Packet,
-) -> Result<Reply, Fail>
-    ensures { IfOk result (λ reply. IsReplyToOne 0 packet reply) }
+fn reply_to_one<R: Threads + Wait + Sync + Abort>(rt: &R, alloc: Global, packet: Packet) -> Reply
+    ensures { IsReplyToOne 0 packet result }
 {
-    let queued = queue_one(rt, alloc, packet)?;
-    let mut report = settle_one(rt, alloc, queued)?;
+    let queued = queue_one(rt, alloc, packet);
+    let mut report = settle_one(rt, alloc, queued);
     let reply = only_reply(&mut report);
     drop(report);
-    Ok(reply)
+    reply
 }
 
 /// A packet that asks twice for account 1.
@@ -185,29 +150,25 @@ fn same_account_twice(alloc: Global) -> Result<Packet, AllocError> {
     })
 }
 
+/// The failures of what was committed at place 0; None for another outcome.
+fn failures_at_first(outcome: &Outcome) -> Option<&[Failure]> {
+    match outcome {
+        Outcome::Committed {
+            place: 0,
+            answer: Answer::Failures(failures),
+        } => Some(failures.as_slice()),
+        _ => None,
+    }
+}
+
 /// The second one exists already (`run_with_refusals`).
 #[test]
-fn reply_of_an_account_twice(rt: HostRuntime) -> Result<(), Fail> {
-    let reply = reply_to_one(&rt, rt.alloc(), same_account_twice(rt.alloc())?)?;
+fn reply_of_an_account_twice(rt: HostRuntime) {
+    let packet = same_account_twice(rt.alloc()).expect(&rt, "memory");
+    let reply = reply_to_one(&rt, rt.alloc(), packet);
     assert_eq!(rt; (reply.submitter, reply.number), (0, 0));
-    assert_eq!(rt;
-        (
-            reply.packet.operation,
-            reply.packet.bytes.as_slice().len(),
-            reply.packet.user
-        ),
-        (CREATE_ACCOUNTS, 256, 77)
-    );
-    match &reply.outcome {
-        Outcome::Committed {
-            place,
-            answer: Answer::Failures(failures),
-        } => {
-            assert_eq!(rt; *place, 0);
-            assert_eq!(rt; failures.as_slice().len(), 1);
-            assert_eq!(rt; failures.as_slice()[0], Failure { index: 1, code: 21 });
-        }
-        _ => return Err("not committed with failures")?,
-    }
-    Ok(())
+    assert_eq!(rt; look_of(&reply.packet), (CREATE_ACCOUNTS, 256, 77));
+    let own = [Failure { index: 1, code: 21 }];
+    assert!(rt; failures_at_first(&reply.outcome) == Some(own.as_slice()));
+    drop(reply);
 }

@@ -1,5 +1,5 @@
-use Rattle.tb_pipe_tests.proofs.Together.{runs_as}
+use Rattle.tb_pipe_tests.proofs.Together.{run_as}
 use Rattle.tb_pipe_tests.proofs.tests.queued.three_unread.Goals as goal
 
-pub returns-in-Ok : goal.returns-in-Ok
-returns-in-Ok g c = runs_as 0 4 1 c.in_ok-lone.lone.pipeline c.finish_lone.result c.in_ok-lone.ensures.as_asked c.finish_lone.ensures
+pub returns : goal.returns
+returns g c = run_as 0 4 1 c.open_lone-lone.result.pipeline c.finish_lone.result.ledger c.finish_lone.result.ends.items c.open_lone-lone.ensures.as_asked c.finish_lone.ensures
