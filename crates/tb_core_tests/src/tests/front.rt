@@ -3,17 +3,17 @@
 ghost use Rattle.std.specs.Prelude.{◌≡◌, ◌≤◌, [], IfOk, true};
 
 use super::made::{Made, item};
-use super::told::{Told, assert_told};
+use super::told::{Told, assert_told, first_reply};
 use arrayvec::ArrayVec;
 use std::alloc::Global;
 use std::process::Abort;
 use std::slice;
 use std::test::Fail;
-use tb_core::{Cause, Front, Ledger, Outcomes, Parcel};
-use tb_work::{Refusal, Reply, Ticket};
+use tb_core::{Cause, Front, Ledger, Parcel};
+use tb_work::{Refusal, Ticket};
 
 /// What the front hands on.
-#[derive(Clone, Copy, Debug, PartialEq, Eq)]
+#[derive(Clone, Copy, PartialEq, Eq)]
 enum Handed {
     /// A batch of so many packets.
     Batch(usize),
@@ -32,17 +32,24 @@ fn handed_by(parcel: &Parcel) -> Handed {
 }
 
 fn assert_handed(rt: &impl Abort, parcels: &[Parcel], wanted: &[Handed]) {
-    assert_eq!(rt; parcels.len(), wanted.len(), "how many parcels there are");
-    for (parcel, wanted) in parcels.iter().zip(wanted) {
-        assert_eq!(rt; handed_by(parcel), *wanted, "a parcel");
+    assert!(rt; parcels.len() == wanted.len(), "how many parcels there are");
+    for (place, (parcel, wanted)) in parcels.iter().zip(wanted).enumerate() {
+        assert!(rt; handed_by(parcel) == *wanted, "parcel {place}");
     }
 }
 
-pub(super) fn ticket(alloc: Global, sender: u32, made: Made) -> Result<Ticket, Refusal>
+fn ticket(alloc: Global, sender: u32, made: Made) -> Result<Ticket, Refusal>
     ensures { IfOk result (λ ticket. ticket.sender ≡ sender) }
 {
     let item = item(alloc, sender, made)?;
     Ok(Ticket { sender, item })
+}
+
+/// A ticket, where memory isn't refused.
+pub(super) fn ticket_of(rt: &(impl Abort + Alloc<A = Global>), sender: u32, made: Made) -> Ticket
+    ensures { result.sender ≡ sender }
+{
+    ticket(rt.alloc(), sender, made).expect(rt, "memory")
 }
 
 /// A front for one submitter, whose batches have at most 4 events.
@@ -54,19 +61,17 @@ pub(super) fn small_front(alloc: Global) -> Result<Front, Refusal>
 
 /// Lets the front take a ticket of the submitter or the control, and asserts what it hands on.
 fn assert_taken(
-    rt: &impl Abort,
-    alloc: Global,
+    rt: &(impl Abort + Alloc<A = Global>),
     front: &mut Front,
     sender: u32,
     made: Made,
     wanted: &[Handed],
-) -> Result<(), Refusal>
+)
     requires { sender ≤ front.old.submitters }
     ensures { front.new.submitters ≡ front.old.submitters }
 {
-    let parcels = front.take(ticket(alloc, sender, made)?);
+    let parcels = front.take(ticket_of(rt, sender, made));
     assert_handed(rt, parcels.as_slice(), wanted);
-    Ok(())
 }
 
 /// Why a front isn't opened.
@@ -74,13 +79,24 @@ fn refusal(alloc: Global, limit: u32, submitters: u32) -> Option<Refusal> {
     Front::new(alloc, limit, submitters).err()
 }
 
+/// Limits and counts of submitters, and what they are refused for.
+const OPENINGS: [(u32, u32, Option<Refusal>); 5] = [
+    (0, 3, Some(Refusal::BadLimit)),
+    (8191, 17, Some(Refusal::BadLimit)),
+    (4, 17, Some(Refusal::BadSubmitters)),
+    (4, 0, Some(Refusal::BadSubmitters)),
+    (4, 3, None),
+];
+
 #[test]
 fn openings(rt: HostRuntime) {
-    assert_eq!(rt; refusal(rt.alloc(), 0, 3), Some(Refusal::BadLimit));
-    assert_eq!(rt; refusal(rt.alloc(), 8191, 17), Some(Refusal::BadLimit));
-    assert_eq!(rt; refusal(rt.alloc(), 4, 17), Some(Refusal::BadSubmitters));
-    assert_eq!(rt; refusal(rt.alloc(), 4, 0), Some(Refusal::BadSubmitters));
-    assert_eq!(rt; refusal(rt.alloc(), 4, 3), None);
+    for (limit, submitters, wanted) in &OPENINGS {
+        let refusal = refusal(rt.alloc(), *limit, *submitters);
+        assert!(rt;
+            refusal == *wanted,
+            "limit {limit} and {submitters} submitters"
+        );
+    }
 }
 
 const FIRST: Made = Made::Packet { number: 0, id: 1 };
@@ -90,50 +106,39 @@ const SECOND: Made = Made::Packet { number: 1, id: 2 };
 const THIRD: Made = Made::Packet { number: 2, id: 3 };
 
 #[test]
-fn packet_behind_shut(rt: HostRuntime) -> Result<(), Fail> {
-    let mut front = small_front(rt.alloc())?;
-    assert_taken(&rt, rt.alloc(), &mut front, 0, FIRST, &[])?;
-    assert_taken(
-        &rt,
-        rt.alloc(),
-        &mut front,
-        1,
-        Made::Close,
-        &[Handed::Batch(1)],
-    )?;
-    assert_taken(
-        &rt,
-        rt.alloc(),
-        &mut front,
-        0,
-        SECOND,
-        &[Handed::Return(Cause::Shutdown)],
-    )?;
+fn packet_behind_shut(rt: HostRuntime) {
+    let mut front = small_front(rt.alloc()).expect(&rt, "memory");
+    assert_shut(&rt, &mut front);
+    drop(front);
+}
+
+/// Shuts a front behind a packet, and ends its submitter behind another.
+fn assert_shut(rt: &(impl Abort + Alloc<A = Global>), front: &mut Front)
+    requires { front.old.submitters ≡ 1 }
+{
+    let returned = [Handed::Return(Cause::Shutdown)];
+    assert_taken(rt, front, 0, FIRST, &[]);
+    assert_taken(rt, front, 1, Made::Close, &[Handed::Batch(1)]);
+    assert_taken(rt, front, 0, SECOND, &returned);
     assert!(rt; !front.finished(), "the submitter hasn't ended");
-    assert_taken(&rt, rt.alloc(), &mut front, 0, Made::End, &[])?;
+    assert_taken(rt, front, 0, Made::End, &[]);
     assert!(rt; front.finished(), "both have ended");
-    Ok(())
 }
 
 #[test]
-fn refused_growth(rt: HostRuntime) -> Result<(), Fail> {
-    let mut front = small_front(rt.alloc())?;
-    assert_taken(&rt, rt.alloc(), &mut front, 0, FIRST, &[])?;
-    let parcels = front.take_as_refused(ticket(rt.alloc(), 0, SECOND)?);
-    assert_handed(
-        &rt,
-        parcels.as_slice(),
-        &[Handed::Batch(1), Handed::Return(Cause::Stopped)],
-    );
-    assert_taken(
-        &rt,
-        rt.alloc(),
-        &mut front,
-        0,
-        THIRD,
-        &[Handed::Return(Cause::Stopped)],
-    )?;
-    Ok(())
+fn refused_growth(rt: HostRuntime) {
+    let mut front = small_front(rt.alloc()).expect(&rt, "memory");
+    assert_stopped(&rt, &mut front);
+    drop(front);
+}
+
+/// Refuses the growth for a second packet, behind which each packet is stopped.
+fn assert_stopped(rt: &(impl Abort + Alloc<A = Global>), front: &mut Front) {
+    let stopped = Handed::Return(Cause::Stopped);
+    assert_taken(rt, front, 0, FIRST, &[]);
+    let parcels = front.take_as_refused(ticket_of(rt, 0, SECOND));
+    assert_handed(rt, parcels.as_slice(), &[Handed::Batch(1), stopped]);
+    assert_taken(rt, front, 0, THIRD, &[stopped]);
 }
 
 /// Lets the front take a ticket into parcels, asserts what it hands on, and leaves none.
@@ -156,32 +161,27 @@ fn assert_taken_into(
 
 /// Lets the front take a packet, a pulse and a packet into parcels.
 fn assert_all_taken_into(
-    rt: &impl Abort,
-    alloc: Global,
+    rt: &(impl Abort + Alloc<A = Global>),
     front: &mut Front,
     parcels: &mut ArrayVec<Parcel, 2>,
-) -> Result<(), Refusal>
+)
     requires submitters { front.old.submitters ≡ 1 }
     requires empty { parcels.old.items ≡ [] }
 {
+    let pulse = ticket_of(rt, 1, Made::Pulse(5));
     let pulsed = [Handed::Batch(1), Handed::Pulse(5)];
-    assert_taken_into(rt, front, parcels, ticket(alloc, 0, FIRST)?, &[]);
-    assert_taken_into(
-        rt,
-        front,
-        parcels,
-        ticket(alloc, 1, Made::Pulse(5))?,
-        &pulsed,
-    );
-    assert_taken_into(rt, front, parcels, ticket(alloc, 0, SECOND)?, &[]);
-    Ok(())
+    assert_taken_into(rt, front, parcels, ticket_of(rt, 0, FIRST), &[]);
+    assert_taken_into(rt, front, parcels, pulse, &pulsed);
+    assert_taken_into(rt, front, parcels, ticket_of(rt, 0, SECOND), &[]);
 }
 
 #[test]
-fn parcels_of_the_caller(rt: HostRuntime) -> Result<(), Fail> {
-    let mut front = small_front(rt.alloc())?;
-    assert_all_taken_into(&rt, rt.alloc(), &mut front, &mut ArrayVec::new())?;
-    Ok(())
+fn parcels_of_the_caller(rt: HostRuntime) {
+    let mut front = small_front(rt.alloc()).expect(&rt, "memory");
+    let mut parcels = ArrayVec::new();
+    assert_all_taken_into(&rt, &mut front, &mut parcels);
+    drop(parcels);
+    drop(front);
 }
 
 /// Lets the front take a ticket into parcels; true where it hands nothing on.
@@ -227,7 +227,7 @@ fn assert_held(rt: &impl Abort, front: &mut Front, parcels: &[Parcel], held: usi
     match held {
         0 => assert_handed(rt, parcels, &[stopped]),
         1 | 2 => assert_handed(rt, parcels, &[Handed::Batch(held), stopped]),
-        _ => assert_eq!(rt; packets_held(front), Some(3)),
+        _ => assert!(rt; packets_held(front) == Some(3), "three packets are held"),
     }
 }
 
@@ -249,50 +249,31 @@ fn assert_three_held(
 #[test]
 fn take_into_refused_memory(rt: HostRuntime) -> Result<(), Fail> {
     let mut front = small_front(rt.alloc())?;
-    assert_three_held(&rt, rt.alloc(), &mut front, &mut ArrayVec::new());
+    let mut parcels = ArrayVec::new();
+    assert_three_held(&rt, rt.alloc(), &mut front, &mut parcels);
+    drop(parcels);
+    drop(front);
     Ok(())
 }
 
-/// Takes a packet through front, ledger and cutter, and gives its reply.
-fn way_of_a_packet(front: &mut Front, ledger: &mut Ledger, ticket: Ticket) -> Option<Reply>
-    requires { ticket.sender ≤ front.old.submitters }
-{
-    for parcel in front.take(ticket) {
-        ledger.apply(parcel);
-    }
-    let batch = front.idle()?;
-    match ledger.apply(Parcel::Batch(batch)) {
-        Outcomes::Cut(mut cutter) => cutter.next(),
-        _ => None,
-    }
-}
-
-/// Asserts that the submitter's first packet has its reply.
-fn assert_answered(
-    rt: &impl Abort,
-    alloc: Global,
-    front: &mut Front,
-    ledger: &mut Ledger,
-) -> Result<(), Fail>
-    requires { front.old.submitters ≡ 1 }
-{
-    let ticket = ticket(alloc, 0, FIRST)?;
-    let reply = way_of_a_packet(front, ledger, ticket).ok_or("no reply")?;
-    assert_eq!(rt;
-        (reply.submitter, reply.number, reply.packet.user),
-        (0, 0, 7)
+/// Takes a packet through front, ledger and cutter, and asserts that it has its reply.
+fn assert_answered(rt: &(impl Abort + Alloc<A = Global>), front: &mut Front, ledger: &mut Ledger) {
+    assert_taken(rt, front, 0, FIRST, &[]);
+    let batch = front.idle().expect(rt, "the packet is held");
+    let reply = first_reply(ledger.apply(Parcel::Batch(batch))).expect(rt, "a reply");
+    assert!(rt;
+        (reply.submitter, reply.number) == (0, 0),
+        "whose the reply is"
     );
+    assert!(rt; reply.packet.user == 7, "the user word of the packet");
     assert_told(rt, slice::from_ref(&reply), &[Told::Committed(0)]);
-    drop(reply);
-    Ok(())
 }
 
 #[test]
-fn packet_is_answered(rt: HostRuntime) -> Result<(), Fail> {
-    let mut front = small_front(rt.alloc())?;
+fn packet_is_answered(rt: HostRuntime) {
+    let mut front = small_front(rt.alloc()).expect(&rt, "memory");
     let mut ledger = Ledger::new(rt.alloc(), 0);
-    let answered = assert_answered(&rt, rt.alloc(), &mut front, &mut ledger);
+    assert_answered(&rt, &mut front, &mut ledger);
     drop(front);
     drop(ledger);
-    answered
 }

@@ -2,27 +2,27 @@
 
 use super::made::{Made, account, creating, item, transfer, transferring};
 use super::told::{Noted, Told, assert_failures, assert_noted, assert_told};
-use std::alloc::{AllocError, Global};
+use std::alloc::Global;
 use std::process::Abort;
-use std::test::Fail;
 use tb_core::{Listed, run_list};
 use tb_layout::{Account, BATCH_MAX, Transfer};
-use tb_work::{Item, Refusal};
+use tb_work::Item;
 
 /// Items of submitter 0.
-fn items_of(alloc: Global, list: &[Made]) -> Result<Vec<Item>, Fail> {
-    let mut items = Vec::new(alloc);
+fn items_of(rt: &(impl Abort + Alloc<A = Global>), list: &[Made]) -> Vec<Item> {
+    let mut items = Vec::new(rt.alloc());
     for made in list {
-        items.push(item(alloc, 0, *made)?)?;
+        let item = item(rt.alloc(), 0, *made).expect(rt, "memory");
+        items.push(item).expect(rt, "memory");
     }
-    Ok(items)
+    items
 }
 
 /// Asserts what a list came to: its replies, its journal and its clock.
 fn assert_listed(rt: &impl Abort, listed: &Listed, told: &[Told], noted: &[Noted], clock: u64) {
     assert_told(rt, &listed.replies, told);
     assert_noted(rt, listed.ledger.journal(), noted);
-    assert_eq!(rt; listed.ledger.machine().clock(), clock);
+    assert!(rt; listed.ledger.machine().clock() == clock, "the clock");
     assert!(rt; !listed.ledger.stopped(), "no growth was refused");
 }
 
@@ -38,9 +38,9 @@ const PULSE_BETWEEN_BATCHES: [Made; 8] = [
 ];
 
 #[test]
-fn pulse_between_batches(rt: HostRuntime) -> Result<(), Fail> {
-    let items = items_of(rt.alloc(), &PULSE_BETWEEN_BATCHES)?;
-    let listed = run_list(rt.alloc(), 0, 4, items)?;
+fn pulse_between_batches(rt: HostRuntime) {
+    let items = items_of(&rt, &PULSE_BETWEEN_BATCHES);
+    let listed = run_list(rt.alloc(), 0, 4, items).expect(&rt, "memory");
     let told = [
         Told::Committed(0),
         Told::Committed(1),
@@ -52,7 +52,6 @@ fn pulse_between_batches(rt: HostRuntime) -> Result<(), Fail> {
     let noted = [Noted::Batch(2), Noted::Pulse(5), Noted::Batch(4)];
     assert_listed(&rt, &listed, &told, &noted, 9);
     drop(listed);
-    Ok(())
 }
 
 const PACKET_BEHIND_SHUT: [Made; 4] = [
@@ -63,83 +62,89 @@ const PACKET_BEHIND_SHUT: [Made; 4] = [
 ];
 
 #[test]
-fn packet_behind_shut(rt: HostRuntime) -> Result<(), Fail> {
-    let items = items_of(rt.alloc(), &PACKET_BEHIND_SHUT)?;
-    let listed = run_list(rt.alloc(), 0, 4, items)?;
+fn packet_behind_shut(rt: HostRuntime) {
+    let items = items_of(&rt, &PACKET_BEHIND_SHUT);
+    let listed = run_list(rt.alloc(), 0, 4, items).expect(&rt, "memory");
     let told = [Told::Committed(0), Told::Shutdown];
     assert_listed(&rt, &listed, &told, &[Noted::Batch(1)], 1);
-    assert_eq!(rt; listed.ledger.machine().accounts(), 1);
+    assert!(rt; listed.ledger.machine().accounts() == 1, "one account");
     drop(listed);
-    Ok(())
 }
 
 /// So many accounts, with rising ids.
-fn accounts(alloc: Global, first_id: u128, count: u32) -> Result<Vec<Account>, AllocError> {
-    let mut accounts = Vec::new(alloc);
+fn accounts(rt: &(impl Abort + Alloc<A = Global>), first_id: u128, count: u32) -> Vec<Account> {
+    let mut accounts = Vec::new(rt.alloc());
     for place in 0..count {
-        accounts.push(account(first_id.saturating_add(u128::from(place))))?;
+        let account = account(first_id.saturating_add(u128::from(place)));
+        accounts.push(account).expect(rt, "memory");
     }
-    Ok(accounts)
+    accounts
 }
 
 /// So many transfers of 1 from account 1 to account 2, with ids from 1 on.
-fn transfers(alloc: Global, count: u32) -> Result<Vec<Transfer>, AllocError> {
-    let mut transfers = Vec::new(alloc);
+fn transfers(rt: &(impl Abort + Alloc<A = Global>), count: u32) -> Vec<Transfer> {
+    let mut transfers = Vec::new(rt.alloc());
     for place in 0..count {
-        transfers.push(transfer(u128::from(place) + 1, 1, 2, 1))?;
+        let transfer = transfer(u128::from(place) + 1, 1, 2, 1);
+        transfers.push(transfer).expect(rt, "memory");
     }
-    Ok(transfers)
+    transfers
 }
 
 /// A packet of submitter 0 that creates so many accounts.
 fn packet_of_accounts(
-    alloc: Global,
+    rt: &(impl Abort + Alloc<A = Global>),
     number: u64,
     first_id: u128,
     count: u32,
-) -> Result<Item, Refusal> {
-    match accounts(alloc, first_id, count) {
-        Ok(accounts) => Ok(Item::Packet(creating(alloc, 0, number, &accounts)?)),
-        Err(_) => Err(Refusal::NoMemory),
-    }
+) -> Item {
+    let accounts = accounts(rt, first_id, count);
+    let job = creating(rt.alloc(), 0, number, &accounts).expect(rt, "the packet is admitted");
+    Item::Packet(job)
 }
 
 /// A packet of submitter 0 that creates so many transfers.
-fn packet_of_transfers(alloc: Global, number: u64, count: u32) -> Result<Item, Refusal> {
-    match transfers(alloc, count) {
-        Ok(transfers) => Ok(Item::Packet(transferring(alloc, 0, number, &transfers)?)),
-        Err(_) => Err(Refusal::NoMemory),
-    }
+fn packet_of_transfers(rt: &(impl Abort + Alloc<A = Global>), number: u64, count: u32) -> Item {
+    let transfers = transfers(rt, count);
+    let job = transferring(rt.alloc(), 0, number, &transfers).expect(rt, "the packet is admitted");
+    Item::Packet(job)
 }
 
 /// Four accounts, one, and none.
-fn overflowing(alloc: Global) -> Result<Vec<Item>, Fail> {
-    let mut items = Vec::new(alloc);
-    items.push(packet_of_accounts(alloc, 0, 1, 4)?)?;
-    items.push(packet_of_accounts(alloc, 1, 5, 1)?)?;
-    items.push(packet_of_accounts(alloc, 2, 6, 0)?)?;
-    Ok(items)
+fn overflowing(rt: &(impl Abort + Alloc<A = Global>)) -> Vec<Item> {
+    let mut items = Vec::new(rt.alloc());
+    for (number, first_id, count) in [(0, 1, 4), (1, 5, 1), (2, 6, 0)] {
+        items
+            .push(packet_of_accounts(rt, number, first_id, count))
+            .expect(rt, "memory");
+    }
+    items
 }
 
 const FIRST_THREE: [Told; 3] = [Told::Committed(0), Told::Committed(1), Told::Committed(2)];
 
 #[test]
-fn full_batch_then_overflow(rt: HostRuntime) -> Result<(), Fail> {
-    let items = overflowing(rt.alloc())?;
-    let listed = run_list(rt.alloc(), 0, 4, items)?;
+fn full_batch_then_overflow(rt: HostRuntime) {
+    let items = overflowing(&rt);
+    let listed = run_list(rt.alloc(), 0, 4, items).expect(&rt, "memory");
     let noted = [Noted::Batch(1), Noted::Batch(2)];
     assert_listed(&rt, &listed, &FIRST_THREE, &noted, 5);
     drop(listed);
-    Ok(())
 }
 
 /// A full packet of accounts, a full one of transfers, and a few more accounts.
-fn full_packets(alloc: Global) -> Result<Vec<Item>, Fail> {
-    let mut items = Vec::new(alloc);
-    items.push(packet_of_accounts(alloc, 0, 1, BATCH_MAX)?)?;
-    items.push(packet_of_transfers(alloc, 1, BATCH_MAX)?)?;
-    items.push(packet_of_accounts(alloc, 2, 8191, 10)?)?;
-    Ok(items)
+fn full_packets(rt: &(impl Abort + Alloc<A = Global>)) -> Vec<Item> {
+    let mut items = Vec::new(rt.alloc());
+    items
+        .push(packet_of_accounts(rt, 0, 1, BATCH_MAX))
+        .expect(rt, "memory");
+    items
+        .push(packet_of_transfers(rt, 1, BATCH_MAX))
+        .expect(rt, "memory");
+    items
+        .push(packet_of_accounts(rt, 2, 8191, 10))
+        .expect(rt, "memory");
+    items
 }
 
 /// Asserts that all events succeeded, and that account 1 was debited by each transfer.
@@ -148,22 +153,21 @@ fn assert_largest(rt: &impl Abort, listed: &Listed) {
         assert_failures(rt, Some(reply), &[]);
     }
     let machine = listed.ledger.machine();
-    assert_eq!(rt; machine.accounts(), 8200);
+    assert!(rt; machine.accounts() == 8200, "how many accounts there are");
     let debtor = Account {
         debits_posted: 8190,
         timestamp: 1,
         ..account(1)
     };
-    assert_eq!(rt; machine.account(1), Some(debtor));
+    assert!(rt; machine.account(1) == Some(debtor), "account 1");
 }
 
 #[test]
-fn largest_packets(rt: HostRuntime) -> Result<(), Fail> {
-    let items = full_packets(rt.alloc())?;
-    let listed = run_list(rt.alloc(), 0, BATCH_MAX, items)?;
+fn largest_packets(rt: HostRuntime) {
+    let items = full_packets(&rt);
+    let listed = run_list(rt.alloc(), 0, BATCH_MAX, items).expect(&rt, "memory");
     let noted = [Noted::Batch(1), Noted::Batch(1), Noted::Batch(1)];
     assert_listed(&rt, &listed, &FIRST_THREE, &noted, 16_390);
     assert_largest(&rt, &listed);
     drop(listed);
-    Ok(())
 }

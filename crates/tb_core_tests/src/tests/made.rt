@@ -1,6 +1,7 @@
 //! What the tests hand in: accounts, transfers, and jobs and items of them.
 
 use std::alloc::{AllocError, Global};
+use std::process::Abort;
 use tb_layout::{
     Account, BATCH_MAX, CREATE_ACCOUNTS, CREATE_TRANSFERS, LOOKUP_ACCOUNTS, MOMENT_MAX, Transfer,
     write_account, write_transfer,
@@ -8,7 +9,7 @@ use tb_layout::{
 use tb_work::{Bytes, Item, Job, Moment, Packet, Refusal};
 
 /// What a sender queues, before it is made.
-#[derive(Clone, Copy, Debug)]
+#[derive(Clone, Copy)]
 pub(super) enum Made {
     /// A packet with its number, which creates the account with an id.
     Packet { number: u64, id: u128 },
@@ -56,12 +57,14 @@ fn transfer_bytes(alloc: Global, transfers: &[Transfer]) -> Result<Vec<u8>, Allo
     Ok(bytes)
 }
 
-fn id_bytes(alloc: Global, ids: &[u128]) -> Result<Vec<u8>, AllocError> {
-    let mut bytes = Vec::new(alloc);
+fn id_bytes(rt: &(impl Abort + Alloc<A = Global>), ids: &[u128]) -> Vec<u8> {
+    let mut bytes = Vec::new(rt.alloc());
     for id in ids {
-        bytes.extend_from_slice(&id.to_le_bytes())?;
+        bytes
+            .extend_from_slice(&id.to_le_bytes())
+            .expect(rt, "memory");
     }
-    Ok(bytes)
+    bytes
 }
 
 /// A packet of a submitter, admitted.
@@ -111,15 +114,13 @@ pub(super) fn transferring(
 
 /// A packet that looks up ids.
 pub(super) fn looking_up(
-    alloc: Global,
+    rt: &(impl Abort + Alloc<A = Global>),
     submitter: u32,
     number: u64,
     ids: &[u128],
-) -> Result<Job, Refusal> {
-    match id_bytes(alloc, ids) {
-        Ok(bytes) => job(alloc, submitter, number, LOOKUP_ACCOUNTS, bytes),
-        Err(_) => Err(Refusal::NoMemory),
-    }
+) -> Job {
+    let bytes = id_bytes(rt, ids);
+    job(rt.alloc(), submitter, number, LOOKUP_ACCOUNTS, bytes).expect(rt, "the packet is admitted")
 }
 
 /// What a sender queues.

@@ -1,12 +1,12 @@
 //! What came of it: replies and entries of the journal, and whether they are those wanted.
 
 use std::process::Abort;
-use tb_core::Entry;
+use tb_core::{Entry, Outcomes};
 use tb_layout::Failure;
 use tb_work::{Answer, Outcome, Reply};
 
 /// What a packet came to.
-#[derive(Clone, Copy, Debug, PartialEq, Eq)]
+#[derive(Clone, Copy, PartialEq, Eq)]
 pub(super) enum Told {
     /// Committed at a place.
     Committed(u64),
@@ -15,12 +15,20 @@ pub(super) enum Told {
 }
 
 /// An entry of the journal.
-#[derive(Clone, Copy, Debug, PartialEq, Eq)]
+#[derive(Clone, Copy, PartialEq, Eq)]
 pub(super) enum Noted {
     /// A batch of so many packets.
     Batch(usize),
     /// A pulse with its moment.
     Pulse(u64),
+}
+
+/// The first reply of a batch.
+pub(super) fn first_reply(outcomes: Outcomes) -> Option<Reply> {
+    match outcomes {
+        Outcomes::Cut(mut cutter) => cutter.next(),
+        _ => None,
+    }
 }
 
 /// What a reply says.
@@ -56,25 +64,26 @@ fn noted_by(entry: &Entry) -> Noted {
 
 /// Asserts what replies say, in order.
 pub(super) fn assert_told(rt: &impl Abort, replies: &[Reply], wanted: &[Told]) {
-    assert_eq!(rt; replies.len(), wanted.len(), "how many replies there are");
+    assert!(rt; replies.len() == wanted.len(), "how many replies there are");
     for (reply, wanted) in replies.iter().zip(wanted) {
-        assert_eq!(rt; told_by(reply), *wanted, "what reply {} says", reply.number);
+        assert!(rt;
+            told_by(reply) == *wanted,
+            "what reply {} says",
+            reply.number
+        );
     }
 }
 
 /// Asserts the entries of a journal, in order.
 pub(super) fn assert_noted(rt: &impl Abort, journal: &[Entry], wanted: &[Noted]) {
-    assert_eq!(rt; journal.len(), wanted.len(), "how many entries there are");
-    for (entry, wanted) in journal.iter().zip(wanted) {
-        assert_eq!(rt; noted_by(entry), *wanted, "an entry of the journal");
+    assert!(rt; journal.len() == wanted.len(), "how many entries there are");
+    for (place, (entry, wanted)) in journal.iter().zip(wanted).enumerate() {
+        assert!(rt; noted_by(entry) == *wanted, "entry {place} of the journal");
     }
 }
 
 /// Asserts the failures of a packet that was committed.
 pub(super) fn assert_failures(rt: &impl Abort, reply: Option<&Reply>, wanted: &[Failure]) {
-    assert_eq!(rt;
-        reply.and_then(failures),
-        Some(wanted),
-        "the failures of a packet"
-    );
+    let failures = reply.and_then(failures);
+    assert!(rt; failures == Some(wanted), "the failures of a packet");
 }

@@ -4,7 +4,6 @@ use super::made::{Made, item};
 use super::told::{Noted, Told, assert_noted, assert_told};
 use std::alloc::Global;
 use std::process::Abort;
-use std::test::Fail;
 use tb_core::{Event, World};
 use tb_work::{Refusal, Ticket};
 
@@ -14,7 +13,7 @@ mod lists;
 mod runs;
 
 /// An event of the World; what a push pushes has yet to be made.
-#[derive(Clone, Copy, Debug)]
+#[derive(Clone, Copy)]
 enum Step {
     Push(u32, Made),
     Pop,
@@ -48,25 +47,20 @@ fn event(alloc: Global, step: Step) -> Result<Event, Refusal> {
 }
 
 /// What the World answers to a step.
-fn answer(alloc: Global, world: &mut World, step: Step) -> Result<bool, Refusal> {
-    match world.step(event(alloc, step)?) {
-        Ok(moves) => Ok(moves),
-        Err((_event, _refused)) => Err(Refusal::NoMemory),
-    }
+fn answer(rt: &(impl Abort + Alloc<A = Global>), world: &mut World, step: Step) -> bool {
+    let event = event(rt.alloc(), step).expect(rt, "memory");
+    world.step(event).ok().expect(rt, "memory")
 }
 
 /// Takes steps, and asserts what the World answers to each.
-fn play(
-    rt: &impl Abort,
-    alloc: Global,
-    world: &mut World,
-    steps: &[(Step, bool)],
-) -> Result<(), Fail> {
-    for (step, wanted) in steps {
-        let moves = answer(alloc, world, *step)?;
-        assert_eq!(rt; moves, *wanted, "the answer to {step:?}");
+fn play(rt: &(impl Abort + Alloc<A = Global>), world: &mut World, steps: &[(Step, bool)]) {
+    for (place, (step, wanted)) in steps.iter().enumerate() {
+        let moves = answer(rt, world, *step);
+        assert!(rt;
+            moves == *wanted,
+            "the answer to step {place}, counted from 0"
+        );
     }
-    Ok(())
 }
 
 /// Asserts what submitter 0 received, the journal and the clock.
@@ -74,24 +68,20 @@ fn assert_world(rt: &impl Abort, world: &World, told: &[Told], noted: &[Noted], 
     assert_told(rt, world.received(0), told);
     assert_told(rt, world.received(1), &[]);
     assert_noted(rt, world.ledger().journal(), noted);
-    assert_eq!(rt; world.ledger().machine().clock(), clock);
+    assert!(rt; world.ledger().machine().clock() == clock, "the clock");
 }
 
 /// Takes steps in a World of submitters 0 and 1 and the control, 2, whose batches have at most 4 events, and asserts
 /// what it answers to each and comes to.
 fn assert_steps(
-    rt: &impl Abort,
-    alloc: Global,
+    rt: &(impl Abort + Alloc<A = Global>),
     steps: &[(Step, bool)],
     told: &[Told],
     noted: &[Noted],
     clock: u64,
-) -> Result<(), Fail> {
-    let mut world = World::new(alloc, 0, 4, 2)?;
-    let played = play(rt, alloc, &mut world, steps);
-    if played.is_ok() {
-        assert_world(rt, &world, told, noted, clock);
-    }
+) {
+    let mut world = World::new(rt.alloc(), 0, 4, 2).expect(rt, "memory");
+    play(rt, &mut world, steps);
+    assert_world(rt, &world, told, noted, clock);
     drop(world);
-    played
 }

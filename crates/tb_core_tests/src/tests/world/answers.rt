@@ -4,9 +4,10 @@ use super::{Step, assert_steps};
 use crate::tests::made::{Made, account, creating};
 use crate::tests::told::Noted;
 use std::alloc::Global;
-use std::test::Fail;
+use std::process::Abort;
 use tb_core::{Event, World};
-use tb_work::{Item, Job, Refusal, Ticket};
+use tb_layout::Account;
+use tb_work::{Item, Job, Ticket};
 
 const PUSHES: [(Step, bool); 15] = [
     // A stranger.
@@ -33,36 +34,45 @@ const PUSHES: [(Step, bool); 15] = [
 ];
 
 #[test]
-fn pushes_that_answer_false(rt: HostRuntime) -> Result<(), Fail> {
-    assert_steps(&rt, rt.alloc(), &PUSHES, &[], &[], 0)
+fn pushes_that_answer_false(rt: HostRuntime) {
+    assert_steps(&rt, &PUSHES, &[], &[], 0);
 }
 
 /// What a new World of two submitters answers to the push of a packet.
-fn answer_to(alloc: Global, limit: u32, sender: u32, job: Job) -> Result<bool, Refusal> {
-    let mut world = World::new(alloc, 0, limit, 2)?;
+fn answer_to(rt: &(impl Abort + Alloc<A = Global>), limit: u32, sender: u32, job: Job) -> bool {
+    let mut world = World::new(rt.alloc(), 0, limit, 2).expect(rt, "memory");
     let item = Item::Packet(job);
     let answer = world.step(Event::Push(Ticket { sender, item }));
     drop(world);
-    match answer {
-        Ok(moves) => Ok(moves),
-        Err((_event, _refused)) => Err(Refusal::NoMemory),
-    }
+    answer.ok().expect(rt, "memory")
+}
+
+/// The first packet of submitter 0, which creates accounts.
+fn first_job(rt: &(impl Abort + Alloc<A = Global>), accounts: &[Account]) -> Job {
+    creating(rt.alloc(), 0, 0, accounts).expect(rt, "the packet is admitted")
 }
 
 #[test]
-fn jobs_of_others(rt: HostRuntime) -> Result<(), Fail> {
-    let job = creating(rt.alloc(), 0, 0, &[account(1)])?;
-    assert_eq!(rt; answer_to(rt.alloc(), 4, 1, job), Ok(false));
-    Ok(())
+fn jobs_of_others(rt: HostRuntime) {
+    let job = first_job(&rt, &[account(1)]);
+    assert!(rt;
+        !answer_to(&rt, 4, 1, job),
+        "the job of submitter 0, pushed by 1"
+    );
 }
 
 #[test]
-fn jobs_over_the_limit(rt: HostRuntime) -> Result<(), Fail> {
-    let job = creating(rt.alloc(), 0, 0, &[account(1), account(2)])?;
-    assert_eq!(rt; answer_to(rt.alloc(), 1, 0, job), Ok(false));
-    let job = creating(rt.alloc(), 0, 0, &[account(1)])?;
-    assert_eq!(rt; answer_to(rt.alloc(), 1, 0, job), Ok(true));
-    Ok(())
+fn jobs_over_the_limit(rt: HostRuntime) {
+    let two = first_job(&rt, &[account(1), account(2)]);
+    assert!(rt;
+        !answer_to(&rt, 1, 0, two),
+        "two accounts, where the limit is 1"
+    );
+    let one = first_job(&rt, &[account(1)]);
+    assert!(rt;
+        answer_to(&rt, 1, 0, one),
+        "one account, where the limit is 1"
+    );
 }
 
 const STAGES_WITH_NOTHING: [(Step, bool); 10] = [
@@ -79,8 +89,8 @@ const STAGES_WITH_NOTHING: [(Step, bool); 10] = [
 ];
 
 #[test]
-fn stages_that_have_nothing(rt: HostRuntime) -> Result<(), Fail> {
-    assert_steps(&rt, rt.alloc(), &STAGES_WITH_NOTHING, &[], &[], 0)
+fn stages_that_have_nothing(rt: HostRuntime) {
+    assert_steps(&rt, &STAGES_WITH_NOTHING, &[], &[], 0);
 }
 
 const STAGES_WITH_SOMETHING: [(Step, bool); 28] = [
@@ -119,7 +129,7 @@ const STAGES_WITH_SOMETHING: [(Step, bool); 28] = [
 ];
 
 #[test]
-fn stages_that_have_to_push_first(rt: HostRuntime) -> Result<(), Fail> {
+fn stages_that_have_to_push_first(rt: HostRuntime) {
     let noted = [Noted::Batch(2), Noted::Pulse(5), Noted::Batch(1)];
-    assert_steps(&rt, rt.alloc(), &STAGES_WITH_SOMETHING, &[], &noted, 6)
+    assert_steps(&rt, &STAGES_WITH_SOMETHING, &[], &noted, 6);
 }

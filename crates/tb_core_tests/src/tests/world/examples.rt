@@ -4,7 +4,7 @@ use super::{Step, assert_steps, assert_world, event};
 use crate::tests::made::Made;
 use crate::tests::told::{Noted, Told};
 use std::alloc::Global;
-use std::test::Fail;
+use std::process::Abort;
 use tb_core::{Event, World, run_world};
 use tb_work::Refusal;
 
@@ -29,10 +29,10 @@ const ONE_PACKET: [(Step, bool); 9] = [
 ];
 
 #[test]
-fn world_one_packet(rt: HostRuntime) -> Result<(), Fail> {
+fn world_one_packet(rt: HostRuntime) {
     let told = [Told::Committed(0)];
     let noted = [Noted::Batch(1)];
-    assert_steps(&rt, rt.alloc(), &ONE_PACKET, &told, &noted, 1)
+    assert_steps(&rt, &ONE_PACKET, &told, &noted, 1);
 }
 
 const REFUSED_COMMIT: [(Step, bool); 9] = [
@@ -48,8 +48,8 @@ const REFUSED_COMMIT: [(Step, bool); 9] = [
 ];
 
 #[test]
-fn world_refused_commit(rt: HostRuntime) -> Result<(), Fail> {
-    assert_steps(&rt, rt.alloc(), &REFUSED_COMMIT, &[Told::Stopped], &[], 0)
+fn world_refused_commit(rt: HostRuntime) {
+    assert_steps(&rt, &REFUSED_COMMIT, &[Told::Stopped], &[], 0);
 }
 
 const REFUSED_SECOND_COMMIT: [(Step, bool); 20] = [
@@ -76,10 +76,10 @@ const REFUSED_SECOND_COMMIT: [(Step, bool); 20] = [
 ];
 
 #[test]
-fn world_refused_second_commit(rt: HostRuntime) -> Result<(), Fail> {
+fn world_refused_second_commit(rt: HostRuntime) {
     let told = [Told::Committed(0), Told::Stopped];
     let noted = [Noted::Batch(1)];
-    assert_steps(&rt, rt.alloc(), &REFUSED_SECOND_COMMIT, &told, &noted, 1)
+    assert_steps(&rt, &REFUSED_SECOND_COMMIT, &told, &noted, 1);
 }
 
 const REFUSED_JOIN: [(Step, bool); 24] = [
@@ -110,10 +110,10 @@ const REFUSED_JOIN: [(Step, bool); 24] = [
 ];
 
 #[test]
-fn world_refused_join(rt: HostRuntime) -> Result<(), Fail> {
+fn world_refused_join(rt: HostRuntime) {
     let told = [Told::Committed(0), Told::Stopped, Told::Stopped];
     let noted = [Noted::Batch(1)];
-    assert_steps(&rt, rt.alloc(), &REFUSED_JOIN, &told, &noted, 1)
+    assert_steps(&rt, &REFUSED_JOIN, &told, &noted, 1);
 }
 
 /// The events of the example, and what they answer.
@@ -154,26 +154,26 @@ const WITH_CLOSE: [(Step, bool); 31] = [
 const WITH_CLOSE_TOLD: [Told; 2] = [Told::Committed(0), Told::Shutdown];
 
 #[test]
-fn world_with_close(rt: HostRuntime) -> Result<(), Fail> {
+fn world_with_close(rt: HostRuntime) {
     let noted = [Noted::Batch(1)];
-    assert_steps(&rt, rt.alloc(), &WITH_CLOSE, &WITH_CLOSE_TOLD, &noted, 1)
+    assert_steps(&rt, &WITH_CLOSE, &WITH_CLOSE_TOLD, &noted, 1);
 }
 
-fn events_with_close(alloc: Global) -> Result<Vec<Event>, Fail> {
-    let mut events = Vec::new(alloc);
+fn events_with_close(rt: &(impl Abort + Alloc<A = Global>)) -> Vec<Event> {
+    let mut events = Vec::new(rt.alloc());
     for (step, _) in &WITH_CLOSE {
-        events.push(event(alloc, *step)?)?;
+        let event = event(rt.alloc(), *step).expect(rt, "memory");
+        events.push(event).ok().expect(rt, "memory");
     }
-    Ok(events)
+    events
 }
 
 #[test]
-fn world_with_close_by_a_list(rt: HostRuntime) -> Result<(), Fail> {
-    let events = events_with_close(rt.alloc())?;
-    let world = run_world(rt.alloc(), 0, 4, 2, events)?;
+fn world_with_close_by_a_list(rt: HostRuntime) {
+    let events = events_with_close(&rt);
+    let world = run_world(rt.alloc(), 0, 4, 2, events).expect(&rt, "memory");
     assert_world(&rt, &world, &WITH_CLOSE_TOLD, &[Noted::Batch(1)], 1);
     drop(world);
-    Ok(())
 }
 
 /// Why a World isn't opened.
@@ -181,11 +181,22 @@ fn refusal(alloc: Global, limit: u32, submitters: u32) -> Option<Refusal> {
     World::new(alloc, 0, limit, submitters).err()
 }
 
+/// Limits and counts of submitters, and what they are refused for.
+const OPENINGS: [(u32, u32, Option<Refusal>); 5] = [
+    (0, 0, Some(Refusal::BadLimit)),
+    (8191, 2, Some(Refusal::BadLimit)),
+    (4, 0, Some(Refusal::BadSubmitters)),
+    (4, 17, Some(Refusal::BadSubmitters)),
+    (4, 16, None),
+];
+
 #[test]
 fn world_openings(rt: HostRuntime) {
-    assert_eq!(rt; refusal(rt.alloc(), 0, 0), Some(Refusal::BadLimit));
-    assert_eq!(rt; refusal(rt.alloc(), 8191, 2), Some(Refusal::BadLimit));
-    assert_eq!(rt; refusal(rt.alloc(), 4, 0), Some(Refusal::BadSubmitters));
-    assert_eq!(rt; refusal(rt.alloc(), 4, 17), Some(Refusal::BadSubmitters));
-    assert_eq!(rt; refusal(rt.alloc(), 4, 16), None);
+    for (limit, submitters, wanted) in &OPENINGS {
+        let refusal = refusal(rt.alloc(), *limit, *submitters);
+        assert!(rt;
+            refusal == *wanted,
+            "limit {limit} and {submitters} submitters"
+        );
+    }
 }

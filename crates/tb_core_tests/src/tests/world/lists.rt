@@ -5,12 +5,11 @@ use crate::tests::made::Made;
 use crate::tests::told::{Told, told_by};
 use std::alloc::Global;
 use std::process::Abort;
-use std::test::Fail;
 use tb_core::{Entry, World};
 use tb_work::{Reply, Stub};
 
 /// What was pushed, with the sender of a packet or an End.
-#[derive(Clone, Copy, Debug, PartialEq, Eq)]
+#[derive(Clone, Copy, PartialEq, Eq)]
 enum Pushed {
     Packet { sender: u32, number: u64 },
     Pulse(u64),
@@ -106,81 +105,77 @@ fn next_stage(seed: &mut u64) -> Step {
 
 /// A push of the rule, which is answered true unless its sender has ended.
 fn push(
-    rt: &impl Abort,
-    alloc: Global,
+    rt: &(impl Abort + Alloc<A = Global>),
     world: &mut World,
     known: &mut Known,
     seed: &mut u64,
-) -> Result<(), Fail> {
+) {
     let (sender, pushed) = next_push(seed, &known.pushed);
-    let moves = answer(alloc, world, Step::Push(sender, made(pushed)))?;
+    let moves = answer(rt, world, Step::Push(sender, made(pushed)));
     let wanted = !has_ended(&known.pushed, sender);
-    assert_eq!(rt;
-        moves,
-        wanted,
-        "the answer to {pushed:?} of sender {sender}"
-    );
+    assert!(rt; moves == wanted, "the answer to a push of sender {sender}");
     if moves {
-        known.pushed.push(pushed)?;
+        known.pushed.push(pushed).expect(rt, "memory");
     }
-    Ok(())
 }
 
 /// An event of the rule.
 fn step(
-    rt: &impl Abort,
-    alloc: Global,
+    rt: &(impl Abort + Alloc<A = Global>),
     world: &mut World,
     known: &mut Known,
     seed: &mut u64,
-) -> Result<(), Fail> {
+) {
     if next_number(seed, 26) < 6 {
-        return push(rt, alloc, world, known, seed);
+        push(rt, world, known, seed);
+    } else {
+        let stage = next_stage(seed);
+        let moves = answer(rt, world, stage);
+        known.refused |= moves && matches!(stage, Step::PopRefused | Step::BatchPopRefused);
     }
-    let stage = next_stage(seed);
-    let moves = answer(alloc, world, stage)?;
-    known.refused |= moves && matches!(stage, Step::PopRefused | Step::BatchPopRefused);
-    Ok(())
 }
 
 /// The packets and pulses ahead of the Close, in order.
-fn ahead(alloc: Global, pushed: &[Pushed]) -> Result<Vec<Pushed>, Fail> {
-    let mut ahead = Vec::new(alloc);
+fn ahead(rt: &(impl Abort + Alloc<A = Global>), pushed: &[Pushed]) -> Vec<Pushed> {
+    let mut ahead = Vec::new(rt.alloc());
     for one in pushed {
         match *one {
             Pushed::Close => break,
             Pushed::End(_) => {}
-            one => ahead.push(one)?,
+            one => ahead.push(one).expect(rt, "memory"),
         }
     }
-    Ok(ahead)
+    ahead
 }
 
 /// Puts the packets of an entry behind the others.
-fn add_stubs(stubs: &[Stub], committed: &mut Vec<Pushed>) -> Result<(), Fail> {
+fn add_stubs(rt: &impl Abort, stubs: &[Stub], committed: &mut Vec<Pushed>) {
     for stub in stubs {
-        committed.push(Pushed::Packet {
+        let packet = Pushed::Packet {
             sender: stub.submitter,
             number: stub.number,
-        })?;
+        };
+        committed.push(packet).expect(rt, "memory");
     }
-    Ok(())
 }
 
 /// The packets and pulses of the journal, in order.
-fn committed(alloc: Global, journal: &[Entry]) -> Result<Vec<Pushed>, Fail> {
-    let mut committed = Vec::new(alloc);
+fn committed(rt: &(impl Abort + Alloc<A = Global>), journal: &[Entry]) -> Vec<Pushed> {
+    let mut committed = Vec::new(rt.alloc());
     for entry in journal {
         match entry {
             Entry::Batch {
                 operation: _,
                 body: _,
                 stubs,
-            } => add_stubs(stubs, &mut committed)?,
-            Entry::Pulse { moment } => committed.push(Pushed::Pulse(moment.get()))?,
+            } => add_stubs(rt, stubs, &mut committed),
+            Entry::Pulse { moment } => {
+                let pulse = Pushed::Pulse(moment.get());
+                committed.push(pulse).expect(rt, "memory");
+            }
         }
     }
-    Ok(committed)
+    committed
 }
 
 /// What a packet comes to where so many of those ahead were committed.
@@ -197,14 +192,13 @@ fn assert_due(rt: &impl Abort, replies: &[Reply], sender: u32, ahead: &[Pushed],
     for (place, reply) in replies.iter().enumerate() {
         let number = place as u64;
         let wanted = due(ahead, committed, Pushed::Packet { sender, number });
-        assert_eq!(rt;
-            (reply.submitter, reply.number),
-            (sender, number),
-            "whose a reply is"
+        let whose = (reply.submitter, reply.number);
+        assert!(rt;
+            whose == (sender, number),
+            "whose reply {number} to {sender} is"
         );
-        assert_eq!(rt;
-            told_by(reply),
-            wanted,
+        assert!(rt;
+            told_by(reply) == wanted,
             "what reply {number} to {sender} says"
         );
     }
@@ -212,23 +206,17 @@ fn assert_due(rt: &impl Abort, replies: &[Reply], sender: u32, ahead: &[Pushed],
 
 /// Asserts that the journal is a prefix of what is ahead, and that each submitter received a prefix of what is
 /// due to it. Gives how many packets and pulses are ahead and aren't committed.
-fn assert_lawful(
-    rt: &impl Abort,
-    alloc: Global,
-    world: &World,
-    pushed: &[Pushed],
-) -> Result<usize, Fail> {
-    let ahead = ahead(alloc, pushed)?;
-    let committed = committed(alloc, world.ledger().journal())?;
+fn assert_lawful(rt: &(impl Abort + Alloc<A = Global>), world: &World, pushed: &[Pushed]) -> usize {
+    let ahead = ahead(rt, pushed);
+    let committed = committed(rt, world.ledger().journal());
     let first = ahead.get(..committed.len());
-    assert_eq!(rt;
-        first,
-        Some(committed.as_slice()),
+    assert!(rt;
+        first == Some(committed.as_slice()),
         "the journal, and the first of what is ahead"
     );
     assert_due(rt, world.received(0), 0, &ahead, committed.len());
     assert_due(rt, world.received(1), 1, &ahead, committed.len());
-    Ok(ahead.len().saturating_sub(committed.len()))
+    ahead.len().saturating_sub(committed.len())
 }
 
 /// Each stage once, with nothing refused.
@@ -244,72 +232,67 @@ const ROUND: [Step; 8] = [
 ];
 
 /// Whether one of the stages moved.
-fn round(alloc: Global, world: &mut World) -> Result<bool, Fail> {
+fn round(rt: &(impl Abort + Alloc<A = Global>), world: &mut World) -> bool {
     let mut moved = false;
     for step in &ROUND {
-        moved |= answer(alloc, world, *step)?;
+        moved |= answer(rt, world, *step);
     }
-    Ok(moved)
+    moved
 }
 
 /// Rounds until nothing moves; no list needs more than its events and a few.
-fn settle(alloc: Global, world: &mut World) -> Result<(), Fail> {
+fn settle(rt: &(impl Abort + Alloc<A = Global>), world: &mut World) {
     for _ in 0..1000 {
-        if !round(alloc, world)? {
-            return Ok(());
+        if !round(rt, world) {
+            return;
         }
     }
-    Err("the World never rests")?
+    panic!(rt; "the World never rests");
 }
 
 /// Asserts that at rest each packet has its reply, and all that is ahead was committed where nothing was refused.
-fn assert_whole(rt: &impl Abort, alloc: Global, world: &World, known: &Known) -> Result<(), Fail> {
-    let left = assert_lawful(rt, alloc, world, &known.pushed)?;
-    if !known.refused {
-        assert_eq!(rt; left, 0, "what is ahead and not committed");
-    }
+fn assert_whole(rt: &(impl Abort + Alloc<A = Global>), world: &World, known: &Known) {
+    let left = assert_lawful(rt, world, &known.pushed);
+    assert!(rt;
+        known.refused || left == 0,
+        "what is ahead and not committed"
+    );
     for sender in 0..2 {
-        assert_eq!(rt;
-            world.received(sender).len() as u64,
-            packets_of(&known.pushed, sender),
-            "how many replies {sender} received"
-        );
+        let replies = world.received(sender).len() as u64;
+        let due = packets_of(&known.pushed, sender);
+        assert!(rt; replies == due, "how many replies {sender} received");
     }
-    Ok(())
 }
 
 /// A list of the rule.
 fn play_list(
-    rt: &impl Abort,
-    alloc: Global,
+    rt: &(impl Abort + Alloc<A = Global>),
     world: &mut World,
     known: &mut Known,
     seed: u64,
-) -> Result<(), Fail> {
+) {
     let mut seed = seed;
     for _ in 0..200 {
-        step(rt, alloc, world, known, &mut seed)?;
+        step(rt, world, known, &mut seed);
     }
-    assert_lawful(rt, alloc, world, &known.pushed)?;
-    settle(alloc, world)?;
-    assert_whole(rt, alloc, world, known)
+    assert_lawful(rt, world, &known.pushed);
+    settle(rt, world);
+    assert_whole(rt, world, known);
 }
 
-fn one_list(rt: &impl Abort, alloc: Global, seed: u64) -> Result<(), Fail> {
-    let mut world = World::new(alloc, 0, 3, 2)?;
+fn one_list(rt: &(impl Abort + Alloc<A = Global>), seed: u64) {
+    let mut world = World::new(rt.alloc(), 0, 3, 2).expect(rt, "memory");
     let mut known = Known {
-        pushed: Vec::new(alloc),
+        pushed: Vec::new(rt.alloc()),
         refused: false,
     };
-    let played = play_list(rt, alloc, &mut world, &mut known, seed);
+    play_list(rt, &mut world, &mut known, seed);
     drop(world);
-    played
 }
 
 #[test]
-fn a_thousand_lists(rt: HostRuntime) -> Result<(), Fail> {
+fn a_thousand_lists(rt: HostRuntime) {
     for seed in 0..1000 {
-        one_list(&rt, rt.alloc(), seed)?;
+        one_list(&rt, seed);
     }
-    Ok(())
 }

@@ -5,7 +5,6 @@ use crate::tests::made::{Made, account, creating, transfer, transferring};
 use crate::tests::told::{Noted, Told, assert_failures, assert_noted, assert_told};
 use std::alloc::Global;
 use std::process::Abort;
-use std::test::Fail;
 use tb_core::{Event, World, run_world};
 use tb_layout::{Account, Failure, Transfer};
 use tb_work::{Item, Job, Refusal, Ticket};
@@ -93,7 +92,7 @@ fn assert_pulsed(rt: &impl Abort, world: &World) {
     assert_told(rt, world.received(0), &told);
     let noted = [Noted::Batch(2), Noted::Pulse(5), Noted::Batch(4)];
     assert_noted(rt, world.ledger().journal(), &noted);
-    assert_eq!(rt; world.ledger().machine().clock(), 9);
+    assert!(rt; world.ledger().machine().clock() == 9, "the clock");
 }
 
 /// Runs the example, and asserts what it comes to.
@@ -105,14 +104,14 @@ fn run_pulsed(rt: &impl Abort, alloc: Global) -> Result<(), Refusal> {
 }
 
 #[test]
-fn pulse_between_batches(rt: HostRuntime) -> Result<(), Fail> {
-    Ok(run_pulsed(&rt, rt.alloc())?)
+fn pulse_between_batches(rt: HostRuntime) {
+    run_pulsed(&rt, rt.alloc()).expect(&rt, "memory");
 }
 
 #[test]
 fn pulse_between_batches_refused_memory(rt: HostRuntime) {
     if let Err(refusal) = run_pulsed(&rt, rt.alloc()) {
-        assert_eq!(rt; refusal, Refusal::NoMemory);
+        assert!(rt; refusal == Refusal::NoMemory, "why it is refused");
     }
 }
 
@@ -204,10 +203,13 @@ fn assert_joined(rt: &impl Abort, world: &World) {
 /// Asserts that no account was debited or credited.
 fn assert_untouched(rt: &impl Abort, world: &World) {
     let machine = world.ledger().machine();
-    assert_eq!(rt; machine.clock(), 7);
+    assert!(rt; machine.clock() == 7, "the clock");
     for (made, timestamp) in accounts().iter().zip([1, 2, 3]) {
         let untouched = Account { timestamp, ..*made };
-        assert_eq!(rt; machine.account(made.id), Some(untouched));
+        assert!(rt;
+            machine.account(made.id) == Some(untouched),
+            "account {timestamp}"
+        );
     }
 }
 
@@ -220,14 +222,14 @@ fn run_joined(rt: &impl Abort, alloc: Global) -> Result<(), Refusal> {
 }
 
 #[test]
-fn chains_of_transfers_joined(rt: HostRuntime) -> Result<(), Fail> {
-    Ok(run_joined(&rt, rt.alloc())?)
+fn chains_of_transfers_joined(rt: HostRuntime) {
+    run_joined(&rt, rt.alloc()).expect(&rt, "memory");
 }
 
 #[test]
 fn chains_of_transfers_joined_refused_memory(rt: HostRuntime) {
     if let Err(refusal) = run_joined(&rt, rt.alloc()) {
-        assert_eq!(rt; refusal, Refusal::NoMemory);
+        assert!(rt; refusal == Refusal::NoMemory, "why it is refused");
     }
 }
 
@@ -248,20 +250,20 @@ const FOUR: [Step; 12] = [
 ];
 
 /// A packet of each of 16 submitters, and all that becomes of them.
-fn sixteen_events(alloc: Global) -> Result<Vec<Event>, Refusal> {
-    let mut events = Vec::new(alloc);
+fn sixteen_events(rt: &(impl Abort + Alloc<A = Global>)) -> Vec<Event> {
+    let mut events = Vec::new(rt.alloc());
     for sender in 0..16 {
         let id = u128::from(sender) + 1;
-        let packet = Made::Packet { number: 0, id };
-        add(&mut events, event(alloc, Step::Push(sender, packet))?)?;
+        let push = Step::Push(sender, Made::Packet { number: 0, id });
+        add_all(rt.alloc(), &mut events, &[push]).expect(rt, "memory");
     }
     for _ in 0..4 {
-        add_all(alloc, &mut events, &FOUR)?;
+        add_all(rt.alloc(), &mut events, &FOUR).expect(rt, "memory");
     }
     for sender in 0..16 {
-        add(&mut events, event(alloc, Step::ReplyPop(sender))?)?;
+        add_all(rt.alloc(), &mut events, &[Step::ReplyPop(sender)]).expect(rt, "memory");
     }
-    Ok(events)
+    events
 }
 
 /// Asserts what the example says.
@@ -271,14 +273,13 @@ fn assert_sixteen(rt: &impl Abort, world: &World) {
         assert_told(rt, world.received(sender), &told);
     }
     assert_noted(rt, world.ledger().journal(), &[Noted::Batch(4); 4]);
-    assert_eq!(rt; world.ledger().machine().clock(), 16);
+    assert!(rt; world.ledger().machine().clock() == 16, "the clock");
 }
 
 #[test]
-fn sixteen_submitters(rt: HostRuntime) -> Result<(), Fail> {
-    let events = sixteen_events(rt.alloc())?;
-    let world = run_world(rt.alloc(), 0, 4, 16, events)?;
+fn sixteen_submitters(rt: HostRuntime) {
+    let events = sixteen_events(&rt);
+    let world = run_world(rt.alloc(), 0, 4, 16, events).expect(&rt, "memory");
     assert_sixteen(&rt, &world);
     drop(world);
-    Ok(())
 }
