@@ -32,9 +32,9 @@ fn handed_by(parcel: &Parcel) -> Handed {
 }
 
 fn assert_handed(rt: &impl Abort, parcels: &[Parcel], wanted: &[Handed]) {
-    assert!(rt; parcels.len() == wanted.len(), "how many parcels there are");
-    for (place, (parcel, wanted)) in parcels.iter().zip(wanted).enumerate() {
-        assert!(rt; handed_by(parcel) == *wanted, "parcel {place}");
+    assert!(rt; parcels.len() == wanted.len());
+    for (parcel, wanted) in parcels.iter().zip(wanted) {
+        assert!(rt; handed_by(parcel) == *wanted);
     }
 }
 
@@ -120,9 +120,9 @@ fn assert_shut(rt: &(impl Abort + Alloc<A = Global>), front: &mut Front)
     assert_taken(rt, front, 0, FIRST, &[]);
     assert_taken(rt, front, 1, Made::Close, &[Handed::Batch(1)]);
     assert_taken(rt, front, 0, SECOND, &returned);
-    assert!(rt; !front.finished(), "the submitter hasn't ended");
+    assert!(rt; !front.finished());
     assert_taken(rt, front, 0, Made::End, &[]);
-    assert!(rt; front.finished(), "both have ended");
+    assert!(rt; front.finished());
 }
 
 #[test]
@@ -227,7 +227,7 @@ fn assert_held(rt: &impl Abort, front: &mut Front, parcels: &[Parcel], held: usi
     match held {
         0 => assert_handed(rt, parcels, &[stopped]),
         1 | 2 => assert_handed(rt, parcels, &[Handed::Batch(held), stopped]),
-        _ => assert!(rt; packets_held(front) == Some(3), "three packets are held"),
+        _ => assert!(rt; packets_held(front) == Some(3)),
     }
 }
 
@@ -261,11 +261,8 @@ fn assert_answered(rt: &(impl Abort + Alloc<A = Global>), front: &mut Front, led
     assert_taken(rt, front, 0, FIRST, &[]);
     let batch = front.idle().expect(rt, "the packet is held");
     let reply = first_reply(ledger.apply(Parcel::Batch(batch))).expect(rt, "a reply");
-    assert!(rt;
-        (reply.submitter, reply.number) == (0, 0),
-        "whose the reply is"
-    );
-    assert!(rt; reply.packet.user == 7, "the user word of the packet");
+    assert!(rt; (reply.submitter, reply.number) == (0, 0));
+    assert!(rt; reply.packet.user == 7);
     assert_told(rt, slice::from_ref(&reply), &[Told::Committed(0)]);
 }
 

@@ -75,7 +75,7 @@ fn feed_packets(
 fn feed_group(rt: &impl Abort, front: &mut Front, ledger: &mut Ledger, told: &mut Vec<Told>) {
     let batch = front.idle().expect(rt, "a group is held");
     tell(rt, ledger.apply(Parcel::Batch(batch)), told);
-    assert!(rt; front.idle().is_none(), "nothing more is held");
+    assert!(rt; front.idle().is_none());
 }
 
 /// Feeds two packets, a pulse of the control, and four packets.
@@ -88,9 +88,11 @@ fn pulse_between(
     requires { front.old.submitters ≡ 1 }
 {
     feed_packets(rt, front, ledger, &[1, 2], told);
-    assert!(rt; told.is_empty(), "two packets are held");
+    // The two packets are held.
+    assert!(rt; told.is_empty());
     feed(rt, front, ledger, ticket_of(rt, 1, Made::Pulse(5)), told);
-    assert!(rt; told.len() == 2, "the pulse seals them");
+    // The pulse seals them.
+    assert!(rt; told.len() == 2);
     feed_packets(rt, front, ledger, &[3, 4, 5, 6], told);
 }
 
@@ -109,12 +111,9 @@ fn feed_all(rt: &(impl Abort + Alloc<A = Global>), front: &mut Front, ledger: &m
 {
     let mut told = Vec::new(rt.alloc());
     pulse_between(rt, front, ledger, &mut told);
-    assert!(rt; !front.finished(), "nobody has ended");
+    assert!(rt; !front.finished());
     feed_group(rt, front, ledger, &mut told);
-    assert!(rt;
-        told.as_slice() == PULSE_BETWEEN_BATCHES.as_slice(),
-        "what is told"
-    );
+    assert!(rt; told.as_slice() == PULSE_BETWEEN_BATCHES.as_slice());
 }
 
 #[test]
@@ -130,21 +129,18 @@ fn pulse_between_batches(rt: HostRuntime) {
 fn assert_pulse_between(rt: &impl Abort, ledger: &Ledger) {
     let noted = [Noted::Batch(2), Noted::Pulse(5), Noted::Batch(4)];
     assert_noted(rt, ledger.journal(), &noted);
-    assert!(rt; ledger.places() == 7, "the places");
-    assert!(rt; ledger.opening() == 0, "the clock at the opening");
-    assert!(rt; ledger.machine().clock() == 9, "the clock");
-    assert!(rt;
-        ledger.machine().accounts() == 6,
-        "how many accounts there are"
-    );
-    assert!(rt; !ledger.stopped(), "no growth was refused");
+    assert!(rt; ledger.places() == 7);
+    assert!(rt; ledger.opening() == 0);
+    assert!(rt; ledger.machine().clock() == 9);
+    assert!(rt; ledger.machine().accounts() == 6);
+    assert!(rt; !ledger.stopped());
 }
 
 /// A job as a batch.
 fn alone(rt: &(impl Abort + Alloc<A = Global>), job: Job) -> Batch {
     let mut batcher = Batcher::new(rt.alloc(), 8190).expect(rt, "memory");
     let joined = matches!(batcher.offer(job), Offered::Joined);
-    assert!(rt; joined, "nothing was held");
+    assert!(rt; joined);
     batcher.seal().expect(rt, "the job is held")
 }
 
@@ -188,11 +184,8 @@ fn assert_found(rt: &(impl Abort + Alloc<A = Global>), ledger: &mut Ledger) {
         timestamp: 4,
         ..account(1)
     };
-    assert!(rt;
-        found(&reply) == Some((1, 1, made)),
-        "what the lookup found"
-    );
-    assert!(rt; ledger.machine().clock() == 4, "the clock");
+    assert!(rt; found(&reply) == Some((1, 1, made)));
+    assert!(rt; ledger.machine().clock() == 4);
     assert_noted(rt, ledger.journal(), &[Noted::Batch(1), Noted::Batch(1)]);
 }
 
@@ -202,26 +195,26 @@ fn refused_commit(rt: HostRuntime) {
     let mut told = Vec::new(rt.alloc());
     refuse_commit(&rt, &mut ledger, &mut told);
     let wanted = [Told::Stopped, Told::Stopped, Told::Shutdown];
-    assert!(rt; told.as_slice() == wanted.as_slice(), "what is told");
+    assert!(rt; told.as_slice() == wanted.as_slice());
     assert_nothing_committed(&rt, &ledger);
     drop(told);
     drop(ledger);
 }
 
 fn assert_nothing_committed(rt: &impl Abort, ledger: &Ledger) {
-    assert!(rt; ledger.journal().is_empty(), "nothing was committed");
-    assert!(rt; ledger.places() == 0, "the places");
-    assert!(rt; ledger.machine().clock() == 0, "the clock");
+    assert!(rt; ledger.journal().is_empty());
+    assert!(rt; ledger.places() == 0);
+    assert!(rt; ledger.machine().clock() == 0);
 }
 
 /// A batch whose growth is refused, and what comes behind it.
 fn refuse_commit(rt: &(impl Abort + Alloc<A = Global>), ledger: &mut Ledger, told: &mut Vec<Told>) {
     tell(rt, ledger.apply_as_refused(batch_of(rt, 1)), told);
-    assert!(rt; ledger.stopped(), "a growth was refused");
+    assert!(rt; ledger.stopped());
     tell(rt, ledger.apply(batch_of(rt, 2)), told);
     tell(rt, ledger.apply(Parcel::Pulse(Moment::new(5))), told);
     let behind = Parcel::Return(creating_one(rt, 1, 3), Cause::Shutdown);
     tell(rt, ledger.apply(behind), told);
     let last = ledger.apply(Parcel::Last);
-    assert!(rt; matches!(&last, Outcomes::Last), "Last comes to Last");
+    assert!(rt; matches!(&last, Outcomes::Last));
 }

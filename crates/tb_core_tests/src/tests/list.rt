@@ -22,8 +22,8 @@ fn items_of(rt: &(impl Abort + Alloc<A = Global>), list: &[Made]) -> Vec<Item> {
 fn assert_listed(rt: &impl Abort, listed: &Listed, told: &[Told], noted: &[Noted], clock: u64) {
     assert_told(rt, &listed.replies, told);
     assert_noted(rt, listed.ledger.journal(), noted);
-    assert!(rt; listed.ledger.machine().clock() == clock, "the clock");
-    assert!(rt; !listed.ledger.stopped(), "no growth was refused");
+    assert!(rt; listed.ledger.machine().clock() == clock);
+    assert!(rt; !listed.ledger.stopped());
 }
 
 const PULSE_BETWEEN_BATCHES: [Made; 8] = [
@@ -67,7 +67,7 @@ fn packet_behind_shut(rt: HostRuntime) {
     let listed = run_list(rt.alloc(), 0, 4, items).expect(&rt, "memory");
     let told = [Told::Committed(0), Told::Shutdown];
     assert_listed(&rt, &listed, &told, &[Noted::Batch(1)], 1);
-    assert!(rt; listed.ledger.machine().accounts() == 1, "one account");
+    assert!(rt; listed.ledger.machine().accounts() == 1);
     drop(listed);
 }
 
@@ -153,13 +153,13 @@ fn assert_largest(rt: &impl Abort, listed: &Listed) {
         assert_failures(rt, Some(reply), &[]);
     }
     let machine = listed.ledger.machine();
-    assert!(rt; machine.accounts() == 8200, "how many accounts there are");
+    assert!(rt; machine.accounts() == 8200);
     let debtor = Account {
         debits_posted: 8190,
         timestamp: 1,
         ..account(1)
     };
-    assert!(rt; machine.account(1) == Some(debtor), "account 1");
+    assert!(rt; machine.account(1) == Some(debtor));
 }
 
 #[test]

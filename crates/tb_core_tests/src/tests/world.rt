@@ -68,7 +68,7 @@ fn assert_world(rt: &impl Abort, world: &World, told: &[Told], noted: &[Noted], 
     assert_told(rt, world.received(0), told);
     assert_told(rt, world.received(1), &[]);
     assert_noted(rt, world.ledger().journal(), noted);
-    assert!(rt; world.ledger().machine().clock() == clock, "the clock");
+    assert!(rt; world.ledger().machine().clock() == clock);
 }
 
 /// Takes steps in a World of submitters 0 and 1 and the control, 2, whose batches have at most 4 events, and asserts

@@ -55,24 +55,15 @@ fn first_job(rt: &(impl Abort + Alloc<A = Global>), accounts: &[Account]) -> Job
 #[test]
 fn jobs_of_others(rt: HostRuntime) {
     let job = first_job(&rt, &[account(1)]);
-    assert!(rt;
-        !answer_to(&rt, 4, 1, job),
-        "the job of submitter 0, pushed by 1"
-    );
+    assert!(rt; !answer_to(&rt, 4, 1, job));
 }
 
 #[test]
 fn jobs_over_the_limit(rt: HostRuntime) {
     let two = first_job(&rt, &[account(1), account(2)]);
-    assert!(rt;
-        !answer_to(&rt, 1, 0, two),
-        "two accounts, where the limit is 1"
-    );
+    assert!(rt; !answer_to(&rt, 1, 0, two));
     let one = first_job(&rt, &[account(1)]);
-    assert!(rt;
-        answer_to(&rt, 1, 0, one),
-        "one account, where the limit is 1"
-    );
+    assert!(rt; answer_to(&rt, 1, 0, one));
 }
 
 const STAGES_WITH_NOTHING: [(Step, bool); 10] = [

@@ -192,14 +192,10 @@ fn assert_due(rt: &impl Abort, replies: &[Reply], sender: u32, ahead: &[Pushed],
     for (place, reply) in replies.iter().enumerate() {
         let number = place as u64;
         let wanted = due(ahead, committed, Pushed::Packet { sender, number });
-        let whose = (reply.submitter, reply.number);
+        let found = (reply.submitter, reply.number, told_by(reply));
         assert!(rt;
-            whose == (sender, number),
-            "whose reply {number} to {sender} is"
-        );
-        assert!(rt;
-            told_by(reply) == wanted,
-            "what reply {number} to {sender} says"
+            found == (sender, number, wanted),
+            "reply {number} to {sender}"
         );
     }
 }
@@ -210,10 +206,7 @@ fn assert_lawful(rt: &(impl Abort + Alloc<A = Global>), world: &World, pushed: &
     let ahead = ahead(rt, pushed);
     let committed = committed(rt, world.ledger().journal());
     let first = ahead.get(..committed.len());
-    assert!(rt;
-        first == Some(committed.as_slice()),
-        "the journal, and the first of what is ahead"
-    );
+    assert!(rt; first == Some(committed.as_slice()));
     assert_due(rt, world.received(0), 0, &ahead, committed.len());
     assert_due(rt, world.received(1), 1, &ahead, committed.len());
     ahead.len().saturating_sub(committed.len())
@@ -253,10 +246,7 @@ fn settle(rt: &(impl Abort + Alloc<A = Global>), world: &mut World) {
 /// Asserts that at rest each packet has its reply, and all that is ahead was committed where nothing was refused.
 fn assert_whole(rt: &(impl Abort + Alloc<A = Global>), world: &World, known: &Known) {
     let left = assert_lawful(rt, world, &known.pushed);
-    assert!(rt;
-        known.refused || left == 0,
-        "what is ahead and not committed"
-    );
+    assert!(rt; known.refused || left == 0);
     for sender in 0..2 {
         let replies = world.received(sender).len() as u64;
         let due = packets_of(&known.pushed, sender);

@@ -92,7 +92,7 @@ fn assert_pulsed(rt: &impl Abort, world: &World) {
     assert_told(rt, world.received(0), &told);
     let noted = [Noted::Batch(2), Noted::Pulse(5), Noted::Batch(4)];
     assert_noted(rt, world.ledger().journal(), &noted);
-    assert!(rt; world.ledger().machine().clock() == 9, "the clock");
+    assert!(rt; world.ledger().machine().clock() == 9);
 }
 
 /// Runs the example, and asserts what it comes to.
@@ -111,7 +111,7 @@ fn pulse_between_batches(rt: HostRuntime) {
 #[test]
 fn pulse_between_batches_refused_memory(rt: HostRuntime) {
     if let Err(refusal) = run_pulsed(&rt, rt.alloc()) {
-        assert!(rt; refusal == Refusal::NoMemory, "why it is refused");
+        assert!(rt; refusal == Refusal::NoMemory);
     }
 }
 
@@ -172,9 +172,9 @@ const JOINED: [Step; 5] = [
 fn joined_events(alloc: Global) -> Result<Vec<Event>, Refusal> {
     let mut events = Vec::new(alloc);
     add_packets(alloc, &mut events)?;
-    add_all(alloc, &mut events, &JOINED)?;
-    add_all(alloc, &mut events, &THROUGH)?;
-    add_all(alloc, &mut events, &THROUGH)?;
+    for steps in [JOINED.as_slice(), THROUGH.as_slice(), THROUGH.as_slice()] {
+        add_all(alloc, &mut events, steps)?;
+    }
     Ok(events)
 }
 
@@ -203,13 +203,10 @@ fn assert_joined(rt: &impl Abort, world: &World) {
 /// Asserts that no account was debited or credited.
 fn assert_untouched(rt: &impl Abort, world: &World) {
     let machine = world.ledger().machine();
-    assert!(rt; machine.clock() == 7, "the clock");
+    assert!(rt; machine.clock() == 7);
     for (made, timestamp) in accounts().iter().zip([1, 2, 3]) {
         let untouched = Account { timestamp, ..*made };
-        assert!(rt;
-            machine.account(made.id) == Some(untouched),
-            "account {timestamp}"
-        );
+        assert!(rt; machine.account(made.id) == Some(untouched));
     }
 }
 
@@ -229,7 +226,7 @@ fn chains_of_transfers_joined(rt: HostRuntime) {
 #[test]
 fn chains_of_transfers_joined_refused_memory(rt: HostRuntime) {
     if let Err(refusal) = run_joined(&rt, rt.alloc()) {
-        assert!(rt; refusal == Refusal::NoMemory, "why it is refused");
+        assert!(rt; refusal == Refusal::NoMemory);
     }
 }
 
@@ -273,7 +270,7 @@ fn assert_sixteen(rt: &impl Abort, world: &World) {
         assert_told(rt, world.received(sender), &told);
     }
     assert_noted(rt, world.ledger().journal(), &[Noted::Batch(4); 4]);
-    assert!(rt; world.ledger().machine().clock() == 16, "the clock");
+    assert!(rt; world.ledger().machine().clock() == 16);
 }
 
 #[test]
