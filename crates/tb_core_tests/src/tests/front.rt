@@ -120,8 +120,10 @@ fn assert_shut(rt: &(impl Abort + Alloc<A = Global>), front: &mut Front)
     assert_taken(rt, front, 0, FIRST, &[]);
     assert_taken(rt, front, 1, Made::Close, &[Handed::Batch(1)]);
     assert_taken(rt, front, 0, SECOND, &returned);
+    // The submitter hasn't ended.
     assert!(rt; !front.finished());
     assert_taken(rt, front, 0, Made::End, &[]);
+    // Both have ended.
     assert!(rt; front.finished());
 }
 

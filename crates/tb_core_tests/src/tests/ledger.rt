@@ -111,6 +111,7 @@ fn feed_all(rt: &(impl Abort + Alloc<A = Global>), front: &mut Front, ledger: &m
 {
     let mut told = Vec::new(rt.alloc());
     pulse_between(rt, front, ledger, &mut told);
+    // Nobody has ended.
     assert!(rt; !front.finished());
     feed_group(rt, front, ledger, &mut told);
     assert!(rt; told.as_slice() == PULSE_BETWEEN_BATCHES.as_slice());
@@ -215,6 +216,7 @@ fn refuse_commit(rt: &(impl Abort + Alloc<A = Global>), ledger: &mut Ledger, tol
     tell(rt, ledger.apply(Parcel::Pulse(Moment::new(5))), told);
     let behind = Parcel::Return(creating_one(rt, 1, 3), Cause::Shutdown);
     tell(rt, ledger.apply(behind), told);
+    // Last comes to Last.
     let last = ledger.apply(Parcel::Last);
     assert!(rt; matches!(&last, Outcomes::Last));
 }

@@ -54,12 +54,14 @@ fn first_job(rt: &(impl Abort + Alloc<A = Global>), accounts: &[Account]) -> Job
 
 #[test]
 fn jobs_of_others(rt: HostRuntime) {
+    // Submitter 1 pushes the job of submitter 0.
     let job = first_job(&rt, &[account(1)]);
     assert!(rt; !answer_to(&rt, 4, 1, job));
 }
 
 #[test]
 fn jobs_over_the_limit(rt: HostRuntime) {
+    // The limit is one account.
     let two = first_job(&rt, &[account(1), account(2)]);
     assert!(rt; !answer_to(&rt, 1, 0, two));
     let one = first_job(&rt, &[account(1)]);

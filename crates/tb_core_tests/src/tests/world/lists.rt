@@ -205,6 +205,7 @@ fn assert_due(rt: &impl Abort, replies: &[Reply], sender: u32, ahead: &[Pushed],
 fn assert_lawful(rt: &(impl Abort + Alloc<A = Global>), world: &World, pushed: &[Pushed]) -> usize {
     let ahead = ahead(rt, pushed);
     let committed = committed(rt, world.ledger().journal());
+    // The journal is the first of what is ahead.
     let first = ahead.get(..committed.len());
     assert!(rt; first == Some(committed.as_slice()));
     assert_due(rt, world.received(0), 0, &ahead, committed.len());
@@ -246,6 +247,7 @@ fn settle(rt: &(impl Abort + Alloc<A = Global>), world: &mut World) {
 /// Asserts that at rest each packet has its reply, and all that is ahead was committed where nothing was refused.
 fn assert_whole(rt: &(impl Abort + Alloc<A = Global>), world: &World, known: &Known) {
     let left = assert_lawful(rt, world, &known.pushed);
+    // Where no growth was refused, all that is ahead was committed.
     assert!(rt; known.refused || left == 0);
     for sender in 0..2 {
         let replies = world.received(sender).len() as u64;

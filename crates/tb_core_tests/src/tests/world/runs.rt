@@ -145,19 +145,18 @@ fn chain() -> [Transfer; 3] {
     ]
 }
 
-fn push(job: Job) -> Event {
-    Event::Push(Ticket {
-        sender: 0,
-        item: Item::Packet(job),
-    })
+/// Puts the push of a packet by submitter 0 behind the others, where the packet was admitted.
+fn add_push(events: &mut Vec<Event>, job: Result<Job, Refusal>) -> Result<(), Refusal> {
+    let item = Item::Packet(job?);
+    add(events, Event::Push(Ticket { sender: 0, item }))
 }
 
 /// The packets of the example.
 fn add_packets(alloc: Global, events: &mut Vec<Event>) -> Result<(), Refusal> {
-    add(events, push(creating(alloc, 0, 0, &accounts())?))?;
-    add(events, push(transferring(alloc, 0, 1, &chain())?))?;
+    add_push(events, creating(alloc, 0, 0, &accounts()))?;
+    add_push(events, transferring(alloc, 0, 1, &chain()))?;
     let last = transfer(2, 2, 3, 10);
-    add(events, push(transferring(alloc, 0, 2, &[last])?))
+    add_push(events, transferring(alloc, 0, 2, &[last]))
 }
 
 const JOINED: [Step; 5] = [
