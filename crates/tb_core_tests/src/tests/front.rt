@@ -3,14 +3,14 @@
 ghost use Rattle.std.specs.Prelude.{◌≡◌, ◌≤◌, [], IfOk, true};
 
 use super::made::{Made, item};
-use super::told::{Told, assert_told, first_reply};
+use super::told::{Told, assert_told};
 use arrayvec::ArrayVec;
 use std::alloc::Global;
 use std::process::Abort;
 use std::slice;
 use std::test::Fail;
-use tb_core::{Cause, Front, Ledger, Parcel};
-use tb_work::{Refusal, Ticket};
+use tb_core::{Cause, Front, Ledger, Outcomes, Parcel};
+use tb_work::{Refusal, Reply, Ticket};
 
 /// What the front hands on.
 #[derive(Clone, Copy, PartialEq, Eq)]
@@ -258,11 +258,23 @@ fn take_into_refused_memory(rt: HostRuntime) -> Result<(), Fail> {
     Ok(())
 }
 
-/// Takes a packet through front, ledger and cutter, and asserts that it has its reply.
+/// Takes a packet through front, ledger and cutter, and gives its reply.
+fn way_of_a_packet(front: &mut Front, ledger: &mut Ledger, ticket: Ticket) -> Option<Reply>
+    requires { ticket.sender ≤ front.old.submitters }
+{
+    for parcel in front.take(ticket) {
+        ledger.apply(parcel);
+    }
+    let batch = front.idle()?;
+    match ledger.apply(Parcel::Batch(batch)) {
+        Outcomes::Cut(mut cutter) => cutter.next(),
+        _ => None,
+    }
+}
+
+/// Asserts that a packet has its reply.
 fn assert_answered(rt: &(impl Abort + Alloc<A = Global>), front: &mut Front, ledger: &mut Ledger) {
-    assert_taken(rt, front, 0, FIRST, &[]);
-    let batch = front.idle().expect(rt, "the packet is held");
-    let reply = first_reply(ledger.apply(Parcel::Batch(batch))).expect(rt, "a reply");
+    let reply = way_of_a_packet(front, ledger, ticket_of(rt, 0, FIRST)).expect(rt, "a reply");
     assert!(rt; (reply.submitter, reply.number) == (0, 0));
     assert!(rt; reply.packet.user == 7);
     assert_told(rt, slice::from_ref(&reply), &[Told::Committed(0)]);
