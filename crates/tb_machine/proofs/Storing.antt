@@ -1,10 +1,12 @@
 -- An event whose checks find nothing may be stored.
-use Rattle.std.proofs.Common.{refl, sym, ap, subst, ◌∙◌, arith, ◌≡◌, ℕ, ◌+◌, ◌*◌, ◌<◌, ◌≤◌, ◌^◌, Bool, true, false, not, List, [], ◌∷◌, Option, Some, None}
+use Rattle.std.proofs.Common.{refl, sym, ap, subst, ◌∙◌, arith, ◌≡◌, ℕ, ◌+◌, ◌*◌, ◌<◌, ◌≤◌, ◌^◌, Bool, true, false, true≢false, not, List, [], ◌∷◌, Option, Some, None, Result}
 use Rattle.std.specs.Prelude.{◌==◌, ◌&&◌, ◌||◌, nat_lt, slice_get, IsSome, if◌then◌else◌}
 use Rattle.std.specs.List.{AllByRecursion, list_all}
 use Rattle.std.specs.Option.{option_map}
 use Rattle.std.proofs.lemmas.Bool.{eqb-true}
 use Rattle.std.proofs.lemmas.Bool.Decides.{nat_tests}
+use Rattle.std.specs.declared.result.Result.TheVariants as result
+use Rattle.tb_layout.specs.declared.no_memory.NoMemory.{NoMemory}
 use Rattle.tb_layout.specs.declared.account.Account.{Account}
 use Rattle.tb_layout.specs.declared.transfer.Transfer.{Transfer}
 use Rattle.tb_layout.specs.declared.transfer_code.TransferCode.{TransferCode}
@@ -71,6 +73,11 @@ fine facts timestamp event ok =
 -- where its id is new, the verdict is that on a new one
 pub of_new : (facts : Facts) (timestamp : ℕ) (event : Transfer) → transfer_with facts event.id ≡ None → transfer_verdict facts timestamp event ≡ new_transfer_verdict facts timestamp event
 of_new facts timestamp event new = ap (λ found. first_row (event_checks event) (against_id facts timestamp found event)) new
+
+-- what wasn't added
+pub false-added : (added : Bool) → added ≡ false → ◌≡◌ {A = Result Bool NoMemory} (result.Ok added) (result.Ok true) → ⊥
+false-added true h e = absurd (true≢false h)
+false-added false h e = cc
 
 -- an event that passes has a new id
 pub is_new : (facts : Facts) (timestamp : ℕ) (event : Transfer) → number_of (transfer_verdict facts timestamp event) ≡ 0 → transfer_with facts event.id ≡ None
@@ -210,10 +217,9 @@ stored_is facts timestamp event pending named resolves =
     ap (λ found. record (resolved_transfer_of found event) { timestamp = timestamp }) named
     ∙ ap (λ b. record (if b then resolved_transfer pending event else event) { timestamp = timestamp }) resolves
 
-pub may_resolve : (facts : Facts) (timestamp : ℕ) (event : Transfer) → number_of (transfer_verdict facts timestamp event) ≡ 0 → is_resolving event ≡ true → MayResolve facts (stored_transfer facts timestamp event)
+pub may_resolve : (facts : Facts) (timestamp : ℕ) (event : Transfer) → number_of (new_transfer_verdict facts timestamp event) ≡ 0 → is_resolving event ≡ true → MayResolve facts (stored_transfer facts timestamp event)
 may_resolve facts timestamp event ok resolves =
-    let new = is_new facts timestamp event ok in
-    let id = fine facts timestamp event (sym (ap number_of (of_new facts timestamp event new)) ∙ ok) in
+    let id = fine facts timestamp event ok in
     let verdict : number_of (resolving_verdict facts timestamp event) ≡ 0 =
     sym (ap (λ b. number_of (if b then resolving_verdict facts timestamp event else moving_verdict facts timestamp event)) resolves) ∙ id.rest in
     let one = names facts timestamp event verdict in
@@ -221,7 +227,6 @@ may_resolve facts timestamp event ok resolves =
     let pending_id = found-id (λ (transfer : Transfer). transfer.id) event.pending_id facts.transfers one.pending one.named in
     subst (MayResolve facts) (sym (stored_is facts timestamp event one.pending one.named resolves))
     (record {
-      new = new;
       post_or_void = kind.0;
       not_pending = kind.1;
       pending = one.pending;

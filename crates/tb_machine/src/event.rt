@@ -191,18 +191,19 @@ fn examine_moving(
     Ok(transfer_verdict(tables, Target::Between(sides), timestamp, event).number())
 }
 
-/// Stores a post or a void whose checks find nothing.
+/// Stores a post or a void that passes the checks of one with a new id, where its id is new; whether it is.
 #[inline(never)]
 fn store_resolved(
     tables: &mut Tables,
     pending: Option<usize>,
     timestamp: u64,
     event: &Transfer,
-) -> Result<(), NoMemory>
+) -> Result<bool, NoMemory>
     requires target { IsTarget tables.old.now event.now (Named pending) }
-    requires ok { number_of (verdict_of tables.old.now timestamp event.now) ≡ 0 }
-    ensures ok { OnOk result (tables.new ≡ with_change tables.old (add_transfer tables.old.now (stored_transfer tables.old.now timestamp event.now))) }
-    ensures err { OnErr result (tables.new ≡ tables.old) }
+    requires ok { number_of (new_verdict_of tables.old.now timestamp event.now) ≡ 0 }
+    ensures new { IfOk result (λ added. added ≡ not (is_some (transfer_with tables.old.now event.now.id))) }
+    ensures added { result ≡ Ok true → tables.new ≡ with_change tables.old (add_transfer tables.old.now (stored_transfer tables.old.now timestamp event.now)) }
+    ensures same { result ≢ Ok true → tables.new ≡ tables.old }
 {
     let Some(place) = pending else { unreachable!() };
     let Some(named) = tables.transfer_at(place) else {
@@ -212,10 +213,11 @@ fn store_resolved(
         timestamp,
         ..resolved(&named, event)
     };
-    tables.resolve_at(transfer, place)
+    tables.resolve_new_at(&transfer, place)
 }
 
-/// Stores a post or a void where its checks find nothing, and answers the number of its result.
+/// Stores a post or a void where its checks find nothing, and answers the number of its result. Its id is looked up where
+/// it is stored, as that of a plain or pending transfer.
 #[inline(never)]
 fn examine_resolving(
     tables: &mut Tables,
@@ -229,9 +231,9 @@ fn examine_resolving(
     ensures same { result ≢ Ok 0 → tables.new ≡ tables.old }
 {
     let target = Target::Named(pending);
-    let code = transfer_verdict(tables, target, timestamp, event).number();
-    if code == 0 {
-        store_resolved(tables, pending, timestamp, event)?;
+    let code = new_transfer_verdict(tables, target, timestamp, event).number();
+    if code == 0 && store_resolved(tables, pending, timestamp, event)? {
+        return Ok(0);
     }
-    Ok(code)
+    Ok(transfer_verdict(tables, target, timestamp, event).number())
 }

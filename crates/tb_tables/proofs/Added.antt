@@ -1,6 +1,6 @@
 -- What one transfer more changes of sums and statuses.
 use Rattle.std.proofs.Common.{refl, ap, arith, ◌≡◌, ℕ, ◌+◌, ◌≤◌, Bool, true, false, not, List, [], ◌∷◌, if◌then◌else◌, ◌==◌, ◌&&◌, Some, None}
-use Rattle.tb_tables.proofs.Words.{list_any, AllByRecursion, nat_tests, Account, Transfer, is_pending, is_post, is_resolving, Facts, is_expired, add_transfer, is_resolved, is_reserving, status_of, status_in, MayAdd, has_id, Sums, sums_of, with_sums, with_amount, phase_of, account_rows, IsGrounded, AreGrounded, Pending, MayResolve, IsLawful, status_after, posted_if}
+use Rattle.tb_tables.proofs.Words.{list_any, AllByRecursion, nat_tests, Account, Transfer, is_pending, is_post, is_resolving, Facts, transfer_with, is_expired, add_transfer, is_resolved, is_reserving, status_of, status_in, MayAdd, has_id, Sums, sums_of, with_sums, with_amount, phase_of, account_rows, IsGrounded, AreGrounded, Pending, MayResolve, IsLawful, status_after, posted_if}
 use Rattle.tb_tables.specs.declared.amounts.Phase.TheVariants as phase
 use Rattle.tb_tables.proofs.Stored.{map-same}
 use Rattle.tb_tables.proofs.Sums.{amounts, amounts-push, but_for, but_for-found}
@@ -90,9 +90,9 @@ module _ (facts : Facts) (t : Transfer) (may : MayResolve facts t) where
   total-resolve : (side : Transfer → ℕ) → side t ≡ side may.pending → IsLawful facts → (id : ℕ) → total side (add_transfer facts t) id ≤ total side facts id
   total-resolve side same lawful id = grind (arith, reserved-resolve lawful side same id, posted-resolve side id, may.at_most)
 
-  pub resolve_lawful : IsLawful facts → IsLawful (add_transfer facts t)
-  resolve_lawful lawful = record {
-    distinct = distinct-push facts.transfers t (find-none t.id facts.transfers may.new) lawful.distinct;
+  pub resolve_lawful : transfer_with facts t.id ≡ None → IsLawful facts → IsLawful (add_transfer facts t)
+  resolve_lawful new lawful = record {
+    distinct = distinct-push facts.transfers t (find-none t.id facts.transfers new) lawful.distinct;
     debits_fit = λ id. omega (arith, total-resolve (λ x. x.debit_account_id) may.same_debit lawful id, lawful.debits_fit id);
     credits_fit = λ id. omega (arith, total-resolve (λ x. x.credit_account_id) may.same_credit lawful id, lawful.credits_fit id);
   }

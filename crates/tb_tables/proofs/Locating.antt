@@ -37,8 +37,8 @@ pub isn't-done : {E : Type 0} (same : E → E → Bool) (result : Result Bool E)
 isn't-done same result isn't is = let no = rw is at isn't in cc
 
 -- what a post or a void names stands at the place that was found
-pub may-post : {facts : Facts} {t : Transfer} {place : ℕ} → MayResolve facts t → IsPlaceOfTransfer facts t.pending_id (Some place) → MayPost facts t place
-may-post may at = record { may = may; pending_at = at.1 ∙ sym at.2 ∙ may.named }
+pub may-post : {facts : Facts} {t : Transfer} {place : ℕ} → MayResolve facts t → IsPlaceOfTransfer facts t.pending_id (Some place) → transfer_with facts t.id ≡ None → MayPost facts t place
+may-post may at new = record { new = new; may = may; pending_at = at.1 ∙ sym at.2 ∙ may.named }
 
 module _ {facts : Facts} {accounts : List (ℕ × Account)} {transfers : List (ℕ × Row)} (hold : Hold facts accounts transfers) where
   pub account-found : (id : ℕ) → lookup (nat_eq id) accounts ≡ option_map (with_sums (sums_of facts)) (account_with facts id)

@@ -23,7 +23,7 @@ expired-is facts ordered id = ap (list_any (λ other. other == id)) ordered ∙ 
 
 pub no-other : (facts : Facts) (t : TransferRecord) (pending : Option ℕ) → MayStore facts t pending → transfer_with facts t.id ≡ None
 no-other facts t None may = may.new
-no-other facts t (Some place) may = may.may.new
+no-other facts t (Some place) may = may.new
 
 pub allows : (indexed : ℕ → ℕ → Bool) (facts : Facts) (t : TransferRecord) (places : Places) → IsSound indexed facts → AreAt facts.accounts places t.debit_account_id t.credit_account_id → MayStore facts t places.pending → Allow facts t places
 allows indexed facts t places sound are_at may = record {
@@ -55,7 +55,7 @@ module _ (facts : Facts) (t : TransferRecord) where
         less = λ y reserves. sym (reserving-same facts t may y) ∙ reserves;
       }
       by (Some place) posted = record {
-        lawful = resolve_lawful facts t posted.may allow.lawful;
+        lawful = resolve_lawful facts t posted.may posted.new allow.lawful;
         grounded = grounded_resolved facts t posted.may allow.grounded;
         open_ones = λ y expired open_one. grind (arith, nat_tests, any-push (λ other. is_resolving other && (other.pending_id == y.id)) facts.transfers t, posted.may.unresolved, expired, open_one);
         less = λ y reserves. grind (arith, reserving-other facts t posted.may y, reserves);

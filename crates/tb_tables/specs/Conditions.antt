@@ -26,10 +26,9 @@ pub record MayAdd (facts : Facts) (transfer : Transfer) : Type 0 where
   pub credits_fit : credits facts transfer.credit_account_id + transfer.amount < 2 ^ 128
   pub expiry_fits : expires_at transfer < 2 ^ 64
 
--- a post or a void may resolve the transfer that it names: its id is new, that one is pending still, between the same
+-- a post or a void may resolve the transfer that it names, if its id is new: that one is pending still, between the same
 -- accounts, and its amount is at most the reserved one
 pub record MayResolve (facts : Facts) (transfer : Transfer) : Type 0 where
-  pub new : transfer_with facts transfer.id ≡ None
   pub post_or_void : is_void transfer ≡ not (is_post transfer)
   pub not_pending : is_pending transfer ≡ false
   pub pending : Transfer

@@ -4,7 +4,7 @@ use Rattle.std.specs.List.{list_any, AllByRecursion}
 use Rattle.tb_layout.specs.declared.account.Account.{Account as AccountRecord}
 use Rattle.tb_layout.specs.declared.transfer.Transfer.{Transfer as TransferRecord}
 use Rattle.tb_layout.specs.Transfer.{is_pending, is_resolving}
-use Rattle.tb_tables.specs.Facts.{Facts, is_expired, add_transfer}
+use Rattle.tb_tables.specs.Facts.{Facts, transfer_with, is_expired, add_transfer}
 use Rattle.tb_tables.specs.History.{History}
 use Rattle.tb_tables.specs.Status.{status_in, is_resolved, is_reserving, expires_at}
 use Rattle.tb_tables.specs.Expiries.{same_pair}
@@ -135,6 +135,7 @@ its_pair facts transfer moment place = is_timed transfer && same_pair (expires_a
 -- ---- what was owed for a transfer that was stored
 
 pub record MayPost (facts : Facts) (transfer : TransferRecord) (place : ℕ) : Type 0 where
+  pub new : transfer_with facts transfer.id ≡ None
   pub may : MayResolve facts transfer
   pub pending_at : slice_get facts.transfers place ≡ Some may.pending
 

@@ -166,7 +166,7 @@ impl Maps {
         requires pending { IsPlaceOfTransfer self.now.facts transfer.now.pending_id (Some pending) }
         requires may { MayResolve self.now.facts transfer.now }
         ensures at { HavePlaces self.now.facts transfer.now result }
-        ensures may { MayStore self.now.facts transfer.now result.pending }
+        ensures may { transfer_with self.now.facts transfer.now.id ≡ None → MayStore self.now.facts transfer.now result.pending }
     {
         Places {
             debit: place_of(&self.accounts, transfer.debit_account_id),

@@ -127,24 +127,6 @@ impl Tables {
         Ok(())
     }
 
-    /// Adds a plain or pending transfer after those that are there, between the accounts at two places. These aren't
-    /// looked up again.
-    pub fn add_transfer_between(
-        &mut self,
-        transfer: Transfer,
-        debit: usize,
-        credit: usize,
-    ) -> Result<(), NoMemory>
-        requires may { MayAdd self.old.now transfer }
-        requires debit { IsPlaceOf self.old.now transfer.debit_account_id (Some debit) }
-        requires credit { IsPlaceOf self.old.now transfer.credit_account_id (Some credit) }
-        ensures ok { OnOk result (self.new ≡ with_change self.old (with_transfer self.old.now transfer)) }
-        ensures err { OnErr result (self.new ≡ self.old) }
-    {
-        self.add_new_between(&transfer, debit, credit)?;
-        Ok(())
-    }
-
     /// Adds a plain or pending transfer after those that are there, between the accounts at two places, unless one
     /// with its id is there; whether it was added. The id is looked up once.
     pub fn add_new_between(
@@ -173,27 +155,34 @@ impl Tables {
 
     /// Adds a post or a void, with its resolved fields. The transfer that it names is pending no more.
     pub fn resolve(&mut self, transfer: Transfer) -> Result<(), NoMemory>
-        requires { MayResolve self.old.now transfer }
+        requires new { transfer_with self.old.now transfer.id ≡ None }
+        requires may { MayResolve self.old.now transfer }
         ensures ok { OnOk result (self.new ≡ with_change self.old (with_transfer self.old.now transfer)) }
         ensures err { OnErr result (self.new ≡ self.old) }
     {
         let Some(pending) = self.maps.place_of_transfer(transfer.pending_id) else {
             unreachable!()
         };
-        self.resolve_at(transfer, pending)
+        self.resolve_new_at(&transfer, pending)?;
+        Ok(())
     }
 
-    /// Adds a post or a void, with its resolved fields. The transfer that it names, at this place, is pending no more;
-    /// it isn't looked up again.
-    pub fn resolve_at(&mut self, transfer: Transfer, pending: usize) -> Result<(), NoMemory>
-        requires pending { IsPlaceOfTransfer self.old.now transfer.pending_id (Some pending) }
-        requires may { MayResolve self.old.now transfer }
-        ensures ok { OnOk result (self.new ≡ with_change self.old (with_transfer self.old.now transfer)) }
-        ensures err { OnErr result (self.new ≡ self.old) }
+    /// Adds a post or a void, with its resolved fields, unless a transfer with its id is there; whether it was added. The
+    /// transfer that it names stands at this place, and is pending no more where it was. The id is looked up once, and what
+    /// it names isn't looked up again.
+    pub fn resolve_new_at(
+        &mut self,
+        transfer: &Transfer,
+        pending: usize,
+    ) -> Result<bool, NoMemory>
+        requires pending { IsPlaceOfTransfer self.old.now transfer.now.pending_id (Some pending) }
+        requires may { MayResolve self.old.now transfer.now }
+        ensures new { IfOk result (λ added. added ≡ not (is_some (transfer_with self.old.now transfer.now.id))) }
+        ensures added { result ≡ Ok true → self.new ≡ with_change self.old (with_transfer self.old.now transfer.now) }
+        ensures same { result ≢ Ok true → self.new ≡ self.old }
     {
-        let places = self.maps.places_resolved(&transfer, pending);
-        self.store(&transfer, places)?;
-        Ok(())
+        let places = self.maps.places_resolved(transfer, pending);
+        self.store(transfer, places)
     }
 
     /// The account with this id, with its balances.

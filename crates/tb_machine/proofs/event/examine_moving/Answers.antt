@@ -1,18 +1,12 @@
-use Rattle.std.proofs.Common.{◌≡◌, ◌∙◌, sym, ap, Ok, Bool, true, false, true≢false, not, Option, Result}
+use Rattle.std.proofs.Common.{◌≡◌, ◌∙◌, sym, ap, true≢false, not, Option}
 use Rattle.std.specs.Prelude.{is_some}
-use Rattle.tb_layout.specs.declared.no_memory.NoMemory.{NoMemory}
 use Rattle.tb_layout.specs.declared.transfer.Transfer.{Transfer}
 use Rattle.tb_layout.specs.TransferCode.{number_of}
 use Rattle.tb_tables.specs.History.{History}
 use Rattle.tb_machine.specs.TransferVerdict.{transfer_verdict}
-use Rattle.tb_machine.proofs.Storing.{is_new, of_new}
+use Rattle.tb_machine.proofs.Storing.{false-added, is_new, of_new}
 use Rattle.tb_machine.proofs.event.examine_moving.Goals as goal
 use Rattle.tb_machine.proofs.event.examine_moving.Goals.{else-code-eq0-via-then-code-eq0+in_ok-store_new+else-branch, else-code-eq0-via-else-code-eq0}
-
--- what wasn't added
-false-added : (added : Bool) → added ≡ false → ◌≡◌ {A = Result Bool NoMemory} (Ok added) (Ok true) → ⊥
-false-added true h e = absurd (true≢false h)
-false-added false h e = cc
 
 -- a transfer that was stored already, or that fails if it is new, doesn't pass
 pub returns-clause-stored : goal.returns-clause-stored

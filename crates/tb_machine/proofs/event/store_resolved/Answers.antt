@@ -4,8 +4,8 @@ use Rattle.tb_tables.specs.Conditions.{MayResolve}
 use Rattle.tb_machine.proofs.Storing.{may_resolve, is_named, stored_is}
 use Rattle.tb_machine.proofs.event.store_resolved.Goals as goal
 
-pub resolve_at-requires-clause-may : goal.resolve_at-requires-clause-may
-resolve_at-requires-clause-may c =
+pub resolve_new_at-requires-clause-may : goal.resolve_new_at-requires-clause-may
+resolve_new_at-requires-clause-may c =
     let facts = c.args.tables.now.now in
     let event = c.args.event.now in
     let resolves = c.requires.target.0 in
