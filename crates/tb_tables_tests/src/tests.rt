@@ -135,12 +135,12 @@ fn calls_by_places(tables: &mut Tables) -> Result<(), Fail>
 {
     tables.add_account(account(1))?;
     tables.add_account(account(2))?;
-    tables.add_transfer_between(transfer(1, 100, 0, 2), 0, 1)?;
+    tables.add_transfer(transfer(1, 100, 0, 2))?;
     holds(tables.place_of_transfer(1) == Some(0))?;
     holds(tables.place_of_transfer(2).is_none())?;
     holds(tables.transfer_at(0) == Some(transfer(1, 100, 0, 2)))?;
     holds(tables.transfer_at(1).is_none())?;
-    tables.resolve_at(transfer(2, 100, 1, 8), 0)?;
+    tables.resolve(transfer(2, 100, 1, 8))?;
     holds(tables.status_at(0) == Some(Status::Voided))?;
     holds(tables.status_at(1).is_none())
 }
@@ -169,10 +169,25 @@ fn adds_a_new_transfer(tables: &mut Tables) -> Result<(), Fail>
     holds(debits(tables) == Some((0, 100)))
 }
 
+fn resolves_by_a_new_post(tables: &mut Tables) -> Result<(), Fail>
+    requires { tables.old ≡ record { now = no_facts; past = [] } }
+{
+    tables.add_account(account(1))?;
+    tables.add_account(account(2))?;
+    tables.add_transfer(transfer(1, 100, 0, 2))?;
+    tables.add_transfer(transfer(2, 30, 0, 0))?;
+    holds(!tables.resolve_new_at(&transfer(2, 40, 1, 4), 0)?)?;
+    holds(debits(tables) == Some((100, 30)))?;
+    holds(tables.resolve_new_at(&transfer(3, 40, 1, 4), 0)?)?;
+    holds(debits(tables) == Some((0, 70)))
+}
+
 #[test]
 fn each_call_that_looks_first(rt: HostRuntime) -> Result<(), Fail> {
     let mut accounts = Tables::new(rt.alloc());
     adds_a_new_account(&mut accounts)?;
     let mut transfers = Tables::new(rt.alloc());
-    adds_a_new_transfer(&mut transfers)
+    adds_a_new_transfer(&mut transfers)?;
+    let mut posts = Tables::new(rt.alloc());
+    resolves_by_a_new_post(&mut posts)
 }

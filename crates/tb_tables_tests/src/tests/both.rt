@@ -1,9 +1,9 @@
 //! 400 events, made by a rule from a counter: the maps and the plain lists take them side by side.
 
-ghost use Rattle.std.specs.Prelude.{◌≡◌, ◌+◌, ◌≤◌, ◌<◌, ◌^◌, true, IsSome, OnOk};
+ghost use Rattle.std.specs.Prelude.{◌≡◌, ◌+◌, ◌≤◌, ◌<◌, ◌^◌, true, None, IsSome, OnOk};
 ghost use Rattle.tb_tables.specs.Balances.{debits, credits};
 ghost use Rattle.tb_tables.specs.Conditions.{HasNoBalances, MayAdd, MayResolve};
-ghost use Rattle.tb_tables.specs.Facts.{account_with};
+ghost use Rattle.tb_tables.specs.Facts.{account_with, transfer_with};
 ghost use Rattle.tb_tables.specs.History.{mark_of};
 ghost use Rattle.tb_tables.specs.Status.{expires_at};
 
@@ -127,7 +127,8 @@ fn may_add(tables: &Tables, transfer: &Transfer) -> bool
 
 /// Whether the tables may take a post or a void.
 fn may_resolve(tables: &Tables, transfer: &Transfer) -> bool
-    ensures { result ≡ true → MayResolve tables.now.now transfer.now }
+    ensures new { result ≡ true → transfer_with tables.now.now transfer.now.id ≡ None }
+    ensures may { result ≡ true → MayResolve tables.now.now transfer.now }
 {
     let Some(pending) = tables.transfer(transfer.pending_id) else {
         return false;

@@ -84,7 +84,8 @@ impl PlainTables {
 
     /// Adds a post or a void, with its resolved fields. The transfer that it names is pending no more.
     pub fn resolve(&mut self, transfer: Transfer) -> Result<(), NoMemory>
-        requires { MayResolve self.old.now transfer }
+        requires new { transfer_with self.old.now transfer.id ≡ None }
+        requires may { MayResolve self.old.now transfer }
         ensures ok { OnOk result (self.new ≡ with_change self.old (with_transfer self.old.now transfer)) }
         ensures err { OnErr result (self.new ≡ self.old) }
     {

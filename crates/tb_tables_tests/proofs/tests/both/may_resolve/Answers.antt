@@ -4,13 +4,12 @@ use Rattle.tb_tables.specs.declared.status.Status.TheVariants.{Pending}
 use Rattle.tb_tables.proofs.Finding.{found-id}
 use Rattle.tb_tables_tests.proofs.tests.both.may_resolve.Goals as goal
 
-pub returns : goal.returns
-returns c = λ most.
+pub returns-clause-may : goal.returns-clause-may
+returns-clause-may c = λ most.
     let facts = c.args.tables.now.now in
     let id = c.args.transfer.now.pending_id in
     let status : status_with facts id ≡ Some Pending = search rules in
     record {
-      new = search rules;
       post_or_void = grind (arith, c.is_void.ensures, c.is_post.ensures, c.if-is_void-is_post.false);
       not_pending = search rules;
       pending = c.in-Some.pending;
