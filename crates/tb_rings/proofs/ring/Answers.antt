@@ -1,0 +1,8 @@
+use Rattle.std.proofs.Common.{rules}
+use Rattle.tb_rings.proofs.ring.Goals as goal
+
+pub returns-clause-slots : goal.returns-clause-slots
+returns-clause-slots g c = search rules
+
+pub returns-clause-pair : goal.returns-clause-pair
+returns-clause-pair g c = search rules
