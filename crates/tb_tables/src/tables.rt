@@ -170,11 +170,7 @@ impl Tables {
     /// Adds a post or a void, with its resolved fields, unless a transfer with its id is there; whether it was added. The
     /// transfer that it names stands at this place, and is pending no more where it was. The id is looked up once, and what
     /// it names isn't looked up again.
-    pub fn resolve_new_at(
-        &mut self,
-        transfer: &Transfer,
-        pending: usize,
-    ) -> Result<bool, NoMemory>
+    pub fn resolve_new_at(&mut self, transfer: &Transfer, pending: usize) -> Result<bool, NoMemory>
         requires pending { IsPlaceOfTransfer self.old.now transfer.now.pending_id (Some pending) }
         requires may { MayResolve self.old.now transfer.now }
         ensures new { IfOk result (λ added. added ≡ not (is_some (transfer_with self.old.now transfer.now.id))) }

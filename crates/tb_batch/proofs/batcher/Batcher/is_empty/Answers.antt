@@ -1,0 +1,5 @@
+use Rattle.std.proofs.Common.{rules}
+use Rattle.tb_batch.proofs.batcher.Batcher.is_empty.Goals as goal
+
+pub returns-in-Some : goal.returns-in-Some
+returns-in-Some c = search rules

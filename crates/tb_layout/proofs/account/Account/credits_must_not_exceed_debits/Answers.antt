@@ -1,0 +1,5 @@
+use Rattle.std.proofs.Common.{rules}
+use Rattle.tb_layout.proofs.account.Account.credits_must_not_exceed_debits.Goals as goal
+
+pub returns : goal.returns
+returns c = search rules

@@ -1,0 +1,5 @@
+use Rattle.std.proofs.Common.{rules}
+use Rattle.tb_machine.proofs.commit.commit_event.Goals as goal
+
+pub returns-in_ok-remember-clause-failures : goal.returns-in_ok-remember-clause-failures
+returns-in_ok-remember-clause-failures g c = search rules

@@ -1,0 +1,11 @@
+use Rattle.std.proofs.Common.{rules}
+use Rattle.tb_machine.proofs.machine.Machine.commit_events.Goals as goal
+
+pub invariant_of-self-in-Err : goal.invariant_of-self-in-Err
+invariant_of-self-in-Err g c = search rules
+
+pub returns-in-Err-clause-unchanged : goal.returns-in-Err-clause-unchanged
+returns-in-Err-clause-unchanged g c = search rules
+
+pub returns-in-Err-clause-none : goal.returns-in-Err-clause-none
+returns-in-Err-clause-none g c = search rules

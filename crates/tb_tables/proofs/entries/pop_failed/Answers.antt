@@ -1,0 +1,5 @@
+use Rattle.std.proofs.Common.{rules}
+use Rattle.tb_tables.proofs.entries.pop_failed.Goals as goal
+
+pub returns : goal.returns
+returns c = search rules

@@ -1,0 +1,5 @@
+use Rattle.std.proofs.Common.{rules}
+use Rattle.tb_tables.proofs.storing.expires_at.Goals as goal
+
+pub returns : goal.returns
+returns c = search rules

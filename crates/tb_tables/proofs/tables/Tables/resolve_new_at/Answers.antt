@@ -1,0 +1,8 @@
+use Rattle.std.proofs.Common.{rules}
+use Rattle.tb_tables.proofs.tables.Tables.resolve_new_at.Goals as goal
+
+pub returns-clause-new : goal.returns-clause-new
+returns-clause-new c = search rules
+
+pub returns-clause-added : goal.returns-clause-added
+returns-clause-added c = search rules

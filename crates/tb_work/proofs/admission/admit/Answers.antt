@@ -1,0 +1,8 @@
+use Rattle.std.proofs.Common.{rules}
+use Rattle.tb_work.proofs.admission.admit.Goals as goal
+
+pub returns-then-count-limit : goal.returns-then-count-limit
+returns-then-count-limit c = search rules
+
+pub returns : goal.returns
+returns c = search rules

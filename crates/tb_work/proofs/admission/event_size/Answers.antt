@@ -1,0 +1,5 @@
+use Rattle.std.proofs.Common.{rules}
+use Rattle.tb_work.proofs.admission.event_size.Goals as goal
+
+pub returns-then-operation-eq-LOOKUP_ACCOUNTS : goal.returns-then-operation-eq-LOOKUP_ACCOUNTS
+returns-then-operation-eq-LOOKUP_ACCOUNTS c = search rules

@@ -1,0 +1,5 @@
+use Rattle.std.proofs.Common.{rules}
+use Rattle.tb_work.proofs.job.room_for.Goals as goal
+
+pub returns-else-operation-eq-LOOKUP_ACCOUNTS-clause-fits : goal.returns-else-operation-eq-LOOKUP_ACCOUNTS-clause-fits
+returns-else-operation-eq-LOOKUP_ACCOUNTS-clause-fits c = search rules
