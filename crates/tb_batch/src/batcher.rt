@@ -117,12 +117,15 @@ impl Batcher {
         requires { is_taken self.old.limit self.old.jobs job ≡ false }
         ensures { Offers self.old job result self.new }
     {
-        self.before = self.size_of_held();
-        match Group::alone(self.alloc, self.before, job) {
-            Ok(group) => match mem::replace(&mut self.held, Some(group)) {
-                Some(held) => Offered::Sealed(held.seal()),
-                None => Offered::Joined,
-            },
+        let before = self.size_of_held();
+        match Group::alone(self.alloc, before, job) {
+            Ok(group) => {
+                self.before = before;
+                match mem::replace(&mut self.held, Some(group)) {
+                    Some(held) => Offered::Sealed(held.seal()),
+                    None => Offered::Joined,
+                }
+            }
             Err((job, refused)) => Offered::Refused(job, refused),
         }
     }

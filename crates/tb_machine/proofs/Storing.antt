@@ -165,7 +165,7 @@ may_add facts timestamp event clock ok plain new =
       credit_there = subst IsSome (sym found.credit_there) refl;
       debits_fit = subst (λ k. debits facts k + event.amount < 2 ^ 128) debit_id (omega (arith, at_most u128_max (debits facts found.debit.id + event.amount) found.checks.1.1.1.1.1.1.0));
       credits_fit = subst (λ k. credits facts k + event.amount < 2 ^ 128) credit_id (omega (arith, at_most u128_max (credits facts found.credit.id + event.amount) found.checks.1.1.1.1.1.1.1.0));
-      expiry_fits = fits facts timestamp event clock ok plain;
+      expiry_fits = λ _. fits facts timestamp event clock ok plain;
     })
 
 -- ---- a post or a void

@@ -2,7 +2,7 @@
 use Rattle.std.specs.Prelude.{◌≡◌, ℕ, List}
 use Rattle.std.specs.declared.alloc.Global.{Global}
 use denote.RawPtr.{Ptr}
-use Rattle.rtrb.specs.Ring.{sent, received, known_items, producer_capacity}
+use Rattle.rtrb.specs.Ring.{sent, received, known_items, known_free, producer_capacity}
 use Rattle.rtrb.specs.Shared.{Names}
 use Rattle.tb_rings.specs.declared.Outlet.{Outlet}
 use Rattle.tb_rings.specs.declared.Inlet.{Inlet}
@@ -26,6 +26,10 @@ module _ {T : Type 0} where
   -- how many slots its ring has
   abbrev pub slots : Outlet T → ℕ
   slots outlet = producer_capacity outlet.producer
+
+  -- how many of them the outlet knows to be free
+  abbrev pub free : Outlet T → ℕ
+  free outlet = known_free outlet.producer
 
   -- what the inlet has seen to lie in the ring: the next takes give these
   abbrev pub lies : Inlet T → List T

@@ -2,8 +2,8 @@
 //! waits.
 #![tactic(auto)]
 
-ghost use Rattle.std.specs.Prelude.{◌≡◌, ◌<◌, [], ◌∷◌, ◌++◌, length, OnOk, IfOk, IfErr, IfSome, IfNone, IsSomeAnd};
-ghost use Rattle.tb_rings.specs.Ends.{given, taken, lies, slots, IsRing, SameOutlet, SameInlet};
+ghost use Rattle.std.specs.Prelude.{◌≡◌, ◌<◌, ◌≤◌, ◌+◌, [], ◌∷◌, ◌++◌, length, OnOk, IfOk, IfErr, IsOk, IfSome, IfNone, IsSomeAnd};
+ghost use Rattle.tb_rings.specs.Ends.{given, taken, lies, slots, free, IsRing, SameOutlet, SameInlet};
 
 use rtrb::{Consumer, Producer, PushError, RingBuffer};
 use std::alloc::Global;
@@ -39,6 +39,7 @@ impl<T: Drop> Drop for Inlet<T> {
 pub fn ring<T: Drop>(alloc: Global, capacity: usize) -> Result<(Outlet<T>, Inlet<T>), NoMemory>
     ensures pair { IfOk result (λ ends. IsRing ends.0 ends.1) }
     ensures slots { IfOk result (λ ends. slots ends.0 ≡ capacity) }
+    ensures free { IfOk result (λ ends. free ends.0 ≡ capacity) }
     ensures empty { IfOk result (λ ends. (given ends.0 ≡ []) × (taken ends.1 ≡ []) × (lies ends.1 ≡ [])) }
 {
     let (producer, consumer) = RingBuffer::new(alloc, capacity)?;
@@ -51,6 +52,9 @@ impl<T: Drop> Outlet<T> {
         ensures ring { SameOutlet self.old self.new }
         ensures ok { OnOk result (given self.new ≡ given self.old ++ value ∷ []) }
         ensures full { IfErr result (λ back. (back ≡ value) × (given self.new ≡ given self.old)) }
+        ensures used { OnOk result (free self.old ≤ free self.new + 1) }
+        ensures none_free { IfErr result (λ _. free self.new ≡ 0) }
+        ensures room { 0 < free self.old → IsOk result }
     {
         match self.producer.push(value) {
             Ok(()) => Ok(()),

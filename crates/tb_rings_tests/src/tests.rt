@@ -18,6 +18,21 @@ fn ring_of_two(rt: HostRuntime) -> Result<(), Fail> {
     Ok(())
 }
 
+/// Each slot of a larger ring is given into before the ring is full.
+#[test]
+fn ring_of_eight(rt: HostRuntime) -> Result<(), Fail> {
+    let (mut outlet, mut inlet) = ring::<u32>(rt.alloc(), 8)?;
+    for value in 0..8u32 {
+        assert_eq!(rt; outlet.give(value), Ok(()));
+    }
+    assert_eq!(rt; outlet.give(8), Err(8));
+    for value in 0..8u32 {
+        assert_eq!(rt; inlet.take(), Some(value));
+    }
+    assert_eq!(rt; inlet.take(), None);
+    Ok(())
+}
+
 /// A slot that was taken from is free again.
 #[test]
 fn ring_goes_round(rt: HostRuntime) -> Result<(), Fail> {

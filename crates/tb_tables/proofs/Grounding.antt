@@ -45,7 +45,7 @@ grounded_added facts t may all =
       debit = any-found (λ (a : Account). a.id == t.debit_account_id) facts.accounts may.debit_there;
       credit = any-found (λ (a : Account). a.id == t.credit_account_id) facts.accounts may.credit_there;
       named = λ resolving. grind (arith, may.not_post, may.not_void);
-      expiry_fits = λ pending. may.expiry_fits;
+      expiry_fits = may.expiry_fits;
     })
 
 pub grounded_resolved : (facts : Facts) (t : Transfer) → MayResolve facts t → AreGrounded facts → AreGrounded (add_transfer facts t)

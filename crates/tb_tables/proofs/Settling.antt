@@ -46,7 +46,7 @@ module _ {facts : Facts} {t : Transfer} {places : Places} {account_entries : Lis
   expiry-fits pending = by places.pending stored.allow.may
     where
       by : (o : Option ℕ) → MayStore facts t o → expires_at t < 2 ^ 64
-      by None may = may.expiry_fits
+      by None may = may.expiry_fits pending
       by (Some place) may = absurd (true≢false (sym pending ∙ may.may.not_pending))
 
 module _ {t : Transfer} {places : Places} (s : Step t places) where

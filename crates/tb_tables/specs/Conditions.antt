@@ -24,7 +24,7 @@ pub record MayAdd (facts : Facts) (transfer : Transfer) : Type 0 where
   pub credit_there : IsSome (account_with facts transfer.credit_account_id)
   pub debits_fit : debits facts transfer.debit_account_id + transfer.amount < 2 ^ 128
   pub credits_fit : credits facts transfer.credit_account_id + transfer.amount < 2 ^ 128
-  pub expiry_fits : expires_at transfer < 2 ^ 64
+  pub expiry_fits : is_pending transfer ≡ true → expires_at transfer < 2 ^ 64
 
 -- a post or a void may resolve the transfer that it names, if its id is new: that one is pending still, between the same
 -- accounts, and its amount is at most the reserved one

@@ -1,6 +1,6 @@
 //! The maps: accounts, transfers and failed ids, with the index of expiries.
 
-ghost use Rattle.std.specs.Prelude.{◌≡◌, ◌≢◌, ◌<◌, ◌^◌, Some, None, Ok, IfOk, OnOk, OnErr, is_some, not, true, false, length, slice_get};
+ghost use Rattle.std.specs.Prelude.{◌≡◌, ◌≢◌, ◌<◌, ◌^◌, ◌&&◌, ℕ, Some, None, Ok, IfOk, OnOk, OnErr, is_some, not, true, false, length, slice_get};
 ghost use Rattle.std.specs.List.{AllByRecursion};
 ghost use Rattle.std.specs.Option.{option_map};
 
@@ -46,7 +46,7 @@ impl Maps {
     ghost use Rattle.tb_tables.specs.Expiries.{has_pair};
     ghost use Rattle.tb_tables.specs.Changes.{before};
     ghost use Rattle.tb_tables.specs.Conditions.{HasNoBalances, MayAdd, MayResolve};
-    ghost use Rattle.tb_tables.specs.Kept.{MayStore, HavePlaces, IsSound, IsUndoable, KeepsPairs, NamesOne};
+    ghost use Rattle.tb_tables.specs.Kept.{MayStore, HavePlaces, IsSound, IsUndoable, KeepsPairs, NamesOne, is_resolved_at, is_spent};
 
     /// Maps without facts. Takes no memory.
     pub fn new(alloc: Global) -> Maps
@@ -131,7 +131,9 @@ impl Maps {
     /// Forgets when what some changes resolved would have expired: they won't be taken back.
     pub fn forget(&mut self, changes: &[Change<Places>])
         requires { AllByRecursion (NamesOne self.old.facts) changes.now }
-        ensures { self.new.facts ≡ self.old.facts }
+        ensures facts { self.new.facts ≡ self.old.facts }
+        ensures gone { (moment place : ℕ) → has_pair self.new.pairs moment place
+            ≡ (not (is_resolved_at place changes.now && is_spent self.old.facts moment place) && has_pair self.old.pairs moment place) }
     {
         forget_resolved(&mut self.expiries, &self.transfers, changes);
     }

@@ -1,6 +1,6 @@
 //! Packets that were admitted.
 
-ghost use Rattle.std.specs.Prelude.{◌≡◌, ◌≤◌, ◌==◌, ◌⊎◌, false, [], IfOk, OnOk, IfErr, IsOk, Err};
+ghost use Rattle.std.specs.Prelude.{◌≡◌, ◌<◌, ◌≤◌, ◌==◌, ◌⊎◌, true, false, [], IfOk, OnOk, IfErr, OnErr, IsOk, Err};
 ghost use Rattle.tb_layout.specs.Limits.{batch_max};
 ghost use Rattle.tb_layout.specs.Operation.{lookup_accounts};
 ghost use Rattle.tb_work.specs.Admission.{admission_of};
@@ -49,10 +49,14 @@ impl Model for Job {
     ghost invariant = { λ job. IsJob job.packet job.count job.room };
 }
 
-/// Room for the failures of a packet: none for a lookup, which has no failures.
+/// Room for the failures of a packet: none for a lookup, which has no failures, but for the two places that lie in any
+/// room. Up to as many failures take no memory.
 fn room_for(alloc: Global, operation: u8, count: u32) -> Result<FailureRoom, AllocError>
     ensures empty { IfOk result (λ room. room.items ≡ []) }
     ensures fits { IfOk result (λ room. (operation == lookup_accounts) ≡ false → count ≤ room.capacity) }
+    ensures none { IfOk result (λ room. (operation == lookup_accounts) ≡ true → room.capacity ≡ 2) }
+    ensures lookup { (operation == lookup_accounts) ≡ true → IsOk result }
+    ensures few { count ≤ 2 → IsOk result }
 {
     if operation == LOOKUP_ACCOUNTS {
         Ok(FailureRoom::new(alloc))
@@ -87,6 +91,7 @@ impl Job {
         ensures job { IfOk result (λ job. job ≡ numbered_packet submitter number packet) }
         ensures admitted { OnOk result (IsOk (admission_of limit packet)) }
         ensures back { IfErr result (λ refused. refused.0 ≡ packet) }
+        ensures few { OnErr result (IsOk (admission_of limit packet) → (is_lookup packet ≡ false) × (2 < count_of packet)) }
         ensures refusal { IfErr result (λ refused. (admission_of limit packet ≡ Err refused.1) ⊎ ((refused.1 ≡ NoMemory) × IsOk (admission_of limit packet))) }
     {
         let count = match admit(limit, &packet) {
