@@ -61,3 +61,14 @@ fn assert_both<R: Abort + Threads + Wait + Sync + Alloc<A = Global>>(
     assert_list(rt, script, output);
     assert_run(rt, script, output);
 }
+
+/// The line of a packet's bytes, each of which has these two digits, behind other lines.
+fn bytes_behind(
+    rt: &(impl Abort + Alloc<A = Global>),
+    lines: &str,
+    digits: &str,
+    count: usize,
+) -> String {
+    let bytes = digits.repeat(rt.alloc(), count).expect(rt, "memory");
+    format!(in rt.alloc(); "{lines}hex {bytes}\n").expect(rt, "memory")
+}

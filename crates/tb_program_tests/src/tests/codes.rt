@@ -4,25 +4,31 @@ use super::listed;
 use std::alloc::Global;
 use std::process::Abort;
 
-/// A script in which each row is a packet of its own behind a setup of so many packets and pulses, and the lines among
-/// its output that answer the codes.
-fn of_rows(
+/// A script in which each row is a packet of its own behind a setup.
+fn script_of(rt: &(impl Abort + Alloc<A = Global>), setup: &str, rows: &str) -> String {
+    let mut script = String::from_str(rt.alloc(), setup).expect(rt, "memory");
+    for row in rows.lines() {
+        let (_, fields) = row.split_once(' ').expect(rt, "a code and fields");
+        write!(script, "packet 0 130\ntransfer {fields}\n").expect(rt, "memory");
+    }
+    script
+}
+
+/// The lines that answer each row its code, behind a setup of so many packets and pulses.
+fn answers_of(
     rt: &(impl Abort + Alloc<A = Global>),
-    setup: &str,
     packets: usize,
     pulses: usize,
     rows: &str,
-) -> (String, String) {
-    let mut script = String::from_str(rt.alloc(), setup).expect(rt, "memory");
+) -> String {
     let mut answers = String::new(rt.alloc());
     for (k, row) in rows.lines().enumerate() {
-        let (code, fields) = row.split_once(' ').expect(rt, "a code and fields");
+        let (code, _) = row.split_once(' ').expect(rt, "a code and fields");
         let number = packets.saturating_add(k);
         let place = number.saturating_add(pulses);
-        write!(script, "packet 0 130\ntransfer {fields}\n").expect(rt, "memory");
         write!(answers, "packet 0 {number} committed {place} 0:{code}\n").expect(rt, "memory");
     }
-    (script, answers)
+    answers
 }
 
 /// Asserts that each row is answered its code behind a setup of so many packets and pulses.
@@ -33,8 +39,9 @@ fn assert_codes(
     pulses: usize,
     rows: &str,
 ) {
-    let (script, answers) = of_rows(rt, setup, packets, pulses, rows);
+    let script = script_of(rt, setup, rows);
     let output = listed(rt, script.as_str());
+    let answers = answers_of(rt, packets, pulses, rows);
     assert!(rt;
         output.as_str().contains(answers.as_str()),
         "{output} has not {answers}"

@@ -1,4 +1,4 @@
-use super::{assert_both, assert_list};
+use super::{assert_both, assert_list, bytes_behind};
 use std::alloc::Global;
 use std::process::Abort;
 
@@ -60,17 +60,16 @@ fn full_batch_then_overflow(rt: HostRuntime) {
     );
 }
 
-/// A packet of accounts and one of no operation, both of these bytes.
-fn two_packets_of(rt: &(impl Abort + Alloc<A = Global>), bytes: &str) -> String {
-    format!(in rt.alloc(); "packet 0 129\nhex {bytes}\npacket 0 200\nhex {bytes}\n").expect(
-        rt, "memory",
-    )
+/// A packet of accounts and one of no operation, both of so many bytes of zeros.
+fn two_packets_of(rt: &(impl Abort + Alloc<A = Global>), count: usize) -> String {
+    let bytes = "00".repeat(rt.alloc(), count).expect(rt, "memory");
+    let script = format!(in rt.alloc(); "packet 0 129\nhex {bytes}\npacket 0 200\nhex {bytes}\n");
+    script.expect(rt, "memory")
 }
 
 #[test]
 fn refused_sizes_and_operations(rt: HostRuntime) {
-    let bytes = "00".repeat(rt.alloc(), 127).expect(&rt, "memory");
-    let script = two_packets_of(&rt, bytes.as_str());
+    let script = two_packets_of(&rt, 127);
     assert_both(
         &rt,
         script.as_str(),
@@ -123,15 +122,9 @@ fn bad_account_fields(rt: HostRuntime) {
     );
 }
 
-/// A packet of accounts of these bytes.
-fn packet_of(rt: &(impl Abort + Alloc<A = Global>), bytes: &str) -> String {
-    format!(in rt.alloc(); "limit 4\npacket 0 129\nhex {bytes}\n").expect(rt, "memory")
-}
-
 #[test]
 fn hostile_bytes(rt: HostRuntime) {
-    let bytes = "fF".repeat(rt.alloc(), 256).expect(&rt, "memory");
-    let script = packet_of(&rt, bytes.as_str());
+    let script = bytes_behind(&rt, "limit 4\npacket 0 129\n", "fF", 256);
     assert_both(
         &rt,
         script.as_str(),

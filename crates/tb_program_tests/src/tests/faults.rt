@@ -2,7 +2,7 @@ use super::assert_list;
 use std::alloc::Global;
 use std::process::Abort;
 
-/// Scripts behind their first faults: a `|` stands for the end of a line.
+/// Scripts, each behind the line and the kind of its first fault. A `|` stands for the end of a line.
 const FIRST_FAULTS: &str = "2 bad field: packet 0 129|account id=1 id=1|
 1 bad number: limit 0|
 2 bad hex: packet 0 129|hex 0|
@@ -57,19 +57,23 @@ const FIRST_FAULTS: &str = "2 bad field: packet 0 129|account id=1 id=1|
 2 bad number: packet 0 131|id 340282366920938463463374607431768211456|
 ";
 
-/// Asserts the fault of a script, in which a `|` stands for the end of a line.
+/// Asserts the first fault of a script, in which a `|` stands for the end of a line.
 fn assert_fault(rt: &(impl Abort + Alloc<A = Global>), script: &str, fault: &str) {
     let script = script.replace(rt.alloc(), '|', "\n").expect(rt, "memory");
     let output = format!(in rt.alloc(); "fault {fault}\n").expect(rt, "memory");
     assert_list(rt, script.as_str(), output.as_str());
 }
 
+fn assert_faults(rt: &(impl Abort + Alloc<A = Global>), rows: &str) {
+    for row in rows.lines() {
+        let (fault, script) = row.split_once(": ").expect(rt, "a fault and a script");
+        assert_fault(rt, script, fault);
+    }
+}
+
 #[test]
 fn first_faults(rt: HostRuntime) {
-    for row in FIRST_FAULTS.lines() {
-        let (fault, script) = row.split_once(": ").expect(&rt, "a fault and a script");
-        assert_fault(&rt, script, fault);
-    }
+    assert_faults(&rt, FIRST_FAULTS);
 }
 
 #[test]
@@ -77,58 +81,45 @@ fn submitter_out_of_bounds(rt: HostRuntime) {
     assert_list(&rt, "submitters 1\npacket 1 129\n", "fault 2 bad number\n");
 }
 
-const SETTINGS: [&str; 5] = ["clock", "limit", "capacity", "credit", "submitters"];
-
-/// Asserts that a setting doesn't stand twice.
-fn assert_once(rt: &(impl Abort + Alloc<A = Global>), setting: &str) {
-    let script = format!(in rt.alloc(); "{setting} 1\n{setting} 1\n").expect(rt, "memory");
-    assert_list(rt, script.as_str(), "fault 2 out of place\n");
-}
-
-/// Asserts that a setting doesn't stand behind a packet.
-fn assert_first(rt: &(impl Abort + Alloc<A = Global>), setting: &str) {
-    let script = format!(in rt.alloc(); "packet 0 129\n{setting} x y\n").expect(rt, "memory");
-    assert_list(rt, script.as_str(), "fault 2 out of place\n");
-}
+/// A setting doesn't stand twice, nor behind a packet.
+const MISPLACED_SETTINGS: &str = "2 out of place: clock 1|clock 1|
+2 out of place: limit 1|limit 1|
+2 out of place: capacity 1|capacity 1|
+2 out of place: credit 1|credit 1|
+2 out of place: submitters 1|submitters 1|
+2 out of place: packet 0 129|clock x y|
+2 out of place: packet 0 129|limit x y|
+2 out of place: packet 0 129|capacity x y|
+2 out of place: packet 0 129|credit x y|
+2 out of place: packet 0 129|submitters x y|
+";
 
 #[test]
 fn settings_once_and_first(rt: HostRuntime) {
-    for setting in SETTINGS.iter() {
-        assert_once(&rt, setting);
-        assert_first(&rt, setting);
-    }
+    assert_faults(&rt, MISPLACED_SETTINGS);
 }
 
-/// Settings with the greatest number, and that above.
-const BOUNDS: [(&str, &str, &str); 5] = [
-    ("clock", "9223372036854775807", "9223372036854775808"),
-    ("limit", "8190", "8191"),
-    ("capacity", "65536", "65537"),
-    ("credit", "65536", "65537"),
-    ("submitters", "16", "17"),
-];
-
-/// Asserts that a setting can't have this number.
-fn assert_out_of_bounds(rt: &(impl Abort + Alloc<A = Global>), setting: &str, number: &str) {
-    let script = format!(in rt.alloc(); "{setting} {number}\n").expect(rt, "memory");
-    assert_list(rt, script.as_str(), "fault 1 bad number\n");
-}
-
-/// Asserts that it can: the fault is that of the line behind it.
-fn assert_in_bounds(rt: &(impl Abort + Alloc<A = Global>), setting: &str, number: &str) {
-    let script = format!(in rt.alloc(); "{setting} {number}\nfoo\n").expect(rt, "memory");
-    assert_list(rt, script.as_str(), "fault 2 unknown word\n");
-}
+/// Each setting with the number above the greatest, and with the greatest, where the fault is that of the line behind it;
+/// and those that can't be 0.
+const BOUNDS: &str = "1 bad number: clock 9223372036854775808|
+1 bad number: limit 8191|
+1 bad number: capacity 65537|
+1 bad number: credit 65537|
+1 bad number: submitters 17|
+2 unknown word: clock 9223372036854775807|foo|
+2 unknown word: limit 8190|foo|
+2 unknown word: capacity 65536|foo|
+2 unknown word: credit 65536|foo|
+2 unknown word: submitters 16|foo|
+1 bad number: limit 0|
+1 bad number: capacity 0|
+1 bad number: credit 0|
+1 bad number: submitters 0|
+";
 
 #[test]
 fn bounds(rt: HostRuntime) {
-    for (setting, most, over) in BOUNDS.iter() {
-        assert_out_of_bounds(&rt, setting, over);
-        assert_in_bounds(&rt, setting, most);
-    }
-    for setting in SETTINGS[1..].iter() {
-        assert_out_of_bounds(&rt, setting, "0");
-    }
+    assert_faults(&rt, BOUNDS);
     assert_list(
         &rt,
         "clock 0\nsubmitters 16\npacket 15 255\n",

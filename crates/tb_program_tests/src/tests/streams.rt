@@ -125,10 +125,7 @@ fn assert_output(rt: &(impl Abort + Alloc<A = Global>), script: Repeated, output
     let mut script = script;
     let mut out = Vec::new(rt.alloc());
     let faultless = run_script(rt.alloc(), &mut script, &mut out).expect(rt, "memory");
-    assert!(rt;
-        out.as_slice() == output.as_bytes(),
-        "{out:?} in place of {output:?}"
-    );
+    assert!(rt; out.as_slice() == output.as_bytes());
     assert!(rt; faultless == (output == "clock 0\n"));
 }
 

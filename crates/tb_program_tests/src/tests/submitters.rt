@@ -3,6 +3,7 @@
 use super::{assert_run, ran};
 use std::alloc::Global;
 use std::process::Abort;
+use std::str::Lines;
 
 /// How often a script is run whose schedule decides much.
 const TURNS: u32 = 10;
@@ -19,7 +20,11 @@ fn number_in(rt: &impl Abort, line: &str, wanted: &str) -> Option<u64> {
 }
 
 /// The numbers that stand in an output where the wanted one has a `*`; both are the same in all else.
-fn numbers_in(rt: &(impl Abort + Alloc<A = Global>), output: &str, wanted: &str) -> Vec<u64> {
+pub(super) fn numbers_in(
+    rt: &(impl Abort + Alloc<A = Global>),
+    output: &str,
+    wanted: &str,
+) -> Vec<u64> {
     let mut numbers = Vec::new(rt.alloc());
     let mut lines = output.lines();
     for wanted in wanted.lines() {
@@ -183,29 +188,33 @@ account id=0
 fn place_in(
     rt: &(impl Abort + Alloc<A = Global>),
     line: &str,
-    submitter: usize,
+    submitter: u32,
     number: usize,
 ) -> Option<u64> {
-    let shutdown = format!(in rt.alloc(); "packet {submitter} {number} shutdown").expect(
-        rt, "memory",
-    );
-    if line == shutdown.as_str() {
-        return None;
+    let front = format!(in rt.alloc(); "packet {submitter} {number} ").expect(rt, "memory");
+    let outcome = line
+        .strip_prefix(front.as_str())
+        .expect(rt, "a packet's line");
+    match outcome {
+        "shutdown" => None,
+        _ => number_in(rt, outcome, "committed * 0:6"),
     }
-    let committed = format!(in rt.alloc(); "packet {submitter} {number} committed * 0:6").expect(
-        rt, "memory",
-    );
-    number_in(rt, line, committed.as_str())
 }
 
-/// The places of a submitter's committed packets, by its four lines; behind one that is shut down none is committed.
-fn places_in(rt: &(impl Abort + Alloc<A = Global>), lines: &[&str], submitter: usize) -> Vec<u64> {
+/// The places of a submitter's committed packets, by the lines of its four; behind one that is shut down none is
+/// committed.
+fn places_in(
+    rt: &(impl Abort + Alloc<A = Global>),
+    lines: &mut Lines<'_>,
+    submitter: u32,
+) -> Vec<u64> {
     let mut places = Vec::new(rt.alloc());
-    for (number, line) in lines.iter().enumerate() {
+    for number in 0..4 {
+        let line = lines.next().expect(rt, "a line");
         if let Some(place) = place_in(rt, line, submitter, number) {
             assert!(rt;
                 places.len() == number,
-                "a packet behind one that is shut down"
+                "packet {number} behind one that is shut down"
             );
             places.push(place).expect(rt, "memory");
         }
@@ -213,23 +222,16 @@ fn places_in(rt: &(impl Abort + Alloc<A = Global>), lines: &[&str], submitter: u
     places
 }
 
-fn lines_of<'a>(rt: &(impl Abort + Alloc<A = Global>), output: &'a str) -> Vec<&'a str> {
-    let mut lines = Vec::new(rt.alloc());
-    for line in output.lines() {
-        lines.push(line).expect(rt, "memory");
-    }
-    lines
-}
-
 /// Asserts that each packet is committed or shut down, and no other event raised the clock than the committed ones.
 fn assert_closed(rt: &(impl Abort + Alloc<A = Global>), output: &str) {
-    let lines = lines_of(rt, output);
-    assert!(rt; lines.len() == 9);
-    let first = places_in(rt, &lines[..4], 0);
-    let second = places_in(rt, &lines[4..8], 1);
+    let mut lines = output.lines();
+    let first = places_in(rt, &mut lines, 0);
+    let second = places_in(rt, &mut lines, 1);
     assert_places(rt, first.as_slice(), second.as_slice());
-    let clock = first.len().saturating_add(second.len()) as u64;
-    assert!(rt; number_in(rt, lines[8], "clock *") == Some(clock));
+    let count = first.len().saturating_add(second.len()) as u64;
+    let line = lines.next().expect(rt, "the clock");
+    assert!(rt; number_in(rt, line, "clock *") == Some(count));
+    assert!(rt; lines.next().is_none());
 }
 
 #[test]

@@ -1,4 +1,4 @@
-use super::{assert_both, assert_list};
+use super::{assert_both, assert_list, bytes_behind};
 use std::alloc::Global;
 use std::process::Abort;
 use std::sync::Wait;
@@ -153,16 +153,15 @@ account 2 2 0 0 0 40
 
 #[test]
 fn timeout_overflows(rt: HostRuntime) {
-    let script = format!(in rt.alloc();
-        "clock 9223372036854775000
-{TWO_ACCOUNTS}packet 0 130
-transfer id=1 debit_account_id=1 credit_account_id=2 amount=1 timeout=1 ledger=1 code=1 flags=2
-"
-    )
-    .expect(&rt, "memory");
     assert_both(
         &rt,
-        script.as_str(),
+        "clock 9223372036854775000
+packet 0 129
+account id=1 ledger=1 code=1
+account id=2 ledger=1 code=1
+packet 0 130
+transfer id=1 debit_account_id=1 credit_account_id=2 amount=1 timeout=1 ledger=1 code=1 flags=2
+",
         "packet 0 0 committed 0
 packet 0 1 committed 1 0:53
 clock 9223372036854775003
@@ -292,15 +291,9 @@ fn moment_too_large(rt: HostRuntime) {
     );
 }
 
-/// A packet of transfers of these bytes.
-fn packet_of(rt: &(impl Abort + Alloc<A = Global>), bytes: &str) -> String {
-    format!(in rt.alloc(); "packet 0 130\nhex {bytes}\n").expect(rt, "memory")
-}
-
 #[test]
 fn hostile_bytes_of_transfers(rt: HostRuntime) {
-    let bytes = "ff".repeat(rt.alloc(), 256).expect(&rt, "memory");
-    let script = packet_of(&rt, bytes.as_str());
+    let script = bytes_behind(&rt, "packet 0 130\n", "ff", 256);
     assert_both(
         &rt,
         script.as_str(),
