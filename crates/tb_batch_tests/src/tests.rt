@@ -1,6 +1,7 @@
 //! What no clause says: worked examples by name, and each call once with ample memory.
 
-use std::test::Fail;
+use std::alloc::Global;
+use std::process::Abort;
 use tb_batch::{Batch, Batcher, Offered};
 use tb_work::{Bytes, Job, Packet};
 
@@ -9,32 +10,29 @@ mod examples;
 mod memory;
 
 /// A packet of events that are all zeros but for their flags; a lookup has as many ids.
-fn packet_of(rt: &HostRuntime, operation: u8, flags: &[u8]) -> Result<Packet, Fail> {
+fn packet_of(rt: &(impl Abort + Alloc<A = Global>), operation: u8, flags: &[u8]) -> Packet {
     let mut bytes = Vec::new(rt.alloc());
     for flag in flags {
         if operation == 131 {
-            bytes.extend_from_slice(&[0; 16])?;
+            bytes.extend_from_slice(&[0; 16]).expect(rt, "memory");
         } else {
             let mut event = [0; 128];
             event[118] = *flag;
-            bytes.extend_from_slice(&event)?;
+            bytes.extend_from_slice(&event).expect(rt, "memory");
         }
     }
-    Ok(Packet {
+    Packet {
         operation,
         bytes: Bytes::from_vec(bytes),
         user: 7,
-    })
+    }
 }
 
 /// The job of such a packet.
-fn job_of(rt: &HostRuntime, number: u64, operation: u8, flags: &[u8]) -> Result<Job, Fail> {
-    let packet = packet_of(rt, operation, flags)?;
-    Ok(
-        Job::new(rt.alloc(), 0, number, 8190, packet)
-            .ok()
-            .ok_or("refused")?,
-    )
+fn job_of(rt: &(impl Abort + Alloc<A = Global>), number: u64, operation: u8, flags: &[u8]) -> Job {
+    let packet = packet_of(rt, operation, flags);
+    let made = Job::new(rt.alloc(), 0, number, 8190, packet);
+    made.ok().expect(rt, "a job")
 }
 
 /// What a batcher answered, a letter each, and how many packets and bytes its batches have.
@@ -45,30 +43,46 @@ struct Batches {
 }
 
 impl Batches {
-    fn note(&mut self, letter: u8, batch: Option<Batch>) -> Result<(), Fail> {
-        self.answers.push(letter)?;
+    fn note(&mut self, rt: &impl Abort, letter: u8, batch: Option<&Batch>) {
+        self.answers.push(letter).expect(rt, "memory");
         if let Some(batch) = batch {
-            self.sizes.push((batch.jobs().len(), batch.body().len()))?;
+            let size = (batch.jobs().len(), batch.body().len());
+            self.sizes.push(size).expect(rt, "memory");
         }
-        Ok(())
+    }
+
+    /// Notes what a batcher answers to a job.
+    fn offer(&mut self, rt: &impl Abort, batcher: &mut Batcher, job: Job) {
+        match batcher.offer(job) {
+            Offered::Joined => self.note(rt, b'J', None),
+            Offered::Sealed(batch) => self.note(rt, b'S', Some(&batch)),
+            Offered::Refused(_job, _refused) => self.note(rt, b'R', None),
+        }
+    }
+
+    /// Notes the batch that is left.
+    fn seal(&mut self, rt: &impl Abort, batcher: &mut Batcher) {
+        self.note(rt, b'.', batcher.seal().as_ref());
     }
 }
 
 /// Offers packets, each an operation and its events' flags, and seals at the end.
-fn batches_of(rt: &HostRuntime, limit: u32, packets: &[(u8, &[u8])]) -> Result<Batches, Fail> {
-    let mut batcher = Batcher::new(rt.alloc(), limit).ok().ok_or("bad limit")?;
+fn batches_of(
+    rt: &(impl Abort + Alloc<A = Global>),
+    limit: u32,
+    packets: &[(u8, &[u8])],
+) -> Batches {
+    let mut batcher = Batcher::new(rt.alloc(), limit).ok().expect(rt, "a batcher");
     let mut batches = Batches {
         answers: Vec::new(rt.alloc()),
         sizes: Vec::new(rt.alloc()),
     };
     for (place, (operation, flags)) in packets.iter().enumerate() {
-        match batcher.offer(job_of(rt, place as u64, *operation, *flags)?) {
-            Offered::Joined => batches.note(b'J', None)?,
-            Offered::Sealed(batch) => batches.note(b'S', Some(batch))?,
-            Offered::Refused(_job, _refused) => batches.note(b'R', None)?,
-        }
+        let job = job_of(rt, place as u64, *operation, *flags);
+        batches.offer(rt, &mut batcher, job);
     }
-    batches.note(b'.', batcher.seal())?;
-    batches.note(b'.', batcher.seal())?;
-    Ok(batches)
+    batches.seal(rt, &mut batcher);
+    batches.seal(rt, &mut batcher);
+    drop(batcher);
+    batches
 }

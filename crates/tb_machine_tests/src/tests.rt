@@ -4,7 +4,8 @@ ghost use Rattle.std.specs.Prelude.{◌≡◌, ◌==◌, ◌||◌, ◌/◌, ◌%
 ghost use Rattle.tb_layout.specs.Limits.{batch_max};
 ghost use Rattle.tb_layout.specs.Operation.{create_accounts, create_transfers};
 
-use std::alloc::AllocError;
+use std::alloc::{AllocError, Global};
+use std::process::Abort;
 use tb_layout::{
     Account, BATCH_MAX, CREATE_ACCOUNTS, CREATE_TRANSFERS, Transfer, write_account, write_transfer,
 };
@@ -52,7 +53,7 @@ fn resolving(id: u128, pending_id: u128, amount: u128, flags: u16) -> Transfer {
     }
 }
 
-fn accounts_body(rt: &HostRuntime, events: &[Account]) -> Result<Vec<u8>, AllocError> {
+fn accounts_body(rt: &impl Alloc<A = Global>, events: &[Account]) -> Result<Vec<u8>, AllocError> {
     let mut body = Vec::new(rt.alloc());
     for event in events {
         body.extend_from_slice(&write_account(event))?;
@@ -60,7 +61,7 @@ fn accounts_body(rt: &HostRuntime, events: &[Account]) -> Result<Vec<u8>, AllocE
     Ok(body)
 }
 
-fn transfers_body(rt: &HostRuntime, events: &[Transfer]) -> Result<Vec<u8>, AllocError> {
+fn transfers_body(rt: &impl Alloc<A = Global>, events: &[Transfer]) -> Result<Vec<u8>, AllocError> {
     let mut body = Vec::new(rt.alloc());
     for event in events {
         body.extend_from_slice(&write_transfer(event))?;
@@ -81,7 +82,7 @@ fn is_packet(operation: u8, body: &[u8]) -> bool
 }
 
 /// Whether a packet was committed and each of its events succeeded, as they do unless memory is wanting.
-fn commits(rt: &HostRuntime, machine: &mut Machine, operation: u8, body: &[u8]) -> bool {
+fn commits(rt: &impl Alloc<A = Global>, machine: &mut Machine, operation: u8, body: &[u8]) -> bool {
     if !is_packet(operation, body) {
         return false;
     }
@@ -89,4 +90,24 @@ fn commits(rt: &HostRuntime, machine: &mut Machine, operation: u8, body: &[u8]) 
         return false;
     };
     machine.commit(operation, body, &mut out).is_ok() && out.is_empty()
+}
+
+/// Makes accounts, of which none fails.
+fn make_accounts(
+    rt: &(impl Abort + Alloc<A = Global>),
+    machine: &mut Machine,
+    accounts: &[Account],
+) {
+    let body = accounts_body(rt, accounts).expect(rt, "memory");
+    assert!(rt; commits(rt, machine, CREATE_ACCOUNTS, &body));
+}
+
+/// Makes transfers, of which none fails.
+fn make_transfers(
+    rt: &(impl Abort + Alloc<A = Global>),
+    machine: &mut Machine,
+    transfers: &[Transfer],
+) {
+    let body = transfers_body(rt, transfers).expect(rt, "memory");
+    assert!(rt; commits(rt, machine, CREATE_TRANSFERS, &body));
 }

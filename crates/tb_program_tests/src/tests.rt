@@ -4,7 +4,6 @@
 use std::alloc::Global;
 use std::process::Abort;
 use std::sync::Wait;
-use std::test::Fail;
 use std::thread::Threads;
 use tb_program::{run_script, run_threads};
 
@@ -18,56 +17,58 @@ mod submitters;
 mod transfers;
 
 /// What `list` writes for a script.
-fn listed(alloc: Global, script: &str) -> Result<String, Fail> {
-    let mut reader = script.as_bytes();
-    let mut out = Vec::new(alloc);
-    let _ = run_script(alloc, &mut reader, &mut out)?;
-    Ok(String::from_utf8(out).ok().ok_or("no text")?)
+fn listed(rt: &(impl Abort + Alloc<A = Global>), script: &str) -> String {
+    let mut out = Vec::new(rt.alloc());
+    let _ = run_script(rt.alloc(), &mut script.as_bytes(), &mut out).expect(rt, "memory");
+    String::from_utf8(out).ok().expect(rt, "text")
 }
 
 /// What `run` writes for a script.
-fn ran<R: Threads + Wait + Sync>(rt: &R, alloc: Global, script: &str) -> Result<String, Fail> {
-    let mut reader = script.as_bytes();
-    let mut out = Vec::new(alloc);
-    let _ = run_threads(rt, alloc, &mut reader, &mut out)?;
-    Ok(String::from_utf8(out).ok().ok_or("no text")?)
+fn ran<R: Abort + Threads + Wait + Sync + Alloc<A = Global>>(rt: &R, script: &str) -> String {
+    let mut out = Vec::new(rt.alloc());
+    let _ = run_threads(rt, rt.alloc(), &mut script.as_bytes(), &mut out).expect(rt, "memory");
+    String::from_utf8(out).ok().expect(rt, "text")
 }
 
-/// That `list` writes this output for a script.
-fn shows(alloc: Global, script: &str, output: &str) -> Result<(), Fail> {
-    if listed(alloc, script)?.as_str() != output {
-        return Err("another output")?;
-    }
-    Ok(())
+/// Asserts what `list` writes for a script.
+fn assert_list(rt: &(impl Abort + Alloc<A = Global>), script: &str, output: &str) {
+    let text = listed(rt, script);
+    assert!(rt;
+        text.as_str() == output,
+        "list wrote {text:?} for {script:?}"
+    );
 }
 
-/// The same, and where it writes another it says for which script.
-fn lists(rt: &impl Abort, alloc: Global, script: &str, output: &str) -> Result<(), Fail> {
-    let text = listed(alloc, script)?;
-    assert_eq!(rt; text.as_str(), output, "at {script:?}");
-    Ok(())
-}
-
-/// That `run` writes this output for a script.
-fn run_shows<R: Threads + Wait + Sync>(
+/// Asserts what `run` writes for a script.
+fn assert_run<R: Abort + Threads + Wait + Sync + Alloc<A = Global>>(
     rt: &R,
-    alloc: Global,
     script: &str,
     output: &str,
-) -> Result<(), Fail> {
-    if ran(rt, alloc, script)?.as_str() != output {
-        return Err("another output of run")?;
-    }
-    Ok(())
+) {
+    let text = ran(rt, script);
+    assert!(rt;
+        text.as_str() == output,
+        "run wrote {text:?} for {script:?}"
+    );
 }
 
-/// That both write this output, for a script of which the schedule decides nothing.
-fn both_show<R: Threads + Wait + Sync>(
+/// Asserts what both write, for a script of which the schedule decides nothing.
+fn assert_both<R: Abort + Threads + Wait + Sync + Alloc<A = Global>>(
     rt: &R,
-    alloc: Global,
     script: &str,
     output: &str,
-) -> Result<(), Fail> {
-    shows(alloc, script, output)?;
-    run_shows(rt, alloc, script, output)
+) {
+    assert_list(rt, script, output);
+    assert_run(rt, script, output);
+}
+
+/// The line of a packet's bytes, each of which has these two digits, behind other lines.
+fn bytes_behind(
+    rt: &(impl Abort + Alloc<A = Global>),
+    lines: &str,
+    digits: &str,
+    count: usize,
+) -> String {
+    let bytes = digits.repeat(rt.alloc(), count).expect(rt, "memory");
+    format!(in rt.alloc(); "{lines}hex {bytes}\n").expect(rt, "memory")
 }

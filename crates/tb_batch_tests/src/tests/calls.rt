@@ -1,36 +1,44 @@
 use super::job_of;
-use std::test::Fail;
+use std::alloc::Global;
+use std::process::Abort;
 use tb_batch::{Batch, Batcher, Offered, Parts};
 use tb_work::Refusal;
 
+const LIMITS: [(u32, Option<Refusal>); 5] = [
+    (0, Some(Refusal::BadLimit)),
+    (1, None),
+    (8190, None),
+    (8191, Some(Refusal::BadLimit)),
+    (4_294_967_295, Some(Refusal::BadLimit)),
+];
+
 #[test]
-fn limits(rt: HostRuntime) -> Result<(), Fail> {
-    for (limit, wanted) in [
-        (0, Some(Refusal::BadLimit)),
-        (1, None),
-        (8190, None),
-        (8191, Some(Refusal::BadLimit)),
-        (4_294_967_295, Some(Refusal::BadLimit)),
-    ] {
-        assert_eq!(rt; Batcher::new(rt.alloc(), limit).err(), wanted);
+fn limits(rt: HostRuntime) {
+    for (limit, wanted) in &LIMITS {
+        assert!(rt;
+            Batcher::new(rt.alloc(), *limit).err() == *wanted,
+            "limit {limit}"
+        );
     }
-    Ok(())
 }
 
-/// Offers packets of accounts with these flags.
-fn offer_all(rt: &HostRuntime, batcher: &mut Batcher, packets: &[&[u8]]) -> Result<(), Fail> {
-    for flags in packets {
-        let _ = batcher.offer(job_of(rt, 0, 129, *flags)?);
-    }
-    Ok(())
+/// A batcher of at most 4 events.
+fn small_batcher(rt: &(impl Abort + Alloc<A = Global>)) -> Batcher {
+    Batcher::new(rt.alloc(), 4).ok().expect(rt, "a batcher")
+}
+
+/// Offers a packet, which is joined.
+fn join(rt: &(impl Abort + Alloc<A = Global>), batcher: &mut Batcher, operation: u8, flags: &[u8]) {
+    let offered = batcher.offer(job_of(rt, 0, operation, flags));
+    assert!(rt; matches!(&offered, Offered::Joined));
 }
 
 /// A batch of two packets, of two events and of one.
-fn batch_of_two(rt: &HostRuntime) -> Result<Batch, Fail> {
-    let mut batcher = Batcher::new(rt.alloc(), 4).ok().ok_or("bad limit")?;
-    let packets: [&[u8]; 2] = [[0, 0].as_slice(), [0].as_slice()];
-    offer_all(rt, &mut batcher, packets.as_slice())?;
-    Ok(batcher.seal().ok_or("nothing held")?)
+fn batch_of_two(rt: &(impl Abort + Alloc<A = Global>)) -> Batch {
+    let mut batcher = small_batcher(rt);
+    join(rt, &mut batcher, 129, &[0, 0]);
+    join(rt, &mut batcher, 129, &[0]);
+    batcher.seal().expect(rt, "a batch")
 }
 
 fn is_of_two(batch: &Batch) -> bool {
@@ -42,26 +50,23 @@ fn have_room(parts: &Parts) -> bool {
 }
 
 #[test]
-fn a_batch_and_its_parts(rt: HostRuntime) -> Result<(), Fail> {
-    let batch = batch_of_two(&rt)?;
+fn a_batch_and_its_parts(rt: HostRuntime) {
+    let batch = batch_of_two(&rt);
     assert!(rt; is_of_two(&batch));
     let parts = batch.into_parts();
     assert!(rt; have_room(&parts));
     assert!(rt; is_of_two(&Batch::whole(parts)));
-    Ok(())
+}
+
+/// A batch of a lookup of two ids.
+fn lookup_of_two(rt: &(impl Abort + Alloc<A = Global>)) -> Batch {
+    let mut batcher = small_batcher(rt);
+    join(rt, &mut batcher, 131, &[0, 0]);
+    batcher.seal().expect(rt, "a batch")
 }
 
 #[test]
-fn a_lookup_has_room_for_its_accounts(rt: HostRuntime) -> Result<(), Fail> {
-    let mut batcher = Batcher::new(rt.alloc(), 4).ok().ok_or("bad limit")?;
-    assert!(rt;
-        matches!(
-            &batcher.offer(job_of(&rt, 0, 131, [0, 0].as_slice())?),
-            Offered::Joined
-        )
-    );
-    let parts = batcher.seal().ok_or("nothing held")?.into_parts();
-    assert_eq!(rt; parts.operation, 131);
-    assert!(rt; parts.accounts.capacity() >= 2);
-    Ok(())
+fn a_lookup_has_room_for_its_accounts(rt: HostRuntime) {
+    let parts = lookup_of_two(&rt).into_parts();
+    assert!(rt; parts.operation == 131 && parts.accounts.capacity() >= 2);
 }

@@ -1,38 +1,55 @@
-use std::test::Fail;
+use std::alloc::Global;
+use std::process::Abort;
 use tb_batch::{Batcher, Offered};
 use tb_work::{Bytes, Job, Packet};
 
-/// What is tried with each allocation refused in turn, by `tools/refuse-each-growth`.
-#[test]
-fn offer_refused_memory(rt: HostRuntime) -> Result<(), Fail> {
-    let mut batcher = Batcher::new(rt.alloc(), 4).ok().ok_or("bad limit")?;
-    let mut joined = 0;
-    for number in 0..3 {
-        let mut bytes = Vec::new(rt.alloc());
-        let Ok(()) = bytes.resize(128, 0) else {
-            return Ok(());
-        };
-        let packet = Packet {
-            operation: 129,
-            bytes: Bytes::from_vec(bytes),
-            user: 7,
-        };
-        let Some(job) = Job::new(rt.alloc(), 0, number, 4, packet).ok() else {
-            return Ok(());
-        };
-        match batcher.offer(job) {
-            Offered::Joined => joined = number + 1,
-            Offered::Sealed(_batch) => assert!(rt; false),
-            Offered::Refused(job, _refused) => {
-                assert_eq!(rt; job.stub().number, number);
-                assert_eq!(rt; job.packet().bytes.as_slice().len(), 128);
-                break;
-            }
+/// The job of a packet of an account of zeros, or None where memory is wanting.
+fn job_of(alloc: Global, number: u64) -> Option<Job> {
+    let mut bytes = Vec::new(alloc);
+    bytes.resize(128, 0).ok()?;
+    let packet = Packet {
+        operation: 129,
+        bytes: Bytes::from_vec(bytes),
+        user: 7,
+    };
+    Job::new(alloc, 0, number, 4, packet).ok()
+}
+
+/// Whether a job is joined. One that is refused comes back as it was.
+fn is_joined(rt: &impl Abort, batcher: &mut Batcher, job: Job, number: u64) -> bool {
+    match batcher.offer(job) {
+        Offered::Joined => true,
+        Offered::Sealed(_batch) => panic!(rt; "sealed"),
+        Offered::Refused(job, _refused) => {
+            assert!(rt; job.stub().number == number);
+            assert!(rt; job.packet().bytes.as_slice().len() == 128);
+            false
         }
     }
-    match batcher.seal() {
-        Some(batch) => assert_eq!(rt; batch.jobs().len() as u64, joined),
-        None => assert_eq!(rt; joined, 0),
+}
+
+/// How many of three jobs are joined, as far as memory lasts.
+fn offer_three(rt: &(impl Abort + Alloc<A = Global>), batcher: &mut Batcher) -> usize {
+    for number in 0..3 {
+        let joined = match job_of(rt.alloc(), number) {
+            Some(job) => is_joined(rt, batcher, job, number),
+            None => false,
+        };
+        if !joined {
+            return number as usize;
+        }
     }
-    Ok(())
+    3
+}
+
+/// What is tried with each allocation refused in turn, by `tools/refuse-each-growth`.
+#[test]
+fn offer_refused_memory(rt: HostRuntime) {
+    let mut batcher = Batcher::new(rt.alloc(), 4).ok().expect(&rt, "a batcher");
+    let joined = offer_three(&rt, &mut batcher);
+    let held = match batcher.seal() {
+        Some(batch) => batch.jobs().len(),
+        None => 0,
+    };
+    assert!(rt; held == joined);
 }

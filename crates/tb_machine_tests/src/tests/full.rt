@@ -2,48 +2,46 @@
 //! with ample memory it never is.
 
 use super::{account, commits, transfer};
-use std::alloc::AllocError;
-use std::test::Fail;
+use std::alloc::Global;
+use std::process::Abort;
 use tb_layout::{
     Account, BATCH_MAX, CREATE_ACCOUNTS, CREATE_TRANSFERS, write_account, write_transfer,
 };
 use tb_machine::Machine;
 
 /// As many accounts as a batch may have, by rising id.
-fn full_accounts(rt: &HostRuntime, first_id: u128) -> Result<Vec<u8>, AllocError> {
+fn full_accounts(rt: &(impl Abort + Alloc<A = Global>), first_id: u128) -> Vec<u8> {
     let mut body = Vec::new(rt.alloc());
     for place in 0..BATCH_MAX {
         let id = first_id.saturating_add(u128::from(place));
-        body.extend_from_slice(&write_account(&account(id, 0)))?;
+        body.extend_from_slice(&write_account(&account(id, 0)))
+            .expect(rt, "memory");
     }
-    Ok(body)
+    body
 }
 
 /// As many transfers of 1, by rising id: each account is debited by one and credited by another.
-fn full_transfers(rt: &HostRuntime) -> Result<Vec<u8>, AllocError> {
+fn full_transfers(rt: &(impl Abort + Alloc<A = Global>)) -> Vec<u8> {
     let mut body = Vec::new(rt.alloc());
     for place in 0..BATCH_MAX {
         let debit = u128::from(place + 1);
         let credit = u128::from(BATCH_MAX - place);
-        body.extend_from_slice(&write_transfer(&transfer(debit, debit, credit, 1, 0)))?;
+        body.extend_from_slice(&write_transfer(&transfer(debit, debit, credit, 1, 0)))
+            .expect(rt, "memory");
     }
-    Ok(body)
+    body
 }
 
-/// Whether full accounts from an id on are made.
-fn makes_accounts(
-    rt: &HostRuntime,
-    machine: &mut Machine,
-    first_id: u128,
-) -> Result<bool, AllocError> {
-    let accounts = full_accounts(rt, first_id)?;
-    Ok(commits(rt, machine, CREATE_ACCOUNTS, &accounts))
+/// Makes full accounts from an id on.
+fn make_accounts(rt: &(impl Abort + Alloc<A = Global>), machine: &mut Machine, first_id: u128) {
+    let accounts = full_accounts(rt, first_id);
+    assert!(rt; commits(rt, machine, CREATE_ACCOUNTS, &accounts));
 }
 
-/// Whether full transfers are made.
-fn makes_transfers(rt: &HostRuntime, machine: &mut Machine) -> Result<bool, AllocError> {
-    let transfers = full_transfers(rt)?;
-    Ok(commits(rt, machine, CREATE_TRANSFERS, &transfers))
+/// Makes full transfers.
+fn make_transfers(rt: &(impl Abort + Alloc<A = Global>), machine: &mut Machine) {
+    let transfers = full_transfers(rt);
+    assert!(rt; commits(rt, machine, CREATE_TRANSFERS, &transfers));
 }
 
 /// Whether an account has this timestamp, and was debited and credited this much.
@@ -66,16 +64,12 @@ fn has_all(machine: &Machine) -> bool {
 }
 
 /// 8190 accounts, then 8190 transfers, then 8190 more accounts.
-fn makes_all(rt: &HostRuntime, machine: &mut Machine) -> Result<bool, AllocError> {
-    let made = makes_accounts(rt, machine, 1)?
-        && makes_transfers(rt, machine)?
-        && makes_accounts(rt, machine, 8191)?;
-    Ok(made && has_all(machine))
-}
-
 #[test]
-fn full_bodies(rt: HostRuntime) -> Result<(), Fail> {
+fn full_bodies(rt: HostRuntime) {
     let mut machine = Machine::new(rt.alloc(), 0);
-    assert!(rt; makes_all(&rt, &mut machine)?);
-    Ok(())
+    make_accounts(&rt, &mut machine, 1);
+    make_transfers(&rt, &mut machine);
+    make_accounts(&rt, &mut machine, 8191);
+    assert!(rt; has_all(&machine));
+    drop(machine);
 }

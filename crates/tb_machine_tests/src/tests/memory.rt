@@ -1,12 +1,13 @@
 //! What is tried with each allocation refused in turn, by `tools/refuse-each-growth`.
 
 use super::{MOST, account, accounts_body, is_packet, resolving, transfer, transfers_body};
-use std::test::Fail;
+use std::alloc::Global;
+use std::process::Abort;
 use tb_layout::TransferCode::{
     CreditAccountNotFound, ExceedsCredits, IdAlreadyFailed, LedgerMustNotBeZero, LinkedEventFailed,
     PendingTransferNotFound,
 };
-use tb_layout::{Account, CREATE_ACCOUNTS, CREATE_TRANSFERS, Transfer, TransferCode};
+use tb_layout::{Account, CREATE_ACCOUNTS, CREATE_TRANSFERS, Failure, Transfer, TransferCode};
 use tb_machine::Machine;
 use tb_tables::Status;
 
@@ -45,63 +46,66 @@ impl Seen {
     }
 }
 
-/// Whether a packet was committed, with just these failures. Where memory was wanting, the machine is
-/// as before.
-fn is_committed(
-    rt: &HostRuntime,
+/// Whether these are the failures, each with its event's place and code.
+fn are_failures(failures: &[Failure], wanted: &[(u32, TransferCode)]) -> bool {
+    failures.len() == wanted.len()
+        && failures.iter().zip(wanted).all(|(failure, (index, code))| failure.index == *index
+            && failure.code == code.number())
+}
+
+/// Commits a packet, with just these failures. Where memory is wanting, the machine is as before, and the answer is
+/// false.
+fn commits(
+    rt: &(impl Abort + Alloc<A = Global>),
     machine: &mut Machine,
     operation: u8,
     body: &[u8],
     failures: &[(u32, TransferCode)],
-) -> Result<bool, Fail> {
-    if !is_packet(operation, body) {
-        return Err("no packet")?;
-    }
+) -> bool {
+    assert!(rt; is_packet(operation, body));
     let Ok(mut out) = Vec::with_capacity(rt.alloc(), body.len() / 128) else {
-        return Ok(false);
+        return false;
     };
     let seen = Seen::of(machine);
-    if machine.commit(operation, body, &mut out).is_err() {
-        if !seen.holds(machine) || !out.is_empty() {
-            Err("the machine isn't as before")?;
-        }
-        return Ok(false);
+    let is_committed = machine.commit(operation, body, &mut out).is_ok();
+    if is_committed {
+        assert!(rt; are_failures(&out, failures), "other failures");
+    } else {
+        assert!(rt;
+            seen.holds(machine) && out.is_empty(),
+            "the machine isn't as before"
+        );
     }
-    let same = out.len() == failures.len()
-        && out.iter().zip(failures).all(|(failure, (index, code))| failure.index == *index
-            && failure.code == code.number());
-    if !same {
-        Err("other failures")?;
-    }
-    Ok(true)
+    is_committed
 }
 
 /// A packet of accounts, of which none fails.
 fn commits_accounts(
-    rt: &HostRuntime,
+    rt: &(impl Abort + Alloc<A = Global>),
     machine: &mut Machine,
     accounts: &[Account],
-) -> Result<bool, Fail> {
-    let Ok(body) = accounts_body(rt, accounts) else {
-        return Ok(false);
-    };
-    is_committed(rt, machine, CREATE_ACCOUNTS, &body, [].as_slice())
+) -> bool {
+    match accounts_body(rt, accounts) {
+        Ok(body) => commits(rt, machine, CREATE_ACCOUNTS, &body, &[]),
+        Err(_) => false,
+    }
 }
 
 /// A packet of transfers, with just these failures.
 fn commits_transfers(
-    rt: &HostRuntime,
+    rt: &(impl Abort + Alloc<A = Global>),
     machine: &mut Machine,
     transfers: &[Transfer],
     failures: &[(u32, TransferCode)],
-) -> Result<bool, Fail> {
-    let Ok(body) = transfers_body(rt, transfers) else {
-        return Ok(false);
-    };
-    is_committed(rt, machine, CREATE_TRANSFERS, &body, failures)
+) -> bool {
+    match transfers_body(rt, transfers) {
+        Ok(body) => commits(rt, machine, CREATE_TRANSFERS, &body, failures),
+        Err(_) => false,
+    }
 }
 
-fn chain_and_single(rt: &HostRuntime, machine: &mut Machine) -> Result<bool, Fail> {
+/// A chain whose last event fails, and one of its transfers by itself.
+fn chain_and_single(rt: &(impl Abort + Alloc<A = Global>), machine: &mut Machine) -> bool {
     let accounts = [account(1, 0), account(2, 2), account(3, 0)];
     let chain = [
         transfer(1, 1, 2, 10, 1),
@@ -117,59 +121,56 @@ fn chain_and_single(rt: &HostRuntime, machine: &mut Machine) -> Result<bool, Fai
         (2, LedgerMustNotBeZero),
     ];
     let single = [transfer(2, 2, 3, 10, 0)];
-    let exceeds = [(0, ExceedsCredits)];
-    let all = commits_accounts(rt, machine, accounts.as_slice())?
-        && commits_transfers(rt, machine, chain.as_slice(), codes.as_slice())?
-        && commits_transfers(rt, machine, single.as_slice(), exceeds.as_slice())?;
-    Ok(!all || machine.clock() == 7)
+    commits_accounts(rt, machine, &accounts)
+        && commits_transfers(rt, machine, &chain, &codes)
+        && commits_transfers(rt, machine, &single, &[(0, ExceedsCredits)])
 }
 
 #[test]
-fn chains_of_transfers_joined_refused_memory(rt: HostRuntime) -> Result<(), Fail> {
+fn chains_of_transfers_joined_refused_memory(rt: HostRuntime) {
     let mut machine = Machine::new(rt.alloc(), 0);
-    assert!(rt; chain_and_single(&rt, &mut machine)?);
-    Ok(())
+    if chain_and_single(&rt, &mut machine) {
+        assert!(rt; machine.clock() == 7);
+    }
+    drop(machine);
 }
 
 /// A chain of which both ids come again, and a post that names nothing, whose id comes again.
-fn four_packets(rt: &HostRuntime, machine: &mut Machine) -> Result<bool, Fail> {
+fn four_packets(rt: &(impl Abort + Alloc<A = Global>), machine: &mut Machine) -> bool {
     let chain = [transfer(1, 1, 2, 5, 1), transfer(2, 1, 9, 5, 0)];
     let codes = [(0, LinkedEventFailed), (1, CreditAccountNotFound)];
     let again = [transfer(1, 1, 2, 5, 0), transfer(2, 1, 2, 5, 0)];
-    let failed = [(1, IdAlreadyFailed)];
     let post = [resolving(3, 8, MOST, 4)];
-    let missing = [(0, PendingTransferNotFound)];
     let last = [transfer(3, 1, 2, 1, 0), transfer(2, 1, 2, 1, 6)];
     let both = [(0, IdAlreadyFailed), (1, IdAlreadyFailed)];
-    let all = commits_transfers(rt, machine, chain.as_slice(), codes.as_slice())?
-        && commits_transfers(rt, machine, again.as_slice(), failed.as_slice())?
-        && commits_transfers(rt, machine, post.as_slice(), missing.as_slice())?
-        && commits_transfers(rt, machine, last.as_slice(), both.as_slice())?;
-    Ok(!all || machine.clock() == 9)
+    commits_transfers(rt, machine, &chain, &codes)
+        && commits_transfers(rt, machine, &again, &[(1, IdAlreadyFailed)])
+        && commits_transfers(rt, machine, &post, &[(0, PendingTransferNotFound)])
+        && commits_transfers(rt, machine, &last, &both)
 }
 
 #[test]
-fn id_already_failed_refused_memory(rt: HostRuntime) -> Result<(), Fail> {
+fn id_already_failed_refused_memory(rt: HostRuntime) {
     let mut machine = Machine::new(rt.alloc(), 0);
     let accounts = [account(1, 0), account(2, 0)];
-    let made = commits_accounts(&rt, &mut machine, accounts.as_slice())?;
-    assert!(rt; !made || four_packets(&rt, &mut machine)?);
-    Ok(())
+    if commits_accounts(&rt, &mut machine, &accounts) && four_packets(&rt, &mut machine) {
+        assert!(rt; machine.clock() == 9);
+    }
+    drop(machine);
 }
 
 /// A void that names nothing leaves its id behind, and so is refused for that when it comes again.
-fn void_twice(rt: &HostRuntime, machine: &mut Machine) -> Result<bool, Fail> {
+fn void_twice(rt: &(impl Abort + Alloc<A = Global>), machine: &mut Machine) -> bool {
     let void = [resolving(1, 8, 0, 8)];
-    let missing = [(0, PendingTransferNotFound)];
-    let failed = [(0, IdAlreadyFailed)];
-    let all = commits_transfers(rt, machine, void.as_slice(), missing.as_slice())?
-        && commits_transfers(rt, machine, void.as_slice(), failed.as_slice())?;
-    Ok(!all || machine.clock() == 2)
+    commits_transfers(rt, machine, &void, &[(0, PendingTransferNotFound)])
+        && commits_transfers(rt, machine, &void, &[(0, IdAlreadyFailed)])
 }
 
 #[test]
-fn void_of_nothing_refused_memory(rt: HostRuntime) -> Result<(), Fail> {
+fn void_of_nothing_refused_memory(rt: HostRuntime) {
     let mut machine = Machine::new(rt.alloc(), 0);
-    assert!(rt; void_twice(&rt, &mut machine)?);
-    Ok(())
+    if void_twice(&rt, &mut machine) {
+        assert!(rt; machine.clock() == 2);
+    }
+    drop(machine);
 }

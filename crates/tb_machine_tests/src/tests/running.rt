@@ -1,14 +1,18 @@
 //! 400 events, made by a rule from a counter, against plain lists: the transfers in order of making, beside
 //! each whether it expired, and balances as sums.
 
-use super::{account, accounts_body, commits, is_packet, transfer};
-use std::alloc::AllocError;
-use std::test::Fail;
+use super::{account, accounts_body, commits, is_packet, make_accounts, transfer};
+use std::alloc::{AllocError, Global};
+use std::process::Abort;
 use tb_layout::{
     Account, CREATE_ACCOUNTS, CREATE_TRANSFERS, NANOSECONDS_PER_SECOND, Transfer, write_transfer,
 };
 use tb_machine::Machine;
 use tb_tables::Status;
+
+fn four_accounts() -> [Account; 4] {
+    [account(1, 0), account(2, 0), account(3, 0), account(4, 0)]
+}
 
 /// One of `many` numbers, counted from 0, that a counter and a purpose lead to.
 fn pick(counter: u64, purpose: u64, many: u64) -> u64 {
@@ -186,7 +190,7 @@ fn expire(all: &mut Vec<Made>, clock: u64) {
 }
 
 /// Whether a packet was committed, as it is unless memory is wanting.
-fn commits_any(rt: &HostRuntime, machine: &mut Machine, body: &[u8]) -> bool {
+fn commits_any(rt: &impl Alloc<A = Global>, machine: &mut Machine, body: &[u8]) -> bool {
     if !is_packet(CREATE_TRANSFERS, body) {
         return false;
     }
@@ -197,7 +201,12 @@ fn commits_any(rt: &HostRuntime, machine: &mut Machine, body: &[u8]) -> bool {
 }
 
 /// A packet of the events from a counter on.
-fn packet(rt: &HostRuntime, first: u64, events: u64, ids: u64) -> Result<Vec<u8>, AllocError> {
+fn packet(
+    rt: &impl Alloc<A = Global>,
+    first: u64,
+    events: u64,
+    ids: u64,
+) -> Result<Vec<u8>, AllocError> {
     let mut body = Vec::new(rt.alloc());
     for place in 0..events {
         let event = event(first.saturating_add(place), ids);
@@ -206,31 +215,38 @@ fn packet(rt: &HostRuntime, first: u64, events: u64, ids: u64) -> Result<Vec<u8>
     Ok(body)
 }
 
+/// A packet of the events from a counter on, which is committed.
+fn commit_packet(
+    rt: &(impl Abort + Alloc<A = Global>),
+    machine: &mut Machine,
+    first: u64,
+    events: u64,
+    ids: u32,
+) {
+    let body = packet(rt, first, events, u64::from(ids)).expect(rt, "memory");
+    assert!(rt; commits_any(rt, machine, &body));
+}
+
 /// 115 packets of 1 to 6 events, 400 in all, with a pulse after each tenth packet.
-fn run(rt: &HostRuntime, machine: &mut Machine, all: &mut Vec<Made>, ids: u32) -> Result<(), Fail> {
-    let events = [account(1, 0), account(2, 0), account(3, 0), account(4, 0)];
-    let accounts = accounts_body(rt, events.as_slice())?;
-    if !commits(rt, machine, CREATE_ACCOUNTS, &accounts) {
-        return Err("the accounts weren't made")?;
-    }
+fn run(
+    rt: &(impl Abort + Alloc<A = Global>),
+    machine: &mut Machine,
+    all: &mut Vec<Made>,
+    ids: u32,
+) {
+    make_accounts(rt, machine, &four_accounts());
     let mut first: u64 = 0;
     for number in 0..115_u64 {
         let events = number % 6 + 1;
-        let body = packet(rt, first, events, u64::from(ids))?;
+        commit_packet(rt, machine, first, events, ids);
         first = first.saturating_add(events);
-        if !commits_any(rt, machine, &body) {
-            return Err("a packet wasn't committed")?;
-        }
-        note_new(all, machine, ids)?;
+        note_new(all, machine, ids).expect(rt, "memory");
         if number % 10 == 9 {
             machine.pulse((number / 10 + 1) * NANOSECONDS_PER_SECOND);
             expire(all, machine.clock());
         }
-        if !agrees(machine, all) {
-            return Err("the machine isn't as the lists say")?;
-        }
+        assert!(rt; agrees(machine, all), "behind packet {number}");
     }
-    Ok(())
 }
 
 /// Whether some transfer has a status.
@@ -244,25 +260,26 @@ fn some_has(all: &[Made], status: Status) -> bool {
 }
 
 #[test]
-fn four_hundred_events(rt: HostRuntime) -> Result<(), Fail> {
+fn four_hundred_events(rt: HostRuntime) {
     let mut machine = Machine::new(rt.alloc(), 0);
     let mut all = Vec::new(rt.alloc());
-    run(&rt, &mut machine, &mut all, 8)
+    run(&rt, &mut machine, &mut all, 8);
+    drop(machine);
 }
 
 #[test]
-fn four_hundred_events_of_as_many_ids(rt: HostRuntime) -> Result<(), Fail> {
+fn four_hundred_events_of_as_many_ids(rt: HostRuntime) {
     let mut machine = Machine::new(rt.alloc(), 0);
     let mut all = Vec::new(rt.alloc());
-    let result = run(&rt, &mut machine, &mut all, 400);
+    run(&rt, &mut machine, &mut all, 400);
+    drop(machine);
     assert!(rt; some_has(&all, Status::Pending) && some_has(&all, Status::Posted));
     assert!(rt; some_has(&all, Status::Voided) && some_has(&all, Status::Expired));
-    result
 }
 
 /// Packets in order, as far as memory lasts; one that is refused leaves what the lists say.
 fn run_refused(
-    rt: &HostRuntime,
+    rt: &impl Alloc<A = Global>,
     machine: &mut Machine,
     all: &mut Vec<Made>,
 ) -> Result<(), AllocError> {
@@ -278,19 +295,21 @@ fn run_refused(
     Ok(())
 }
 
+/// Whether the four accounts are made, as they are unless memory is wanting.
+fn makes_accounts(rt: &impl Alloc<A = Global>, machine: &mut Machine) -> bool {
+    match accounts_body(rt, &four_accounts()) {
+        Ok(accounts) => commits(rt, machine, CREATE_ACCOUNTS, &accounts),
+        Err(_) => false,
+    }
+}
+
 /// What is tried with each allocation refused in turn.
 #[test]
-fn plain_lists_refused_memory(rt: HostRuntime) -> Result<(), Fail> {
-    let events = [account(1, 0), account(2, 0), account(3, 0), account(4, 0)];
-    let Ok(accounts) = accounts_body(&rt, events.as_slice()) else {
-        return Ok(());
-    };
+fn plain_lists_refused_memory(rt: HostRuntime) {
     let mut machine = Machine::new(rt.alloc(), 0);
     let mut all = Vec::new(rt.alloc());
-    if commits(&rt, &mut machine, CREATE_ACCOUNTS, &accounts)
-        && run_refused(&rt, &mut machine, &mut all).is_ok()
-    {
+    if makes_accounts(&rt, &mut machine) && run_refused(&rt, &mut machine, &mut all).is_ok() {
         assert!(rt; agrees(&machine, &all));
     }
-    Ok(())
+    drop(machine);
 }

@@ -3,48 +3,49 @@
 use super::listed;
 use std::alloc::Global;
 use std::process::Abort;
-use std::test::Fail;
 
-/// A script in which each row is a packet of its own behind a setup of so many packets and pulses, and the lines among
-/// its output that answer the codes.
-fn of_rows(
-    alloc: Global,
-    setup: &str,
+/// A script in which each row is a packet of its own behind a setup.
+fn script_of(rt: &(impl Abort + Alloc<A = Global>), setup: &str, rows: &str) -> String {
+    let mut script = String::from_str(rt.alloc(), setup).expect(rt, "memory");
+    for row in rows.lines() {
+        let (_, fields) = row.split_once(' ').expect(rt, "a code and fields");
+        write!(script, "packet 0 130\ntransfer {fields}\n").expect(rt, "memory");
+    }
+    script
+}
+
+/// The lines that answer each row its code, behind a setup of so many packets and pulses.
+fn answers_of(
+    rt: &(impl Abort + Alloc<A = Global>),
     packets: usize,
     pulses: usize,
     rows: &str,
-) -> Result<(String, String), Fail> {
-    let mut script = format!(in alloc; "{setup}")?;
-    let mut answers = String::new(alloc);
+) -> String {
+    let mut answers = String::new(rt.alloc());
     for (k, row) in rows.lines().enumerate() {
-        let (code, fields) = row.split_once(' ').ok_or("no fields")?;
+        let (code, _) = row.split_once(' ').expect(rt, "a code and fields");
         let number = packets.saturating_add(k);
         let place = number.saturating_add(pulses);
-        write!(script, "packet 0 130\ntransfer {fields}\n")?;
-        write!(answers, "packet 0 {number} committed {place} 0:{code}\n")?;
+        write!(answers, "packet 0 {number} committed {place} 0:{code}\n").expect(rt, "memory");
     }
-    Ok((script, answers))
+    answers
 }
 
-/// That `list` writes these lines for a script, among others.
-fn has(rt: &impl Abort, alloc: Global, script: &str, answers: &str) -> Result<(), Fail> {
-    let output = listed(alloc, script)?;
-    let output = output.as_str();
-    assert!(rt; output.contains(answers), "{output} has not {answers}");
-    Ok(())
-}
-
-/// That each row is answered its code behind a setup of so many packets and pulses.
-fn answers(
-    rt: &impl Abort,
-    alloc: Global,
+/// Asserts that each row is answered its code behind a setup of so many packets and pulses.
+fn assert_codes(
+    rt: &(impl Abort + Alloc<A = Global>),
     setup: &str,
     packets: usize,
     pulses: usize,
     rows: &str,
-) -> Result<(), Fail> {
-    let (script, answers) = of_rows(alloc, setup, packets, pulses, rows)?;
-    has(rt, alloc, script.as_str(), answers.as_str())
+) {
+    let script = script_of(rt, setup, rows);
+    let output = listed(rt, script.as_str());
+    let answers = answers_of(rt, packets, pulses, rows);
+    assert!(rt;
+        output.as_str().contains(answers.as_str()),
+        "{output} has not {answers}"
+    );
 }
 
 /// Accounts 1, 2, 6, 7, 8 and 9 of ledger 1; 3 of ledger 2; 4, whose debits must not exceed its
@@ -192,8 +193,8 @@ const CODES: &str = "3 id=60 timestamp=1
 ";
 
 #[test]
-fn transfer_codes(rt: HostRuntime) -> Result<(), Fail> {
-    answers(&rt, rt.alloc(), LEDGER, 3, 1, CODES)
+fn transfer_codes(rt: HostRuntime) {
+    assert_codes(&rt, LEDGER, 3, 1, CODES);
 }
 
 /// A clock so late that a long timeout overflows. Account 8 has a credit pending and one posted; the
@@ -219,6 +220,6 @@ const LATE_CODES: &str =
 ";
 
 #[test]
-fn late_transfer_codes(rt: HostRuntime) -> Result<(), Fail> {
-    answers(&rt, rt.alloc(), LATE_LEDGER, 2, 0, LATE_CODES)
+fn late_transfer_codes(rt: HostRuntime) {
+    assert_codes(&rt, LATE_LEDGER, 2, 0, LATE_CODES);
 }

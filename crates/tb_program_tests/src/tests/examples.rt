@@ -1,40 +1,37 @@
-use super::{both_show, lists, shows};
+use super::{assert_both, assert_list, bytes_behind};
 use std::alloc::Global;
 use std::process::Abort;
-use std::test::Fail;
 
 #[test]
-fn empty_script(rt: HostRuntime) -> Result<(), Fail> {
-    both_show(&rt, rt.alloc(), "", "clock 0\n")
+fn empty_script(rt: HostRuntime) {
+    assert_both(&rt, "", "clock 0\n");
 }
 
 #[test]
-fn first_run(rt: HostRuntime) -> Result<(), Fail> {
-    both_show(
+fn first_run(rt: HostRuntime) {
+    assert_both(
         &rt,
-        rt.alloc(),
         "packet 0 129\naccount id=1 ledger=1 code=1\naccount id=2 ledger=1 code=1\n",
         "packet 0 0 committed 0\nclock 2\naccount 1 1 0 0 0 0\naccount 2 2 0 0 0 0\n",
-    )
+    );
 }
 
 #[test]
-fn two_submitters_joined(rt: HostRuntime) -> Result<(), Fail> {
-    shows(
-        rt.alloc(),
+fn two_submitters_joined(rt: HostRuntime) {
+    assert_list(
+        &rt,
         "limit 4\npacket 0 129\naccount id=1 ledger=1 code=1\naccount id=2 ledger=1 code=1\npacket 1 129\naccount id=1 ledger=1 code=1\naccount id=3 code=1\n",
         "packet 0 0 committed 0\npacket 1 0 committed 1 0:21 1:13\nclock 4\naccount 1 1 0 0 0 0\naccount 2 2 0 0 0 0\n",
-    )
+    );
 }
 
 #[test]
-fn accounts_around_an_empty_packet(rt: HostRuntime) -> Result<(), Fail> {
-    both_show(
+fn accounts_around_an_empty_packet(rt: HostRuntime) {
+    assert_both(
         &rt,
-        rt.alloc(),
         "limit 4\npacket 0 129\naccount id=1 ledger=1 code=1\npacket 0 129\npacket 0 129\naccount id=2 ledger=1 code=1\n",
         "packet 0 0 committed 0\npacket 0 1 committed 1\npacket 0 2 committed 2\nclock 2\naccount 1 1 0 0 0 0\naccount 2 2 0 0 0 0\n",
-    )
+    );
 }
 
 const FULL_BATCH: &str = "limit 4
@@ -55,97 +52,84 @@ packet 0 129
 ";
 
 #[test]
-fn full_batch_then_overflow(rt: HostRuntime) -> Result<(), Fail> {
-    both_show(
+fn full_batch_then_overflow(rt: HostRuntime) {
+    assert_both(
         &rt,
-        rt.alloc(),
         FULL_BATCH,
         "packet 0 0 committed 0\npacket 0 1 committed 1\npacket 0 refused 3 TooMuchData\npacket 0 2 committed 2\nclock 5\naccount 1 1 0 0 0 0\naccount 2 2 0 0 0 0\naccount 3 3 0 0 0 0\naccount 4 4 0 0 0 0\naccount 5 5 0 0 0 0\n",
-    )
+    );
 }
 
-/// A packet of accounts and one of no operation, both of these bytes.
-fn two_packets_of(alloc: Global, bytes: &str) -> Result<String, Fail> {
-    Ok(format!(in alloc; "packet 0 129\nhex {bytes}\npacket 0 200\nhex {bytes}\n")?)
+/// A packet of accounts and one of no operation, both of so many bytes of zeros.
+fn two_packets_of(rt: &(impl Abort + Alloc<A = Global>), count: usize) -> String {
+    let bytes = "00".repeat(rt.alloc(), count).expect(rt, "memory");
+    let script = format!(in rt.alloc(); "packet 0 129\nhex {bytes}\npacket 0 200\nhex {bytes}\n");
+    script.expect(rt, "memory")
 }
 
 #[test]
-fn refused_sizes_and_operations(rt: HostRuntime) -> Result<(), Fail> {
-    let bytes = "00".repeat(rt.alloc(), 127)?;
-    let script = two_packets_of(rt.alloc(), bytes.as_str())?;
-    both_show(
+fn refused_sizes_and_operations(rt: HostRuntime) {
+    let script = two_packets_of(&rt, 127);
+    assert_both(
         &rt,
-        rt.alloc(),
         script.as_str(),
         "packet 0 refused 2 InvalidDataSize\npacket 0 refused 1 InvalidOperation\nclock 0\n",
-    )
+    );
 }
 
 #[test]
-fn open_packet_alone(rt: HostRuntime) -> Result<(), Fail> {
-    both_show(
+fn open_packet_alone(rt: HostRuntime) {
+    assert_both(
         &rt,
-        rt.alloc(),
         "limit 4\npacket 0 129\naccount id=1 ledger=1 code=1\npacket 0 129\naccount id=2 ledger=1 code=1 flags=1\npacket 0 129\naccount id=3 ledger=1 code=1\n",
         "packet 0 0 committed 0\npacket 0 1 committed 1 0:2\npacket 0 2 committed 2\nclock 3\naccount 1 1 0 0 0 0\naccount 3 3 0 0 0 0\n",
-    )
+    );
 }
 
 #[test]
-fn broken_chain(rt: HostRuntime) -> Result<(), Fail> {
-    both_show(
+fn broken_chain(rt: HostRuntime) {
+    assert_both(
         &rt,
-        rt.alloc(),
         "limit 4\npacket 0 129\naccount id=1 ledger=1 code=1 flags=1\naccount ledger=1 code=1 flags=1\naccount id=2 ledger=1 code=1\naccount id=3 ledger=1 code=1\n",
         "packet 0 0 committed 0 0:1 1:6 2:1\nclock 4\naccount 3 4 0 0 0 0\n",
-    )
+    );
 }
 
 #[test]
-fn broken_and_open_chain(rt: HostRuntime) -> Result<(), Fail> {
-    both_show(
+fn broken_and_open_chain(rt: HostRuntime) {
+    assert_both(
         &rt,
-        rt.alloc(),
         "limit 4\npacket 0 129\naccount id=1 ledger=1 code=1 flags=1\naccount ledger=1 code=1 flags=1\naccount id=2 ledger=1 code=1 flags=1\n",
         "packet 0 0 committed 0 0:1 1:6 2:2\nclock 3\n",
-    )
+    );
 }
 
 #[test]
-fn clock_exhausted(rt: HostRuntime) -> Result<(), Fail> {
-    both_show(
+fn clock_exhausted(rt: HostRuntime) {
+    assert_both(
         &rt,
-        rt.alloc(),
         "clock 9223372036854775806\nlimit 4\npacket 0 129\naccount id=1 ledger=1 code=1\npacket 0 129\naccount id=2 ledger=1 code=1\n",
         "packet 0 0 committed 0\npacket 0 1 committed 1 0:201\nclock 9223372036854775807\naccount 1 9223372036854775807 0 0 0 0\n",
-    )
+    );
 }
 
 #[test]
-fn bad_account_fields(rt: HostRuntime) -> Result<(), Fail> {
-    both_show(
+fn bad_account_fields(rt: HostRuntime) {
+    assert_both(
         &rt,
-        rt.alloc(),
         "limit 4\npacket 0 129\naccount id=1 ledger=1 code=1 timestamp=5\naccount id=2 ledger=1 code=1 flags=6\naccount id=3 ledger=1 code=1 flags=16\n",
         "packet 0 0 committed 0 0:3 1:8 2:5\nclock 3\n",
-    )
-}
-
-/// A packet of accounts of these bytes.
-fn packet_of(alloc: Global, bytes: &str) -> Result<String, Fail> {
-    Ok(format!(in alloc; "limit 4\npacket 0 129\nhex {bytes}\n")?)
+    );
 }
 
 #[test]
-fn hostile_bytes(rt: HostRuntime) -> Result<(), Fail> {
-    let bytes = "fF".repeat(rt.alloc(), 256)?;
-    let script = packet_of(rt.alloc(), bytes.as_str())?;
-    both_show(
+fn hostile_bytes(rt: HostRuntime) {
+    let script = bytes_behind(&rt, "limit 4\npacket 0 129\n", "fF", 256);
+    assert_both(
         &rt,
-        rt.alloc(),
         script.as_str(),
         "packet 0 0 committed 0 0:3 1:2\nclock 2\n",
-    )
+    );
 }
 
 /// The packet of an account that has ledger and code 1, flags and user data, and the packet that begins behind it.
@@ -176,20 +160,19 @@ const ACCOUNT_CODES: &str = "3 timestamp=1 reserved=1
 14 id=2 ledger=1
 ";
 
-/// That an account behind `ONE_ACCOUNT` is answered a code.
-fn is_answered(rt: &impl Abort, alloc: Global, event: &str, code: &str) -> Result<(), Fail> {
-    let script = format!(in alloc; "{ONE_ACCOUNT}account {event}\n")?;
-    let output = format!(in alloc;
+/// Asserts the code that an account behind `ONE_ACCOUNT` is answered.
+fn assert_answer(rt: &(impl Abort + Alloc<A = Global>), event: &str, code: &str) {
+    let script = format!(in rt.alloc(); "{ONE_ACCOUNT}account {event}\n").expect(rt, "memory");
+    let output = format!(in rt.alloc();
         "packet 0 0 committed 0\npacket 0 1 committed 1 0:{code}\nclock 2\naccount 1 1 0 0 0 0\n"
-    )?;
-    lists(rt, alloc, script.as_str(), output.as_str())
+    ).expect(rt, "memory");
+    assert_list(rt, script.as_str(), output.as_str());
 }
 
 #[test]
-fn account_codes(rt: HostRuntime) -> Result<(), Fail> {
+fn account_codes(rt: HostRuntime) {
     for row in ACCOUNT_CODES.lines() {
-        let (code, event) = row.split_once(' ').ok_or("no fields")?;
-        is_answered(&rt, rt.alloc(), event, code)?;
+        let (code, event) = row.split_once(' ').expect(&rt, "a code and fields");
+        assert_answer(&rt, event, code);
     }
-    Ok(())
 }

@@ -1,12 +1,11 @@
 //! Lookups, and the Close.
 
-use super::{both_show, shows};
-use std::test::Fail;
+use super::{assert_both, assert_list};
 
 #[test]
-fn lookup_script(rt: HostRuntime) -> Result<(), Fail> {
-    shows(
-        rt.alloc(),
+fn lookup_script(rt: HostRuntime) {
+    assert_list(
+        &rt,
         "packet 0 129
 account id=1 ledger=1 code=1
 account id=2 ledger=1 code=1
@@ -28,14 +27,13 @@ clock 3
 account 1 1 0 30 0 0
 account 2 2 0 0 0 30
 ",
-    )
+    );
 }
 
 #[test]
-fn lookups_alone(rt: HostRuntime) -> Result<(), Fail> {
-    both_show(
+fn lookups_alone(rt: HostRuntime) {
+    assert_both(
         &rt,
-        rt.alloc(),
         "limit 4
 packet 0 129
 account id=1 ledger=1 code=1
@@ -54,13 +52,13 @@ clock 2
 account 1 1 0 0 0 0
 account 2 2 0 0 0 0
 ",
-    )
+    );
 }
 
 #[test]
-fn shut_in_a_script(rt: HostRuntime) -> Result<(), Fail> {
-    shows(
-        rt.alloc(),
+fn shut_in_a_script(rt: HostRuntime) {
+    assert_list(
+        &rt,
         "packet 0 129
 account id=1 ledger=1 code=1
 shut
@@ -73,26 +71,25 @@ packet 0 1 shutdown
 clock 1
 account 1 1 0 0 0 0
 ",
-    )
+    );
 }
 
 /// The limit counts ids; a packet that isn't admitted is told so behind the Close too.
 #[test]
-fn refused_behind_shut(rt: HostRuntime) -> Result<(), Fail> {
-    shows(
-        rt.alloc(),
+fn refused_behind_shut(rt: HostRuntime) {
+    assert_list(
+        &rt,
         "limit 1\nshut\npacket 0 131\nid 1\nid 2\npacket 0 131\nid 1\npacket 0 200\n",
         "shut\npacket 0 refused 3 TooMuchData\npacket 0 0 shutdown\npacket 0 refused 1 InvalidOperation\nclock 0\n",
-    )
+    );
 }
 
 /// Eight ids make an event of 128 bytes, the lowest byte first: ids 1 to 8 lie where an account has its id,
 /// its balances, its user data and the rest. An account's line is eight ids.
 #[test]
-fn ids_are_bytes(rt: HostRuntime) -> Result<(), Fail> {
-    both_show(
+fn ids_are_bytes(rt: HostRuntime) {
+    assert_both(
         &rt,
-        rt.alloc(),
         "packet 0 129
 id 7
 id 0
@@ -110,5 +107,5 @@ packet 0 1 committed 1 7:0:0:0:0
 clock 1
 account 7 1 0 0 0 0
 ",
-    )
+    );
 }

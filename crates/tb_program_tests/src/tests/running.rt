@@ -1,14 +1,14 @@
 //! What `run` prints.
 
-use super::{ran, run_shows};
+use super::submitters::numbers_in;
+use super::{assert_run, ran};
 use std::alloc::Global;
-use std::test::Fail;
+use std::process::Abort;
 
 #[test]
-fn run_with_refusals(rt: HostRuntime) -> Result<(), Fail> {
-    run_shows(
+fn run_with_refusals(rt: HostRuntime) {
+    assert_run(
         &rt,
-        rt.alloc(),
         "limit 4
 packet 0 129
 account id=1 ledger=1 code=1
@@ -22,7 +22,7 @@ pulse refused 12 MomentTooLarge
 clock 2
 account 1 1 0 0 0 0
 ",
-    )
+    );
 }
 
 /// The Close is no line of its own, and neither are the settings.
@@ -38,11 +38,10 @@ const WITHOUT_PACKETS: [(&str, &str); 5] = [
 ];
 
 #[test]
-fn shut_alone(rt: HostRuntime) -> Result<(), Fail> {
+fn shut_alone(rt: HostRuntime) {
     for (script, output) in WITHOUT_PACKETS.iter() {
-        run_shows(&rt, rt.alloc(), script, output)?;
+        assert_run(&rt, script, output);
     }
-    Ok(())
 }
 
 /// A fault's line is all that is written.
@@ -54,69 +53,81 @@ const FAULTS: [(&str, &str); 4] = [
 ];
 
 #[test]
-fn faults_of_a_run(rt: HostRuntime) -> Result<(), Fail> {
+fn faults_of_a_run(rt: HostRuntime) {
     for (script, output) in FAULTS.iter() {
-        run_shows(&rt, rt.alloc(), script, output)?;
+        assert_run(&rt, script, output);
     }
-    Ok(())
 }
 
-/// A queue of one place and a credit of one: each packet waits for the one before it.
-#[test]
-fn one_place_one_credit(rt: HostRuntime) -> Result<(), Fail> {
-    let alloc = rt.alloc();
-    let mut script = String::new(alloc);
-    let mut output = String::new(alloc);
-    script.push_str("capacity 1\ncredit 1\nsubmitters 1\n")?;
+/// 50 packets of an account each, for a queue of one place and a credit of one.
+fn of_one_place(rt: &(impl Abort + Alloc<A = Global>)) -> String {
+    let settings = "capacity 1\ncredit 1\nsubmitters 1\n";
+    let mut script = String::from_str(rt.alloc(), settings).expect(rt, "memory");
     for number in 0..50u32 {
         write!(
             script,
             "packet 0 129\naccount id={number} ledger=1 code=1\n"
-        )?;
-        let code = if number == 0 { " 0:6" } else { "" };
-        write!(output, "packet 0 {number} committed {number}{code}\n")?;
+        )
+        .expect(rt, "memory");
     }
-    output.push_str("clock 50\n")?;
+    script
+}
+
+/// What is wanted of them: there is no account of id 0.
+fn wanted_of_one_place(rt: &(impl Abort + Alloc<A = Global>)) -> String {
+    let first = "packet 0 0 committed 0 0:6\n";
+    let mut wanted = String::from_str(rt.alloc(), first).expect(rt, "memory");
+    for number in 1..50u32 {
+        write!(wanted, "packet 0 {number} committed {number}\n").expect(rt, "memory");
+    }
+    wanted.push_str("clock 50\n").expect(rt, "memory");
     for number in 1..50u32 {
         let timestamp = number.saturating_add(1);
-        write!(output, "account {number} {timestamp} 0 0 0 0\n")?;
+        write!(wanted, "account {number} {timestamp} 0 0 0 0\n").expect(rt, "memory");
     }
-    run_shows(&rt, alloc, script.as_str(), output.as_str())
+    wanted
+}
+
+/// Each packet waits for the one before it.
+#[test]
+fn one_place_one_credit(rt: HostRuntime) {
+    let script = of_one_place(&rt);
+    let wanted = wanted_of_one_place(&rt);
+    assert_run(&rt, script.as_str(), wanted.as_str());
 }
 
 /// Three packets of each of 16 submitters, each of one account.
-fn of_sixteen(alloc: Global) -> Result<String, Fail> {
-    let mut script = String::new(alloc);
-    script.push_str("submitters 16\ncapacity 4\ncredit 1\n")?;
+fn of_sixteen(rt: &(impl Abort + Alloc<A = Global>)) -> String {
+    let settings = "submitters 16\ncapacity 4\ncredit 1\n";
+    let mut script = String::from_str(rt.alloc(), settings).expect(rt, "memory");
     for number in 0..48u32 {
         let submitter = number / 3;
         write!(
             script,
             "packet {submitter} 129\naccount id={number} ledger=1 code=1\n"
-        )?;
+        )
+        .expect(rt, "memory");
     }
-    Ok(script)
+    script
 }
 
-/// Whether all of them were committed, whatever their places are.
-fn tells_sixteen(alloc: Global, output: &str) -> Result<bool, Fail> {
-    let mut lines = output.lines();
-    for number in 0..48u32 {
+/// What is wanted of them, whatever their places are: there is no account of id 0.
+fn wanted_of_sixteen(rt: &(impl Abort + Alloc<A = Global>)) -> String {
+    let first = "packet 0 0 committed * 0:6\n";
+    let mut wanted = String::from_str(rt.alloc(), first).expect(rt, "memory");
+    for number in 1..48u32 {
         let (submitter, number) = (number / 3, number % 3);
-        let front = format!(in alloc; "packet {submitter} {number} committed ")?;
-        let line = lines.next().ok_or("no line")?;
-        if !line.starts_with(front.as_str()) {
-            return Ok(false);
-        }
+        write!(wanted, "packet {submitter} {number} committed *\n").expect(rt, "memory");
     }
-    Ok(lines.next() == Some("clock 48"))
+    wanted
 }
 
 #[test]
-fn sixteen_drivers(rt: HostRuntime) -> Result<(), Fail> {
-    let alloc = rt.alloc();
-    let script = of_sixteen(alloc)?;
-    let output = ran(&rt, alloc, script.as_str())?;
-    assert!(rt; tells_sixteen(alloc, output.as_str())?);
-    Ok(())
+fn sixteen_drivers(rt: HostRuntime) {
+    let script = of_sixteen(&rt);
+    let output = ran(&rt, script.as_str());
+    let wanted = wanted_of_sixteen(&rt);
+    let halves = output.as_str().split_once("clock 48\n");
+    let (packets, _) = halves.expect(&rt, "the clock");
+    let _ = numbers_in(&rt, packets, wanted.as_str());
 }

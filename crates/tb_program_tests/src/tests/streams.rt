@@ -2,7 +2,6 @@ use std::alloc::Global;
 use std::io;
 use std::io::{Read, Write};
 use std::process::Abort;
-use std::test::Fail;
 use tb_program::{ProgramFault, run_script, run_threads};
 
 /// Gives a line with each read, and fails at the second.
@@ -73,51 +72,45 @@ impl Write for FailsToFlush {
 }
 
 #[test]
-fn read_fails_in_mid_stream(rt: HostRuntime) -> Result<(), Fail> {
+fn read_fails_in_mid_stream(rt: HostRuntime) {
     let mut out = Vec::new(rt.alloc());
     let answer = run_script(rt.alloc(), &mut FailsAtSecond { reads: 0 }, &mut out);
     assert!(rt; matches!(&answer, Err(ProgramFault::Read)));
-    assert_eq!(rt; out.len(), 0);
-    Ok(())
+    assert!(rt; out.is_empty());
 }
 
 #[test]
-fn write_fails(rt: HostRuntime) -> Result<(), Fail> {
+fn write_fails(rt: HostRuntime) {
     let answer = run_script(rt.alloc(), &mut "clock 1\n".as_bytes(), &mut TakesNothing);
     assert!(rt; matches!(&answer, Err(ProgramFault::Write)));
-    Ok(())
 }
 
 #[test]
-fn flush_fails(rt: HostRuntime) -> Result<(), Fail> {
+fn flush_fails(rt: HostRuntime) {
     let answer = run_script(rt.alloc(), &mut "clock 1\n".as_bytes(), &mut FailsToFlush);
     assert!(rt; matches!(&answer, Err(ProgramFault::Write)));
-    Ok(())
 }
 
 #[test]
-fn flush_of_a_run_fails(rt: HostRuntime) -> Result<(), Fail> {
+fn flush_of_a_run_fails(rt: HostRuntime) {
     let answer = run_threads(&rt, rt.alloc(), &mut "shut\n".as_bytes(), &mut FailsToFlush);
     assert!(rt; matches!(&answer, Err(ProgramFault::Write)));
-    Ok(())
 }
 
 #[test]
-fn read_of_a_run_fails(rt: HostRuntime) -> Result<(), Fail> {
+fn read_of_a_run_fails(rt: HostRuntime) {
     let mut out = Vec::new(rt.alloc());
     let mut reader = FailsAtSecond { reads: 0 };
     let answer = run_threads(&rt, rt.alloc(), &mut reader, &mut out);
     assert!(rt; matches!(&answer, Err(ProgramFault::Read)));
-    assert_eq!(rt; out.len(), 0);
-    Ok(())
+    assert!(rt; out.is_empty());
 }
 
 #[test]
-fn write_of_a_run_fails(rt: HostRuntime) -> Result<(), Fail> {
+fn write_of_a_run_fails(rt: HostRuntime) {
     let mut reader = "packet 0 129\nshut\n".as_bytes();
     let answer = run_threads(&rt, rt.alloc(), &mut reader, &mut TakesNothing);
     assert!(rt; matches!(&answer, Err(ProgramFault::Write)));
-    Ok(())
 }
 
 /// A byte, how often it stands in a script that has no other, and what is written for the script.
@@ -127,35 +120,33 @@ const LENGTHS: [(u8, usize, &str); 3] = [
     (32, 16_777_216, "fault 1 line too long\n"),
 ];
 
-/// That this is written, and that the script counts as faultless just where no fault is told.
-fn comes_to(rt: &impl Abort, alloc: Global, script: Repeated, output: &str) -> Result<(), Fail> {
+/// Asserts that this is written, and that the script counts as faultless just where no fault is told.
+fn assert_output(rt: &(impl Abort + Alloc<A = Global>), script: Repeated, output: &str) {
     let mut script = script;
-    let mut out = Vec::new(alloc);
-    let faultless = run_script(alloc, &mut script, &mut out)?;
-    assert_eq!(rt; out.as_slice(), output.as_bytes());
-    assert_eq!(rt; faultless, output == "clock 0\n");
-    Ok(())
+    let mut out = Vec::new(rt.alloc());
+    let faultless = run_script(rt.alloc(), &mut script, &mut out).expect(rt, "memory");
+    assert!(rt; out.as_slice() == output.as_bytes());
+    assert!(rt; faultless == (output == "clock 0\n"));
 }
 
 #[test]
-fn script_lengths(rt: HostRuntime) -> Result<(), Fail> {
+fn script_lengths(rt: HostRuntime) {
     for (byte, left, output) in LENGTHS.iter() {
         let script = Repeated {
             byte: *byte,
             left: *left,
             at_once: usize::MAX,
         };
-        comes_to(&rt, rt.alloc(), script, output)?;
+        assert_output(&rt, script, output);
     }
-    Ok(())
 }
 
 #[test]
-fn longest_script_a_byte_at_a_time(rt: HostRuntime) -> Result<(), Fail> {
+fn longest_script_a_byte_at_a_time(rt: HostRuntime) {
     let script = Repeated {
         byte: 10,
         left: 16_777_216,
         at_once: 1,
     };
-    comes_to(&rt, rt.alloc(), script, "clock 0\n")
+    assert_output(&rt, script, "clock 0\n");
 }

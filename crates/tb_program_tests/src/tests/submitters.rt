@@ -1,39 +1,40 @@
 //! What `run` prints of several submitters, of a Close, and of many packets: all of it that the schedule doesn't decide.
 
-use super::{ran, run_shows};
+use super::{assert_run, ran};
 use std::alloc::Global;
-use std::test::Fail;
+use std::process::Abort;
+use std::str::Lines;
 
 /// How often a script is run whose schedule decides much.
 const TURNS: u32 = 10;
 
 /// The number that stands in a line where the wanted one has a `*`, or None where the wanted one has no `*` and is the line.
-fn number_in(line: &str, wanted: &str) -> Result<Option<u64>, Fail> {
+fn number_in(rt: &impl Abort, line: &str, wanted: &str) -> Option<u64> {
     let Some((front, behind)) = wanted.split_once('*') else {
-        if line != wanted {
-            return Err("another line")?;
-        }
-        return Ok(None);
+        assert!(rt; line == wanted, "{line} in place of {wanted}");
+        return None;
     };
-    let rest = line.strip_prefix(front).ok_or("another line")?;
-    let number = rest.strip_suffix(behind).ok_or("another end of a line")?;
-    Ok(Some(number.parse::<u64>().ok().ok_or("no number")?))
+    let rest = line.strip_prefix(front).expect(rt, "the line's front");
+    let number = rest.strip_suffix(behind).expect(rt, "the line's end");
+    Some(number.parse::<u64>().ok().expect(rt, "a number"))
 }
 
 /// The numbers that stand in an output where the wanted one has a `*`; both are the same in all else.
-fn numbers_in(alloc: Global, output: &str, wanted: &str) -> Result<Vec<u64>, Fail> {
-    let mut numbers = Vec::new(alloc);
+pub(super) fn numbers_in(
+    rt: &(impl Abort + Alloc<A = Global>),
+    output: &str,
+    wanted: &str,
+) -> Vec<u64> {
+    let mut numbers = Vec::new(rt.alloc());
     let mut lines = output.lines();
     for wanted in wanted.lines() {
-        let line = lines.next().ok_or("a line is missing")?;
-        if let Some(number) = number_in(line, wanted)? {
-            numbers.push(number)?;
+        let line = lines.next().expect(rt, "a line");
+        if let Some(number) = number_in(rt, line, wanted) {
+            numbers.push(number).expect(rt, "memory");
         }
     }
-    match lines.next() {
-        None => Ok(numbers),
-        Some(_) => Err("a line too many")?,
-    }
+    assert!(rt; lines.next().is_none());
+    numbers
 }
 
 /// Whether these rise.
@@ -48,42 +49,17 @@ fn rise(places: &[u64]) -> bool {
     true
 }
 
-/// That the places of each of two submitters rise, and that both together are the numbers from 0 on without a hole.
-fn are_places(first: &[u64], second: &[u64]) -> Result<(), Fail> {
-    if !rise(first) || !rise(second) {
-        return Err("places don't rise")?;
-    }
+/// Asserts that the places of each of two submitters rise, and that both together are the numbers from 0 on without a
+/// hole.
+fn assert_places(rt: &impl Abort, first: &[u64], second: &[u64]) {
+    assert!(rt; rise(first) && rise(second));
     let count = first.len().saturating_add(second.len()) as u64;
     for place in 0..count {
-        if !first.contains(&place) && !second.contains(&place) {
-            return Err("nothing has a place")?;
-        }
+        assert!(rt;
+            first.contains(&place) || second.contains(&place),
+            "nothing has place {place}"
+        );
     }
-    Ok(())
-}
-
-/// The places of the packets of two submitters, and what else of an output isn't told by the one that is wanted.
-#[derive(Drop)]
-struct Two {
-    first: Vec<u64>,
-    second: Vec<u64>,
-    open: Vec<u64>,
-}
-
-/// The numbers of an output of two submitters, each with so many packets that are queued.
-fn two_of(alloc: Global, output: &str, wanted: &str, each: usize) -> Result<Two, Fail> {
-    let mut first = numbers_in(alloc, output, wanted)?;
-    if first.len() < each.saturating_mul(2) {
-        return Err("fewer places are wanted")?;
-    }
-    let mut second = first.split_off(each)?;
-    let open = second.split_off(each)?;
-    are_places(first.as_slice(), second.as_slice())?;
-    Ok(Two {
-        first,
-        second,
-        open,
-    })
 }
 
 /// A packet that isn't admitted has its line where it stands among its submitter's packets, and uses no number.
@@ -117,13 +93,13 @@ clock 3
 ";
 
 #[test]
-fn refusals_of_two_submitters(rt: HostRuntime) -> Result<(), Fail> {
-    let alloc = rt.alloc();
+fn refusals_of_two_submitters(rt: HostRuntime) {
     for _ in 0..TURNS {
-        let output = ran(&rt, alloc, REFUSALS)?;
-        let _ = two_of(alloc, output.as_str(), REFUSALS_WANTED, 2)?;
+        let output = ran(&rt, REFUSALS);
+        let numbers = numbers_in(&rt, output.as_str(), REFUSALS_WANTED);
+        assert!(rt; numbers.len() == 4);
+        assert_places(&rt, &numbers[..2], &numbers[2..]);
     }
-    Ok(())
 }
 
 /// Packets of the two may be joined, and each is told what became of its own events.
@@ -165,26 +141,26 @@ const EVENTS: [u64; 4] = [1, 2, 0, 2];
 
 /// The timestamp of account 1, which is submitter 0's first event: those of submitter 1 that came ahead of it raised the
 /// clock before.
-fn timestamp_of(two: &Two) -> Option<u64> {
-    let place = *two.first.first()?;
+fn timestamp_at(place: u64, others: &[u64]) -> u64 {
     let mut timestamp = 1u64;
-    for (other, events) in two.second.iter().zip(EVENTS.iter()) {
+    for (other, events) in others.iter().zip(EVENTS.iter()) {
         if *other < place {
             timestamp = timestamp.saturating_add(*events);
         }
     }
-    Some(timestamp)
+    timestamp
 }
 
 #[test]
-fn each_submitter_its_own_answers(rt: HostRuntime) -> Result<(), Fail> {
-    let alloc = rt.alloc();
+fn each_submitter_its_own_answers(rt: HostRuntime) {
     for _ in 0..TURNS {
-        let output = ran(&rt, alloc, ANSWERS)?;
-        let two = two_of(alloc, output.as_str(), ANSWERS_WANTED, 4)?;
-        assert_eq!(rt; two.open.first().copied(), timestamp_of(&two));
+        let output = ran(&rt, ANSWERS);
+        let numbers = numbers_in(&rt, output.as_str(), ANSWERS_WANTED);
+        assert!(rt; numbers.len() == 9);
+        let (first, second) = (&numbers[..4], &numbers[4..8]);
+        assert_places(&rt, first, second);
+        assert!(rt; numbers[8] == timestamp_at(first[0], second));
     }
-    Ok(())
 }
 
 /// Four packets of each of two submitters, with a Close amid them. Queue and credit have room for all of them, so that no
@@ -210,67 +186,72 @@ account id=0
 
 /// The place of a packet that is committed, or None of one that is shut down.
 fn place_in(
-    alloc: Global,
+    rt: &(impl Abort + Alloc<A = Global>),
     line: &str,
-    submitter: usize,
+    submitter: u32,
     number: usize,
-) -> Result<Option<u64>, Fail> {
-    let shutdown = format!(in alloc; "packet {submitter} {number} shutdown")?;
-    if line == shutdown.as_str() {
-        return Ok(None);
+) -> Option<u64> {
+    let front = format!(in rt.alloc(); "packet {submitter} {number} ").expect(rt, "memory");
+    let outcome = line
+        .strip_prefix(front.as_str())
+        .expect(rt, "a packet's line");
+    match outcome {
+        "shutdown" => None,
+        _ => number_in(rt, outcome, "committed * 0:6"),
     }
-    let committed = format!(in alloc; "packet {submitter} {number} committed * 0:6")?;
-    number_in(line, committed.as_str())
 }
 
-/// The places of a submitter's committed packets, by its four lines; behind one that is shut down none is committed.
-fn places_in(alloc: Global, lines: &[&str], submitter: usize) -> Result<Vec<u64>, Fail> {
-    let mut places = Vec::new(alloc);
-    for (number, line) in lines.iter().enumerate() {
-        if let Some(place) = place_in(alloc, line, submitter, number)? {
-            if places.len() != number {
-                return Err("committed behind one that is shut down")?;
-            }
-            places.push(place)?;
+/// The places of a submitter's committed packets, by the lines of its four; behind one that is shut down none is
+/// committed.
+fn places_in(
+    rt: &(impl Abort + Alloc<A = Global>),
+    lines: &mut Lines<'_>,
+    submitter: u32,
+) -> Vec<u64> {
+    let mut places = Vec::new(rt.alloc());
+    for number in 0..4 {
+        let line = lines.next().expect(rt, "a line");
+        if let Some(place) = place_in(rt, line, submitter, number) {
+            assert!(rt;
+                places.len() == number,
+                "packet {number} behind one that is shut down"
+            );
+            places.push(place).expect(rt, "memory");
         }
     }
-    Ok(places)
+    places
 }
 
-/// That each packet is committed or shut down, and no other event raised the clock than the committed ones.
-fn is_closed(alloc: Global, output: &str) -> Result<(), Fail> {
-    let mut lines = Vec::new(alloc);
-    for line in output.lines() {
-        lines.push(line)?;
-    }
-    if lines.len() != 9 {
-        return Err("more lines or fewer")?;
-    }
-    let first = places_in(alloc, &lines[..4], 0)?;
-    let second = places_in(alloc, &lines[4..8], 1)?;
-    are_places(first.as_slice(), second.as_slice())?;
-    let clock = format!(in alloc; "clock {}", first.len().saturating_add(second.len()))?;
-    if lines[8] != clock.as_str() {
-        return Err("another clock")?;
-    }
-    Ok(())
+/// Asserts that each packet is committed or shut down, and no other event raised the clock than the committed ones.
+fn assert_closed(rt: &(impl Abort + Alloc<A = Global>), output: &str) {
+    let mut lines = output.lines();
+    let first = places_in(rt, &mut lines, 0);
+    let second = places_in(rt, &mut lines, 1);
+    assert_places(rt, first.as_slice(), second.as_slice());
+    let count = first.len().saturating_add(second.len()) as u64;
+    let line = lines.next().expect(rt, "the clock");
+    assert!(rt; number_in(rt, line, "clock *") == Some(count));
+    assert!(rt; lines.next().is_none());
 }
 
 #[test]
-fn packets_behind_a_close(rt: HostRuntime) -> Result<(), Fail> {
-    let alloc = rt.alloc();
+fn packets_behind_a_close(rt: HostRuntime) {
     for _ in 0..TURNS {
-        let output = ran(&rt, alloc, CLOSED)?;
-        is_closed(alloc, output.as_str())?;
+        let output = ran(&rt, CLOSED);
+        assert_closed(&rt, output.as_str());
     }
-    Ok(())
 }
 
 /// Two accounts, and then a transfer of 1 in each packet. Each even one repeats the transfer before it.
-fn of_two_thousand(alloc: Global) -> Result<String, Fail> {
-    let mut script = String::new(alloc);
-    script.push_str("submitters 1\ncapacity 4\ncredit 3\npacket 0 129\n")?;
-    script.push_str("account id=1 ledger=1 code=1\naccount id=2 ledger=1 code=1\n")?;
+fn of_two_thousand(rt: &(impl Abort + Alloc<A = Global>)) -> String {
+    let setup = "submitters 1
+capacity 4
+credit 3
+packet 0 129
+account id=1 ledger=1 code=1
+account id=2 ledger=1 code=1
+";
+    let mut script = String::from_str(rt.alloc(), setup).expect(rt, "memory");
     for number in 1..2000u32 {
         let id = if number % 2 == 0 {
             number.saturating_sub(1)
@@ -280,30 +261,32 @@ fn of_two_thousand(alloc: Global) -> Result<String, Fail> {
         write!(
             script,
             "packet 0 130\ntransfer id={id} debit_account_id=1 credit_account_id=2 amount=1 ledger=1 code=1\n"
-        )?;
+        )
+        .expect(rt, "memory");
     }
-    Ok(script)
+    script
 }
 
 /// What is wanted of it: 46, `exists`, for the 999 that are repeated. The other 1000 are made.
-fn wanted_of_two_thousand(alloc: Global) -> Result<String, Fail> {
-    let mut wanted = String::new(alloc);
+fn wanted_of_two_thousand(rt: &(impl Abort + Alloc<A = Global>)) -> String {
+    let mut wanted = String::new(rt.alloc());
     for number in 0..2000u32 {
         let failure = if number > 0 && number % 2 == 0 {
             " 0:46"
         } else {
             ""
         };
-        write!(wanted, "packet 0 {number} committed {number}{failure}\n")?;
+        write!(wanted, "packet 0 {number} committed {number}{failure}\n").expect(rt, "memory");
     }
-    wanted.push_str("clock 2001\naccount 1 1 0 1000 0 0\naccount 2 2 0 0 0 1000\n")?;
-    Ok(wanted)
+    wanted
+        .push_str("clock 2001\naccount 1 1 0 1000 0 0\naccount 2 2 0 0 0 1000\n")
+        .expect(rt, "memory");
+    wanted
 }
 
 #[test]
-fn two_thousand_packets(rt: HostRuntime) -> Result<(), Fail> {
-    let alloc = rt.alloc();
-    let script = of_two_thousand(alloc)?;
-    let wanted = wanted_of_two_thousand(alloc)?;
-    run_shows(&rt, alloc, script.as_str(), wanted.as_str())
+fn two_thousand_packets(rt: HostRuntime) {
+    let script = of_two_thousand(&rt);
+    let wanted = wanted_of_two_thousand(&rt);
+    assert_run(&rt, script.as_str(), wanted.as_str());
 }

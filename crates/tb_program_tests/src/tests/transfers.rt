@@ -1,35 +1,33 @@
-use super::{both_show, shows};
+use super::{assert_both, assert_list, bytes_behind};
 use std::alloc::Global;
+use std::process::Abort;
 use std::sync::Wait;
-use std::test::Fail;
 use std::thread::Threads;
 
 /// The packet of accounts 1 and 2, which have ledger and code 1.
 const TWO_ACCOUNTS: &str =
     "packet 0 129\naccount id=1 ledger=1 code=1\naccount id=2 ledger=1 code=1\n";
 
-/// As `shows`, for a script behind the packet of accounts 1 and 2.
-fn shows_behind(alloc: Global, script: &str, output: &str) -> Result<(), Fail> {
-    let text = format!(in alloc; "{TWO_ACCOUNTS}{script}")?;
-    shows(alloc, text.as_str(), output)
+/// As `assert_list`, for a script behind the packet of accounts 1 and 2.
+fn assert_list_behind(rt: &(impl Abort + Alloc<A = Global>), script: &str, output: &str) {
+    let text = format!(in rt.alloc(); "{TWO_ACCOUNTS}{script}").expect(rt, "memory");
+    assert_list(rt, text.as_str(), output);
 }
 
-/// As `both_show`, for a script behind the packet of accounts 1 and 2.
-fn both_show_behind<R: Threads + Wait + Sync>(
+/// As `assert_both`, for a script behind the packet of accounts 1 and 2.
+fn assert_both_behind<R: Abort + Threads + Wait + Sync + Alloc<A = Global>>(
     rt: &R,
-    alloc: Global,
     script: &str,
     output: &str,
-) -> Result<(), Fail> {
-    let text = format!(in alloc; "{TWO_ACCOUNTS}{script}")?;
-    both_show(rt, alloc, text.as_str(), output)
+) {
+    let text = format!(in rt.alloc(); "{TWO_ACCOUNTS}{script}").expect(rt, "memory");
+    assert_both(rt, text.as_str(), output);
 }
 
 #[test]
-fn chains_of_transfers_joined(rt: HostRuntime) -> Result<(), Fail> {
-    both_show(
+fn chains_of_transfers_joined(rt: HostRuntime) {
+    assert_both(
         &rt,
-        rt.alloc(),
         "limit 4
 packet 0 129
 account id=1 ledger=1 code=1
@@ -50,14 +48,13 @@ account 1 1 0 0 0 0
 account 2 2 0 0 0 0
 account 3 3 0 0 0 0
 ",
-    )
+    );
 }
 
 #[test]
-fn post_then_void(rt: HostRuntime) -> Result<(), Fail> {
-    both_show_behind(
+fn post_then_void(rt: HostRuntime) {
+    assert_both_behind(
         &rt,
-        rt.alloc(),
         "packet 0 130
 transfer id=1 debit_account_id=1 credit_account_id=2 amount=100 ledger=1 code=1 flags=2
 packet 0 130
@@ -73,7 +70,7 @@ clock 5
 account 1 1 0 100 0 0
 account 2 2 0 0 0 100
 ",
-    )
+    );
 }
 
 const LATE_POST: &str = "packet 0 130
@@ -84,10 +81,10 @@ transfer id=2 amount=340282366920938463463374607431768211455 pending_id=1 flags=
 ";
 
 #[test]
-fn late_post_then_pulse(rt: HostRuntime) -> Result<(), Fail> {
-    let script = format!(in rt.alloc(); "{LATE_POST}pulse 0\n")?;
-    shows_behind(
-        rt.alloc(),
+fn late_post_then_pulse(rt: HostRuntime) {
+    let script = format!(in rt.alloc(); "{LATE_POST}pulse 0\n").expect(&rt, "memory");
+    assert_list_behind(
+        &rt,
         script.as_str(),
         "packet 0 0 committed 0
 packet 0 1 committed 1
@@ -98,13 +95,13 @@ clock 1000000003
 account 1 1 0 0 0 0
 account 2 2 0 0 0 0
 ",
-    )
+    );
 }
 
 #[test]
-fn late_post_without_the_last_pulse(rt: HostRuntime) -> Result<(), Fail> {
-    shows_behind(
-        rt.alloc(),
+fn late_post_without_the_last_pulse(rt: HostRuntime) {
+    assert_list_behind(
+        &rt,
         LATE_POST,
         "packet 0 0 committed 0
 packet 0 1 committed 1
@@ -114,14 +111,13 @@ clock 1000000003
 account 1 1 100 0 0 0
 account 2 2 0 0 100 0
 ",
-    )
+    );
 }
 
 #[test]
-fn overflowing_pending_sums(rt: HostRuntime) -> Result<(), Fail> {
-    both_show_behind(
+fn overflowing_pending_sums(rt: HostRuntime) {
+    assert_both_behind(
         &rt,
-        rt.alloc(),
         "packet 0 130
 transfer id=1 debit_account_id=1 credit_account_id=2 amount=340282366920938463463374607431768211455 ledger=1 code=1 flags=2
 transfer id=2 debit_account_id=1 credit_account_id=2 amount=1 ledger=1 code=1 flags=2
@@ -133,14 +129,13 @@ clock 5
 account 1 1 340282366920938463463374607431768211455 0 0 0
 account 2 2 0 0 340282366920938463463374607431768211455 0
 ",
-    )
+    );
 }
 
 #[test]
-fn repeated_post(rt: HostRuntime) -> Result<(), Fail> {
-    both_show_behind(
+fn repeated_post(rt: HostRuntime) {
+    assert_both_behind(
         &rt,
-        rt.alloc(),
         "packet 0 130
 transfer id=1 debit_account_id=1 credit_account_id=2 amount=100 ledger=1 code=1 flags=2
 transfer id=2 amount=40 pending_id=1 flags=4
@@ -153,35 +148,33 @@ clock 6
 account 1 1 0 40 0 0
 account 2 2 0 0 0 40
 ",
-    )
+    );
 }
 
 #[test]
-fn timeout_overflows(rt: HostRuntime) -> Result<(), Fail> {
-    let script = format!(in rt.alloc();
-        "clock 9223372036854775000
-{TWO_ACCOUNTS}packet 0 130
-transfer id=1 debit_account_id=1 credit_account_id=2 amount=1 timeout=1 ledger=1 code=1 flags=2
-"
-    )?;
-    both_show(
+fn timeout_overflows(rt: HostRuntime) {
+    assert_both(
         &rt,
-        rt.alloc(),
-        script.as_str(),
+        "clock 9223372036854775000
+packet 0 129
+account id=1 ledger=1 code=1
+account id=2 ledger=1 code=1
+packet 0 130
+transfer id=1 debit_account_id=1 credit_account_id=2 amount=1 timeout=1 ledger=1 code=1 flags=2
+",
         "packet 0 0 committed 0
 packet 0 1 committed 1 0:53
 clock 9223372036854775003
 account 1 9223372036854775001 0 0 0 0
 account 2 9223372036854775002 0 0 0 0
 ",
-    )
+    );
 }
 
 #[test]
-fn transfer_refusals(rt: HostRuntime) -> Result<(), Fail> {
-    both_show_behind(
+fn transfer_refusals(rt: HostRuntime) {
+    assert_both_behind(
         &rt,
-        rt.alloc(),
         "packet 0 130
 transfer id=1 debit_account_id=1 credit_account_id=2 amount=30 ledger=1 code=1
 transfer id=1 debit_account_id=1 credit_account_id=2 amount=30 ledger=1 code=1
@@ -195,13 +188,13 @@ clock 7
 account 1 1 0 30 0 0
 account 2 2 0 0 0 30
 ",
-    )
+    );
 }
 
 #[test]
-fn expiry_void_and_untimed(rt: HostRuntime) -> Result<(), Fail> {
-    shows_behind(
-        rt.alloc(),
+fn expiry_void_and_untimed(rt: HostRuntime) {
+    assert_list_behind(
+        &rt,
         "packet 0 130
 transfer id=1 debit_account_id=1 credit_account_id=2 amount=100 timeout=1 ledger=1 code=1 flags=2
 transfer id=2 debit_account_id=1 credit_account_id=2 amount=50 timeout=1 ledger=1 code=1 flags=2
@@ -218,7 +211,7 @@ clock 2000000000
 account 1 1 7 0 0 0
 account 2 2 0 0 7 0
 ",
-    )
+    );
 }
 
 const EXPIRY_ORDER: &str = "packet 0 130
@@ -232,28 +225,39 @@ pulse 1000000004
 ";
 
 #[test]
-fn expiry_order(rt: HostRuntime) -> Result<(), Fail> {
-    let committed = "packet 0 0 committed 0
+fn expiry_order(rt: HostRuntime) {
+    assert_list_behind(
+        &rt,
+        EXPIRY_ORDER,
+        "packet 0 0 committed 0
 packet 0 1 committed 1
 packet 0 2 committed 2 0:1 1:5
 pulse 3
-";
-    let first = format!(in rt.alloc();
-        "{committed}clock 1000000004\naccount 1 1 40 0 0 0\naccount 2 2 0 0 40 0\n"
-    )?;
-    shows_behind(rt.alloc(), EXPIRY_ORDER, first.as_str())?;
-    let script = format!(in rt.alloc(); "{EXPIRY_ORDER}pulse 1000000005\n")?;
-    let second = format!(in rt.alloc();
-        "{committed}pulse 4\nclock 1000000005\naccount 1 1 10 0 0 0\naccount 2 2 0 0 10 0\n"
-    )?;
-    shows_behind(rt.alloc(), script.as_str(), second.as_str())
+clock 1000000004
+account 1 1 40 0 0 0
+account 2 2 0 0 40 0
+",
+    );
+    let script = format!(in rt.alloc(); "{EXPIRY_ORDER}pulse 1000000005\n").expect(&rt, "memory");
+    assert_list_behind(
+        &rt,
+        script.as_str(),
+        "packet 0 0 committed 0
+packet 0 1 committed 1
+packet 0 2 committed 2 0:1 1:5
+pulse 3
+pulse 4
+clock 1000000005
+account 1 1 10 0 0 0
+account 2 2 0 0 10 0
+",
+    );
 }
 
 #[test]
-fn id_already_failed(rt: HostRuntime) -> Result<(), Fail> {
-    both_show_behind(
+fn id_already_failed(rt: HostRuntime) {
+    assert_both_behind(
         &rt,
-        rt.alloc(),
         "packet 0 130
 transfer id=1 debit_account_id=1 credit_account_id=2 amount=5 ledger=1 code=1 flags=1
 transfer id=2 debit_account_id=1 credit_account_id=9 amount=5 ledger=1 code=1
@@ -275,28 +279,24 @@ clock 9
 account 1 1 0 5 0 0
 account 2 2 0 0 0 5
 ",
-    )
+    );
 }
 
 #[test]
-fn moment_too_large(rt: HostRuntime) -> Result<(), Fail> {
-    both_show(
+fn moment_too_large(rt: HostRuntime) {
+    assert_both(
         &rt,
-        rt.alloc(),
         "pulse 4611686018427387904\npulse 4611686018427387905\n",
         "pulse 0\npulse refused 12 MomentTooLarge\nclock 4611686018427387904\n",
-    )
+    );
 }
 
 #[test]
-fn hostile_bytes_of_transfers(rt: HostRuntime) -> Result<(), Fail> {
-    let bytes = "ff".repeat(rt.alloc(), 256)?;
-    let digits = bytes.as_str();
-    let script = format!(in rt.alloc(); "packet 0 130\nhex {digits}\n")?;
-    both_show(
+fn hostile_bytes_of_transfers(rt: HostRuntime) {
+    let script = bytes_behind(&rt, "packet 0 130\n", "ff", 256);
+    assert_both(
         &rt,
-        rt.alloc(),
         script.as_str(),
         "packet 0 0 committed 0 0:3 1:2\nclock 2\n",
-    )
+    );
 }

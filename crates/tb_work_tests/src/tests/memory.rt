@@ -1,41 +1,43 @@
-use std::test::Fail;
+use std::alloc::{AllocError, Global};
 use tb_layout::{Account, NoMemory, Transfer};
 use tb_work::{Bytes, Job, Packet, Refusal};
+
+/// A packet of four accounts, of zeros.
+fn packet_of_four(alloc: Global) -> Result<Packet, AllocError> {
+    let mut bytes = Vec::new(alloc);
+    bytes.resize(512, 0)?;
+    Ok(Packet {
+        operation: 129,
+        bytes: Bytes::from_vec(bytes),
+        user: 7,
+    })
+}
 
 /// What is tried with each allocation refused in turn, by `tools/refuse-each-growth`. The room for four failures doesn't
 /// lie in the job.
 #[test]
-fn job_refused_memory(rt: HostRuntime) -> Result<(), Fail> {
-    let mut bytes = Vec::new(rt.alloc());
-    let Ok(()) = bytes.resize(512, 0) else {
-        return Ok(());
+fn job_refused_memory(rt: HostRuntime) {
+    let Ok(packet) = packet_of_four(rt.alloc()) else {
+        return;
     };
-    let packet = Packet {
-        operation: 129,
-        bytes: Bytes::from_vec(bytes),
-        user: 7,
-    };
-    let Some((packet, refusal)) = Job::new(rt.alloc(), 0, 0, 4, packet).err() else {
-        return Ok(());
-    };
-    assert_eq!(rt; refusal, Refusal::NoMemory);
-    assert_eq!(rt; packet.user, 7);
-    assert_eq!(rt; packet.bytes.as_slice().len(), 512);
-    Ok(())
+    if let Err((packet, refusal)) = Job::new(rt.alloc(), 0, 0, 4, packet) {
+        assert!(rt; refusal == Refusal::NoMemory);
+        assert!(rt; packet.user == 7 && packet.bytes.as_slice().len() == 512);
+    }
 }
 
 #[test]
 fn packet_of_accounts_refused_memory(rt: HostRuntime) {
     match Packet::of_accounts(rt.alloc(), &[Account::default()], 7) {
-        Ok(packet) => assert_eq!(rt; packet.bytes.as_slice().len(), 128),
-        Err(refused) => assert_eq!(rt; refused, NoMemory),
+        Ok(packet) => assert!(rt; packet.bytes.as_slice().len() == 128),
+        Err(refused) => assert!(rt; refused == NoMemory),
     }
 }
 
 #[test]
 fn packet_of_transfers_refused_memory(rt: HostRuntime) {
     match Packet::of_transfers(rt.alloc(), &[Transfer::default()], 7) {
-        Ok(packet) => assert_eq!(rt; packet.bytes.as_slice().len(), 128),
-        Err(refused) => assert_eq!(rt; refused, NoMemory),
+        Ok(packet) => assert!(rt; packet.bytes.as_slice().len() == 128),
+        Err(refused) => assert!(rt; refused == NoMemory),
     }
 }

@@ -35,15 +35,15 @@ fn admitted_transfers(rt: &(impl Abort + Alloc<A = Global>), count: usize) -> Re
 #[test]
 fn a_packet_of_two_accounts(rt: HostRuntime) {
     let packet = of_accounts(&rt, &[account(258, 1), account(2, 0)]);
-    assert_eq!(rt; (packet.operation, packet.user), (129, 7));
+    assert!(rt; packet.operation == 129 && packet.user == 7);
     let bytes = packet.bytes.as_slice();
-    assert_eq!(rt; bytes.len(), 256);
-    assert_eq!(rt; &bytes[0..3], [2, 1, 0].as_slice());
-    assert_eq!(rt; &bytes[112..120], [1, 0, 0, 0, 1, 0, 1, 0].as_slice());
-    assert_eq!(rt; &bytes[128..130], [2, 0].as_slice());
+    assert!(rt; bytes.len() == 256);
+    assert!(rt; &bytes[0..3] == [2, 1, 0].as_slice());
+    assert!(rt; &bytes[112..120] == [1, 0, 0, 0, 1, 0, 1, 0].as_slice());
+    assert!(rt; &bytes[128..130] == [2, 0].as_slice());
     let (chunks, _) = bytes.as_chunks::<128>();
-    assert_eq!(rt; read_account(&chunks[0]), account(258, 1));
-    assert_eq!(rt; read_account(&chunks[1]), account(2, 0));
+    assert!(rt; read_account(&chunks[0]) == account(258, 1));
+    assert!(rt; read_account(&chunks[1]) == account(2, 0));
 }
 
 #[test]
@@ -57,27 +57,25 @@ fn a_packet_of_one_transfer(rt: HostRuntime) {
         ..Transfer::default()
     };
     let packet = of_transfers(&rt, &[transfer]);
-    assert_eq!(rt; (packet.operation, packet.user), (130, 7));
+    assert!(rt; packet.operation == 130 && packet.user == 7);
     let (chunks, _) = packet.bytes.as_slice().as_chunks::<128>();
-    assert_eq!(rt; chunks.len(), 1);
+    assert!(rt; chunks.len() == 1);
     let chunk = &chunks[0];
-    assert_eq!(rt;
-        [chunk[0], chunk[16], chunk[32], chunk[48], chunk[108]],
-        [1, 2, 3, 4, 5]
-    );
-    assert_eq!(rt; read_transfer(chunk), transfer);
+    let fields = [chunk[0], chunk[16], chunk[32], chunk[48], chunk[108]];
+    assert!(rt; fields == [1, 2, 3, 4, 5]);
+    assert!(rt; read_transfer(chunk) == transfer);
 }
 
 #[test]
 fn largest_packets_of_accounts(rt: HostRuntime) {
-    assert_eq!(rt; admitted_accounts(&rt, 0), Ok(0));
-    assert_eq!(rt; admitted_accounts(&rt, 8190), Ok(8190));
-    assert_eq!(rt; admitted_accounts(&rt, 8191), Err(Refusal::TooMuchData));
+    assert!(rt; admitted_accounts(&rt, 0) == Ok(0));
+    assert!(rt; admitted_accounts(&rt, 8190) == Ok(8190));
+    assert!(rt; admitted_accounts(&rt, 8191) == Err(Refusal::TooMuchData));
 }
 
 #[test]
 fn largest_packets_of_transfers(rt: HostRuntime) {
-    assert_eq!(rt; admitted_transfers(&rt, 0), Ok(0));
-    assert_eq!(rt; admitted_transfers(&rt, 8190), Ok(8190));
-    assert_eq!(rt; admitted_transfers(&rt, 8191), Err(Refusal::TooMuchData));
+    assert!(rt; admitted_transfers(&rt, 0) == Ok(0));
+    assert!(rt; admitted_transfers(&rt, 8190) == Ok(8190));
+    assert!(rt; admitted_transfers(&rt, 8191) == Err(Refusal::TooMuchData));
 }
