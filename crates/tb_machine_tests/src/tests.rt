@@ -12,6 +12,7 @@ use tb_layout::{
 use tb_machine::Machine;
 
 mod calls;
+mod chains;
 mod full;
 mod memory;
 mod running;
