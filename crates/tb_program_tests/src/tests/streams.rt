@@ -4,7 +4,8 @@ use std::io::{Read, Write};
 use std::process::Abort;
 use tb_program::{ProgramFault, run_script, run_threads};
 
-/// Gives a line with each read, and fails at the second.
+/// Gives a line with its first read, fails at the second, and has ended from then on: whoever reads on after the fault
+/// comes to the end of a script.
 #[derive(Drop)]
 struct FailsAtSecond {
     reads: u32,
@@ -12,11 +13,11 @@ struct FailsAtSecond {
 
 impl Read for FailsAtSecond {
     fn read(&mut self, buffer: &mut [u8]) -> io::Result<usize> {
-        if self.reads > 0 {
+        self.reads = self.reads.saturating_add(1);
+        if self.reads == 2 {
             return Err(io::Error::other("no more"));
         }
-        self.reads = 1;
-        if buffer.len() == 0 {
+        if self.reads > 2 || buffer.len() == 0 {
             return Ok(0);
         }
         buffer[0] = 10;
