@@ -1,11 +1,12 @@
 //! The control's thread.
 
-ghost use Rattle.std.specs.Prelude.{◌≡◌, ◌∷◌, ◌++◌, [], ◌⊎◌, true, false, IfErr, IfSome, OnOk, OnSome};
+ghost use Rattle.std.specs.Prelude.{◌≡◌, ◌∷◌, ◌++◌, [], ◌⊎◌, ◌<◌, ◌≤◌, ◌^◌, length, true, false, Err, IfErr, IfSome, OnOk, OnSome};
 ghost use Rattle.tb_submit.specs.Ends.{sender_with};
 ghost use Rattle.tb_work.specs.declared.refusal.Refusal.TheVariants as refusal;
 ghost use Rattle.tb_drive.specs.Lines.{is_refused, last_item, pulse_of, pulses_of, refused_of, with_items};
 ghost use Rattle.tb_drive.specs.Threads.{IsControlEnd, IsPromiseOf};
 
+use crate::most_queued::MOST_QUEUED;
 use crossbeam_utils::Backoff;
 use std::alloc::Global;
 use std::snapshot::Snapshot;
@@ -14,9 +15,6 @@ use std::sync::atomic::{AtomicBool, Ordering};
 use std::thread::Promise;
 use tb_submit::{Control, ControlEnd};
 use tb_work::Refusal;
-
-/// What the control may have queued: behind so many pulses the queue is full for it.
-const MOST_QUEUED: u64 = 1 << 56;
 
 /// What the control queues.
 #[derive(Drop)]
@@ -70,10 +68,12 @@ impl Promise<Option<ControlLeft>> for EndOfControl {
     ghost kept_by = { λ p r. IfSome r (λ left. IsEndPromised p left) };
 }
 
-/// Queues a pulse once.
+/// Queues a pulse once, as `Control::pulse` does. Behind 2^56 pulses the queue is full, whatever else there is to refuse.
 fn pulse_once<R: Wait>(rt: &R, control: &mut Control, moment: u64) -> Result<(), Refusal>
     ensures ok { OnOk result ((control.new ≡ with_items control.old (pulse_of moment)) × (is_refused moment ≡ false)) }
     ensures refused { IfErr result (λ why. (control.new ≡ control.old) × ((why ≡ refusal.Full) ⊎ (is_refused moment ≡ true))) }
+    ensures large { length control.old.queued < 2 ^ 56 → 2 ^ 62 < moment → result ≡ Err refusal.MomentTooLarge }
+    ensures full { 2 ^ 56 ≤ length control.old.queued → result ≡ Err refusal.Full }
 {
     if control.queued() >= MOST_QUEUED {
         return Err(Refusal::Full);

@@ -16,6 +16,7 @@
 mod controlling;
 mod driver;
 mod driving;
+mod most_queued;
 mod submitting;
 
 pub use controlling::ControlLines;

@@ -11,6 +11,7 @@ ghost use Rattle.tb_drive.specs.Seen.{HasSeen, HasSeenEnd, HasAsked, jobs_in};
 ghost use Rattle.tb_drive.specs.Seated.{IsEnd, IsLeftBy};
 
 use crate::driver::{Action, Driver};
+use crate::most_queued::MOST_QUEUED;
 use crossbeam_utils::Backoff;
 use std::alloc::Global;
 use std::marker::Model;
@@ -23,9 +24,6 @@ use tb_work::{Packet, Refusal};
 
 /// The run is given up: another thread couldn't be started.
 struct Stopped;
-
-/// What a submitter may have queued: behind so many packets the queue is full for it.
-const MOST_QUEUED: u64 = 1 << 56;
 
 /// A submitter with its driver, which has seen what the submitter queued and read.
 #[derive(Drop)]

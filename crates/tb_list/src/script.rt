@@ -1,6 +1,6 @@
 //! A script from its bytes to what is written of it.
 
-ghost use Rattle.std.specs.Prelude.{◌≡◌, ◌≤◌, List, map, IfOk, IfSome, IsErrOf, string_bytes};
+ghost use Rattle.std.specs.Prelude.{◌≡◌, ◌≢◌, ◌≤◌, List, map, IfOk, IfErr, IfSome, IsErrOf, string_bytes};
 ghost use Rattle.std.specs.Io.KnownBytes.{Appends, Keeps};
 ghost use Rattle.tb_layout.specs.Limits.{batch_max, clock_max};
 ghost use Rattle.tb_text.specs.Output.{plan_text, listing, out, is_faultless};
@@ -57,7 +57,8 @@ fn output_for(alloc: Global, script: Script) -> Result<String, NoMemory>
 /// The output for all that a reader has, and whether its script has no fault. The text and its list of items are let go
 /// last: once large blocks were freed, the C library copies what grows where it would move its pages.
 fn output_of<R: Read>(alloc: Global, reader: &mut R) -> Result<(String, bool), ProgramFault>
-    ensures { IfOk result (λ both. IfSome (R.remaining reader.old) (λ bytes. (string_bytes both.0 ≡ out bytes) × (both.1 ≡ is_faultless bytes))) }
+    ensures output { IfOk result (λ both. IfSome (R.remaining reader.old) (λ bytes. (string_bytes both.0 ≡ out bytes) × (both.1 ≡ is_faultless bytes))) }
+    ensures thread { IfErr result (λ fault. fault ≢ ProgramFault.NoThread) }
 {
     let text = read_script(alloc, reader)?;
     match source_of(alloc, &text)? {
@@ -81,6 +82,8 @@ pub fn run_script<R: Read, W: Write>(
     // Nothing is written where the reader failed or memory ran out.
     ensures read { IsErrOf result ProgramFault.Read → Keeps (W.contents writer.old) (W.contents writer.new) }
     ensures memory { IsErrOf result ProgramFault.NoMemory → Keeps (W.contents writer.old) (W.contents writer.new) }
+    // No thread is started.
+    ensures thread { IfErr result (λ fault. fault ≢ ProgramFault.NoThread) }
 {
     let (text, faultless) = output_of(alloc, reader)?;
     write_out(writer, &text)?;

@@ -1,6 +1,6 @@
 //! The bytes of a script.
 
-ghost use Rattle.std.specs.Prelude.{IfOk, IfSome};
+ghost use Rattle.std.specs.Prelude.{◌≢◌, IfOk, IfErr, IfSome};
 ghost use Rattle.tb_text.specs.Output.{IsWhole};
 
 use std::alloc::Global;
@@ -13,7 +13,8 @@ const MOST_READS: u32 = 16_777_217;
 
 /// All bytes of a reader, or None where there are more than a script may have.
 pub fn read_script<R: Read>(alloc: Global, reader: &mut R) -> Result<Option<Vec<u8>>, ProgramFault>
-    ensures { IfOk result (λ text. IfSome (R.remaining reader.old) (λ bytes. IsWhole text bytes)) }
+    ensures whole { IfOk result (λ text. IfSome (R.remaining reader.old) (λ bytes. IsWhole text bytes)) }
+    ensures thread { IfErr result (λ fault. fault ≢ ProgramFault.NoThread) }
 {
     let mut text = Vec::new(alloc);
     let mut buffer = [0u8; 4096];

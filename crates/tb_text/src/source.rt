@@ -1,6 +1,6 @@
 //! The script that a reader has.
 
-ghost use Rattle.std.specs.Prelude.{◌≡◌, ℕ, List, IfOk, IfSome};
+ghost use Rattle.std.specs.Prelude.{◌≡◌, ◌≢◌, ℕ, List, IfOk, IfErr, IfSome};
 ghost use Rattle.tb_script.specs.Script.{script_of};
 ghost use Rattle.tb_text.specs.Output.{IsWhole};
 ghost use Rattle.tb_text.specs.Source.{IsSource, IsTold, IsFaultAt};
@@ -51,7 +51,8 @@ pub fn source_of(alloc: Global, text: &Option<Vec<u8>>) -> Result<Source, NoMemo
 
 /// Reads to the end, or as far as a script may be long, and parses what was read.
 pub fn read_source<R: Read>(alloc: Global, reader: &mut R) -> Result<Source, ProgramFault>
-    ensures { IfOk result (λ source. IfSome (R.remaining reader.old) (λ bytes. IsSource source bytes)) }
+    ensures source { IfOk result (λ source. IfSome (R.remaining reader.old) (λ bytes. IsSource source bytes)) }
+    ensures thread { IfErr result (λ fault. fault ≢ ProgramFault.NoThread) }
 {
     let text = read_script(alloc, reader)?;
     Ok(source_of(alloc, &text)?)
