@@ -1,0 +1,5 @@
+use Rattle.std.proofs.Common.{rules}
+use Rattle.tb_submit.proofs.control.Control.queued.Goals as goal
+
+pub returns : goal.returns
+returns c = search rules
