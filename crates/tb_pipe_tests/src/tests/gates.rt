@@ -59,6 +59,43 @@ impl Gate for Meeting {
     }
 }
 
+/// Notes the batches that were sealed, and those asked for, each as a digit behind those before it: batch 0 as 1.
+/// Says yes once the note of those asked for has come to a number.
+#[derive(Drop)]
+struct Notes {
+    sealed: AtomicU64,
+    asked: AtomicU64,
+    opens_at: u64,
+}
+
+impl Notes {
+    fn new(opens_at: u64) -> Notes {
+        Notes {
+            sealed: AtomicU64::new(0),
+            asked: AtomicU64::new(0),
+            opens_at,
+        }
+    }
+}
+
+/// The note with a batch behind it. One thread alone writes each note.
+fn note(notes: &AtomicU64, batch: u64) -> u64 {
+    let noted = notes.load(SeqCst).wrapping_mul(10);
+    let noted = noted.wrapping_add(batch).wrapping_add(1);
+    notes.store(noted, SeqCst);
+    noted
+}
+
+impl Gate for Notes {
+    fn sealed(&self, batch: u64) {
+        note(&self.sealed, batch);
+    }
+
+    fn may_commit(&self, batch: u64) -> bool {
+        note(&self.asked, batch) >= self.opens_at
+    }
+}
+
 /// A packet of accounts without events, and one of transfers.
 const EMPTY: [Step; 2] = [
     Step::Packet(CREATE_ACCOUNTS, 0),
@@ -97,4 +134,44 @@ fn six_batches_sealed_ahead(rt: HostRuntime) {
     let report = run_queued(&rt, rt.alloc(), &twenty_in_turn(), false, &[], &gate);
     assert!(rt; !gate.marked.load(SeqCst));
     assert_run(&rt, report, 0, &twenty_places());
+}
+
+/// Batches 0 and 1 are told and asked for, each once and in order, and the pulse between them isn't.
+#[test]
+fn batches_counted_without_pulses(rt: HostRuntime) {
+    let steps = [
+        Step::Packet(CREATE_ACCOUNTS, 1),
+        Step::Pulse(5),
+        Step::Packet(CREATE_ACCOUNTS, 2),
+    ];
+    let gate = Notes::new(0);
+    let report = run_queued(&rt, rt.alloc(), &steps, false, &[], &gate);
+    assert_eq!(rt;
+        (gate.sealed.load(SeqCst), gate.asked.load(SeqCst)),
+        (12, 12)
+    );
+    assert_run(&rt, report, 6, &[Told::Committed(0), Told::Committed(2)]);
+}
+
+/// A gate that says no three times is asked a fourth time for the same batch.
+#[test]
+fn asked_until_it_says_yes(rt: HostRuntime) {
+    let steps = [Step::Packet(CREATE_ACCOUNTS, 1)];
+    let gate = Notes::new(1111);
+    let report = run_queued(&rt, rt.alloc(), &steps, false, &[], &gate);
+    assert_eq!(rt;
+        (gate.sealed.load(SeqCst), gate.asked.load(SeqCst)),
+        (1, 1111)
+    );
+    assert_run(&rt, report, 1, &[Told::Committed(0)]);
+}
+
+/// A batch is told as sealed once the committer can take it.
+#[test]
+fn sealed_behind_the_push(rt: HostRuntime) {
+    let gate = Meeting::new(1, true);
+    let report = run_queued(&rt, rt.alloc(), &EMPTY, false, &[], &gate);
+    assert!(rt; !gate.marked.load(SeqCst));
+    let places = [Told::Committed(0), Told::Committed(1)];
+    assert_run(&rt, report, 0, &places);
 }

@@ -1,5 +1,9 @@
+use super::{Says, packet_of, queue_of, reply_to};
+use std::alloc::Global;
+use std::process::Abort;
+use tb_rings::Outlet;
 use tb_submit::open_queue;
-use tb_work::Refusal;
+use tb_work::{Job, Refusal, Reply};
 
 /// Limit, capacity, credit and submitters, and why such a queue is refused.
 const OPENINGS: [((u32, u32, u32, u32), Option<Refusal>); 18] = [
@@ -35,5 +39,29 @@ fn bad_openings(rt: HostRuntime) {
 fn as_many_ends_as_submitters(rt: HostRuntime) {
     let ends = open_queue(rt.alloc(), 4, 4, 4, 16).expect(&rt, "a queue");
     assert_eq!(rt; (ends.submitters.len(), ends.outlets.len()), (16, 16));
+    drop(ends);
+}
+
+/// Gives a reply to a packet that was not queued; whether it is taken.
+fn takes_reply(rt: &(impl Abort + Alloc<A = Global>), outlet: &mut Outlet<Reply>) -> bool {
+    let job = Job::new(rt.alloc(), 0, 0, 4, packet_of(rt, 129, 128)).ok();
+    let job = job.expect(rt, "memory");
+    let given = outlet.give(reply_to(rt.alloc(), job, Says::Stopped));
+    given.is_ok()
+}
+
+fn give_four(rt: &(impl Abort + Alloc<A = Global>), outlet: &mut Outlet<Reply>) {
+    for wanted in [true, true, true, false] {
+        assert_eq!(rt; takes_reply(rt, outlet), wanted);
+    }
+}
+
+/// An outlet takes as many unread replies as the credit, and no more.
+#[test]
+fn as_many_replies_as_the_credit(rt: HostRuntime) {
+    let (submitter, mut ends) = queue_of(&rt, 4, 8, 3);
+    assert!(rt; ends.outlets.len() == 1);
+    give_four(&rt, &mut ends.outlets[0]);
+    drop(submitter);
     drop(ends);
 }

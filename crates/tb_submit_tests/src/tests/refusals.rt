@@ -132,3 +132,20 @@ fn moments(rt: HostRuntime) {
     drop(submitter);
     drop(ends);
 }
+
+/// So many pulses are queued, and one more is refused.
+fn fill(rt: &(impl Abort + Wait), control: &mut Control, places: u64) {
+    for moment in 0..places {
+        assert_eq!(rt; pulse(rt, control, moment), Ok(()));
+    }
+    assert_eq!(rt; pulse(rt, control, 0), Err(Refusal::Full));
+}
+
+/// The queue has as many places as were asked for, also where that is no power of two.
+#[test]
+fn full_queue_of_a_hundred(rt: HostRuntime) {
+    let (submitter, mut ends) = queue_of(&rt, 4, 100, 1);
+    fill(&rt, &mut ends.control, 100);
+    drop(submitter);
+    drop(ends);
+}
