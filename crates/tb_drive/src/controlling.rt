@@ -68,7 +68,7 @@ impl Promise<Option<ControlLeft>> for EndOfControl {
     ghost kept_by = { λ p r. IfSome r (λ left. IsEndPromised p left) };
 }
 
-/// Queues a pulse once, as `Control::pulse` does. Behind 2^56 pulses the queue is full, whatever else there is to refuse.
+/// Queues a pulse once, as `Control::pulse` does. After 2^56 pulses the queue is full, whatever else there is to refuse.
 fn pulse_once<R: Wait>(rt: &R, control: &mut Control, moment: u64) -> Result<(), Refusal>
     ensures ok { OnOk result ((control.new ≡ with_items control.old (pulse_of moment)) × (is_refused moment ≡ false)) }
     ensures refused { IfErr result (λ why. (control.new ≡ control.old) × ((why ≡ refusal.Full) ⊎ (is_refused moment ≡ true))) }

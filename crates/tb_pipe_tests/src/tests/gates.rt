@@ -59,7 +59,7 @@ impl Gate for Meeting {
     }
 }
 
-/// Notes the batches that were sealed, and those asked for, each as a digit behind those before it: batch 0 as 1.
+/// Notes the batches that were sealed, and those asked for, each as a digit after those before it: batch 0 as 1.
 /// Says yes once the note of those asked for has come to a number.
 #[derive(Drop)]
 struct Notes {
@@ -78,7 +78,7 @@ impl Notes {
     }
 }
 
-/// The note with a batch behind it. One thread alone writes each note.
+/// The note with a batch after it. One thread alone writes each note.
 fn note(notes: &AtomicU64, batch: u64) -> u64 {
     let noted = notes.load(SeqCst).wrapping_mul(10);
     let noted = noted.wrapping_add(batch).wrapping_add(1);
@@ -168,7 +168,7 @@ fn asked_until_it_says_yes(rt: HostRuntime) {
 
 /// A batch is told as sealed once the committer can take it.
 #[test]
-fn sealed_behind_the_push(rt: HostRuntime) {
+fn sealed_after_the_push(rt: HostRuntime) {
     let gate = Meeting::new(1, true);
     let report = run_queued(&rt, rt.alloc(), &EMPTY, false, &[], &gate);
     assert!(rt; !gate.marked.load(SeqCst));
