@@ -71,7 +71,7 @@ pub fn open(
 ) -> Result<Opened, Refusal>
     requires { clock ≤ clock_max }
     ensures clock { IfOk result (λ opened. opened.pipeline.clock ≡ clock) }
-    ensures intake { IfOk result (λ opened. opened.pipeline.intake ≡ new_intake opened.pipeline.intake.queue submitters limit) }
+    ensures intake { IfOk result (λ opened. opened.pipeline.intake ≡ new_intake opened.pipeline.intake.queue submitters limit capacity) }
     ensures submitters { IfOk result (λ opened. opened.submitters.items ≡ map (new_submitter credit) opened.pipeline.submitters) }
     ensures own { IfOk result (λ opened. map origin_of opened.submitters.items ≡ opened.pipeline.submitters) }
     ensures number { IfOk result (λ opened. length opened.pipeline.submitters ≡ submitters) }

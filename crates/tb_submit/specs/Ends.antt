@@ -41,11 +41,12 @@ pub record EndedState : Type 0 where
   pub read : List Replied
   pub lying : List Replied
 
--- the intake, with what it took
+-- the intake, with what it took; its queue has so many places
 pub record IntakeState : Type 0 where
   pub queue : TableId
   pub submitters : ℕ
   pub limit : ℕ
+  pub capacity : ℕ
   pub taken : List Ticket
 
 abbrev pub with_taken : IntakeState → Ticket → IntakeState
@@ -81,8 +82,8 @@ new_submitter credit origin = record { origin = origin; credit = credit; queued 
 abbrev pub new_control : IntakeState → SenderState
 new_control intake = record { seat = control_seat intake; queued = [] }
 
-abbrev pub new_intake : TableId → ℕ → ℕ → IntakeState
-new_intake queue submitters limit = record { queue = queue; submitters = submitters; limit = limit; taken = [] }
+abbrev pub new_intake : TableId → ℕ → ℕ → ℕ → IntakeState
+new_intake queue submitters limit capacity = record { queue = queue; submitters = submitters; limit = limit; capacity = capacity; taken = [] }
 
 -- ---- one item more
 

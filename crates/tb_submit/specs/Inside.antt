@@ -30,9 +30,11 @@ abbrev pub count_of : Option Mark → ℕ
 count_of None = 0
 count_of (Some mark) = mark.count
 
--- the pass with the mark: its queue, the entries that were gathered, what was taken, and how many numbers were given out
+-- the pass with the mark: its queue and how many places that has, the entries that were gathered, what was taken, and how
+-- many numbers were given out
 pub record ReaderState : Type 0 where
   pub queue : TableId
+  pub capacity : ℕ
   pub entries : List Entry
   pub taken : List Ticket
   pub count : ℕ

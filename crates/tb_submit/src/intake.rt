@@ -22,7 +22,13 @@ impl Model for Intake {
 
     ghost Value = { IntakeState };
 
-    ghost view = { λ i. record { queue = i.reader.queue; submitters = i.submitters; limit = i.limit; taken = i.reader.taken } };
+    ghost view = { λ i. record {
+      queue = i.reader.queue;
+      submitters = i.submitters;
+      limit = i.limit;
+      capacity = i.reader.capacity;
+      taken = i.reader.taken;
+    } };
 
     ghost invariant = { λ i. (i.reader.entries ≡ []) × (i.reader.count ≡ i.submitters + 1) };
 }
@@ -33,7 +39,7 @@ impl Intake {
         requires entries { reader.entries ≡ [] }
         requires count { reader.count ≡ submitters + 1 }
         requires none { reader.taken ≡ [] }
-        ensures { result ≡ new_intake reader.queue submitters limit }
+        ensures { result ≡ new_intake reader.queue submitters limit reader.capacity }
     {
         Intake {
             reader,

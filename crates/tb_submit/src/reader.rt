@@ -31,22 +31,29 @@ impl Drop for Reader {
 impl Model for Reader {
     ghost use Rattle.std.specs.Prelude.{◌≡◌};
     ghost use Rattle.std.specs.Arc.{arc_value};
-    ghost use Rattle.crossbeam_queue.specs.Passes.{IsPassOf};
+    ghost use Rattle.crossbeam_queue.specs.Passes.{IsPassOf, ruled_capacity};
     ghost use Rattle.tb_submit.specs.Inside.{ReaderState, taken_of, count_of, view_of};
     ghost use Rattle.tb_submit.specs.Rule.{intake};
 
     ghost Value = { ReaderState };
 
-    ghost view = { λ s. record { queue = s.place.table_id; entries = (view_of s.place).entries; taken = taken_of (view_of s.place).mark; count = count_of (view_of s.place).mark } };
+    ghost view = { λ s. record {
+      queue = s.place.table_id;
+      capacity = ruled_capacity (arc_value s.queue);
+      entries = (view_of s.place).entries;
+      taken = taken_of (view_of s.place).mark;
+      count = count_of (view_of s.place).mark;
+    } };
 
     ghost invariant = { λ s. IsPassOf (arc_value s.queue) s.place × (view_of s.place ≡ intake (view_of s.place).entries (taken_of (view_of s.place).mark) (count_of (view_of s.place).mark)) };
 }
 
 impl Reader {
-    /// A new queue's.
+    /// The reader of a new queue of so many places.
     pub(crate) fn new(alloc: Global, capacity: usize) -> Result<Reader, AllocError>
         requires { 0 < capacity }
-        ensures { IfOk result (λ reader. (reader.entries ≡ []) × (reader.taken ≡ []) × (reader.count ≡ 0)) }
+        ensures fresh { IfOk result (λ reader. (reader.entries ≡ []) × (reader.taken ≡ []) × (reader.count ≡ 0)) }
+        ensures capacity { IfOk result (λ reader. reader.capacity ≡ capacity) }
     {
         let (queue, place) = Queue::ruled(alloc, capacity)?;
         let queue = Arc::new(alloc, queue)?;
@@ -61,7 +68,8 @@ impl Reader {
         limit: u32,
     ) -> Result<Sender, AllocError>
         requires { number ≡ self.old.count }
-        ensures same { (self.new.queue ≡ self.old.queue) × (self.new.entries ≡ self.old.entries) × (self.new.taken ≡ self.old.taken) }
+        ensures queue { (self.new.queue ≡ self.old.queue) × (self.new.capacity ≡ self.old.capacity) }
+        ensures same { (self.new.entries ≡ self.old.entries) × (self.new.taken ≡ self.old.taken) }
         ensures count { OnOk result (self.new.count ≡ self.old.count + 1) }
         ensures sender { IfOk result (λ sender. sender ≡ record { seat = seat_with (Some self.old.queue) submitters limit number; queued = [] }) }
     {

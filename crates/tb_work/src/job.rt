@@ -17,8 +17,8 @@ use tb_layout::{CREATE_ACCOUNTS, CREATE_TRANSFERS, FailureRoom, LOOKUP_ACCOUNTS}
 
 /// An admitted packet of a submitter, with its number and with room for its failures.
 pub struct Job {
-    pub(crate) submitter: u32,
     pub(crate) number: u64,
+    pub(crate) submitter: u32,
     pub(crate) count: u32,
     pub(crate) packet: Packet,
     pub(crate) room: FailureRoom,
@@ -28,8 +28,8 @@ impl Drop for Job {
     /// One call, so that no owner's proof goes through all that is held.
     fn drop(self) {
         let Job {
-            submitter: _,
             number: _,
+            submitter: _,
             count: _,
             packet,
             room,
@@ -100,8 +100,8 @@ impl Job {
         };
         match room_for(alloc, packet.operation, count) {
             Ok(room) => Ok(Job {
-                submitter,
                 number,
+                submitter,
                 count,
                 packet,
                 room,
@@ -146,8 +146,8 @@ impl Job {
         ensures fits { is_lookup self.packet ≡ false → count_of self.packet ≤ result.1.capacity }
     {
         let Job {
-            submitter: _,
             number: _,
+            submitter: _,
             count: _,
             packet,
             room,

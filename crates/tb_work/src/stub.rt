@@ -1,7 +1,7 @@
 /// A packet's place in a batch: its submitter, its number there, and how many events it has.
 #[derive(Clone, Copy, Debug, PartialEq, Eq)]
 pub struct Stub {
-    pub submitter: u32,
     pub number: u64,
+    pub submitter: u32,
     pub count: u32,
 }
