@@ -48,7 +48,8 @@ impl Parts {
     pub(crate) fn reserve_first(&mut self, size: Size)
         requires { (self.old.failures.items ≡ []) × (self.old.accounts.items ≡ []) }
         ensures operation { self.new.operation ≡ self.old.operation }
-        ensures jobs { (self.new.jobs.items ≡ self.old.jobs.items) × (self.new.stubs.items ≡ self.old.stubs.items) × (self.new.body.items ≡ self.old.body.items) }
+        ensures jobs { (self.new.jobs.items ≡ self.old.jobs.items) × (self.new.stubs.items ≡ self.old.stubs.items)
+            × (self.new.body.items ≡ self.old.body.items) }
         ensures answer { (self.new.failures.items ≡ []) × (self.new.accounts.items ≡ []) }
     {
         let _ = self.jobs.reserve(size.packets.max(FIRST_PACKETS));
@@ -64,12 +65,18 @@ impl Parts {
     pub(crate) fn reserve_for(&mut self, job: &Job, events: u32) -> Result<(), NoMemory>
         requires { (self.old.failures.items ≡ []) × (self.old.accounts.items ≡ []) }
         ensures operation { self.new.operation ≡ self.old.operation }
-        ensures jobs { (self.new.jobs.items ≡ self.old.jobs.items) × (self.new.stubs.items ≡ self.old.stubs.items) × (self.new.body.items ≡ self.old.body.items) }
+        ensures jobs { (self.new.jobs.items ≡ self.old.jobs.items) × (self.new.stubs.items ≡ self.old.stubs.items)
+            × (self.new.body.items ≡ self.old.body.items) }
         ensures answer { (self.new.failures.items ≡ []) × (self.new.accounts.items ≡ []) }
-        ensures kept { (vec_capacity self.old.failures ≤ vec_capacity self.new.failures) × (vec_capacity self.old.accounts ≤ vec_capacity self.new.accounts) }
-        ensures room_for_job { OnOk result ((vec_len self.new.jobs < vec_capacity self.new.jobs) × (vec_len self.new.stubs < vec_capacity self.new.stubs) × (vec_len self.new.body + length job.now.packet.bytes ≤ vec_capacity self.new.body)) }
-        ensures room_for_failures { OnOk result ((self.old.operation == lookup_accounts) ≡ false → events ≤ vec_capacity self.new.failures) }
-        ensures room_for_accounts { OnOk result ((self.old.operation == lookup_accounts) ≡ true → events ≤ vec_capacity self.new.accounts) }
+        ensures kept { (vec_capacity self.old.failures ≤ vec_capacity self.new.failures)
+            × (vec_capacity self.old.accounts ≤ vec_capacity self.new.accounts) }
+        ensures room_for_job { OnOk result ((vec_len self.new.jobs < vec_capacity self.new.jobs)
+            × (vec_len self.new.stubs < vec_capacity self.new.stubs)
+            × (vec_len self.new.body + length job.now.packet.bytes ≤ vec_capacity self.new.body)) }
+        ensures room_for_failures { OnOk result ((self.old.operation == lookup_accounts) ≡ false
+            → events ≤ vec_capacity self.new.failures) }
+        ensures room_for_accounts { OnOk result ((self.old.operation == lookup_accounts) ≡ true
+            → events ≤ vec_capacity self.new.accounts) }
     {
         self.jobs.reserve(1)?;
         self.stubs.reserve(1)?;
@@ -86,7 +93,9 @@ impl Parts {
     /// body, the one copy on a packet's way.
     #[inline(always)]
     pub(crate) fn append(&mut self, job: Job)
-        requires { (vec_len self.old.jobs < vec_capacity self.old.jobs) × (vec_len self.old.stubs < vec_capacity self.old.stubs) × (vec_len self.old.body + length job.packet.bytes ≤ vec_capacity self.old.body) }
+        requires { (vec_len self.old.jobs < vec_capacity self.old.jobs)
+            × (vec_len self.old.stubs < vec_capacity self.old.stubs)
+            × (vec_len self.old.body + length job.packet.bytes ≤ vec_capacity self.old.body) }
         ensures operation { self.new.operation ≡ self.old.operation }
         ensures admitted { IsOk (admission_of batch_max job.packet) }
         ensures jobs { self.new.jobs.items ≡ self.old.jobs.items ++ job ∷ [] }

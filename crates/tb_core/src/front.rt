@@ -73,7 +73,8 @@ impl Front {
     /// A front that took nothing. The limit is 1 to 8190 events, and there are 1 to 16 submitters; the
     /// limit is looked at first. Takes no memory.
     pub fn new(alloc: Global, limit: u32, submitters: u32) -> Result<Front, Refusal>
-        ensures front { IfOk result (λ front. front ≡ record { limit = limit; submitters = submitters; held = []; closed = false; stopped = false; ended = replicate 17 false }) }
+        ensures front { IfOk result (λ front. front ≡ record { limit = limit; submitters = submitters; held = [];
+            closed = false; stopped = false; ended = replicate 17 false }) }
         ensures passes { IfOk result (λ front. Passes [] front.closed front.stopped (held_by front)) }
         ensures ends { IfOk result (λ front. KnowsEnds [] front) }
         ensures opens { OnOk result (opening_refusal limit submitters ≡ None) }
@@ -96,7 +97,9 @@ impl Front {
     /// Whether an End or Close of each sender was taken.
     pub fn finished(&self) -> bool
         ensures finished { result ≡ all_ended self.now }
-        ensures ends { (queue : List TicketValue) → KnowsEnds queue self.now → (result ≡ true → HaveAllEnded self.now.submitters queue) × (HaveAllEnded self.now.submitters queue → result ≡ true) }
+        ensures ends { (queue : List TicketValue) → KnowsEnds queue self.now
+            → (result ≡ true → HaveAllEnded self.now.submitters queue)
+            × (HaveAllEnded self.now.submitters queue → result ≡ true) }
     {
         let ended = &self.ended[..self.submitters as usize + 1];
         ended.iter().all(|ended| *ended)
@@ -108,7 +111,8 @@ impl Front {
         ensures some { IfSome result (λ batch. (batch ≡ self.old.held) × (0 < length self.old.held)) }
         ensures none { IfNone result (self.old.held ≡ []) }
         ensures lawful { IsGroup self.old.limit self.old.held }
-        ensures passes { (items : List ItemValue) (sent : List Passage) → Passes items self.old.closed self.old.stopped (sent ++ held_by self.old)
+        ensures passes { (items : List ItemValue) (sent : List Passage)
+            → Passes items self.old.closed self.old.stopped (sent ++ held_by self.old)
             → Passes items self.new.closed self.new.stopped ((sent ++ passages_in_batch result) ++ held_by self.new) }
     {
         self.batcher.seal()
@@ -234,7 +238,8 @@ impl Front {
     ) -> Result<(), NoMemory>
         requires sender { ticket.old.sender ≤ self.old.submitters }
         requires empty { parcels.old.items ≡ [] }
-        ensures ok { OnOk result (take_result self.new parcels.new.items ≡ take_step false self.old ticket.old.sender ticket.old.item) }
+        ensures ok { OnOk result (take_result self.new parcels.new.items
+            ≡ take_step false self.old ticket.old.sender ticket.old.item) }
         ensures err { OnErr result ((ticket.new ≡ ticket.old) × (self.new ≡ self.old) × (parcels.new.items ≡ [])) }
         ensures front { IsFront self.old }
     {
@@ -267,10 +272,13 @@ impl Front {
     pub fn take_as_refused(&mut self, ticket: Ticket) -> ArrayVec<Parcel, 2>
         requires { ticket.sender ≤ self.old.submitters }
         ensures took { take_result self.new result.items ≡ take_step true self.old ticket.sender ticket.item }
-        ensures passes { (items : List ItemValue) (sent : List Passage) → Passes items self.old.closed self.old.stopped (sent ++ held_by self.old)
-            → Passes (items ++ ticket.item ∷ []) self.new.closed self.new.stopped ((sent ++ all_passages_in result.items) ++ held_by self.new) }
+        ensures passes { (items : List ItemValue) (sent : List Passage)
+            → Passes items self.old.closed self.old.stopped (sent ++ held_by self.old)
+            → Passes (items ++ ticket.item ∷ []) self.new.closed self.new.stopped
+                ((sent ++ all_passages_in result.items) ++ held_by self.new) }
         ensures lawful { AreJoinedParcels self.old.limit result.items }
-        ensures ends { (queue : List TicketValue) → KnowsEnds queue self.old → KnowsEnds (queue ++ ticket ∷ []) self.new }
+        ensures ends { (queue : List TicketValue) → KnowsEnds queue self.old
+            → KnowsEnds (queue ++ ticket ∷ []) self.new }
         ensures same { (self.new.limit ≡ self.old.limit) × (self.new.submitters ≡ self.old.submitters) }
     {
         let mut parcels = ArrayVec::new();
@@ -283,12 +291,17 @@ impl Front {
     /// behind a Close comes back; so does one whose growth is refused, and each after that.
     pub fn take(&mut self, ticket: Ticket) -> ArrayVec<Parcel, 2>
         requires { ticket.sender ≤ self.old.submitters }
-        ensures took { (refused : Bool) × (take_result self.new result.items ≡ take_step refused self.old ticket.sender ticket.item) }
-        ensures accounted { all_passages_in result.items ++ held_by self.new ≡ held_by self.old ++ passages_of_item self.old.closed self.new.stopped ticket.item }
-        ensures passes { (items : List ItemValue) (sent : List Passage) → Passes items self.old.closed self.old.stopped (sent ++ held_by self.old)
-            → Passes (items ++ ticket.item ∷ []) self.new.closed self.new.stopped ((sent ++ all_passages_in result.items) ++ held_by self.new) }
+        ensures took { (refused : Bool) × (take_result self.new result.items
+            ≡ take_step refused self.old ticket.sender ticket.item) }
+        ensures accounted { all_passages_in result.items ++ held_by self.new
+            ≡ held_by self.old ++ passages_of_item self.old.closed self.new.stopped ticket.item }
+        ensures passes { (items : List ItemValue) (sent : List Passage)
+            → Passes items self.old.closed self.old.stopped (sent ++ held_by self.old)
+            → Passes (items ++ ticket.item ∷ []) self.new.closed self.new.stopped
+                ((sent ++ all_passages_in result.items) ++ held_by self.new) }
         ensures lawful { AreJoinedParcels self.old.limit result.items }
-        ensures ends { (queue : List TicketValue) → KnowsEnds queue self.old → KnowsEnds (queue ++ ticket ∷ []) self.new }
+        ensures ends { (queue : List TicketValue) → KnowsEnds queue self.old
+            → KnowsEnds (queue ++ ticket ∷ []) self.new }
         ensures same { (self.new.limit ≡ self.old.limit) × (self.new.submitters ≡ self.old.submitters) }
     {
         let mut parcels = ArrayVec::new();
@@ -301,12 +314,17 @@ impl Front {
     pub fn take_into(&mut self, parcels: &mut ArrayVec<Parcel, 2>, ticket: Ticket)
         requires sender { ticket.sender ≤ self.old.submitters }
         requires empty { parcels.old.items ≡ [] }
-        ensures took { (refused : Bool) × (take_result self.new parcels.new.items ≡ take_step refused self.old ticket.sender ticket.item) }
-        ensures accounted { all_passages_in parcels.new.items ++ held_by self.new ≡ held_by self.old ++ passages_of_item self.old.closed self.new.stopped ticket.item }
-        ensures passes { (items : List ItemValue) (sent : List Passage) → Passes items self.old.closed self.old.stopped (sent ++ held_by self.old)
-            → Passes (items ++ ticket.item ∷ []) self.new.closed self.new.stopped ((sent ++ all_passages_in parcels.new.items) ++ held_by self.new) }
+        ensures took { (refused : Bool) × (take_result self.new parcels.new.items
+            ≡ take_step refused self.old ticket.sender ticket.item) }
+        ensures accounted { all_passages_in parcels.new.items ++ held_by self.new
+            ≡ held_by self.old ++ passages_of_item self.old.closed self.new.stopped ticket.item }
+        ensures passes { (items : List ItemValue) (sent : List Passage)
+            → Passes items self.old.closed self.old.stopped (sent ++ held_by self.old)
+            → Passes (items ++ ticket.item ∷ []) self.new.closed self.new.stopped
+                ((sent ++ all_passages_in parcels.new.items) ++ held_by self.new) }
         ensures lawful { AreJoinedParcels self.old.limit parcels.new.items }
-        ensures ends { (queue : List TicketValue) → KnowsEnds queue self.old → KnowsEnds (queue ++ ticket ∷ []) self.new }
+        ensures ends { (queue : List TicketValue) → KnowsEnds queue self.old
+            → KnowsEnds (queue ++ ticket ∷ []) self.new }
         ensures same { (self.new.limit ≡ self.old.limit) × (self.new.submitters ≡ self.old.submitters) }
     {
         let mut ticket = ticket;

@@ -57,9 +57,11 @@ impl Model for Ledger {
 
     ghost Value = { LedgerState };
 
-    ghost view = { λ ledger. record { opening = ledger.opening; groups = map group_of ledger.entries.items; stopped = ledger.stopped } };
+    ghost view = { λ ledger. record { opening = ledger.opening; groups = map group_of ledger.entries.items;
+        stopped = ledger.stopped } };
 
-    ghost invariant = { λ ledger. IsLedger (record { opening = ledger.opening; groups = map group_of ledger.entries.items; stopped = ledger.stopped }) ledger.machine ledger.places };
+    ghost invariant = { λ ledger. IsLedger (record { opening = ledger.opening;
+        groups = map group_of ledger.entries.items; stopped = ledger.stopped }) ledger.machine ledger.places };
 }
 
 /// Lets the machine take a batch. Where memory is refused, it and the parts are as before.
@@ -67,7 +69,8 @@ fn take_batch(machine: &mut Machine, parts: &mut Parts) -> Result<(), NoMemory>
     requires parts { AreParts parts.old }
     ensures jobs { parts.new.jobs.items ≡ parts.old.jobs.items }
     ensures answered { OnOk result (AreAnswered machine.old parts.new) }
-    ensures state { OnOk result (machine.new ≡ after_packet machine.old (events_of parts.new.operation parts.new.body.items)) }
+    ensures state { OnOk result (machine.new ≡ after_packet machine.old
+        (events_of parts.new.operation parts.new.body.items)) }
     ensures same { OnErr result (machine.new ≡ machine.old) }
     ensures back { OnErr result (AreParts parts.new) }
 {
@@ -96,7 +99,8 @@ fn record(entries: &mut Vec<Entry>, place: u64, parts: Parts) -> Cutter
     requires room { vec_len entries.old < vec_capacity entries.old }
     requires answered { (state : State) × AreAnswered state parts }
     requires fits { place + length parts.jobs.items ≤ 2 ^ 63 }
-    ensures entry { map group_of entries.new.items ≡ map group_of entries.old.items ++ map work_of parts.jobs.items ∷ [] }
+    ensures entry { map group_of entries.new.items
+        ≡ map group_of entries.old.items ++ map work_of parts.jobs.items ∷ [] }
     ensures replies { (clock : ℕ) (before : List Work) → place ≡ length before → AreAnswered (replay clock before) parts
         → result ≡ replies_from clock (before ++ map work_of parts.jobs.items) place (map Admitted parts.jobs.items) }
 {
@@ -206,7 +210,8 @@ impl Ledger {
 
     /// A batch. Where a growth is refused it comes back, and nothing has changed.
     fn commit(&mut self, batch: Batch) -> Result<Outcomes, Batch>
-        ensures ok { IfOk result (λ outcomes. apply_result self.new outcomes ≡ apply_step false self.old (parcel.Batch batch)) }
+        ensures ok { IfOk result (λ outcomes. apply_result self.new outcomes
+            ≡ apply_step false self.old (parcel.Batch batch)) }
         ensures err { IfErr result (λ back. (back ≡ batch) × (self.new ≡ self.old)) }
         ensures some { (0 < length batch) × AreAdmitted batch }
     {
@@ -231,7 +236,8 @@ impl Ledger {
 
     /// A pulse. Where a growth is refused nothing has changed.
     fn pulse(&mut self, moment: Moment) -> Result<(), NoMemory>
-        ensures ok { OnOk result (apply_result self.new NothingComes ≡ apply_step false self.old (parcel.Pulse moment)) }
+        ensures ok { OnOk result (apply_result self.new NothingComes
+            ≡ apply_step false self.old (parcel.Pulse moment)) }
         ensures err { OnErr result (self.new ≡ self.old) }
     {
         if self.halts_at(1) {
@@ -287,9 +293,11 @@ impl Ledger {
     /// One parcel, as `apply` applies it where its growth is refused. Takes no memory.
     pub fn apply_as_refused(&mut self, parcel: Parcel) -> Outcomes
         ensures applied { apply_result self.new result ≡ apply_step true self.old parcel }
-        ensures commits { (clock : ℕ) (passages : List Passage) (replies : List Replied) → Commits clock passages self.old replies
+        ensures commits { (clock : ℕ) (passages : List Passage) (replies : List Replied)
+            → Commits clock passages self.old replies
             → Commits clock (passages ++ passages_in parcel) self.new (replies ++ replies_in result) }
-        ensures joined { (limit : ℕ) → IsJoinedParcel limit parcel → AreJoined limit self.old.groups → AreJoined limit self.new.groups }
+        ensures joined { (limit : ℕ) → IsJoinedParcel limit parcel → AreJoined limit self.old.groups
+            → AreJoined limit self.new.groups }
     {
         self.refuse(parcel)
     }
@@ -300,9 +308,11 @@ impl Ledger {
     /// Stopped. It takes memory for the facts and for the journal.
     pub fn apply(&mut self, parcel: Parcel) -> Outcomes
         ensures applied { (refused : Bool) × (apply_result self.new result ≡ apply_step refused self.old parcel) }
-        ensures commits { (clock : ℕ) (passages : List Passage) (replies : List Replied) → Commits clock passages self.old replies
+        ensures commits { (clock : ℕ) (passages : List Passage) (replies : List Replied)
+            → Commits clock passages self.old replies
             → Commits clock (passages ++ passages_in parcel) self.new (replies ++ replies_in result) }
-        ensures joined { (limit : ℕ) → IsJoinedParcel limit parcel → AreJoined limit self.old.groups → AreJoined limit self.new.groups }
+        ensures joined { (limit : ℕ) → IsJoinedParcel limit parcel → AreJoined limit self.old.groups
+            → AreJoined limit self.new.groups }
     {
         match self.try_apply(parcel) {
             Ok(outcomes) => outcomes,

@@ -55,7 +55,8 @@ fn put(outcomes: Outcomes, replies: &mut Vec<Reply>) -> Result<(), NoMemory>
 
 /// Applies a parcel to a ledger that goes on, and keeps the replies. A ledger that stops is want of memory here.
 fn apply(ledger: &mut Ledger, replies: &mut Vec<Reply>, parcel: Parcel) -> Result<(), NoMemory>
-    ensures { (clock : ℕ) (limit : ℕ) (sent : List Passage) → IsJoinedParcel limit parcel → GoesOn clock limit sent ledger.old replies.old.items
+    ensures { (clock : ℕ) (limit : ℕ) (sent : List Passage) → IsJoinedParcel limit parcel
+        → GoesOn clock limit sent ledger.old replies.old.items
         → OnOk result (GoesOn clock limit (sent ++ passages_in parcel) ledger.new replies.new.items) }
 {
     match ledger.try_apply(parcel) {
@@ -80,7 +81,8 @@ fn apply_all(
     parcels: &mut ArrayVec<Parcel, 2>,
 ) -> Result<(), NoMemory>
     ensures none { OnOk result (parcels.new.items ≡ []) }
-    ensures applied { (clock : ℕ) (limit : ℕ) (sent : List Passage) → AreJoinedParcels limit parcels.old.items → GoesOn clock limit sent ledger.old replies.old.items
+    ensures applied { (clock : ℕ) (limit : ℕ) (sent : List Passage) → AreJoinedParcels limit parcels.old.items
+        → GoesOn clock limit sent ledger.old replies.old.items
         → OnOk result (GoesOn clock limit (sent ++ all_passages_in parcels.old.items) ledger.new replies.new.items) }
 {
     while let Some(parcel) = parcels.pop_at(0) {
@@ -102,8 +104,10 @@ impl Listing {
     fn take(&mut self, parcels: &mut ArrayVec<Parcel, 2>, item: Item) -> Result<(), NoMemory>
         requires { parcels.old.items ≡ [] }
         ensures none { OnOk result (parcels.new.items ≡ []) }
-        ensures runs { (clock : ℕ) (limit : ℕ) (items : List ItemValue) → IsRunning clock limit items self.old.front self.old.ledger self.old.replies.items
-            → OnOk result (IsRunning clock limit (items ++ item ∷ []) self.new.front self.new.ledger self.new.replies.items) }
+        ensures runs { (clock : ℕ) (limit : ℕ) (items : List ItemValue)
+            → IsRunning clock limit items self.old.front self.old.ledger self.old.replies.items
+            → OnOk result (IsRunning clock limit (items ++ item ∷ []) self.new.front self.new.ledger
+                self.new.replies.items) }
     {
         let mut ticket = Ticket { sender: 0, item };
         let taken = self.front.try_take(parcels, &mut ticket);
@@ -114,7 +118,8 @@ impl Listing {
 
     /// Takes items in order.
     fn take_all(&mut self, items: Vec<Item>) -> Result<(), NoMemory>
-        ensures { (clock : ℕ) (limit : ℕ) → IsRunning clock limit [] self.old.front self.old.ledger self.old.replies.items
+        ensures { (clock : ℕ) (limit : ℕ) → IsRunning clock limit [] self.old.front
+            self.old.ledger self.old.replies.items
             → OnOk result (IsRunning clock limit items.items self.new.front self.new.ledger self.new.replies.items) }
     {
         let mut parcels = ArrayVec::new();
@@ -126,7 +131,8 @@ impl Listing {
 
     /// Applies the group that the front still holds.
     fn finish(&mut self) -> Result<(), NoMemory>
-        ensures { (clock : ℕ) (limit : ℕ) (items : List ItemValue) → IsRunning clock limit items self.old.front self.old.ledger self.old.replies.items
+        ensures { (clock : ℕ) (limit : ℕ) (items : List ItemValue)
+            → IsRunning clock limit items self.old.front self.old.ledger self.old.replies.items
             → OnOk result (IsThrough clock limit items self.new.ledger self.new.replies.items) }
     {
         match self.front.idle() {
@@ -137,7 +143,8 @@ impl Listing {
 
     /// Takes items in order, and applies the group that is held after them.
     fn take_all_and_finish(&mut self, items: Vec<Item>) -> Result<(), NoMemory>
-        ensures { (clock : ℕ) (limit : ℕ) → IsRunning clock limit [] self.old.front self.old.ledger self.old.replies.items
+        ensures { (clock : ℕ) (limit : ℕ) → IsRunning clock limit [] self.old.front
+            self.old.ledger self.old.replies.items
             → OnOk result (IsThrough clock limit items.items self.new.ledger self.new.replies.items) }
     {
         self.take_all(items)?;
@@ -154,7 +161,8 @@ pub fn run_list(alloc: Global, clock: u64, limit: u32, items: Vec<Item>) -> Resu
     requires most { limit ≤ batch_max }
     ensures listed { IfOk result (λ listed. IsListed clock items.items listed.ledger listed.replies.items) }
     ensures ran { IfOk result (λ listed. Ran clock items.items listed.ledger listed.replies.items) }
-    ensures grouping { AreWithin limit (ahead items.items) → IfOk result (λ listed. IsGrouping limit listed.ledger.groups) }
+    ensures grouping { AreWithin limit (ahead items.items)
+        → IfOk result (λ listed. IsGrouping limit listed.ledger.groups) }
 {
     let replies = Vec::with_capacity(alloc, items.len())?;
     let Ok(front) = Front::new(alloc, limit, 1) else {

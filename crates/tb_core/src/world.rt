@@ -151,7 +151,8 @@ impl World {
         requires { clock ≤ clock_max }
         ensures world { IfOk result (λ world. world ≡ new_world clock limit submitters) }
         ensures opens { OnOk result (opening_refusal limit submitters ≡ None) }
-        ensures refusal { IfErr result (λ refusal. (opening_refusal limit submitters ≡ Some refusal) ⊎ ((opening_refusal limit submitters ≡ None) × (refusal ≡ NoMemoryRefusal))) }
+        ensures refusal { IfErr result (λ refusal. (opening_refusal limit submitters ≡ Some refusal)
+            ⊎ ((opening_refusal limit submitters ≡ None) × (refusal ≡ NoMemoryRefusal))) }
     {
         let front = Front::new(alloc, limit, submitters)?;
         let Ok((senders, shelves)) = sides(alloc, submitters) else {
@@ -191,7 +192,8 @@ impl World {
 
     fn push(&mut self, ticket: Ticket) -> Result<bool, Ticket>
         ensures ok { IfOk result (λ moves. IsMove self.old (event.Push ticket) moves self.new) }
-        ensures err { IfErr result (λ back. (is_some (moved self.old (event.Push ticket)) ≡ true) × (back ≡ ticket) × (self.new ≡ self.old)) }
+        ensures err { IfErr result (λ back. (is_some (moved self.old (event.Push ticket)) ≡ true) × (back ≡ ticket)
+            × (self.new ≡ self.old)) }
     {
         let number = ticket.sender as usize;
         if number >= self.senders.len() {
@@ -271,7 +273,8 @@ impl World {
 
     fn batch_pop(&mut self, refused: bool) -> Result<bool, NoMemory>
         ensures ok { IfOk result (λ moves. IsMove self.old (event.BatchPop refused) moves self.new) }
-        ensures err { OnErr result ((is_some (moved self.old (event.BatchPop refused)) ≡ true) × (self.new ≡ self.old)) }
+        ensures err { OnErr result ((is_some (moved self.old (event.BatchPop refused)) ≡ true)
+            × (self.new ≡ self.old)) }
     {
         if self.outcome.is_some() {
             return Ok(false);
@@ -342,7 +345,8 @@ impl World {
     /// it may happen and a growth is really refused, the event comes back and nothing has changed.
     pub fn step(&mut self, event: Event) -> Result<bool, (Event, NoMemory)>
         ensures ok { IfOk result (λ moves. IsMove self.old event moves self.new) }
-        ensures err { IfErr result (λ back. (is_some (moved self.old event) ≡ true) × (back.0 ≡ event) × (self.new ≡ self.old)) }
+        ensures err { IfErr result (λ back. (is_some (moved self.old event) ≡ true) × (back.0 ≡ event)
+            × (self.new ≡ self.old)) }
     {
         match event {
             Event::Push(ticket) => match self.push(ticket) {

@@ -63,8 +63,10 @@ impl Uncut {
         requires taken { self.old.taken ≤ length self.old.failures }
         requires rise { (high : ℕ) × RiseWithin self.old.offset high (failures_left self.old) }
         requires no_lookup { is_lookup job.packet ≡ false }
-        ensures reply { result ≡ reply_with (CommittedAt self.old.place (FailuresOf (failures_within self.old.offset (count_of job.packet) (failures_left self.old)))) job }
-        ensures left { failures_left self.new ≡ drop (count_below (self.old.offset + count_of job.packet) (failures_left self.old)) (failures_left self.old) }
+        ensures reply { result ≡ reply_with (CommittedAt self.old.place
+            (FailuresOf (failures_within self.old.offset (count_of job.packet) (failures_left self.old)))) job }
+        ensures left { failures_left self.new ≡ drop (count_below (self.old.offset + count_of job.packet)
+            (failures_left self.old)) (failures_left self.old) }
         ensures taken { self.new.taken ≤ length self.new.failures }
         ensures offset { (self.new.offset ≡ self.old.offset + count_of job.packet) ⊎ (failures_left self.new ≡ []) }
         ensures place { self.new.place ≡ self.old.place + 1 }

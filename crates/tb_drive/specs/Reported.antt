@@ -4,12 +4,13 @@ use Rattle.tb_core.specs.Grouping.{IsGrouping}
 use Rattle.tb_core.specs.Ledger.{LedgerState, works}
 use Rattle.tb_core.specs.Report.{LawfulReport}
 use Rattle.tb_machine.specs.Replay.{replay}
-use Rattle.tb_submit.specs.Ends.{EndedState, SubmitterState, SenderState, origin_of, control_seat, replies_of}
+use Rattle.tb_submit.specs.Ends.{EndedState, IntakeState, SubmitterState, SenderState, origin_of, control_seat, replies_of}
 use Rattle.tb_work.specs.Job.{Numbered}
 use Rattle.tb_work.specs.Reply.{Replied}
 use Rattle.tb_work.specs.declared.item.Item.{Item}
 use Rattle.tb_work.specs.declared.item.Ticket.{Ticket}
 use Rattle.tb_drive.specs.Seen.{jobs_in}
+use Rattle.tb_drive.specs.declared.driving.Finished.{Finished}
 use Rattle.tb_pipe.specs.Pulses.{IsPrefixOf, moments_committed, moments_queued}
 use Rattle.tb_pipe.specs.Run.{PipelineState}
 
@@ -31,3 +32,8 @@ pub record HasReported {D : Type 0} (has_seen : D → List Numbered → List Rep
   pub number : length ends ≡ submitters
   pub driven : length drivers ≡ submitters
   pub seen : (k : ℕ) (driver : D) (ended : EndedState) → slice_get drivers k ≡ Some driver → slice_get ends k ≡ Some ended → has_seen driver (jobs_in (queued k)) ended.read
+
+-- a run of a pipeline with this clock and this intake, whose control queued these items, has reported so
+abbrev pub HasFinished : {D : Type 0} → (D → List Numbered → List Replied → Type 0) → ℕ → IntakeState → List Item → Finished D → Type 0
+HasFinished has_seen clock intake controlled finished =
+    HasReported has_seen clock intake.limit intake.submitters controlled finished.drivers.items finished.report.ledger finished.report.ends.items

@@ -71,7 +71,8 @@ impl Promise<Option<ControlLeft>> for EndOfControl {
 /// Queues a pulse once, as `Control::pulse` does. After 2^56 pulses the queue is full, whatever else there is to refuse.
 fn pulse_once<R: Wait>(rt: &R, control: &mut Control, moment: u64) -> Result<(), Refusal>
     ensures ok { OnOk result ((control.new ≡ with_items control.old (pulse_of moment)) × (is_refused moment ≡ false)) }
-    ensures refused { IfErr result (λ why. (control.new ≡ control.old) × ((why ≡ refusal.Full) ⊎ (is_refused moment ≡ true))) }
+    ensures refused { IfErr result (λ why. (control.new ≡ control.old)
+        × ((why ≡ refusal.Full) ⊎ (is_refused moment ≡ true))) }
     ensures large { length control.old.queued < 2 ^ 56 → 2 ^ 62 < moment → result ≡ Err refusal.MomentTooLarge }
     ensures full { 2 ^ 56 ≤ length control.old.queued → result ≡ Err refusal.Full }
 {

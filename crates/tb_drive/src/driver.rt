@@ -37,20 +37,26 @@ pub trait Driver: Drop {
 
     /// What the submitter does next.
     fn next(&mut self, alloc: Global) -> Action
-        ensures seen { (queued : List Numbered) (read : List Replied) → has_seen self.old queued read → GoesOn result (λ packet. has_asked self.new packet queued read) (has_seen self.new queued read) }
+        ensures seen { (queued : List Numbered) (read : List Replied) → has_seen self.old queued read
+            → GoesOn result (λ packet. has_asked self.new packet queued read) (has_seen self.new queued read) }
         ensures share { share self.new ≡ share self.old };
 
     /// Takes what became of the packet that was to be submitted last: the number under which it is queued, or why it is
     /// refused. `InFlight` and `Full` aren't told: such a packet is tried again. None is told of a packet that is still
     /// tried when the run is given up.
     fn submitted(&mut self, told: Result<u64, Refusal>)
-        ensures queued { (job : Numbered) (queued : List Numbered) (read : List Replied) → has_asked self.old job.packet queued read → told ≡ Ok job.number → has_seen self.new (queued ++ job ∷ []) read }
-        ensures refused { (packet : packets.Packet) (queued : List Numbered) (read : List Replied) → has_asked self.old packet queued read → IsErr told → has_seen self.new queued read }
+        ensures queued { (job : Numbered) (queued : List Numbered) (read : List Replied)
+            → has_asked self.old job.packet queued read → told ≡ Ok job.number
+            → has_seen self.new (queued ++ job ∷ []) read }
+        ensures refused { (packet : packets.Packet) (queued : List Numbered) (read : List Replied)
+            → has_asked self.old packet queued read → IsErr told → has_seen self.new queued read }
         ensures share { share self.new ≡ share self.old };
 
     /// Takes the next reply.
     fn receive(&mut self, reply: Reply)
-        ensures seen { (queued : List Numbered) (read : List Replied) → has_seen self.old queued read → has_seen self.new queued (read ++ reply ∷ []) }
-        ensures asked { (packet : packets.Packet) (queued : List Numbered) (read : List Replied) → has_asked self.old packet queued read → has_asked self.new packet queued (read ++ reply ∷ []) }
+        ensures seen { (queued : List Numbered) (read : List Replied) → has_seen self.old queued read
+            → has_seen self.new queued (read ++ reply ∷ []) }
+        ensures asked { (packet : packets.Packet) (queued : List Numbered) (read : List Replied)
+            → has_asked self.old packet queued read → has_asked self.new packet queued (read ++ reply ∷ []) }
         ensures share { share self.new ≡ share self.old };
 }

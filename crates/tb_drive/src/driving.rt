@@ -1,13 +1,13 @@
 //! A run of a pipeline, with a thread for each of its senders.
 
-ghost use Rattle.std.specs.Prelude.{◌≡◌, ◌⊎◌, ◌<◌, ◌≤◌, ◌∷◌, ◌++◌, ◌^◌, [], map, length, set, slice_get, Some, None, Err, IfOk, IfErr, IfSome, OnOk};
+ghost use Rattle.std.specs.Prelude.{◌≡◌, ◌<◌, ◌≤◌, ◌∷◌, ◌++◌, ◌^◌, [], map, length, set, slice_get, Some, None, Err, IfOk, IfErr, IfSome, OnOk};
 ghost use Rattle.tb_submit.specs.Ends.{Origin, SubmitterState, control_seat, end_origin, origin_of};
-ghost use Rattle.tb_submit.specs.Refusals.{IsRefusal, submit_refusal};
+ghost use Rattle.tb_submit.specs.Refusals.{IsSubmitRefusal, submit_refusal};
 ghost use Rattle.tb_work.specs.declared.refusal.Refusal.TheVariants as refusal;
 ghost use Rattle.tb_drive.specs.Ahead.{with_packet};
 ghost use Rattle.tb_drive.specs.Lines.{lines_of, refused_of};
 ghost use Rattle.tb_drive.specs.Seen.{HaveSeen};
-ghost use Rattle.tb_drive.specs.Reported.{AreTogether, HasReported};
+ghost use Rattle.tb_drive.specs.Reported.{AreTogether, HasFinished};
 ghost use Rattle.tb_drive.specs.Seated.{IsLeftBy, nothing_left, seated_origin, seated_share};
 ghost use Rattle.tb_drive.specs.Threads.{IsControlEnd, IsEndPromised, IsPromiseOf, items_promised, items_to_queue, refused_promised, started_from};
 
@@ -78,7 +78,8 @@ impl<D: Driver> Model for Left<D> {
 
     ghost view = { λ left. record { ends = left.ends.items; shares = map D.share left.drivers.items } };
 
-    ghost invariant = { λ left. (length left.drivers.items ≡ length left.ends.items) × HaveSeenEnds D.has_seen left.drivers.items left.ends.items };
+    ghost invariant = { λ left. (length left.drivers.items ≡ length left.ends.items)
+        × HaveSeenEnds D.has_seen left.drivers.items left.ends.items };
 }
 
 type Started<D> = PromisedHandle<Driven<D>, EndOfSubmitter<D>>;
@@ -305,7 +306,7 @@ fn settle_left<D: Driver>(served: Served, left: Left<D>, control: ControlLeft) -
     requires own { map end_origin left.ends ≡ served.submitters }
     requires control { control.end.seat ≡ control_seat served.intake }
     requires number { length served.submitters ≡ served.intake.submitters }
-    ensures reported { HasReported D.has_seen served.clock served.intake.limit served.intake.submitters control.end.queued result.drivers.items result.report.ledger result.report.ends.items }
+    ensures reported { HasFinished D.has_seen served.clock served.intake control.end.queued result }
     ensures shares { map D.share result.drivers.items ≡ left.shares }
     ensures refused { result.refused_pulses ≡ control.refused }
 {
@@ -324,8 +325,10 @@ fn join<D: Driver, R: Threads>(
     running: Running<D>,
 ) -> Result<(Left<D>, ControlLeft), DriveFault>
     requires { running.room ≡ nothing_left }
-    ensures own { IfOk result (λ left. map end_origin left.0.ends ≡ map seated_origin (map started_from running.submitters.items)) }
-    ensures shares { IfOk result (λ left. left.0.shares ≡ map seated_share (map started_from running.submitters.items)) }
+    ensures own { IfOk result (λ left. map end_origin left.0.ends
+        ≡ map seated_origin (map started_from running.submitters.items)) }
+    ensures shares { IfOk result (λ left. left.0.shares
+        ≡ map seated_share (map started_from running.submitters.items)) }
     ensures control { IfOk result (λ left. IsEndPromised running.control.promise left.1) }
 {
     let Running {
@@ -347,8 +350,10 @@ fn finish<D: Driver, R: Threads>(
     requires control { running.control.promise.control.value.seat ≡ control_seat served.intake }
     requires number { length served.submitters ≡ served.intake.submitters }
     requires room { running.room ≡ nothing_left }
-    ensures reported { IfOk result (λ finished. HasReported D.has_seen served.clock served.intake.limit served.intake.submitters (items_promised running.control.promise) finished.drivers.items finished.report.ledger finished.report.ends.items) }
-    ensures shares { IfOk result (λ finished. map D.share finished.drivers.items ≡ map seated_share (map started_from running.submitters.items)) }
+    ensures reported { IfOk result (HasFinished D.has_seen served.clock served.intake
+        (items_promised running.control.promise)) }
+    ensures shares { IfOk result (λ finished. map D.share finished.drivers.items
+        ≡ map seated_share (map started_from running.submitters.items)) }
     ensures refused { IfOk result (λ finished. finished.refused_pulses ≡ refused_promised running.control.promise) }
 {
     match join(rt, running) {
@@ -370,8 +375,10 @@ fn serve<D: Driver, R: Threads + Wait + Sync>(
     requires control { running.control.promise.control.value.seat ≡ control_seat pipeline.intake }
     requires number { length pipeline.submitters ≡ pipeline.intake.submitters }
     requires room { running.room ≡ nothing_left }
-    ensures reported { IfOk result (λ finished. HasReported D.has_seen pipeline.clock pipeline.intake.limit pipeline.intake.submitters (items_promised running.control.promise) finished.drivers.items finished.report.ledger finished.report.ends.items) }
-    ensures shares { IfOk result (λ finished. map D.share finished.drivers.items ≡ map seated_share (map started_from running.submitters.items)) }
+    ensures reported { IfOk result (HasFinished D.has_seen pipeline.clock pipeline.intake
+        (items_promised running.control.promise)) }
+    ensures shares { IfOk result (λ finished. map D.share finished.drivers.items
+        ≡ map seated_share (map started_from running.submitters.items)) }
     ensures refused { IfOk result (λ finished. finished.refused_pulses ≡ refused_promised running.control.promise) }
 {
     match pipeline.serve(rt, &Open) {
@@ -397,9 +404,11 @@ fn run_all<'s, E, D: Driver + Send + 's, R: Threads + Wait + Sync>(
     requires own { map seated_origin all.items ≡ pipeline.submitters }
     requires control { control_driver.control.seat ≡ control_seat pipeline.intake }
     requires number { length pipeline.submitters ≡ pipeline.intake.submitters }
-    ensures reported { IfOk result (λ finished. HasReported D.has_seen pipeline.clock pipeline.intake.limit pipeline.intake.submitters (items_to_queue control_driver) finished.drivers.items finished.report.ledger finished.report.ends.items) }
+    ensures reported { IfOk result (HasFinished D.has_seen pipeline.clock pipeline.intake
+        (items_to_queue control_driver)) }
     ensures shares { IfOk result (λ finished. map D.share finished.drivers.items ≡ map seated_share all.items) }
-    ensures refused { IfOk result (λ finished. finished.refused_pulses ≡ refused_of control_driver.lines.moments.items) }
+    ensures refused { IfOk result (λ finished. finished.refused_pulses
+        ≡ refused_of control_driver.lines.moments.items) }
 {
     match start(scope, rt, alloc, stop, all, control_driver) {
         Ok(running) => serve(rt, pipeline, running),
@@ -421,9 +430,11 @@ fn run_in_scope<D: Driver + Send, R: Threads + Wait + Sync>(
     requires own { map seated_origin all.items ≡ pipeline.submitters }
     requires control { control_driver.control.seat ≡ control_seat pipeline.intake }
     requires number { length pipeline.submitters ≡ pipeline.intake.submitters }
-    ensures reported { IfOk result (λ finished. HasReported D.has_seen pipeline.clock pipeline.intake.limit pipeline.intake.submitters (items_to_queue control_driver) finished.drivers.items finished.report.ledger finished.report.ends.items) }
+    ensures reported { IfOk result (HasFinished D.has_seen pipeline.clock pipeline.intake
+        (items_to_queue control_driver)) }
     ensures shares { IfOk result (λ finished. map D.share finished.drivers.items ≡ map seated_share all.items) }
-    ensures refused { IfOk result (λ finished. finished.refused_pulses ≡ refused_of control_driver.lines.moments.items) }
+    ensures refused { IfOk result (λ finished. finished.refused_pulses
+        ≡ refused_of control_driver.lines.moments.items) }
 {
     let flag = AtomicBool::new(false);
     let stop = &flag;
@@ -434,9 +445,11 @@ fn run_in_scope<D: Driver + Send, R: Threads + Wait + Sync>(
             requires own { map seated_origin all.items ≡ pipeline.submitters }
             requires control { control_driver.control.seat ≡ control_seat pipeline.intake }
             requires number { length pipeline.submitters ≡ pipeline.intake.submitters }
-            ensures reported { IfOk result (λ finished. HasReported D.has_seen pipeline.clock pipeline.intake.limit pipeline.intake.submitters (items_to_queue control_driver) finished.drivers.items finished.report.ledger finished.report.ends.items) }
+            ensures reported { IfOk result (HasFinished D.has_seen pipeline.clock pipeline.intake
+                (items_to_queue control_driver)) }
             ensures shares { IfOk result (λ finished. map D.share finished.drivers.items ≡ map seated_share all.items) }
-            ensures refused { IfOk result (λ finished. finished.refused_pulses ≡ refused_of control_driver.lines.moments.items) }
+            ensures refused { IfOk result (λ finished. finished.refused_pulses
+                ≡ refused_of control_driver.lines.moments.items) }
         {
             let finished = run_all(scope, rt, alloc, stop, pipeline, all, control_driver);
             if finished.is_err() {
@@ -459,12 +472,15 @@ pub fn submit_ahead<R: Wait>(
 ) -> Result<u64, (Packet, Refusal)>
     requires { submitter < length opened.old.submitters.items }
     ensures ok { (before : SubmitterState) → slice_get opened.old.submitters.items submitter ≡ Some before
-        → IfOk result (λ number. (number ≡ length before.queued) × (opened.new.submitters.items ≡ set opened.old.submitters.items submitter (with_packet before number packet))) }
+        → IfOk result (λ number. (number ≡ length before.queued)
+        × (opened.new.submitters.items ≡ set opened.old.submitters.items submitter
+            (with_packet before number packet))) }
     ensures admitted { (before : SubmitterState) → slice_get opened.old.submitters.items submitter ≡ Some before
         → OnOk result (submit_refusal before packet ≡ None) }
-    ensures back { IfErr result (λ refused. (refused.0 ≡ packet) × (opened.new.submitters.items ≡ opened.old.submitters.items)) }
+    ensures back { IfErr result (λ refused. (refused.0 ≡ packet)
+        × (opened.new.submitters.items ≡ opened.old.submitters.items)) }
     ensures refusal { (before : SubmitterState) → slice_get opened.old.submitters.items submitter ≡ Some before
-        → length before.queued < 2 ^ 56 → IfErr result (λ refused. IsRefusal (submit_refusal before packet) (λ other. (other ≡ refusal.NoMemory) ⊎ (other ≡ refusal.Full)) refused.1) }
+        → length before.queued < 2 ^ 56 → IfErr result (λ refused. IsSubmitRefusal before packet refused.1) }
     ensures full { (before : SubmitterState) → slice_get opened.old.submitters.items submitter ≡ Some before
         → 2 ^ 56 ≤ length before.queued → result ≡ Err (packet, refusal.Full) }
     ensures pipeline { opened.new.pipeline ≡ opened.old.pipeline }
@@ -490,7 +506,8 @@ pub fn drive_all<D: Driver + Send, R: Threads + Wait + Sync>(
     requires together { AreTogether opened.pipeline opened.submitters.items opened.control }
     requires number { length drivers.items ≡ length opened.pipeline.submitters }
     requires seen { HaveSeen D.has_seen drivers.items opened.submitters.items }
-    ensures reported { IfOk result (λ finished. HasReported D.has_seen opened.pipeline.clock opened.pipeline.intake.limit opened.pipeline.intake.submitters (opened.control.queued ++ lines_of lines.moments.items lines.shuts) finished.drivers.items finished.report.ledger finished.report.ends.items) }
+    ensures reported { IfOk result (HasFinished D.has_seen opened.pipeline.clock opened.pipeline.intake
+        (opened.control.queued ++ lines_of lines.moments.items lines.shuts)) }
     ensures shares { IfOk result (λ finished. map D.share finished.drivers.items ≡ map D.share drivers.items) }
     ensures refused { IfOk result (λ finished. finished.refused_pulses ≡ refused_of lines.moments.items) }
 {

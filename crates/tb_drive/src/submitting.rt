@@ -1,8 +1,8 @@
 //! A submitter's thread.
 
-ghost use Rattle.std.specs.Prelude.{◌≡◌, ◌⊎◌, [], ◌∷◌, ◌++◌, ◌<◌, ◌≤◌, ◌^◌, length, None, Err, OnOk, IfOk, IfErr, IfSome};
+ghost use Rattle.std.specs.Prelude.{◌≡◌, [], ◌∷◌, ◌++◌, ◌<◌, ◌≤◌, ◌^◌, length, None, Err, OnOk, IfOk, IfErr, IfSome};
 ghost use Rattle.tb_submit.specs.Ends.{origin_of};
-ghost use Rattle.tb_submit.specs.Refusals.{IsRefusal, submit_refusal};
+ghost use Rattle.tb_submit.specs.Refusals.{IsSubmitRefusal, submit_refusal};
 ghost use Rattle.tb_work.specs.Job.{numbered_packet};
 ghost use Rattle.tb_work.specs.declared.packet.Packet as packets;
 ghost use Rattle.tb_work.specs.declared.refusal.Refusal.TheVariants as refusal;
@@ -84,12 +84,15 @@ pub(crate) fn submit_once<R: Wait>(
     packet: Packet,
 ) -> Result<u64, (Packet, Refusal)>
     ensures own { origin_of submitter.new ≡ origin_of submitter.old }
-    ensures ok { IfOk result (λ number. (number ≡ length submitter.old.queued) × (submitter.new ≡ with_packet submitter.old number packet)) }
-    ensures job { IfOk result (λ number. jobs_in submitter.new.queued ≡ jobs_in submitter.old.queued ++ numbered_packet submitter.old.origin.seat.number number packet ∷ []) }
+    ensures ok { IfOk result (λ number. (number ≡ length submitter.old.queued)
+        × (submitter.new ≡ with_packet submitter.old number packet)) }
+    ensures job { IfOk result (λ number. jobs_in submitter.new.queued
+        ≡ jobs_in submitter.old.queued ++ numbered_packet submitter.old.origin.seat.number number packet ∷ []) }
     ensures read { submitter.new.read ≡ submitter.old.read }
     ensures admitted { OnOk result (submit_refusal submitter.old packet ≡ None) }
     ensures back { IfErr result (λ refused. (refused.0 ≡ packet) × (submitter.new ≡ submitter.old)) }
-    ensures refusal { length submitter.old.queued < 2 ^ 56 → IfErr result (λ refused. IsRefusal (submit_refusal submitter.old packet) (λ other. (other ≡ refusal.NoMemory) ⊎ (other ≡ refusal.Full)) refused.1) }
+    ensures refusal { length submitter.old.queued < 2 ^ 56
+        → IfErr result (λ refused. IsSubmitRefusal submitter.old packet refused.1) }
     ensures full { 2 ^ 56 ≤ length submitter.old.queued → result ≡ Err (packet, refusal.Full) }
 {
     if submitter.queued() >= MOST_QUEUED {
@@ -102,7 +105,8 @@ pub(crate) fn submit_once<R: Wait>(
 fn read<D: Driver>(submitter: &mut Submitter, driver: &mut D) -> bool
     ensures own { origin_of submitter.new ≡ origin_of submitter.old }
     ensures seen { HasSeen D.has_seen driver.old submitter.old → HasSeen D.has_seen driver.new submitter.new }
-    ensures asked { (packet : packets.Packet) → HasAsked D.has_asked driver.old packet submitter.old → HasAsked D.has_asked driver.new packet submitter.new }
+    ensures asked { (packet : packets.Packet) → HasAsked D.has_asked driver.old packet submitter.old
+        → HasAsked D.has_asked driver.new packet submitter.new }
     ensures share { D.share driver.new ≡ D.share driver.old }
 {
     match submitter.reply() {
@@ -125,7 +129,8 @@ fn submit<D: Driver, R: Wait>(
     stop: &AtomicBool,
 ) -> Result<(), Stopped>
     ensures own { origin_of submitter.new ≡ origin_of submitter.old }
-    ensures seen { HasAsked D.has_asked driver.old packet submitter.old → OnOk result (HasSeen D.has_seen driver.new submitter.new) }
+    ensures seen { HasAsked D.has_asked driver.old packet submitter.old
+        → OnOk result (HasSeen D.has_seen driver.new submitter.new) }
     ensures share { D.share driver.new ≡ D.share driver.old }
 {
     let mut packet = packet;
@@ -171,7 +176,8 @@ fn follow<D: Driver, R: Wait>(
     stop: &AtomicBool,
 ) -> Result<(), Stopped>
     ensures own { origin_of submitter.new ≡ origin_of submitter.old }
-    ensures seen { HasSeen D.has_seen driver.old submitter.old → OnOk result (HasSeen D.has_seen driver.new submitter.new) }
+    ensures seen { HasSeen D.has_seen driver.old submitter.old
+        → OnOk result (HasSeen D.has_seen driver.new submitter.new) }
     ensures share { D.share driver.new ≡ D.share driver.old }
 {
     for _ in rt.forever() {
@@ -195,7 +201,8 @@ fn end<D: Driver, R: Wait>(
     stop: &AtomicBool,
 ) -> Option<Ended>
     ensures own { IsEnd submitter result }
-    ensures seen { HasSeen D.has_seen driver.old submitter → IfSome result (λ ended. HasSeenEnd D.has_seen driver.new ended) }
+    ensures seen { HasSeen D.has_seen driver.old submitter
+        → IfSome result (λ ended. HasSeenEnd D.has_seen driver.new ended) }
     ensures share { D.share driver.new ≡ D.share driver.old }
 {
     let mut submitter = submitter;

@@ -84,7 +84,8 @@ pub fn read_account(bytes: &[u8; 128]) -> Account
 pub fn write_account(account: &Account) -> [u8; 128]
     ensures value { result ≡ spec.account_bytes account.now }
     ensures read_back { spec.account_of result ≡ account.now }
-    ensures reads_only_so { (bytes : List ℕ) → IsBytes 128 bytes → spec.account_of bytes ≡ account.now → bytes ≡ result }
+    ensures reads_only_so { (bytes : List ℕ) → IsBytes 128 bytes
+        → spec.account_of bytes ≡ account.now → bytes ≡ result }
 {
     let account = *account;
     let mut bytes = [0; 128];

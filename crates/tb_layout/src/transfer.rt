@@ -91,7 +91,8 @@ pub fn read_transfer(bytes: &[u8; 128]) -> Transfer
 pub fn write_transfer(transfer: &Transfer) -> [u8; 128]
     ensures value { result ≡ spec.transfer_bytes transfer.now }
     ensures read_back { spec.transfer_of result ≡ transfer.now }
-    ensures reads_only_so { (bytes : List ℕ) → IsBytes 128 bytes → spec.transfer_of bytes ≡ transfer.now → bytes ≡ result }
+    ensures reads_only_so { (bytes : List ℕ) → IsBytes 128 bytes
+        → spec.transfer_of bytes ≡ transfer.now → bytes ≡ result }
 {
     let transfer = *transfer;
     let mut bytes = [0; 128];

@@ -38,8 +38,10 @@ impl<'a> Pending<'a> {
     /// The next reply.
     fn put_packet(&mut self, out: &mut String) -> Result<(), AllocError>
         requires { IfSome self.old.place (λ place. place < 2 ^ 63) }
-        ensures text { OnOk result (string_bytes out.new ≡ string_bytes out.old ++ first_text Line.Packet self.old.place self.old.replies.now) }
-        ensures rest { OnOk result (pending self.new.place self.new.replies.now ≡ behind_line Line.Packet self.old.place self.old.replies.now) }
+        ensures text { OnOk result (string_bytes out.new
+            ≡ string_bytes out.old ++ first_text Line.Packet self.old.place self.old.replies.now) }
+        ensures rest { OnOk result (pending self.new.place self.new.replies.now
+            ≡ behind_line Line.Packet self.old.place self.old.replies.now) }
     {
         if let Some((reply, replies)) = self.replies.split_first() {
             put_reply(out, reply)?;
@@ -51,8 +53,10 @@ impl<'a> Pending<'a> {
 
     fn put_pulse(&mut self, out: &mut String) -> Result<(), AllocError>
         requires { IfSome self.old.place (λ place. place < 2 ^ 63) }
-        ensures text { OnOk result (string_bytes out.new ≡ string_bytes out.old ++ first_text Line.Pulse self.old.place self.old.replies.now) }
-        ensures rest { OnOk result (pending self.new.place self.new.replies.now ≡ behind_line Line.Pulse self.old.place self.old.replies.now) }
+        ensures text { OnOk result (string_bytes out.new
+            ≡ string_bytes out.old ++ first_text Line.Pulse self.old.place self.old.replies.now) }
+        ensures rest { OnOk result (pending self.new.place self.new.replies.now
+            ≡ behind_line Line.Pulse self.old.place self.old.replies.now) }
     {
         if let Some(place) = self.place {
             put_pulse(out, place)?;
@@ -63,8 +67,10 @@ impl<'a> Pending<'a> {
 
     fn put_line(&mut self, out: &mut String, line: Line) -> Result<(), AllocError>
         requires { IfSome self.old.place (λ place. place < 2 ^ 63) }
-        ensures text { OnOk result (string_bytes out.new ≡ string_bytes out.old ++ first_text line self.old.place self.old.replies.now) }
-        ensures rest { OnOk result (pending self.new.place self.new.replies.now ≡ behind_line line self.old.place self.old.replies.now) }
+        ensures text { OnOk result (string_bytes out.new
+            ≡ string_bytes out.old ++ first_text line self.old.place self.old.replies.now) }
+        ensures rest { OnOk result (pending self.new.place self.new.replies.now
+            ≡ behind_line line self.old.place self.old.replies.now) }
     {
         match line {
             Line::Packet => self.put_packet(out),
@@ -96,7 +102,8 @@ fn put_lines(out: &mut String, lines: &[Line], replies: &[Reply]) -> Result<(), 
 
 /// All lines of a plan that was listed: those of its items, the clock after them and the accounts.
 pub fn put_listing(out: &mut String, lines: &[Line], listed: &Listed) -> Result<(), AllocError>
-    ensures { (clock : ℕ) (plan : List Planned) → lines.now ≡ map line_of plan → IsListed clock (queue_of plan) listed.now.ledger listed.now.replies.items
+    ensures { (clock : ℕ) (plan : List Planned) → lines.now ≡ map line_of plan
+        → IsListed clock (queue_of plan) listed.now.ledger listed.now.replies.items
         → OnOk result (string_bytes out.new ≡ string_bytes out.old ++ plan_text clock plan) }
 {
     put_lines(out, lines, &listed.replies)?;

@@ -31,7 +31,8 @@ impl Model for Plan {
 
     ghost view = { λ plan. record { queue = plan.queue.items; lines = plan.lines.items } };
 
-    ghost invariant = { λ plan. (submitter : ℕ) → submitter < 16 → get_or plan.numbers submitter 0 ≡ number_in submitter plan.queue.items };
+    ghost invariant = { λ plan. (submitter : ℕ) → submitter < 16
+        → get_or plan.numbers submitter 0 ≡ number_in submitter plan.queue.items };
 }
 
 impl Plan {
@@ -70,7 +71,8 @@ impl Plan {
         submission: Submission,
     ) -> Result<(), NoMemory>
         requires { limit ≤ batch_max }
-        ensures { OnOk result (self.new ≡ with_planned self.old (planned_as limit self.old.queue (PacketItem submission))) }
+        ensures { OnOk result (self.new ≡ with_planned self.old
+            (planned_as limit self.old.queue (PacketItem submission))) }
     {
         let submitter = submission.submitter;
         let packet = packet_of(submission);

@@ -57,7 +57,8 @@ fn output_for(alloc: Global, script: Script) -> Result<String, NoMemory>
 /// The output for all that a reader has, and whether its script has no fault. The text and its list of items are let go
 /// last: once large blocks were freed, the C library copies what grows where it would move its pages.
 fn output_of<R: Read>(alloc: Global, reader: &mut R) -> Result<(String, bool), ProgramFault>
-    ensures output { IfOk result (λ both. IfSome (R.remaining reader.old) (λ bytes. (string_bytes both.0 ≡ out bytes) × (both.1 ≡ is_faultless bytes))) }
+    ensures output { IfOk result (λ both. IfSome (R.remaining reader.old) (λ bytes.
+        (string_bytes both.0 ≡ out bytes) × (both.1 ≡ is_faultless bytes))) }
     ensures thread { IfErr result (λ fault. fault ≢ ProgramFault.NoThread) }
 {
     let text = read_script(alloc, reader)?;

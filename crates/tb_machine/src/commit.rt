@@ -26,8 +26,10 @@ const CLOCK_EXHAUSTED: u32 = 201;
 fn examine_at<E: Event>(clock: u64, tables: &mut Tables, event: E) -> Result<u32, NoMemory>
     requires { clock ≤ clock_max }
     ensures extends { Extends tables.old tables.new }
-    ensures code { IfOk result (λ code. code ≡ verdict_at E.operation tables.old.now (spec.next_timestamp clock) event) }
-    ensures stored { result ≡ Ok 0 → tables.new.now ≡ facts_with E.operation tables.old.now (spec.next_timestamp clock) event }
+    ensures code { IfOk result (λ code. code ≡ verdict_at E.operation tables.old.now
+        (spec.next_timestamp clock) event) }
+    ensures stored { result ≡ Ok 0 → tables.new.now
+        ≡ facts_with E.operation tables.old.now (spec.next_timestamp clock) event }
     ensures same { result ≢ Ok 0 → tables.new ≡ tables.old }
 {
     let mut event = event;
@@ -46,8 +48,10 @@ fn examine_all<'a, E: Event>(
 ) -> Result<Option<Fault<&'a [u8; 128]>>, NoMemory>
     requires { clock ≤ clock_max }
     ensures extends { Extends tables.old tables.new }
-    ensures fault { IfOk result (λ fault. fault_as (λ chunk. E.event_of chunk.now) fault ≡ first_fault E.operation 0 clock tables.old.now (map E.event_of chunks.now)) }
-    ensures stored { result ≡ Ok None → tables.new.now ≡ facts_with_all E.operation clock tables.old.now (map E.event_of chunks.now) }
+    ensures fault { IfOk result (λ fault. fault_as (λ chunk. E.event_of chunk.now) fault
+        ≡ first_fault E.operation 0 clock tables.old.now (map E.event_of chunks.now)) }
+    ensures stored { result ≡ Ok None → tables.new.now
+        ≡ facts_with_all E.operation clock tables.old.now (map E.event_of chunks.now) }
 {
     let mut clock = clock;
     for (index, chunk) in chunks.iter().enumerate() {
@@ -139,9 +143,11 @@ fn commit_closed_chain<E: Event>(
     requires room { vec_len out.old + length chain.now ≤ vec_capacity out.old }
     requires fits { index + length chain.now < 2 ^ 32 }
     ensures extends { Extends tables.old tables.new }
-    ensures facts { let outcome = closed_outcome E.operation clock tables.old.now (map E.event_of chain.now) (first_fault E.operation 0 clock tables.old.now (map E.event_of chain.now)) in
+    ensures facts { let outcome = closed_outcome E.operation clock tables.old.now (map E.event_of chain.now)
+        (first_fault E.operation 0 clock tables.old.now (map E.event_of chain.now)) in
         OnOk result (tables.new.now ≡ outcome.facts) }
-    ensures failures { let outcome = closed_outcome E.operation clock tables.old.now (map E.event_of chain.now) (first_fault E.operation 0 clock tables.old.now (map E.event_of chain.now)) in
+    ensures failures { let outcome = closed_outcome E.operation clock tables.old.now (map E.event_of chain.now)
+        (first_fault E.operation 0 clock tables.old.now (map E.event_of chain.now)) in
         OnOk result (out.new.items ≡ out.old.items ++ failures_from index outcome.results) }
     ensures len { vec_len out.new ≤ vec_len out.old + length chain.now }
     ensures capacity { vec_capacity out.new ≡ vec_capacity out.old }
@@ -169,9 +175,11 @@ fn commit_open_chain<E: Event>(
     requires room { vec_len out.old + length front.now < vec_capacity out.old }
     requires fits { index + length front.now + 1 < 2 ^ 32 }
     ensures extends { Extends tables.old tables.new }
-    ensures facts { let outcome = open_outcome E.operation tables.old.now (map E.event_of front.now) (first_fault E.operation 0 clock tables.old.now (map E.event_of front.now)) in
+    ensures facts { let outcome = open_outcome E.operation tables.old.now (map E.event_of front.now)
+        (first_fault E.operation 0 clock tables.old.now (map E.event_of front.now)) in
         OnOk result (tables.new.now ≡ outcome.facts) }
-    ensures failures { let outcome = open_outcome E.operation tables.old.now (map E.event_of front.now) (first_fault E.operation 0 clock tables.old.now (map E.event_of front.now)) in
+    ensures failures { let outcome = open_outcome E.operation tables.old.now (map E.event_of front.now)
+        (first_fault E.operation 0 clock tables.old.now (map E.event_of front.now)) in
         OnOk result (out.new.items ≡ out.old.items ++ failures_from index outcome.results) }
     ensures len { vec_len out.new ≤ vec_len out.old + length front.now + 1 }
     ensures capacity { vec_capacity out.new ≡ vec_capacity out.old }
@@ -200,8 +208,11 @@ fn commit_chain<E: Event>(
     requires room { vec_len out.old + length chain.now ≤ vec_capacity out.old }
     requires fits { index + length chain.now < 2 ^ 32 }
     ensures extends { Extends tables.old tables.new }
-    ensures facts { OnOk result (tables.new.now ≡ (chain_outcome E.operation clock tables.old.now (map E.event_of chain.now)).facts) }
-    ensures failures { OnOk result (out.new.items ≡ out.old.items ++ failures_from index (chain_outcome E.operation clock tables.old.now (map E.event_of chain.now)).results) }
+    ensures facts { OnOk result (tables.new.now ≡ (chain_outcome E.operation clock tables.old.now
+        (map E.event_of chain.now)).facts) }
+    ensures failures { OnOk result (out.new.items
+        ≡ out.old.items ++ failures_from index (chain_outcome E.operation clock tables.old.now
+            (map E.event_of chain.now)).results) }
     ensures len { vec_len out.new ≤ vec_len out.old + length chain.now }
     ensures capacity { vec_capacity out.new ≡ vec_capacity out.old }
 {
@@ -228,8 +239,10 @@ pub fn commit_chains<E: Event>(
     requires room { length chunks.now ≤ vec_capacity out.old }
     requires fits { length chunks.now < 2 ^ 32 }
     ensures extends { Extends tables.old tables.new }
-    ensures facts { OnOk result (tables.new.now ≡ (events_outcome E.operation clock tables.old.now (map E.event_of chunks.now)).facts) }
-    ensures failures { OnOk result (out.new.items ≡ failures_from 0 (events_outcome E.operation clock tables.old.now (map E.event_of chunks.now)).results) }
+    ensures facts { OnOk result (tables.new.now ≡ (events_outcome E.operation clock tables.old.now
+        (map E.event_of chunks.now)).facts) }
+    ensures failures { OnOk result (out.new.items
+        ≡ failures_from 0 (events_outcome E.operation clock tables.old.now (map E.event_of chunks.now)).results) }
     ensures capacity { vec_capacity out.new ≡ vec_capacity out.old }
 {
     let mut clock = clock;

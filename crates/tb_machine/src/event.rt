@@ -42,7 +42,8 @@ pub trait Event: Copy {
     fn examine(&mut self, tables: &mut Tables, timestamp: u64) -> Result<u32, NoMemory>
         requires { timestamp ≤ clock_max }
         ensures code { IfOk result (λ code. code ≡ operation.verdict tables.old.now timestamp self.old) }
-        ensures stored { result ≡ Ok 0 → tables.new ≡ with_change tables.old (operation.stored tables.old.now timestamp self.old) }
+        ensures stored { result ≡ Ok 0 → tables.new ≡ with_change tables.old
+            (operation.stored tables.old.now timestamp self.old) }
         ensures same { result ≢ Ok 0 → tables.new ≡ tables.old };
 
     /// Notes what the event's failing with this code leaves behind.
@@ -128,7 +129,8 @@ fn store_new_account(
 ) -> Result<bool, NoMemory>
     requires { account_number (verdict_beside None event.old) ≡ 0 }
     ensures new { IfOk result (λ added. added ≡ not (is_some (account_with tables.old.now event.old.id))) }
-    ensures added { result ≡ Ok true → tables.new ≡ with_change tables.old (add_account tables.old.now (record event.old { timestamp = timestamp })) }
+    ensures added { result ≡ Ok true → tables.new
+        ≡ with_change tables.old (add_account tables.old.now (record event.old { timestamp = timestamp })) }
     ensures same { result ≢ Ok true → tables.new ≡ tables.old }
     ensures event { OnOk result (event.new ≡ event.old) }
 {
@@ -152,7 +154,9 @@ fn store_new(
     requires clock { timestamp ≤ clock_max }
     requires ok { number_of (new_verdict_of tables.old.now timestamp event.old) ≡ 0 }
     ensures new { IfOk result (λ added. added ≡ not (is_some (transfer_with tables.old.now event.old.id))) }
-    ensures added { result ≡ Ok true → tables.new ≡ with_change tables.old (add_transfer tables.old.now (stored_transfer tables.old.now timestamp event.old)) }
+    ensures added { result ≡ Ok true → tables.new
+        ≡ with_change tables.old (add_transfer tables.old.now
+            (stored_transfer tables.old.now timestamp event.old)) }
     ensures same { result ≢ Ok true → tables.new ≡ tables.old }
     ensures event { OnOk result (event.new ≡ event.old) }
 {
@@ -181,7 +185,8 @@ fn examine_moving(
     requires target { IsTarget tables.old.now event.old (Between sides) }
     requires clock { timestamp ≤ clock_max }
     ensures code { IfOk result (λ code. code ≡ number_of (verdict_of tables.old.now timestamp event.old)) }
-    ensures stored { result ≡ Ok 0 → tables.new ≡ with_change tables.old (add_transfer tables.old.now (stored_transfer tables.old.now timestamp event.old)) }
+    ensures stored { result ≡ Ok 0 → tables.new ≡ with_change tables.old
+        (add_transfer tables.old.now (stored_transfer tables.old.now timestamp event.old)) }
     ensures same { result ≢ Ok 0 → tables.new ≡ tables.old }
 {
     let code = new_transfer_verdict(tables, Target::Between(sides), timestamp, event).number();
@@ -202,7 +207,9 @@ fn store_resolved(
     requires target { IsTarget tables.old.now event.now (Named pending) }
     requires ok { number_of (new_verdict_of tables.old.now timestamp event.now) ≡ 0 }
     ensures new { IfOk result (λ added. added ≡ not (is_some (transfer_with tables.old.now event.now.id))) }
-    ensures added { result ≡ Ok true → tables.new ≡ with_change tables.old (add_transfer tables.old.now (stored_transfer tables.old.now timestamp event.now)) }
+    ensures added { result ≡ Ok true → tables.new
+        ≡ with_change tables.old (add_transfer tables.old.now
+            (stored_transfer tables.old.now timestamp event.now)) }
     ensures same { result ≢ Ok true → tables.new ≡ tables.old }
 {
     let Some(place) = pending else { unreachable!() };
@@ -227,7 +234,8 @@ fn examine_resolving(
 ) -> Result<u32, NoMemory>
     requires { IsTarget tables.old.now event.now (Named pending) }
     ensures code { IfOk result (λ code. code ≡ number_of (verdict_of tables.old.now timestamp event.now)) }
-    ensures stored { result ≡ Ok 0 → tables.new ≡ with_change tables.old (add_transfer tables.old.now (stored_transfer tables.old.now timestamp event.now)) }
+    ensures stored { result ≡ Ok 0 → tables.new ≡ with_change tables.old
+        (add_transfer tables.old.now (stored_transfer tables.old.now timestamp event.now)) }
     ensures same { result ≢ Ok 0 → tables.new ≡ tables.old }
 {
     let target = Target::Named(pending);

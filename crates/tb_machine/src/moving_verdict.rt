@@ -99,7 +99,8 @@ fn between(timestamp: u64, debit: &Account, credit: &Account, event: &Transfer) 
 #[inline(always)]
 fn between_found(tables: &Tables, sides: Sides, timestamp: u64, event: &Transfer) -> TransferCode
     requires { AreSides tables.now.now event.now sides }
-    ensures { result ≡ spec.between_found timestamp (balanced_account tables.now.now event.now.debit_account_id) (balanced_account tables.now.now event.now.credit_account_id) event.now }
+    ensures { result ≡ spec.between_found timestamp (balanced_account tables.now.now event.now.debit_account_id)
+        (balanced_account tables.now.now event.now.credit_account_id) event.now }
 {
     let Some(debit) = account_at(tables, sides.debit) else {
         return TransferCode::DebitAccountNotFound;

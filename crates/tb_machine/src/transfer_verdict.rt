@@ -56,7 +56,8 @@ fn against_stored(stored: &Transfer, event: &Transfer) -> TransferCode
 #[inline(never)]
 fn against_place(tables: &Tables, place: usize, event: &Transfer) -> TransferCode
     requires { IsPlaceOfTransfer tables.now.now event.now.id (Some place) }
-    ensures { (timestamp : ℕ) → result ≡ spec.against_id tables.now.now timestamp (transfer_with tables.now.now event.now.id) event.now }
+    ensures { (timestamp : ℕ) → result ≡ spec.against_id tables.now.now timestamp
+        (transfer_with tables.now.now event.now.id) event.now }
 {
     let Some(stored) = tables.transfer_at(place) else {
         unreachable!()
@@ -104,7 +105,8 @@ fn verdict_beside(
     requires target { IsTarget tables.now.now event.now target }
     requires found { (place : ℕ) → found ≡ Some place → IsPlaceOfTransfer tables.now.now event.now.id (Some place) }
     ensures new { found ≡ None → result ≡ spec.new_transfer_verdict tables.now.now timestamp event.now }
-    ensures any { IsPlaceOfTransfer tables.now.now event.now.id found → result ≡ spec.transfer_verdict tables.now.now timestamp event.now }
+    ensures any { IsPlaceOfTransfer tables.now.now event.now.id found
+        → result ≡ spec.transfer_verdict tables.now.now timestamp event.now }
 {
     if event.timestamp != 0 {
         return TransferCode::TimestampMustBeZero;

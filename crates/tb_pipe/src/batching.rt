@@ -72,7 +72,8 @@ fn pass_ticket<R: Wait, G: Gate>(
     requires empty { parcels.old.items ≡ [] }
     ensures ring { SameOutlet batches.old batches.new }
     ensures none { parcels.new.items ≡ [] }
-    ensures batched { (limit submitters : ℕ) (queue : List TicketValue) → IsBatched limit submitters queue front.old (given batches.old)
+    ensures batched { (limit submitters : ℕ) (queue : List TicketValue)
+        → IsBatched limit submitters queue front.old (given batches.old)
         → IsBatched limit submitters (queue ++ ticket ∷ []) front.new (given batches.new) }
 {
     front.take_into(parcels, ticket);
@@ -88,7 +89,8 @@ fn pass_group<R: Wait, G: Gate>(
     sealed: u64,
 ) -> u64
     ensures ring { SameOutlet batches.old batches.new }
-    ensures batched { (limit submitters : ℕ) (queue : List TicketValue) → IsBatched limit submitters queue front.old (given batches.old)
+    ensures batched { (limit submitters : ℕ) (queue : List TicketValue)
+        → IsBatched limit submitters queue front.old (given batches.old)
         → IsBatched limit submitters queue front.new (given batches.new) }
     ensures none { front.new.held ≡ [] }
 {

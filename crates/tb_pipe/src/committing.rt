@@ -35,7 +35,8 @@ impl Promise<Committed> for Commitment {
     ghost use Rattle.tb_rings.specs.Ends.{given, taken, SameOutlet, SameInlet};
     ghost use Rattle.tb_pipe.specs.Carried.{AllCommitted};
 
-    ghost kept_by = { λ p r. SameInlet p.inlet.value r.inlet × SameOutlet p.outlet.value r.outlet × AllCommitted p.clock (taken r.inlet) r.ledger (given r.outlet) };
+    ghost kept_by = { λ p r. SameInlet p.inlet.value r.inlet × SameOutlet p.outlet.value r.outlet
+        × AllCommitted p.clock (taken r.inlet) r.ledger (given r.outlet) };
 }
 
 fn is_last(parcel: &Parcel) -> bool

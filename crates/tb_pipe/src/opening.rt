@@ -4,8 +4,7 @@ ghost use Rattle.std.specs.Prelude.{◌≡◌, ◌≤◌, ◌<◌, ℕ, [], map,
 ghost use Rattle.tb_layout.specs.Limits.{clock_max};
 ghost use Rattle.tb_rings.specs.Ends.{given, taken, IsRing};
 ghost use Rattle.tb_submit.specs.Ends.{Origin, new_submitter, new_control, new_intake, origin_of, seat_at};
-ghost use Rattle.tb_submit.specs.Refusals.{IsRefusal, queue_refusal};
-ghost use Rattle.tb_work.specs.declared.refusal.Refusal.TheVariants as refusal;
+ghost use Rattle.tb_submit.specs.Refusals.{IsQueueRefusal, queue_refusal};
 
 use crate::serving::Pipeline;
 use crate::stages::Stages;
@@ -37,7 +36,8 @@ struct Rings {
 /// The rings between the stages. None where memory is wanting.
 fn open_rings(alloc: Global) -> Option<Rings>
     ensures pairs { IfSome result (λ rings. IsRing rings.batches rings.parcels × IsRing rings.made rings.outcomes) }
-    ensures empty { IfSome result (λ rings. (given rings.batches ≡ []) × (taken rings.parcels ≡ []) × (given rings.made ≡ []) × (taken rings.outcomes ≡ [])) }
+    ensures empty { IfSome result (λ rings. (given rings.batches ≡ []) × (taken rings.parcels ≡ [])
+        × (given rings.made ≡ []) × (taken rings.outcomes ≡ [])) }
 {
     let Ok((batches, parcels)) = ring(alloc, STAGE_SLOTS) else {
         return None;
@@ -71,14 +71,17 @@ pub fn open(
 ) -> Result<Opened, Refusal>
     requires { clock ≤ clock_max }
     ensures clock { IfOk result (λ opened. opened.pipeline.clock ≡ clock) }
-    ensures intake { IfOk result (λ opened. opened.pipeline.intake ≡ new_intake opened.pipeline.intake.queue submitters limit capacity) }
-    ensures submitters { IfOk result (λ opened. opened.submitters.items ≡ map (new_submitter credit) opened.pipeline.submitters) }
+    ensures intake { IfOk result (λ opened. opened.pipeline.intake
+        ≡ new_intake opened.pipeline.intake.queue submitters limit capacity) }
+    ensures submitters { IfOk result (λ opened. opened.submitters.items
+        ≡ map (new_submitter credit) opened.pipeline.submitters) }
     ensures own { IfOk result (λ opened. map origin_of opened.submitters.items ≡ opened.pipeline.submitters) }
     ensures number { IfOk result (λ opened. length opened.pipeline.submitters ≡ submitters) }
-    ensures seats { IfOk result (λ opened. (k : ℕ) (d : Origin) → k < submitters → (slice_index_or opened.pipeline.submitters k d).seat ≡ seat_at opened.pipeline.intake k) }
+    ensures seats { IfOk result (λ opened. (k : ℕ) (d : Origin) → k < submitters
+        → (slice_index_or opened.pipeline.submitters k d).seat ≡ seat_at opened.pipeline.intake k) }
     ensures control { IfOk result (λ opened. opened.control ≡ new_control opened.pipeline.intake) }
     ensures opens { OnOk result (queue_refusal limit capacity credit submitters ≡ None) }
-    ensures refusal { IfErr result (λ why. IsRefusal (queue_refusal limit capacity credit submitters) (λ other. other ≡ refusal.NoMemory) why) }
+    ensures refusal { IfErr result (IsQueueRefusal limit capacity credit submitters) }
 {
     let ends = open_queue(alloc, limit, capacity, credit, submitters)?;
     let Some(rings) = open_rings(alloc) else {

@@ -33,7 +33,8 @@ impl Promise<Routed> for Routing {
     ghost use Rattle.tb_rings.specs.Ends.{taken, SameInlet};
     ghost use Rattle.tb_pipe.specs.Outlets.{SameOutlets, AllRouted};
 
-    ghost kept_by = { λ p r. SameInlet p.inlet.value r.inlet × SameOutlets p.outlets.value.items r.outlets.items × AllRouted (taken r.inlet) r.outlets.items };
+    ghost kept_by = { λ p r. SameInlet p.inlet.value r.inlet × SameOutlets p.outlets.value.items r.outlets.items
+        × AllRouted (taken r.inlet) r.outlets.items };
 }
 
 /// A reply into its submitter's ring. There is room: the ring has as many slots as its submitter may have

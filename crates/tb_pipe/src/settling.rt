@@ -26,12 +26,15 @@ fn settle_remains(remains: Remains, ends: Vec<Ended>, control: ControlEnd) -> Re
     requires served { IsServed remains }
     requires ends { map end_origin ends.items ≡ origins remains.intake remains.routed.outlets.items }
     requires control { control.seat ≡ control_seat remains.intake }
-    ensures report { LawfulReport remains.committed.ledger.opening remains.intake.submitters remains.intake.taken (queued_by ends.items control) (works result.ledger) (replay result.ledger.opening (works result.ledger)) result.ledger.stopped (replies_of result.ends.items) }
+    ensures report { LawfulReport remains.committed.ledger.opening remains.intake.submitters remains.intake.taken
+        (queued_by ends.items control) (works result.ledger)
+        (replay result.ledger.opening (works result.ledger)) result.ledger.stopped (replies_of result.ends.items) }
     ensures grouping { IsGrouping remains.intake.limit result.ledger.groups }
     ensures pulses { IsPrefixOf (moments_committed (works result.ledger)) (moments_queued control.queued) }
     ensures ledger { result.ledger ≡ remains.committed.ledger }
     ensures long { length result.ends.items ≡ remains.intake.submitters }
-    ensures read { (k : ℕ) (d : EndedState) → (slice_index_or result.ends.items k d).read ≡ (slice_index_or ends.items k d).read }
+    ensures read { (k : ℕ) (d : EndedState) → (slice_index_or result.ends.items k d).read
+        ≡ (slice_index_or ends.items k d).read }
 {
     run_is_lawful();
     let Remains {
@@ -55,12 +58,15 @@ fn settle_remains(remains: Remains, ends: Vec<Ended>, control: ControlEnd) -> Re
 pub fn settle(served: Served, ends: Vec<Ended>, control: ControlEnd) -> Report
     requires ends { map end_origin ends.items ≡ served.submitters }
     requires control { control.seat ≡ control_seat served.intake }
-    ensures report { LawfulReport served.clock served.intake.submitters served.intake.taken (queued_by ends.items control) (works result.ledger) (replay result.ledger.opening (works result.ledger)) result.ledger.stopped (replies_of result.ends.items) }
+    ensures report { LawfulReport served.clock served.intake.submitters served.intake.taken
+        (queued_by ends.items control) (works result.ledger)
+        (replay result.ledger.opening (works result.ledger)) result.ledger.stopped (replies_of result.ends.items) }
     ensures grouping { IsGrouping served.intake.limit result.ledger.groups }
     ensures pulses { IsPrefixOf (moments_committed (works result.ledger)) (moments_queued control.queued) }
     ensures ledger { result.ledger ≡ served.ledger }
     ensures long { length result.ends.items ≡ served.intake.submitters }
-    ensures read { (k : ℕ) (d : EndedState) → (slice_index_or result.ends.items k d).read ≡ (slice_index_or ends.items k d).read }
+    ensures read { (k : ℕ) (d : EndedState) → (slice_index_or result.ends.items k d).read
+        ≡ (slice_index_or ends.items k d).read }
 {
     settle_remains(served.into_remains(), ends, control)
 }

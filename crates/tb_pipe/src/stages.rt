@@ -53,7 +53,8 @@ fn start_committer<'s, E, R: Wait + Sync, G: Gate>(
     ledger: Ledger,
 ) -> Option<PromisedHandle<Committed, Commitment>>
     requires { IsCommitted ledger.opening (taken parcels) ledger (given made) }
-    ensures { IfSome result (λ handle. (handle.promise.inlet.value ≡ parcels) × (handle.promise.outlet.value ≡ made) × (handle.promise.clock ≡ ledger.opening)) }
+    ensures { IfSome result (λ handle. (handle.promise.inlet.value ≡ parcels) × (handle.promise.outlet.value ≡ made)
+        × (handle.promise.clock ≡ ledger.opening)) }
 {
     let promise = Commitment {
         inlet: Snapshot::of(&parcels),
@@ -79,7 +80,8 @@ fn start_demultiplexer<'s, E, R: Wait + Sync>(
     outlets: Vec<Outlet<Reply>>,
 ) -> Option<PromisedHandle<Routed, Routing>>
     requires { AllGiven (answers_in (taken outcomes)) outlets.items }
-    ensures { IfSome result (λ handle. (handle.promise.inlet.value ≡ outcomes) × (handle.promise.outlets.value ≡ outlets)) }
+    ensures { IfSome result (λ handle. (handle.promise.inlet.value ≡ outcomes)
+        × (handle.promise.outlets.value ≡ outlets)) }
 {
     let promise = Routing {
         inlet: Snapshot::of(&outcomes),

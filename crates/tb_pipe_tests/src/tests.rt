@@ -91,7 +91,8 @@ struct Lone {
 /// The parts of a pipeline that was opened for one submitter.
 fn lone_of(opened: Opened) -> Lone
     requires { length opened.submitters.items ≡ 1 }
-    ensures { (result.pipeline ≡ opened.pipeline) × (result.submitter ∷ [] ≡ opened.submitters.items) × (result.control ≡ opened.control) }
+    ensures { (result.pipeline ≡ opened.pipeline) × (result.submitter ∷ [] ≡ opened.submitters.items)
+        × (result.control ≡ opened.control) }
 {
     let Opened {
         pipeline,
@@ -243,7 +244,8 @@ fn finish<R: Threads + Wait + Sync, G: Gate>(
 ) -> Result<Report, (Intake, Refusal)>
     requires own { map end_origin ends.submitters.items ≡ pipeline.submitters }
     requires control { ends.control.seat ≡ control_seat pipeline.intake }
-    ensures { IfOk result (λ report. IsRun pipeline.clock pipeline.intake.limit pipeline.intake.submitters report.ledger report.ends.items) }
+    ensures { IfOk result (λ report. IsRun pipeline.clock pipeline.intake.limit pipeline.intake.submitters
+        report.ledger report.ends.items) }
 {
     match pipeline.serve(rt, gate) {
         Ok(served) => Ok(settle(served, ends.submitters, ends.control)),
@@ -261,7 +263,8 @@ fn finish_lone<R: Threads + Wait + Sync + Abort, G: Gate>(
     gate: &G,
 ) -> Report
     requires { AreTogether lone.pipeline (lone.submitter ∷ []) lone.control }
-    ensures { IsRun lone.pipeline.clock lone.pipeline.intake.limit lone.pipeline.intake.submitters result.ledger result.ends.items }
+    ensures { IsRun lone.pipeline.clock lone.pipeline.intake.limit lone.pipeline.intake.submitters
+        result.ledger result.ends.items }
 {
     let Lone {
         pipeline,

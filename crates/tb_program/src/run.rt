@@ -87,7 +87,8 @@ fn run_opened<T: Threads + Wait + Sync>(
     requires fresh { AreFresh opened.submitters.items }
     requires silent { opened.control.queued ≡ [] }
     requires new { AreNew drivers.items }
-    ensures { IfOk result (λ text. IsRunText opened.pipeline.clock opened.pipeline.intake.limit (map share_of drivers.items)
+    ensures { IfOk result (λ text. IsRunText opened.pipeline.clock opened.pipeline.intake.limit
+        (map share_of drivers.items)
         (lines_of lines.moments.items lines.shuts) (refused_of lines.moments.items) (string_bytes text)) }
 {
     match drive_all(rt, alloc, opened, drivers, lines) {
@@ -120,8 +121,10 @@ fn output_of<T: Threads + Wait + Sync, R: Read>(
     reader: &mut R,
 ) -> Result<(String, bool), ProgramFault>
     ensures faultless { IfOk result (λ both. IfSome (R.remaining reader.old) (λ bytes. both.1 ≡ is_faultless bytes)) }
-    ensures faulty { IfOk result (λ both. IfSome (R.remaining reader.old) (λ bytes. is_faultless bytes ≡ false → string_bytes both.0 ≡ out bytes)) }
-    ensures ran { IfOk result (λ both. IfSome (R.remaining reader.old) (λ bytes. is_faultless bytes ≡ true → IsRunOf bytes (string_bytes both.0))) }
+    ensures faulty { IfOk result (λ both. IfSome (R.remaining reader.old) (λ bytes. is_faultless bytes ≡ false
+        → string_bytes both.0 ≡ out bytes)) }
+    ensures ran { IfOk result (λ both. IfSome (R.remaining reader.old) (λ bytes. is_faultless bytes ≡ true
+        → IsRunOf bytes (string_bytes both.0))) }
 {
     match read_source(alloc, reader)? {
         Source::Script(script) => Ok((output_for(rt, alloc, script)?, true)),
@@ -140,7 +143,8 @@ pub fn run_threads<T: Threads + Wait + Sync, R: Read, W: Write>(
     reader: &mut R,
     writer: &mut W,
 ) -> Result<bool, ProgramFault>
-    ensures faultless { IfOk result (λ faultless. IfSome (R.remaining reader.old) (λ bytes. faultless ≡ is_faultless bytes)) }
+    ensures faultless { IfOk result (λ faultless.
+        IfSome (R.remaining reader.old) (λ bytes. faultless ≡ is_faultless bytes)) }
     // Of a faulty script the line is written that `run_script` writes, and nothing else.
     ensures faulty { IfOk result (λ faultless. IfSome (R.remaining reader.old) (λ bytes. is_faultless bytes ≡ false
         → Appends (W.contents writer.old) (W.contents writer.new) (out bytes))) }

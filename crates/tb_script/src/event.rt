@@ -104,7 +104,8 @@ struct NamedField<'a> {
 
 /// What stands behind a name and its `=`, where the line begins with these.
 fn behind_name<'a>(line: &'a [u8], name: &[u8]) -> Option<&'a [u8]>
-    ensures { MatchOption result ((others : List ℕ) → line.now ≡ name.now ++ 61 ∷ others → ⊥) (λ others. line.now ≡ name.now ++ 61 ∷ others.now) }
+    ensures { MatchOption result ((others : List ℕ) → line.now ≡ name.now ++ 61 ∷ others
+        → ⊥) (λ others. line.now ≡ name.now ++ 61 ∷ others.now) }
 {
     let end = name.len();
     if end < line.len() && line[end] == b'=' && &line[..end] == name {
@@ -119,7 +120,8 @@ fn behind_name<'a>(line: &'a [u8], name: &[u8]) -> Option<&'a [u8]>
 #[inline(always)]
 fn named<'a>(mut table: &[(&[u8], Field)], line: &'a [u8]) -> Result<NamedField<'a>, Fault>
     requires { All (λ row. IsBare row.0.now) table.now }
-    ensures both { Tells (λ first. (first.field, first_word first.from_number.now)) result (named (first_word line.now) (map (λ row. (row.0.now, row.1)) table.entry.now)) }
+    ensures both { Tells (λ first. (first.field, first_word first.from_number.now)) result
+        (named (first_word line.now) (map (λ row. (row.0.now, row.1)) table.entry.now)) }
     ensures rest { IfOk result (λ first. behind_first_word first.from_number.now ≡ behind_first_word line.now) }
     ensures behind { IfOk result (λ first. first.behind ≤ length table.entry.now) }
 {
@@ -146,7 +148,8 @@ fn named_from<'a>(
     requires place { place ≤ length table.now }
     requires bare { All (λ row. IsBare row.0.now) table.now }
     requires own { All (λ row. look_up row.0.now (map (λ row. (row.0.now, row.1)) table.now) ≡ Some row.1) table.now }
-    ensures both { Tells (λ first. (first.field, first_word first.from_number.now)) result (named (first_word line.now) (map (λ row. (row.0.now, row.1)) table.now)) }
+    ensures both { Tells (λ first. (first.field, first_word first.from_number.now)) result
+        (named (first_word line.now) (map (λ row. (row.0.now, row.1)) table.now)) }
     ensures rest { IfOk result (λ first. behind_first_word first.from_number.now ≡ behind_first_word line.now) }
     ensures behind { IfOk result (λ first. first.behind ≤ length table.now) }
 {
@@ -160,7 +163,8 @@ fn named_from<'a>(
 #[tactic(auto, unfolding(crate::specs::Event::field_and_number))]
 fn field_and_number(layout: Layout, place: usize, line: &[u8]) -> Result<NamedField, Fault>
     requires { place ≤ 13 }
-    ensures both { Tells (λ first. (first.field, first_word first.from_number.now)) result (field_and_number layout (first_word line.now)) }
+    ensures both { Tells (λ first. (first.field, first_word first.from_number.now)) result
+        (field_and_number layout (first_word line.now)) }
     ensures rest { IfOk result (λ first. behind_first_word first.from_number.now ≡ behind_first_word line.now) }
     ensures behind { IfOk result (λ first. first.behind ≤ 13) }
     ensures lies { IfOk result (λ first. Lies first.field) }

@@ -1,5 +1,5 @@
 -- Why a call is refused.
-use Rattle.std.specs.Prelude.{◌≡◌, ℕ, ◌-◌, ◌==◌, ◌||◌, if◌then◌else◌, nat_lt, List, [], ◌∷◌, length, Option, Some, None, Result, Ok, Err}
+use Rattle.std.specs.Prelude.{◌≡◌, ℕ, ◌-◌, ◌==◌, ◌||◌, ◌⊎◌, if◌then◌else◌, nat_lt, List, [], ◌∷◌, length, Option, Some, None, Result, Ok, Err}
 use Rattle.tb_layout.specs.Limits.{batch_max, capacity_max, submitters_max}
 use Rattle.tb_work.specs.Admission.{admission_of}
 use Rattle.tb_work.specs.Reply.{Replied}
@@ -7,7 +7,7 @@ use Rattle.tb_work.specs.declared.outcome.Outcome.{Outcome}
 use Rattle.tb_work.specs.declared.outcome.Outcome.TheVariants as outcome
 use Rattle.tb_work.specs.declared.packet.Packet.{Packet}
 use Rattle.tb_work.specs.declared.refusal.Refusal.{Refusal}
-use Rattle.tb_work.specs.declared.refusal.Refusal.TheVariants.{InFlight, Shutdown, Stopped, BadLimit, BadCapacity, BadSubmitters}
+use Rattle.tb_work.specs.declared.refusal.Refusal.TheVariants.{InFlight, Full, NoMemory, Shutdown, Stopped, BadLimit, BadCapacity, BadSubmitters}
 use Rattle.tb_submit.specs.Ends.{SubmitterState}
 
 -- the refusal is the one that is due, or where none is due, one of the others
@@ -29,6 +29,10 @@ queue_refusal limit capacity credit submitters =
     else if nat_lt capacity 1 || nat_lt capacity_max capacity || nat_lt credit 1 || nat_lt capacity_max credit then Some BadCapacity
     else if nat_lt submitters 1 || nat_lt submitters_max submitters then Some BadSubmitters
     else None
+
+-- why it isn't opened: the refusal that is due, or want of memory where none is
+abbrev pub IsQueueRefusal : ℕ → ℕ → ℕ → ℕ → Refusal → Type 0
+IsQueueRefusal limit capacity credit submitters refusal = IsRefusal (queue_refusal limit capacity credit submitters) (λ other. other ≡ NoMemory) refusal
 
 -- ---- submitting
 
@@ -56,3 +60,7 @@ abbrev pub submit_refusal : SubmitterState → Packet → Option Refusal
 submit_refusal submitter packet =
     or_else (told_in submitter.read)
     (or_else (refusal_in (admission_of submitter.origin.seat.limit packet)) (if in_flight submitter == submitter.credit then Some InFlight else None))
+
+-- why a packet isn't queued: the refusal that is due, or where none is, want of memory or a full queue
+abbrev pub IsSubmitRefusal : SubmitterState → Packet → Refusal → Type 0
+IsSubmitRefusal submitter packet refusal = IsRefusal (submit_refusal submitter packet) (λ other. (other ≡ NoMemory) ⊎ (other ≡ Full)) refusal

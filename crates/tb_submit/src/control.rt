@@ -27,7 +27,8 @@ impl Model for Control {
 
     ghost view = { λ c. c.sender };
 
-    ghost invariant = { λ c. (c.queued ≡ length c.sender.queued) × ArePulses c.sender.queued × (c.sender.seat.number ≡ c.sender.seat.submitters) };
+    ghost invariant = { λ c. (c.queued ≡ length c.sender.queued) × ArePulses c.sender.queued
+        × (c.sender.seat.number ≡ c.sender.seat.submitters) };
 }
 
 impl Control {

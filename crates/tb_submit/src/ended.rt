@@ -37,9 +37,11 @@ impl Ended {
     /// The next reply; None where none is seen, and once its pipeline was settled only when all were
     /// read. It waits for nobody.
     pub fn reply(&mut self) -> Option<Reply>
-        ensures some { IfSome result (λ reply. self.new ≡ record self.old { read = self.old.read ++ reply ∷ []; lying = self.new.lying }) }
+        ensures some { IfSome result (λ reply. self.new
+            ≡ record self.old { read = self.old.read ++ reply ∷ []; lying = self.new.lying }) }
         ensures none { IfNone result (self.new ≡ record self.old { lying = [] }) }
-        ensures known { 0 < length self.old.lying → IsSomeAnd result (λ reply. self.old.lying ≡ reply ∷ self.new.lying) }
+        ensures known { 0 < length self.old.lying → IsSomeAnd result (λ reply.
+            self.old.lying ≡ reply ∷ self.new.lying) }
     {
         self.inlet.take()
     }
@@ -48,8 +50,10 @@ impl Ended {
     pub(crate) fn settle(&mut self, reader: &mut Reader, outlet: &mut Outlet<Reply>)
         requires queue { self.old.origin.seat.queue ≡ Some reader.old.queue }
         requires ring { self.old.origin.ring ≡ outlet_ring outlet.old }
-        ensures entries { reader.new ≡ record reader.old { entries = reader.old.entries ++ entry self.old.origin.seat.number self.old.queued ∷ [] } }
-        ensures filed { IsFiled self.old.origin.seat.limit self.old.origin.seat.submitters self.old.origin.seat.number self.old.queued }
+        ensures entries { reader.new ≡ record reader.old { entries = reader.old.entries
+            ++ entry self.old.origin.seat.number self.old.queued ∷ [] } }
+        ensures filed { IsFiled self.old.origin.seat.limit self.old.origin.seat.submitters
+            self.old.origin.seat.number self.old.queued }
         ensures replies { self.new.read ++ self.new.lying ≡ given outlet.old }
         ensures read { self.new.read ≡ self.old.read }
     {

@@ -4,8 +4,7 @@ ghost use Rattle.std.specs.Prelude.{◌≡◌, ◌<◌, ◌≤◌, ◌+◌, [], 
 ghost use Rattle.tb_layout.specs.Limits.{batch_max, capacity_max, submitters_max};
 ghost use Rattle.tb_rings.specs.Ends.{given, slots};
 ghost use Rattle.tb_submit.specs.Ends.{new_submitter, new_control, new_intake, origins, origin_of};
-ghost use Rattle.tb_submit.specs.Refusals.{IsRefusal, queue_refusal};
-ghost use Rattle.tb_work.specs.declared.refusal.Refusal.TheVariants as refusal;
+ghost use Rattle.tb_submit.specs.Refusals.{IsQueueRefusal, queue_refusal};
 
 use crate::control::Control;
 use crate::intake::Intake;
@@ -37,8 +36,11 @@ fn open_submitters(
     requires range { (limit ≤ batch_max) × (credit ≤ capacity_max) }
     requires fresh { (reader.old.entries ≡ []) × (reader.old.taken ≡ []) × (reader.old.count ≡ 0) }
     ensures reader { OnOk result (reader.new ≡ record reader.old { count = submitters }) }
-    ensures submitters { IfOk result (λ ends. ends.0.items ≡ map (new_submitter credit) (origins (new_intake reader.old.queue submitters limit reader.old.capacity) ends.1.items)) }
-    ensures outlets { IfOk result (λ ends. (length ends.1.items ≡ submitters) × All (λ outlet. given outlet ≡ []) ends.1.items) }
+    ensures submitters { IfOk result (λ ends. ends.0.items
+        ≡ map (new_submitter credit) (origins (new_intake reader.old.queue submitters limit
+            reader.old.capacity) ends.1.items)) }
+    ensures outlets { IfOk result (λ ends. (length ends.1.items ≡ submitters)
+        × All (λ outlet. given outlet ≡ []) ends.1.items) }
     ensures slots { IfOk result (λ ends. All (λ outlet. slots outlet ≡ credit) ends.1.items) }
 {
     let mut opened = Vec::new(alloc);
@@ -60,10 +62,12 @@ fn open_ends(
     submitters: u32,
 ) -> Result<Ends, NoMemory>
     requires range { (limit ≤ batch_max) × (0 < capacity) × (credit ≤ capacity_max) × (submitters ≤ submitters_max) }
-    ensures submitters { IfOk result (λ ends. ends.submitters.items ≡ map (new_submitter credit) (origins ends.intake ends.outlets.items)) }
+    ensures submitters { IfOk result (λ ends. ends.submitters.items
+        ≡ map (new_submitter credit) (origins ends.intake ends.outlets.items)) }
     ensures control { IfOk result (λ ends. ends.control ≡ new_control ends.intake) }
     ensures intake { IfOk result (λ ends. ends.intake ≡ new_intake ends.intake.queue submitters limit capacity) }
-    ensures outlets { IfOk result (λ ends. (length ends.outlets.items ≡ submitters) × All (λ outlet. given outlet ≡ []) ends.outlets.items) }
+    ensures outlets { IfOk result (λ ends. (length ends.outlets.items ≡ submitters)
+        × All (λ outlet. given outlet ≡ []) ends.outlets.items) }
     ensures slots { IfOk result (λ ends. All (λ outlet. slots outlet ≡ credit) ends.outlets.items) }
 {
     let mut reader = Reader::new(alloc, capacity as usize)?;
@@ -88,14 +92,16 @@ pub fn open_queue(
     credit: u32,
     submitters: u32,
 ) -> Result<Ends, Refusal>
-    ensures submitters { IfOk result (λ ends. ends.submitters.items ≡ map (new_submitter credit) (origins ends.intake ends.outlets.items)) }
+    ensures submitters { IfOk result (λ ends. ends.submitters.items
+        ≡ map (new_submitter credit) (origins ends.intake ends.outlets.items)) }
     ensures own { IfOk result (λ ends. map origin_of ends.submitters.items ≡ origins ends.intake ends.outlets.items) }
     ensures control { IfOk result (λ ends. ends.control ≡ new_control ends.intake) }
     ensures intake { IfOk result (λ ends. ends.intake ≡ new_intake ends.intake.queue submitters limit capacity) }
-    ensures outlets { IfOk result (λ ends. (length ends.outlets.items ≡ submitters) × All (λ outlet. given outlet ≡ []) ends.outlets.items) }
+    ensures outlets { IfOk result (λ ends. (length ends.outlets.items ≡ submitters)
+        × All (λ outlet. given outlet ≡ []) ends.outlets.items) }
     ensures slots { IfOk result (λ ends. All (λ outlet. slots outlet ≡ credit) ends.outlets.items) }
     ensures opens { OnOk result (queue_refusal limit capacity credit submitters ≡ None) }
-    ensures refusal { IfErr result (λ why. IsRefusal (queue_refusal limit capacity credit submitters) (λ other. other ≡ refusal.NoMemory) why) }
+    ensures refusal { IfErr result (IsQueueRefusal limit capacity credit submitters) }
 {
     if limit < 1 || limit > BATCH_MAX {
         return Err(Refusal::BadLimit);

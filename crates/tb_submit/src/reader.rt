@@ -45,7 +45,9 @@ impl Model for Reader {
       count = count_of (view_of s.place).mark;
     } };
 
-    ghost invariant = { λ s. IsPassOf (arc_value s.queue) s.place × (view_of s.place ≡ intake (view_of s.place).entries (taken_of (view_of s.place).mark) (count_of (view_of s.place).mark)) };
+    ghost invariant = { λ s. IsPassOf (arc_value s.queue) s.place
+        × (view_of s.place ≡ intake (view_of s.place).entries (taken_of (view_of s.place).mark)
+            (count_of (view_of s.place).mark)) };
 }
 
 impl Reader {
@@ -71,7 +73,8 @@ impl Reader {
         ensures queue { (self.new.queue ≡ self.old.queue) × (self.new.capacity ≡ self.old.capacity) }
         ensures same { (self.new.entries ≡ self.old.entries) × (self.new.taken ≡ self.old.taken) }
         ensures count { OnOk result (self.new.count ≡ self.old.count + 1) }
-        ensures sender { IfOk result (λ sender. sender ≡ record { seat = seat_with (Some self.old.queue) submitters limit number; queued = [] }) }
+        ensures sender { IfOk result (λ sender. sender
+            ≡ record { seat = seat_with (Some self.old.queue) submitters limit number; queued = [] }) }
     {
         let queue = Arc::try_clone(&self.queue)?;
         let place = self.queue.another::<Newcomer>(&mut self.place);
@@ -96,7 +99,8 @@ impl Reader {
     /// What an ended sender pushed is known here from now on.
     pub(crate) fn gather(&mut self, ended: &mut EndedSender)
         requires { ended.old.seat.queue ≡ Some self.old.queue }
-        ensures entries { self.new ≡ record self.old { entries = self.old.entries ++ entry ended.old.seat.number ended.old.queued ∷ [] } }
+        ensures entries { self.new ≡ record self.old { entries = self.old.entries
+            ++ entry ended.old.seat.number ended.old.queued ∷ [] } }
         ensures filed { IsFiled ended.old.seat.limit ended.old.seat.submitters ended.old.seat.number ended.old.queued }
     {
         let Some(place) = ended.place.take() else {

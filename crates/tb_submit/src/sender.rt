@@ -46,7 +46,8 @@ impl Model for Sender {
 
     ghost view = { λ s. state_while_open s.place s.submitters s.limit s.number };
 
-    ghost invariant = { λ s. IsPassOf (arc_value s.queue) s.place × (view_of s.place ≡ sender s.number (first_pushed (view_of s.place).entries)) };
+    ghost invariant = { λ s. IsPassOf (arc_value s.queue) s.place
+        × (view_of s.place ≡ sender s.number (first_pushed (view_of s.place).entries)) };
 }
 
 impl Sender {

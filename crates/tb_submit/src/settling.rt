@@ -19,12 +19,19 @@ use tb_work::Reply;
 
 /// What each of them queued goes to the reader, and each sees what lies in its ring.
 fn settle_all(reader: &mut Reader, ends: Vec<Ended>, outlets: Vec<Outlet<Reply>>) -> Vec<Ended>
-    requires { (intake : IntakeState) × (intake.queue ≡ reader.old.queue) × (map end_origin ends.items ≡ origins intake outlets.items) }
+    requires { (intake : IntakeState) × (intake.queue ≡ reader.old.queue)
+        × (map end_origin ends.items ≡ origins intake outlets.items) }
     ensures reader { reader.new ≡ record reader.old { entries = reader.old.entries ++ map entry_of ends.items } }
-    ensures filed { (k : ℕ) (d : EndedState) → k < length ends.items → IsFiled (slice_index_or ends.items k d).origin.seat.limit (slice_index_or ends.items k d).origin.seat.submitters (slice_index_or ends.items k d).origin.seat.number (slice_index_or ends.items k d).queued }
+    ensures filed { (k : ℕ) (d : EndedState) → k < length ends.items
+        → IsFiled (slice_index_or ends.items k d).origin.seat.limit
+            (slice_index_or ends.items k d).origin.seat.submitters
+            (slice_index_or ends.items k d).origin.seat.number (slice_index_or ends.items k d).queued }
     ensures long { length result.items ≡ length ends.items }
-    ensures replies { (k : ℕ) (d : EndedState) (o : OutletValue Replied) → k < length ends.items → (slice_index_or result.items k d).read ++ (slice_index_or result.items k d).lying ≡ given (slice_index_or outlets.items k o) }
-    ensures read { (k : ℕ) (d : EndedState) → (slice_index_or result.items k d).read ≡ (slice_index_or ends.items k d).read }
+    ensures replies { (k : ℕ) (d : EndedState) (o : OutletValue Replied) → k < length ends.items
+        → (slice_index_or result.items k d).read ++ (slice_index_or result.items k d).lying
+        ≡ given (slice_index_or outlets.items k o) }
+    ensures read { (k : ℕ) (d : EndedState) → (slice_index_or result.items k d).read
+        ≡ (slice_index_or ends.items k d).read }
 {
     let mut ends = ends;
     let mut outlets = outlets;
@@ -50,8 +57,10 @@ pub fn settle_queue(
     ensures queue { IsQueueOf intake.submitters intake.taken (queued_by ends.items control) }
     ensures within { AreWithin intake.limit intake.taken }
     ensures long { length result.items ≡ intake.submitters }
-    ensures replies { (sender : ℕ) (d : OutletValue Replied) → sender < intake.submitters → replies_of result.items sender ≡ given (slice_index_or outlets.items sender d) }
-    ensures read { (k : ℕ) (d : EndedState) → (slice_index_or result.items k d).read ≡ (slice_index_or ends.items k d).read }
+    ensures replies { (sender : ℕ) (d : OutletValue Replied) → sender < intake.submitters
+        → replies_of result.items sender ≡ given (slice_index_or outlets.items sender d) }
+    ensures read { (k : ℕ) (d : EndedState) → (slice_index_or result.items k d).read
+        ≡ (slice_index_or ends.items k d).read }
 {
     let mut reader = intake.reader;
     let mut last = control.sender;

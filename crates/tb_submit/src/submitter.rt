@@ -1,11 +1,11 @@
 //! Submitters.
 
-ghost use Rattle.std.specs.Prelude.{◌≡◌, ◌⊎◌, ◌<◌, ◌≤◌, ◌^◌, [], ◌∷◌, ◌++◌, length, None, OnOk, IfOk, IfErr, IfSome, IfNone, IsSomeAnd};
+ghost use Rattle.std.specs.Prelude.{◌≡◌, ◌<◌, ◌≤◌, ◌^◌, [], ◌∷◌, ◌++◌, length, None, OnOk, IfOk, IfErr, IfSome, IfNone, IsSomeAnd};
 ghost use Rattle.tb_layout.specs.Limits.{batch_max, capacity_max};
 ghost use Rattle.tb_rings.specs.Ends.{inlet_ring, taken, lies};
 ghost use Rattle.tb_submit.specs.Ends.{ended_with, with_item, new_submitter};
 ghost use Rattle.tb_submit.specs.Refusals as spec;
-ghost use Rattle.tb_submit.specs.Refusals.{IsRefusal, in_flight, submit_refusal};
+ghost use Rattle.tb_submit.specs.Refusals.{IsSubmitRefusal, in_flight, submit_refusal};
 ghost use Rattle.tb_work.specs.Job.{numbered_packet};
 ghost use Rattle.tb_work.specs.declared.item.Item.TheVariants as item;
 ghost use Rattle.tb_work.specs.declared.refusal.Refusal.TheVariants as refusal;
@@ -45,7 +45,8 @@ impl Model for Submitter {
       lying = lies s.inlet;
     } };
 
-    ghost invariant = { λ s. IsSubmitter s.sender.seat s.sender.queued s.queued s.credit s.read s.told (taken s.inlet) };
+    ghost invariant = { λ s. IsSubmitter s.sender.seat s.sender.queued s.queued s.credit s.read
+        s.told (taken s.inlet) };
 }
 
 /// What an outcome tells of all packets that come later.
@@ -122,10 +123,12 @@ impl Submitter {
         packet: Packet,
     ) -> Result<u64, (Packet, Refusal)>
         requires { length self.old.queued < 2 ^ 56 }
-        ensures ok { IfOk result (λ number. (number ≡ length self.old.queued) × (self.new ≡ with_item self.old (item.Packet (numbered_packet self.old.origin.seat.number number packet)))) }
+        ensures ok { IfOk result (λ number. (number ≡ length self.old.queued)
+            × (self.new ≡ with_item self.old (item.Packet
+                (numbered_packet self.old.origin.seat.number number packet)))) }
         ensures admitted { OnOk result (submit_refusal self.old packet ≡ None) }
         ensures back { IfErr result (λ refused. (refused.0 ≡ packet) × (self.new ≡ self.old)) }
-        ensures refusal { IfErr result (λ refused. IsRefusal (submit_refusal self.old packet) (λ other. (other ≡ refusal.NoMemory) ⊎ (other ≡ refusal.Full)) refused.1) }
+        ensures refusal { IfErr result (λ refused. IsSubmitRefusal self.old packet refused.1) }
     {
         if let Some(refusal) = self.refusal(&packet) {
             return Err((packet, refusal));
@@ -150,9 +153,11 @@ impl Submitter {
 
     /// The next reply; None where none is seen. It waits for nobody.
     pub fn reply(&mut self) -> Option<Reply>
-        ensures some { IfSome result (λ reply. self.new ≡ record self.old { read = self.old.read ++ reply ∷ []; lying = self.new.lying }) }
+        ensures some { IfSome result (λ reply. self.new
+            ≡ record self.old { read = self.old.read ++ reply ∷ []; lying = self.new.lying }) }
         ensures none { IfNone result (self.new ≡ record self.old { lying = [] }) }
-        ensures known { 0 < length self.old.lying → IsSomeAnd result (λ reply. self.old.lying ≡ reply ∷ self.new.lying) }
+        ensures known { 0 < length self.old.lying → IsSomeAnd result (λ reply.
+            self.old.lying ≡ reply ∷ self.new.lying) }
     {
         let reply = self.inlet.take()?;
         self.read = self.read.saturating_add(1);

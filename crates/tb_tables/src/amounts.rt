@@ -50,7 +50,8 @@ fn credits_in(phase: Phase) -> Balance
 pub fn add_amount(accounts: &mut ById<Account>, places: Places, phase: Phase, amount: u128)
     requires { CanAdd accounts.old.entries places phase amount }
     ensures { (sums : Sums) (records : List AccountRecord) (debit credit : ℕ) → AreAt records places debit credit
-        → accounts.old.entries ≡ account_rows sums records → accounts.new.entries ≡ account_rows (with_amount phase debit credit amount sums) records }
+        → accounts.old.entries ≡ account_rows sums records
+        → accounts.new.entries ≡ account_rows (with_amount phase debit credit amount sums) records }
 {
     raise_at(accounts, places.debit, debits_in(phase), amount);
     raise_at(accounts, places.credit, credits_in(phase), amount);
@@ -60,7 +61,8 @@ pub fn add_amount(accounts: &mut ById<Account>, places: Places, phase: Phase, am
 pub fn take_amount(accounts: &mut ById<Account>, places: Places, phase: Phase, amount: u128)
     requires { CanTake accounts.old.entries places phase amount }
     ensures { (sums : Sums) (records : List AccountRecord) (debit credit : ℕ) → AreAt records places debit credit
-        → accounts.old.entries ≡ account_rows (with_amount phase debit credit amount sums) records → accounts.new.entries ≡ account_rows sums records }
+        → accounts.old.entries ≡ account_rows (with_amount phase debit credit amount sums) records
+        → accounts.new.entries ≡ account_rows sums records }
 {
     lower_at(accounts, places.credit, credits_in(phase), amount);
     lower_at(accounts, places.debit, debits_in(phase), amount);
@@ -70,7 +72,8 @@ pub fn take_amount(accounts: &mut ById<Account>, places: Places, phase: Phase, a
 pub fn post_if(accounts: &mut ById<Account>, places: Places, is_post: bool, amount: u128)
     requires { is_post ≡ true → CanAdd accounts.old.entries places Posted amount }
     ensures { (sums : Sums) (records : List AccountRecord) (debit credit : ℕ) → AreAt records places debit credit
-        → accounts.old.entries ≡ account_rows sums records → accounts.new.entries ≡ account_rows (posted_if is_post debit credit amount sums) records }
+        → accounts.old.entries ≡ account_rows sums records
+        → accounts.new.entries ≡ account_rows (posted_if is_post debit credit amount sums) records }
 {
     if is_post {
         add_amount(accounts, places, Phase::Posted, amount);
@@ -81,7 +84,8 @@ pub fn post_if(accounts: &mut ById<Account>, places: Places, is_post: bool, amou
 pub fn unpost_if(accounts: &mut ById<Account>, places: Places, is_post: bool, amount: u128)
     requires { is_post ≡ true → CanTake accounts.old.entries places Posted amount }
     ensures { (sums : Sums) (records : List AccountRecord) (debit credit : ℕ) → AreAt records places debit credit
-        → accounts.old.entries ≡ account_rows (posted_if is_post debit credit amount sums) records → accounts.new.entries ≡ account_rows sums records }
+        → accounts.old.entries ≡ account_rows (posted_if is_post debit credit amount sums) records
+        → accounts.new.entries ≡ account_rows sums records }
 {
     if is_post {
         take_amount(accounts, places, Phase::Posted, amount);

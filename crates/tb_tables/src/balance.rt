@@ -45,8 +45,10 @@ fn lower_balance(account: &mut Account, balance: Balance, amount: u128)
 /// Raises a balance of the account at a place.
 pub fn raise_at(accounts: &mut ById<Account>, place: usize, balance: Balance, amount: u128)
     requires { HasRoom accounts.old.entries place balance amount }
-    ensures { (sums : Sums) (records : List AccountRecord) (account : AccountRecord) → slice_get records place ≡ Some account
-        → accounts.old.entries ≡ account_rows sums records → accounts.new.entries ≡ account_rows (with_more balance account.id amount sums) records }
+    ensures { (sums : Sums) (records : List AccountRecord) (account : AccountRecord)
+        → slice_get records place ≡ Some account
+        → accounts.old.entries ≡ account_rows sums records
+        → accounts.new.entries ≡ account_rows (with_more balance account.id amount sums) records }
 {
     let (_, account) = accounts.pair_mut(place);
     raise_balance(account, balance, amount);
@@ -55,8 +57,10 @@ pub fn raise_at(accounts: &mut ById<Account>, place: usize, balance: Balance, am
 /// Lowers a balance of the account at a place.
 pub fn lower_at(accounts: &mut ById<Account>, place: usize, balance: Balance, amount: u128)
     requires { HasAmount accounts.old.entries place balance amount }
-    ensures { (sums : Sums) (records : List AccountRecord) (account : AccountRecord) → slice_get records place ≡ Some account
-        → accounts.old.entries ≡ account_rows (with_more balance account.id amount sums) records → accounts.new.entries ≡ account_rows sums records }
+    ensures { (sums : Sums) (records : List AccountRecord) (account : AccountRecord)
+        → slice_get records place ≡ Some account
+        → accounts.old.entries ≡ account_rows (with_more balance account.id amount sums) records
+        → accounts.new.entries ≡ account_rows sums records }
 {
     let (_, account) = accounts.pair_mut(place);
     lower_balance(account, balance, amount);

@@ -16,7 +16,8 @@ use tb_layout::{Account, NoMemory, Transfer};
 /// Puts an account after the others, unless its id is there; whether it was put. It is written where it stands.
 pub fn push_account(accounts: &mut ById<Account>, account: &Account) -> Result<bool, NoMemory>
     ensures new { IfOk result (λ added. added ≡ not (is_some (get nat_eq accounts.old account.now.id))) }
-    ensures added { result ≡ Ok true → accounts.new.entries ≡ accounts.old.entries ++ (account.now.id, account.now) ∷ [] }
+    ensures added { result ≡ Ok true → accounts.new.entries
+        ≡ accounts.old.entries ++ (account.now.id, account.now) ∷ [] }
     ensures same { result ≢ Ok true → accounts.new.entries ≡ accounts.old.entries }
 {
     match accounts.entry(account.id)? {
@@ -48,7 +49,8 @@ fn new_row(transfer: &Transfer) -> Row
 /// made before, it would be moved there.
 pub fn push_transfer(transfers: &mut ById<Row>, transfer: &Transfer) -> Result<bool, NoMemory>
     ensures new { IfOk result (λ added. added ≡ not (is_some (get nat_eq transfers.old transfer.now.id))) }
-    ensures added { result ≡ Ok true → transfers.new.entries ≡ transfers.old.entries ++ (transfer.now.id, new_row transfer.now) ∷ [] }
+    ensures added { result ≡ Ok true → transfers.new.entries
+        ≡ transfers.old.entries ++ (transfer.now.id, new_row transfer.now) ∷ [] }
     ensures same { result ≢ Ok true → transfers.new.entries ≡ transfers.old.entries }
 {
     match transfers.entry(transfer.id)? {
@@ -108,7 +110,8 @@ pub fn row_at(transfers: &ById<Row>, place: usize) -> &Row
 /// Takes the last transfer off.
 pub fn pop_transfer(transfers: &mut ById<Row>) -> Transfer
     requires { 0 < index_map_len transfers.old }
-    ensures { (id : ℕ) (row : RowRecord) (others : List (ℕ × RowRecord)) → transfers.old.entries ≡ others ++ (id, row) ∷ []
+    ensures { (id : ℕ) (row : RowRecord) (others : List (ℕ × RowRecord))
+        → transfers.old.entries ≡ others ++ (id, row) ∷ []
         → (result ≡ row.transfer) × (transfers.new.entries ≡ others) }
 {
     let (_, row) = transfers.pop().unwrap();
@@ -118,7 +121,8 @@ pub fn pop_transfer(transfers: &mut ById<Row>) -> Transfer
 /// Sets the status of the transfer at a place, and gives that transfer.
 pub fn set_status(transfers: &mut ById<Row>, place: usize, status: Status) -> Transfer
     requires { IsSome (slice_get transfers.old.entries place) }
-    ensures transfer { (id : ℕ) (row : RowRecord) → slice_get transfers.old.entries place ≡ Some (id, row) → result ≡ row.transfer }
+    ensures transfer { (id : ℕ) (row : RowRecord) → slice_get transfers.old.entries place ≡ Some (id, row)
+        → result ≡ row.transfer }
     ensures entries { (id : ℕ) (row : RowRecord) → slice_get transfers.old.entries place ≡ Some (id, row)
         → transfers.new.entries ≡ set_value_at transfers.old.entries place (record row { status = Some status }) }
     ensures unique { IsUnique nat_eq transfers.old }

@@ -14,7 +14,8 @@ pub fn put_in(
     moment: u64,
     place: usize,
 ) -> Result<(), NoMemory>
-    ensures ok { OnOk result ((m p : ℕ) → is_indexed expiries.new m p ≡ (same_pair moment place m p || is_indexed expiries.old m p)) }
+    ensures ok { OnOk result ((m p : ℕ) → is_indexed expiries.new m p
+        ≡ (same_pair moment place m p || is_indexed expiries.old m p)) }
     ensures err { OnErr result (expiries.new.keys ≡ expiries.old.keys) }
 {
     expiries.insert((moment, place))?;
@@ -23,15 +24,18 @@ pub fn put_in(
 
 /// Takes a pair out.
 pub fn take_out(expiries: &mut BTreeSet<(u64, usize)>, moment: u64, place: usize)
-    ensures { (m p : ℕ) → is_indexed expiries.new m p ≡ (not (same_pair moment place m p) && is_indexed expiries.old m p) }
+    ensures { (m p : ℕ) → is_indexed expiries.new m p
+        ≡ (not (same_pair moment place m p) && is_indexed expiries.old m p) }
 {
     expiries.remove(&(moment, place));
 }
 
 /// Takes the first pair out, where it is due at a clock.
 pub fn take_due(expiries: &mut BTreeSet<(u64, usize)>, clock: u64) -> Option<usize>
-    ensures due { IfSome result (λ place. (moment : ℕ) × (moment ≤ clock) × (is_indexed expiries.old moment place ≡ true)
-        × ((m p : ℕ) → is_indexed expiries.new m p ≡ (not (same_pair moment place m p) && is_indexed expiries.old m p))) }
+    ensures due { IfSome result (λ place. (moment : ℕ) × (moment ≤ clock)
+        × (is_indexed expiries.old moment place ≡ true)
+        × ((m p : ℕ) → is_indexed expiries.new m p ≡ (not (same_pair moment place m p)
+        && is_indexed expiries.old m p))) }
     ensures fewer { IfSome result (λ place. btree_set_len expiries.new < btree_set_len expiries.old) }
     ensures later { IfNone result ((moment place : ℕ) → is_indexed expiries.old moment place ≡ true → clock < moment) }
     ensures none { IfNone result (expiries.new.keys ≡ expiries.old.keys) }

@@ -64,7 +64,8 @@ impl Maps {
     pub fn add_account(&mut self, account: &Account) -> Result<bool, NoMemory>
         requires { HasNoBalances account.now }
         ensures new { IfOk result (λ added. added ≡ not (is_some (account_with self.old.facts account.now.id))) }
-        ensures added { result ≡ Ok true → self.new ≡ record self.old { facts = with_account self.old.facts account.now } }
+        ensures added { result ≡ Ok true → self.new ≡ record self.old
+            { facts = with_account self.old.facts account.now } }
         ensures same { result ≢ Ok true → self.new ≡ self.old }
         ensures sound { IsSound (has_pair self.old.pairs) self.old.facts }
     {
@@ -90,11 +91,13 @@ impl Maps {
     pub fn store(&mut self, transfer: &Transfer, places: Places) -> Result<bool, NoMemory>
         requires at { HavePlaces self.old.facts transfer.now places }
         requires fits { is_pending transfer.now ≡ true → expires_at transfer.now < 2 ^ 64 }
-        requires may { transfer_with self.old.facts transfer.now.id ≡ None → MayStore self.old.facts transfer.now places.pending }
+        requires may { transfer_with self.old.facts transfer.now.id ≡ None
+            → MayStore self.old.facts transfer.now places.pending }
         ensures new { IfOk result (λ added. added ≡ not (is_some (transfer_with self.old.facts transfer.now.id))) }
         ensures added { result ≡ Ok true → self.new.facts ≡ with_transfer self.old.facts transfer.now }
         ensures same { result ≢ Ok true → self.new.facts ≡ self.old.facts }
-        ensures pairs { KeepsPairs (length self.old.facts.transfers) (has_pair self.old.pairs) (has_pair self.new.pairs) }
+        ensures pairs { KeepsPairs (length self.old.facts.transfers) (has_pair self.old.pairs)
+            (has_pair self.new.pairs) }
         ensures sound { IsSound (has_pair self.old.pairs) self.old.facts }
     {
         let place = self.transfers.len();
@@ -112,7 +115,8 @@ impl Maps {
     pub fn undo(&mut self, change: Change<Places>)
         requires { IsUndoable (has_pair self.old.pairs) change self.old.facts }
         ensures facts { self.new.facts ≡ before change self.old.facts }
-        ensures pairs { KeepsPairs (length (before change self.old.facts).transfers) (has_pair self.old.pairs) (has_pair self.new.pairs) }
+        ensures pairs { KeepsPairs (length (before change self.old.facts).transfers) (has_pair self.old.pairs)
+            (has_pair self.new.pairs) }
     {
         match change {
             Change::Account => pop_account(&mut self.accounts),
@@ -133,7 +137,8 @@ impl Maps {
         requires { AllByRecursion (NamesOne self.old.facts) changes.now }
         ensures facts { self.new.facts ≡ self.old.facts }
         ensures gone { (moment place : ℕ) → has_pair self.new.pairs moment place
-            ≡ (not (is_resolved_at place changes.now && is_spent self.old.facts moment place) && has_pair self.old.pairs moment place) }
+            ≡ (not (is_resolved_at place changes.now && is_spent self.old.facts moment place)
+            && has_pair self.old.pairs moment place) }
     {
         forget_resolved(&mut self.expiries, &self.transfers, changes);
     }
@@ -168,7 +173,8 @@ impl Maps {
         requires pending { IsPlaceOfTransfer self.now.facts transfer.now.pending_id (Some pending) }
         requires may { MayResolve self.now.facts transfer.now }
         ensures at { HavePlaces self.now.facts transfer.now result }
-        ensures may { transfer_with self.now.facts transfer.now.id ≡ None → MayStore self.now.facts transfer.now result.pending }
+        ensures may { transfer_with self.now.facts transfer.now.id ≡ None
+            → MayStore self.now.facts transfer.now result.pending }
     {
         Places {
             debit: place_of(&self.accounts, transfer.debit_account_id),

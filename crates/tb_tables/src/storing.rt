@@ -44,7 +44,9 @@ pub fn expect(
     place: usize,
 ) -> Result<(), NoMemory>
     requires { is_pending transfer.now ≡ true → expires_at_of transfer.now < 2 ^ 64 }
-    ensures ok { OnOk result ((m p : ℕ) → is_indexed expiries.new m p ≡ ((is_timed_of transfer.now && same_pair (expires_at_of transfer.now) place m p) || is_indexed expiries.old m p)) }
+    ensures ok { OnOk result ((m p : ℕ) → is_indexed expiries.new m p
+        ≡ ((is_timed_of transfer.now && same_pair (expires_at_of transfer.now) place m p)
+        || is_indexed expiries.old m p)) }
     ensures err { OnErr result (expiries.new.keys ≡ expiries.old.keys) }
 {
     if is_timed(transfer) {
@@ -56,7 +58,9 @@ pub fn expect(
 /// Takes it out again.
 pub fn forget(expiries: &mut BTreeSet<(u64, usize)>, transfer: &Transfer, place: usize)
     requires { is_pending transfer.now ≡ true → expires_at_of transfer.now < 2 ^ 64 }
-    ensures { (m p : ℕ) → is_indexed expiries.new m p ≡ (not (is_timed_of transfer.now && same_pair (expires_at_of transfer.now) place m p) && is_indexed expiries.old m p) }
+    ensures { (m p : ℕ) → is_indexed expiries.new m p
+        ≡ (not (is_timed_of transfer.now && same_pair (expires_at_of transfer.now) place m p)
+        && is_indexed expiries.old m p) }
 {
     if is_timed(transfer) {
         take_out(expiries, expires_at(transfer), place);
@@ -74,7 +78,8 @@ fn settle(
 )
     requires names { places.pending ≡ Some pending }
     requires before { (step : Step transfer places) × IsBefore step accounts.old.entries transfers.old.entries }
-    ensures { (step : Step transfer places) → IsBefore step accounts.old.entries transfers.old.entries → IsAfter step accounts.new.entries transfers.new.entries }
+    ensures { (step : Step transfer places) → IsBefore step accounts.old.entries transfers.old.entries
+        → IsAfter step accounts.new.entries transfers.new.entries }
 {
     let reserved = set_status(transfers, pending, settled_status(transfer.is_post())).amount;
     take_amount(accounts, places, Phase::Pending, reserved);
@@ -89,7 +94,8 @@ pub fn apply(
     transfer: Transfer,
 )
     requires { (step : Step transfer places) × IsBefore step accounts.old.entries transfers.old.entries }
-    ensures { (step : Step transfer places) → IsBefore step accounts.old.entries transfers.old.entries → IsAfter step accounts.new.entries transfers.new.entries }
+    ensures { (step : Step transfer places) → IsBefore step accounts.old.entries transfers.old.entries
+        → IsAfter step accounts.new.entries transfers.new.entries }
 {
     match places.pending {
         None => add_amount(accounts, places, phase_of(&transfer), transfer.amount),
@@ -107,7 +113,8 @@ fn unsettle(
 )
     requires names { places.pending ≡ Some pending }
     requires after { (step : Step transfer places) × IsAfter step accounts.old.entries transfers.old.entries }
-    ensures { (step : Step transfer places) → IsAfter step accounts.old.entries transfers.old.entries → IsBefore step accounts.new.entries transfers.new.entries }
+    ensures { (step : Step transfer places) → IsAfter step accounts.old.entries transfers.old.entries
+        → IsBefore step accounts.new.entries transfers.new.entries }
 {
     let reserved = set_status(transfers, pending, Status::Pending).amount;
     unpost_if(accounts, places, transfer.is_post(), transfer.amount);
@@ -122,7 +129,8 @@ fn unapply(
     transfer: Transfer,
 )
     requires { (step : Step transfer places) × IsAfter step accounts.old.entries transfers.old.entries }
-    ensures { (step : Step transfer places) → IsAfter step accounts.old.entries transfers.old.entries → IsBefore step accounts.new.entries transfers.new.entries }
+    ensures { (step : Step transfer places) → IsAfter step accounts.old.entries transfers.old.entries
+        → IsBefore step accounts.new.entries transfers.new.entries }
 {
     match places.pending {
         None => take_amount(accounts, places, phase_of(&transfer), transfer.amount),
@@ -137,11 +145,15 @@ pub fn take_back(
     expiries: &mut BTreeSet<(u64, usize)>,
     places: Places,
 )
-    requires { (facts : Facts) × (transfer : TransferRecord) × IsStored facts transfer places accounts.old.entries transfers.old.entries }
-    ensures maps { (facts : Facts) (transfer : TransferRecord) → IsStored facts transfer places accounts.old.entries transfers.old.entries
+    requires { (facts : Facts) × (transfer : TransferRecord)
+        × IsStored facts transfer places accounts.old.entries transfers.old.entries }
+    ensures maps { (facts : Facts) (transfer : TransferRecord)
+        → IsStored facts transfer places accounts.old.entries transfers.old.entries
         → Hold facts accounts.new.entries transfers.new.entries }
-    ensures index { (facts : Facts) (transfer : TransferRecord) → IsStored facts transfer places accounts.old.entries transfers.old.entries → (m p : ℕ)
-        → is_indexed expiries.new m p ≡ (not (is_timed_of transfer && same_pair (expires_at_of transfer) (length facts.transfers) m p) && is_indexed expiries.old m p) }
+    ensures index { (facts : Facts) (transfer : TransferRecord)
+        → IsStored facts transfer places accounts.old.entries transfers.old.entries → (m p : ℕ)
+        → is_indexed expiries.new m p ≡ (not (is_timed_of transfer
+        && same_pair (expires_at_of transfer) (length facts.transfers) m p) && is_indexed expiries.old m p) }
 {
     let transfer = pop_transfer(transfers);
     forget(expiries, &transfer, transfers.len());
@@ -167,8 +179,10 @@ fn is_spent(row: &Row) -> bool
 
 /// Takes the pair of the transfer at a place out of the index, where it reserves nothing any more.
 fn forget_at(expiries: &mut BTreeSet<(u64, usize)>, transfers: &ById<Row>, place: usize)
-    requires { (facts : Facts) × (transfer : TransferRecord) × IsForgettable facts transfer transfers.now.entries place }
-    ensures { (facts : Facts) (transfer : TransferRecord) → IsForgettable facts transfer transfers.now.entries place → (m p : ℕ)
+    requires { (facts : Facts) × (transfer : TransferRecord)
+        × IsForgettable facts transfer transfers.now.entries place }
+    ensures { (facts : Facts) (transfer : TransferRecord)
+        → IsForgettable facts transfer transfers.now.entries place → (m p : ℕ)
         → is_indexed expiries.new m p ≡ (not ((place == p) && is_spent_at facts m p) && is_indexed expiries.old m p) }
 {
     let row = row_at(transfers, place);
@@ -185,7 +199,8 @@ fn forget_change(
 )
     requires { (facts : Facts) × CanForget facts change.now transfers.now.entries }
     ensures { (facts : Facts) → CanForget facts change.now transfers.now.entries → (m p : ℕ)
-        → is_indexed expiries.new m p ≡ (not (resolves_at p change.now && is_spent_at facts m p) && is_indexed expiries.old m p) }
+        → is_indexed expiries.new m p ≡ (not (resolves_at p change.now && is_spent_at facts m p)
+        && is_indexed expiries.old m p) }
 {
     if let Some(place) = named_by(change) {
         forget_at(expiries, transfers, place);
@@ -200,8 +215,10 @@ pub fn forget_resolved(
     changes: &[Change<Places>],
 )
     requires { (facts : Facts) × AllByRecursion (λ change. CanForget facts change transfers.now.entries) changes.now }
-    ensures { (facts : Facts) → AllByRecursion (λ change. CanForget facts change transfers.now.entries) changes.now → (m p : ℕ)
-        → is_indexed expiries.new m p ≡ (not (is_resolved_at p changes.now && is_spent_at facts m p) && is_indexed expiries.old m p) }
+    ensures { (facts : Facts) → AllByRecursion (λ change.
+        CanForget facts change transfers.now.entries) changes.now → (m p : ℕ)
+        → is_indexed expiries.new m p ≡ (not (is_resolved_at p changes.now && is_spent_at facts m p)
+        && is_indexed expiries.old m p) }
 {
     if expiries.is_empty() {
         return;

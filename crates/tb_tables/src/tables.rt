@@ -103,7 +103,8 @@ impl Tables {
     fn store(&mut self, transfer: &Transfer, places: Places) -> Result<bool, NoMemory>
         requires at { HavePlaces self.old.now transfer.now places }
         requires fits { is_pending transfer.now ≡ true → expires_at transfer.now < 2 ^ 64 }
-        requires may { transfer_with self.old.now transfer.now.id ≡ None → MayStore self.old.now transfer.now places.pending }
+        requires may { transfer_with self.old.now transfer.now.id ≡ None
+            → MayStore self.old.now transfer.now places.pending }
         ensures new { IfOk result (λ added. added ≡ not (is_some (transfer_with self.old.now transfer.now.id))) }
         ensures added { result ≡ Ok true → self.new ≡ with_change self.old (with_transfer self.old.now transfer.now) }
         ensures same { result ≢ Ok true → self.new ≡ self.old }

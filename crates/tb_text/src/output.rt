@@ -184,7 +184,8 @@ fn put_account(out: &mut String, account: &Account) -> Result<(), AllocError>
 }
 
 fn put_accounts(out: &mut String, machine: &Machine) -> Result<(), AllocError>
-    ensures { OnOk result (string_bytes out.new ≡ string_bytes out.old ++ flat_map account_line (balanced_accounts machine.now.facts)) }
+    ensures { OnOk result (string_bytes out.new ≡ string_bytes out.old
+        ++ flat_map account_line (balanced_accounts machine.now.facts)) }
 {
     for place in 0..machine.accounts() {
         let account = machine.account_at(place).unwrap();

@@ -91,8 +91,10 @@ impl Job {
         ensures job { IfOk result (λ job. job ≡ numbered_packet submitter number packet) }
         ensures admitted { OnOk result (IsOk (admission_of limit packet)) }
         ensures back { IfErr result (λ refused. refused.0 ≡ packet) }
-        ensures few { OnErr result (IsOk (admission_of limit packet) → (is_lookup packet ≡ false) × (2 < count_of packet)) }
-        ensures refusal { IfErr result (λ refused. (admission_of limit packet ≡ Err refused.1) ⊎ ((refused.1 ≡ NoMemory) × IsOk (admission_of limit packet))) }
+        ensures few { OnErr result (IsOk (admission_of limit packet)
+            → (is_lookup packet ≡ false) × (2 < count_of packet)) }
+        ensures refusal { IfErr result (λ refused. (admission_of limit packet ≡ Err refused.1)
+            ⊎ ((refused.1 ≡ NoMemory) × IsOk (admission_of limit packet))) }
     {
         let count = match admit(limit, &packet) {
             Ok(count) => count,

@@ -36,7 +36,8 @@ impl Sender {
 
     /// The sender after an item that it may push.
     pub(crate) fn after(self, item: &Item) -> Sender
-        requires { (limit : ℕ) × (submitters : ℕ) × (number : ℕ) × (may_push limit submitters number self item.now ≡ true) }
+        requires { (limit : ℕ) × (submitters : ℕ) × (number : ℕ)
+            × (may_push limit submitters number self item.now ≡ true) }
         ensures { result ≡ sender_after self item.now }
     {
         match item {

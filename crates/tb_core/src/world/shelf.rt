@@ -107,8 +107,10 @@ impl Shelves {
     /// Takes the first reply of a submitter's ring, where there is one.
     pub(crate) fn take(&mut self, submitter: u32) -> Result<bool, NoMemory>
         ensures moves { IfOk result (λ moves. moves ≡ is_some (after_pop (shelf_at self.old submitter))) }
-        ensures shelves { OnOk result (self.new ≡ slice_set self.old submitter (unwrap_or (after_pop (shelf_at self.old submitter)) (shelf_at self.old submitter))) }
-        ensures err { OnErr result ((is_some (after_pop (shelf_at self.old submitter)) ≡ true) × (self.new ≡ self.old)) }
+        ensures shelves { OnOk result (self.new ≡ slice_set self.old submitter
+            (unwrap_or (after_pop (shelf_at self.old submitter)) (shelf_at self.old submitter))) }
+        ensures err { OnErr result ((is_some (after_pop (shelf_at self.old submitter)) ≡ true)
+            × (self.new ≡ self.old)) }
     {
         let submitter = submitter as usize;
         if submitter >= self.shelves.len() {

@@ -57,7 +57,8 @@ impl Promise<Driven> for ComesBack {
     ghost use Rattle.std.specs.Prelude.{◌≡◌};
     ghost use Rattle.tb_submit.specs.Ends.{origin_of, end_origin};
 
-    ghost kept_by = { λ p r. (end_origin r.ended ≡ origin_of p.submitter.value) × (r.control.seat ≡ p.control.value.seat) };
+    ghost kept_by = { λ p r. (end_origin r.ended ≡ origin_of p.submitter.value)
+        × (r.control.seat ≡ p.control.value.seat) };
 }
 
 /// Ends a submitter, again and again while the queue is full.
@@ -270,7 +271,8 @@ pub(super) fn run<R: Threads + Wait + Sync + Abort>(
 ) -> Result<(Report, Saw), Refusal>
     requires own { map end_origin driving.ends.items ++ origin_of driving.last ∷ [] ≡ driving.pipeline.submitters }
     requires control { driving.control.seat ≡ control_seat driving.pipeline.intake }
-    ensures { IfOk result (λ run. IsRun driving.pipeline.clock driving.pipeline.intake.limit driving.pipeline.intake.submitters run.0.ledger run.0.ends.items) }
+    ensures { IfOk result (λ run. IsRun driving.pipeline.clock driving.pipeline.intake.limit
+        driving.pipeline.intake.submitters run.0.ledger run.0.ends.items) }
 {
     let Driving {
         pipeline,
@@ -284,7 +286,8 @@ pub(super) fn run<R: Threads + Wait + Sync + Abort>(
         |scope| -> Result<(Report, Saw), Refusal>
             requires own { map end_origin ends.items ++ origin_of last ∷ [] ≡ pipeline.submitters }
             requires control { control.seat ≡ control_seat pipeline.intake }
-            ensures { IfOk result (λ run. IsRun pipeline.clock pipeline.intake.limit pipeline.intake.submitters run.0.ledger run.0.ends.items) }
+            ensures { IfOk result (λ run. IsRun pipeline.clock pipeline.intake.limit pipeline.intake.submitters
+                run.0.ledger run.0.ends.items) }
         {
             let mut ends = ends;
             let promise = ComesBack {

@@ -190,7 +190,8 @@ fn end_each<R: Wait + Abort>(
 /// Each of the submitters queues a packet and ends, and the pipeline serves them.
 fn finish_each<R: Threads + Wait + Sync + Abort>(rt: &R, alloc: Global, opened: Opened) -> Report
     requires { AreTogether opened.pipeline opened.submitters.items opened.control }
-    ensures { IsRun opened.pipeline.clock opened.pipeline.intake.limit opened.pipeline.intake.submitters result.ledger result.ends.items }
+    ensures { IsRun opened.pipeline.clock opened.pipeline.intake.limit opened.pipeline.intake.submitters
+        result.ledger result.ends.items }
 {
     let Opened {
         pipeline,

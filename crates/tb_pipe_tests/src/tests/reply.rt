@@ -33,7 +33,8 @@ fn queue_and_end<R: Wait + Abort>(
     packet: Packet,
 ) -> Ended
     requires { submitter.queued ≡ [] }
-    ensures { result ≡ ended_with (with_item submitter (item.Packet (numbered_packet submitter.origin.seat.number 0 packet))) item.End }
+    ensures { result ≡ ended_with (with_item submitter
+        (item.Packet (numbered_packet submitter.origin.seat.number 0 packet))) item.End }
 {
     let mut submitter = submitter;
     submitter
@@ -95,7 +96,8 @@ fn settle_one<R: Threads + Wait + Sync + Abort>(rt: &R, alloc: Global, queued: Q
     requires own { end_origin queued.ended ∷ [] ≡ queued.pipeline.submitters }
     requires control { queued.control ≡ record { seat = control_seat queued.pipeline.intake; queued = item.End ∷ [] } }
     requires opened { (queued.pipeline.clock ≡ 0) × (queued.pipeline.intake.submitters ≡ 1) }
-    ensures { (packet : PacketValue) → queued.ended.queued ≡ one_and_end packet → queued.ended.read ≡ [] → IsRunOfOne 0 packet result.ledger result.ends.items }
+    ensures { (packet : PacketValue) → queued.ended.queued ≡ one_and_end packet → queued.ended.read ≡ []
+        → IsRunOfOne 0 packet result.ledger result.ends.items }
 {
     let Queued {
         pipeline,
@@ -112,7 +114,8 @@ fn settle_one<R: Threads + Wait + Sync + Abort>(rt: &R, alloc: Global, queued: Q
 /// The reply that such a run has for its submitter: there is one.
 fn only_reply(report: &mut Report) -> Reply
     requires { (packet : PacketValue) × IsRunOfOne 0 packet report.old.ledger report.old.ends.items }
-    ensures { (packet : PacketValue) → IsRunOfOne 0 packet report.old.ledger report.old.ends.items → IsReplyToOne 0 packet result }
+    ensures { (packet : PacketValue) → IsRunOfOne 0 packet report.old.ledger report.old.ends.items
+        → IsReplyToOne 0 packet result }
 {
     let Some(mut ended) = report.ends.pop() else {
         unreachable!()

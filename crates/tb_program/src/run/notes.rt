@@ -26,7 +26,8 @@ pub struct Notes {
 impl Notes {
     /// No notes, with room for so many packets and their replies.
     pub fn new(alloc: Global, packets: usize) -> Result<Notes, NoMemory>
-        ensures { IfOk result (λ notes. (notes.told.items ≡ []) × (notes.replies.items ≡ []) × (notes.complete ≡ true)) }
+        ensures { IfOk result (λ notes. (notes.told.items ≡ []) × (notes.replies.items ≡ [])
+            × (notes.complete ≡ true)) }
     {
         Ok(Notes {
             told: Vec::with_capacity(alloc, packets)?,
@@ -37,7 +38,8 @@ impl Notes {
 
     /// Notes what was told of the next packet.
     pub fn tell(&mut self, told: Told)
-        ensures told { self.new.complete ≡ true → (self.old.complete ≡ true) × (self.new.told.items ≡ self.old.told.items ++ told ∷ []) }
+        ensures told { self.new.complete ≡ true → (self.old.complete ≡ true)
+            × (self.new.told.items ≡ self.old.told.items ++ told ∷ []) }
         ensures replies { self.new.replies ≡ self.old.replies }
     {
         if self.told.push(told).is_err() {
@@ -48,7 +50,8 @@ impl Notes {
     /// Keeps the next reply.
     pub fn keep(&mut self, reply: Reply)
         ensures told { self.new.told ≡ self.old.told }
-        ensures replies { self.new.complete ≡ true → (self.old.complete ≡ true) × (self.new.replies.items ≡ self.old.replies.items ++ reply ∷ []) }
+        ensures replies { self.new.complete ≡ true → (self.old.complete ≡ true)
+            × (self.new.replies.items ≡ self.old.replies.items ++ reply ∷ []) }
     {
         if self.replies.push(reply).is_err() {
             self.complete = false;

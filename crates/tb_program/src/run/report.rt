@@ -97,7 +97,8 @@ fn put_packets(
 ) -> Result<(), NoMemory>
     requires { IsAnsweredBy driver ended }
     ensures done { OnOk result (IsDone driver) }
-    ensures text { OnOk result (string_bytes out.new ≡ string_bytes out.old ++ told_text submitter (told_of driver) (ended.read ++ ended.lying)) }
+    ensures text { OnOk result (string_bytes out.new
+        ≡ string_bytes out.old ++ told_text submitter (told_of driver) (ended.read ++ ended.lying)) }
 {
     let Some(Notes { told, replies, .. }) = driver.into_notes() else {
         drop(ended);
@@ -123,7 +124,8 @@ fn put_all_packets(
     requires number { length ends.items ≡ length drivers.items }
     requires answered { AreAllAnswered drivers.items ends.items }
     ensures done { OnOk result (AreAllDone drivers.items) }
-    ensures text { OnOk result (string_bytes out.new ≡ string_bytes out.old ++ packets_text 0 (map told_of drivers.items) (replies_of ends.items)) }
+    ensures text { OnOk result (string_bytes out.new
+        ≡ string_bytes out.old ++ packets_text 0 (map told_of drivers.items) (replies_of ends.items)) }
 {
     let mut ends = ends.into_iter();
     let mut submitter = 0u32;
@@ -155,7 +157,8 @@ fn put_entry(out: &mut String, place: u64, entry: &Entry) -> Result<u64, AllocEr
 /// The lines of the committed pulses. A pulse has its place among all that was committed.
 fn put_pulses(out: &mut String, journal: &[Entry]) -> Result<(), AllocError>
     requires { length (flat_map group_of journal.now) < 2 ^ 64 }
-    ensures { OnOk result (string_bytes out.new ≡ string_bytes out.old ++ pulses_text 0 (flat_map group_of journal.now)) }
+    ensures { OnOk result (string_bytes out.new ≡ string_bytes out.old
+        ++ pulses_text 0 (flat_map group_of journal.now)) }
 {
     let mut place = 0u64;
     for entry in journal {
@@ -176,7 +179,8 @@ fn put_refused_pulses(out: &mut String, count: u64) -> Result<(), AllocError>
 /// The lines of what was committed: the pulses, those that were refused, the clock and the accounts.
 fn put_ledger(out: &mut String, ledger: &Ledger, refused_pulses: u64) -> Result<(), NoMemory>
     requires { length (works ledger.now) < 2 ^ 64 }
-    ensures { OnOk result (string_bytes out.new ≡ string_bytes out.old ++ ledger_text (works ledger.now) refused_pulses (replay ledger.now.opening (works ledger.now))) }
+    ensures { OnOk result (string_bytes out.new ≡ string_bytes out.old
+        ++ ledger_text (works ledger.now) refused_pulses (replay ledger.now.opening (works ledger.now))) }
 {
     put_pulses(out, ledger.journal())?;
     put_refused_pulses(out, refused_pulses)?;
@@ -197,7 +201,8 @@ fn put_run(
     requires answered { AreAllAnswered drivers.items ends.items }
     requires places { length (works ledger.now) < 2 ^ 64 }
     ensures done { OnOk result (AreAllDone drivers.items) }
-    ensures text { OnOk result (string_bytes out.new ≡ string_bytes out.old ++ run_text (map told_of drivers.items) (replies_of ends.items)
+    ensures text { OnOk result (string_bytes out.new
+        ≡ string_bytes out.old ++ run_text (map told_of drivers.items) (replies_of ends.items)
         (works ledger.now) refused_pulses (replay ledger.now.opening (works ledger.now))) }
 {
     put_all_packets(out, drivers, ends)?;
@@ -218,8 +223,10 @@ fn with_run(text: String, finished: Finished<ScriptDriver>) -> Result<String, No
     requires number { length finished.report.ends.items ≡ length finished.drivers.items }
     requires answered { AreAllAnswered finished.drivers.items finished.report.ends.items }
     ensures done { IfOk result (λ all. AreAllDone finished.drivers.items) }
-    ensures text { IfOk result (λ all. string_bytes all ≡ string_bytes text ++ run_text (map told_of finished.drivers.items) (replies_of finished.report.ends.items)
-        (works finished.report.ledger) finished.refused_pulses (replay finished.report.ledger.opening (works finished.report.ledger))) }
+    ensures text { IfOk result (λ all. string_bytes all
+        ≡ string_bytes text ++ run_text (map told_of finished.drivers.items) (replies_of finished.report.ends.items)
+        (works finished.report.ledger) finished.refused_pulses
+        (replay finished.report.ledger.opening (works finished.report.ledger))) }
 {
     let Finished {
         report,
@@ -241,8 +248,10 @@ pub fn text_of(alloc: Global, finished: Finished<ScriptDriver>) -> Result<String
     requires number { length finished.report.ends.items ≡ length finished.drivers.items }
     requires answered { AreAllAnswered finished.drivers.items finished.report.ends.items }
     ensures done { IfOk result (λ text. AreAllDone finished.drivers.items) }
-    ensures text { IfOk result (λ text. string_bytes text ≡ run_text (map told_of finished.drivers.items) (replies_of finished.report.ends.items)
-        (works finished.report.ledger) finished.refused_pulses (replay finished.report.ledger.opening (works finished.report.ledger))) }
+    ensures text { IfOk result (λ text. string_bytes text
+        ≡ run_text (map told_of finished.drivers.items) (replies_of finished.report.ends.items)
+        (works finished.report.ledger) finished.refused_pulses
+        (replay finished.report.ledger.opening (works finished.report.ledger))) }
 {
     match text_with_room(alloc, &finished.report.ledger) {
         Ok(text) => with_run(text, finished),

@@ -38,7 +38,8 @@ impl Shares {
     /// The script's line was faulty had its submitter not been there.
     fn add_packet(&mut self, submission: Submission) -> Result<(), NoMemory>
         ensures number { length self.new.packets.items ≡ length self.old.packets.items }
-        ensures packets { (items : List ItemValue) → AreDealt 0 self.old.packets.items items → OnOk result (AreDealt 0 self.new.packets.items (items ++ PacketItem submission ∷ [])) }
+        ensures packets { (items : List ItemValue) → AreDealt 0 self.old.packets.items items
+            → OnOk result (AreDealt 0 self.new.packets.items (items ++ PacketItem submission ∷ [])) }
         ensures lines { self.new.lines ≡ self.old.lines }
     {
         let submitter = submission.submitter.get() as usize;
@@ -50,7 +51,8 @@ impl Shares {
 
     fn add(&mut self, item: Item) -> Result<(), NoMemory>
         ensures number { length self.new.packets.items ≡ length self.old.packets.items }
-        ensures packets { (items : List ItemValue) → AreDealt 0 self.old.packets.items items → OnOk result (AreDealt 0 self.new.packets.items (items ++ item ∷ [])) }
+        ensures packets { (items : List ItemValue) → AreDealt 0 self.old.packets.items items
+            → OnOk result (AreDealt 0 self.new.packets.items (items ++ item ∷ [])) }
         ensures moments { OnOk result (self.new.lines.moments.items ≡ self.old.lines.moments.items ++ moment_in item) }
         ensures shuts { OnOk result (self.new.lines.shuts ≡ (self.old.lines.shuts || is_shut item)) }
     {

@@ -22,7 +22,8 @@ impl Model for Lists {
 
     ghost Value = { Record };
 
-    ghost view = { λ lists. record { accounts = lists.accounts.items; rows = lists.rows.items; failed = lists.failed.items } };
+    ghost view = { λ lists. record { accounts = lists.accounts.items; rows = lists.rows.items;
+        failed = lists.failed.items } };
 }
 
 impl Lists {

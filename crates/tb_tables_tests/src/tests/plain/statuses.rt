@@ -22,7 +22,8 @@ pub fn transfer_in(rows: &[(Transfer, bool)], id: u128) -> Option<Transfer>
 
 /// Whether a post names the transfer with this id.
 fn is_posted(rows: &[(Transfer, bool)], id: u128) -> bool
-    ensures { result ≡ list_any (λ (other : TransferRecord). is_post other && (other.pending_id == id)) (transfers_in rows.now) }
+    ensures { result ≡ list_any (λ (other : TransferRecord). is_post other && (other.pending_id == id))
+        (transfers_in rows.now) }
 {
     rows.iter()
         .map(|row| row.0)
@@ -31,7 +32,8 @@ fn is_posted(rows: &[(Transfer, bool)], id: u128) -> bool
 
 /// Whether a void names the transfer with this id.
 fn is_voided(rows: &[(Transfer, bool)], id: u128) -> bool
-    ensures { result ≡ list_any (λ (other : TransferRecord). is_void other && (other.pending_id == id)) (transfers_in rows.now) }
+    ensures { result ≡ list_any (λ (other : TransferRecord). is_void other && (other.pending_id == id))
+        (transfers_in rows.now) }
 {
     rows.iter()
         .map(|row| row.0)
@@ -40,7 +42,8 @@ fn is_voided(rows: &[(Transfer, bool)], id: u128) -> bool
 
 /// Whether a post or a void names the transfer with this id.
 pub fn is_resolved(rows: &[(Transfer, bool)], id: u128) -> bool
-    ensures { result ≡ list_any (λ (other : TransferRecord). is_resolving other && (other.pending_id == id)) (transfers_in rows.now) }
+    ensures { result ≡ list_any (λ (other : TransferRecord). is_resolving other && (other.pending_id == id))
+        (transfers_in rows.now) }
 {
     rows.iter().map(|row| row.0).any(|other| (other.is_post() || other.is_void())
         && other.pending_id == id)
