@@ -13,5 +13,6 @@ with_group held jobs = record { limit = held.limit; jobs = jobs }
 -- begins the next one; a packet that was refused comes back, and nothing changed
 abbrev pub Offers : Held → Numbered → Offered → Held → Type 0
 Offers old job Joined new = (new ≡ with_group old (old.jobs ++ job ∷ [])) × (is_taken old.limit old.jobs job ≡ true)
-Offers old job (Sealed batch) new = (batch ≡ old.jobs) × (new ≡ with_group old (job ∷ [])) × (is_taken old.limit old.jobs job ≡ false)
+Offers old job (Sealed batch) new =
+    (batch ≡ old.jobs) × (new ≡ with_group old (job ∷ [])) × (is_taken old.limit old.jobs job ≡ false)
 Offers old job (Refused back refused) new = (back ≡ job) × (new ≡ old)

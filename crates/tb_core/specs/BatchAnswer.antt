@@ -22,5 +22,7 @@ pub record AreAnswered (state : State) (parts : Parts) : Type 0 where
   pub lawful : IsLawful parts.operation parts.jobs.items
   pub stubs : parts.stubs.items ≡ map stub_of parts.jobs.items
   pub body : parts.body.items ≡ body_of parts.jobs.items
-  pub failures : (parts.operation == lookup_accounts) ≡ false → parts.failures.items ≡ failures_of state (events_of parts.operation parts.body.items)
-  pub accounts : (parts.operation == lookup_accounts) ≡ true → parts.accounts.items ≡ accounts_found state.facts (ids_of parts.body.items)
+  pub failures : (parts.operation == lookup_accounts) ≡ false
+      → parts.failures.items ≡ failures_of state (events_of parts.operation parts.body.items)
+  pub accounts : (parts.operation == lookup_accounts) ≡ true
+      → parts.accounts.items ≡ accounts_found state.facts (ids_of parts.body.items)

@@ -35,7 +35,8 @@ reply_due outcome item.Close = []
 
 abbrev pub all_due_from : ℕ → List Work → Place → List Item → List Replied
 all_due_from clock works place [] = []
-all_due_from clock works place (item ∷ items) = reply_due (outcome_at clock works place) item ++ all_due_from clock works (next_place place item) items
+all_due_from clock works place (item ∷ items) =
+    reply_due (outcome_at clock works place) item ++ all_due_from clock works (next_place place item) items
 
 -- the replies to a queue's packets, in order
 abbrev pub all_due : ℕ → List Item → List Work → List Replied
@@ -64,6 +65,8 @@ outcome_of cause.Stopped = Stopped
 -- the replies from a place on, with these packets and pulses committed from a clock on
 abbrev pub replies_from : ℕ → List Work → ℕ → List Passage → List Replied
 replies_from clock works place [] = []
-replies_from clock works place (Admitted job ∷ passages) = reply_with (outcome_at clock works (Ahead place)) job ∷ replies_from clock works (place + 1) passages
+replies_from clock works place (Admitted job ∷ passages) =
+    reply_with (outcome_at clock works (Ahead place)) job ∷ replies_from clock works (place + 1) passages
 replies_from clock works place (Pulsed moment ∷ passages) = replies_from clock works (place + 1) passages
-replies_from clock works place (Returned job cause ∷ passages) = reply_with (outcome_of cause) job ∷ replies_from clock works place passages
+replies_from clock works place (Returned job cause ∷ passages) =
+    reply_with (outcome_of cause) job ∷ replies_from clock works place passages

@@ -61,13 +61,15 @@ abbrev pub step_of_packet : Bool → FrontState → Numbered → Taken
 step_of_packet refused front job =
     if front.closed then take_result front (Return job Shutdown ∷ [])
     else if front.stopped then take_result front (Return job Stopped ∷ [])
-    else if refused then take_result (record front { held = []; stopped = true }) (group_as_batch front.held ++ Return job Stopped ∷ [])
+    else if refused then take_result (record front { held = []; stopped = true })
+        (group_as_batch front.held ++ Return job Stopped ∷ [])
     else if is_taken front.limit front.held job then take_result (with_group front (front.held ++ job ∷ [])) []
     else take_result (with_group front (job ∷ [])) (group_as_batch front.held)
 
 abbrev pub step_of_pulse : FrontState → ℕ → Taken
 step_of_pulse front moment =
-    if front.closed || front.stopped then take_result front [] else take_result (with_group front []) (group_as_batch front.held ++ Pulse moment ∷ [])
+    if front.closed || front.stopped then take_result front []
+    else take_result (with_group front []) (group_as_batch front.held ++ Pulse moment ∷ [])
 
 -- the last End seals the group
 abbrev pub step_of_end : FrontState → ℕ → Taken
@@ -76,7 +78,8 @@ step_of_end front sender =
     if all_ended next then take_result (with_group next []) (group_as_batch front.held) else take_result next []
 
 abbrev pub step_of_close : FrontState → ℕ → Taken
-step_of_close front sender = take_result (record (with_end front sender) { held = []; closed = true }) (group_as_batch front.held)
+step_of_close front sender =
+    take_result (record (with_end front sender) { held = []; closed = true }) (group_as_batch front.held)
 
 -- one ticket taken, where `refused` says that the growth which it needs is refused
 abbrev pub take_step : Bool → FrontState → ℕ → Item → Taken
@@ -121,7 +124,8 @@ ends_after ended sender item = if is_end item then slice_set ended sender true e
 
 -- the front knows of each sender whether its End or Close is in this queue
 abbrev pub KnowsEnds : List Ticket → FrontState → Type 0
-KnowsEnds queue front = (sender : ℕ) → sender ≤ front.submitters → get_or front.ended sender false ≡ list_any is_end (part sender queue)
+KnowsEnds queue front =
+    (sender : ℕ) → sender ≤ front.submitters → get_or front.ended sender false ≡ list_any is_end (part sender queue)
 
 -- an End or Close of each sender is in it
 abbrev pub HaveAllEnded : ℕ → List Ticket → Type 0

@@ -32,19 +32,22 @@ events_together (Pulse moment ∷ works) = events_together works
 -- whether a packet joins a group: all of one operation, none open, no lookup, and not too many events together
 abbrev pub joins_group : ℕ → List Work → Work → Bool
 joins_group limit group (Packet submitter number events) =
-    list_all (can_stand_with events) group && (can_join events && nat_le (events_together group + count_of events) limit)
+    list_all (can_stand_with events) group && (can_join events
+        && nat_le (events_together group + count_of events) limit)
 joins_group limit group (Pulse moment) = false
 
 -- each joins those before it
 abbrev pub join_one_by_one : ℕ → List Work → List Work → Bool
 join_one_by_one limit group [] = true
-join_one_by_one limit group (work ∷ works) = joins_group limit group work && join_one_by_one limit (group ++ work ∷ []) works
+join_one_by_one limit group (work ∷ works) =
+    joins_group limit group work && join_one_by_one limit (group ++ work ∷ []) works
 
 -- a group is one pulse, or packets of which each joins those before it
 abbrev pub IsJoined : ℕ → List Work → Type 0
 IsJoined limit [] = ⊥
 IsJoined limit (Pulse moment ∷ works) = works ≡ []
-IsJoined limit (Packet submitter number events ∷ works) = join_one_by_one limit (Packet submitter number events ∷ []) works ≡ true
+IsJoined limit (Packet submitter number events ∷ works) =
+    join_one_by_one limit (Packet submitter number events ∷ []) works ≡ true
 
 abbrev pub AreJoined : ℕ → List (List Work) → Type 0
 AreJoined limit groups = AllByRecursion (IsJoined limit) groups

@@ -31,7 +31,8 @@ abbrev pub packets_of : ℕ → List ℕ → List Stub → List Work
 packets_of operation body [] = []
 packets_of operation body (stub ∷ stubs) =
     let size = stub.count * size_of operation in
-    Packet stub.submitter stub.number (events_of operation (take size body)) ∷ packets_of operation (drop size body) stubs
+    Packet stub.submitter stub.number (events_of operation (take size body))
+        ∷ packets_of operation (drop size body) stubs
 
 abbrev pub group_of : Entry → List Work
 group_of (entry.Batch operation body stubs) = packets_of operation body.items stubs.items
@@ -77,14 +78,17 @@ must_stop refused ledger count = ledger.stopped || (refused || nat_lt (2 ^ 63) (
 -- a batch committed as one entry: each packet is answered by its place in the journal
 abbrev pub step_of_batch : LedgerState → List Numbered → Applied
 step_of_batch ledger jobs =
-    let next = with_entry ledger (map work_of jobs) in apply_result next (Cut (replies_from ledger.opening (works next) (length (works ledger)) (map Admitted jobs)))
+    let next = with_entry ledger (map work_of jobs) in
+    apply_result next (Cut (replies_from ledger.opening (works next) (length (works ledger)) (map Admitted jobs)))
 
 -- one parcel applied, where `refused` says that the growth which it needs is refused
 abbrev pub apply_step : Bool → LedgerState → Parcel → Applied
 apply_step refused ledger (parcel.Batch jobs) =
-    if must_stop refused ledger (length jobs) then apply_result (with_stop ledger) (Cut (map (reply_with outcome.Stopped) jobs))
+    if must_stop refused ledger (length jobs) then apply_result (with_stop ledger)
+        (Cut (map (reply_with outcome.Stopped) jobs))
     else step_of_batch ledger jobs
 apply_step refused ledger (parcel.Pulse moment) =
-    if must_stop refused ledger 1 then apply_result (with_stop ledger) Nothing else apply_result (with_entry ledger (Pulse moment ∷ [])) Nothing
+    if must_stop refused ledger 1 then apply_result (with_stop ledger) Nothing
+    else apply_result (with_entry ledger (Pulse moment ∷ [])) Nothing
 apply_step refused ledger (parcel.Return job cause) = apply_result ledger (One (reply_with (outcome_of cause) job))
 apply_step refused ledger parcel.Last = apply_result ledger Last

@@ -60,7 +60,8 @@ passages_at stop Behind item = passages_of_item true (is_some stop) item
 
 abbrev pub passages_from : Option ℕ → Place → List Item → List Passage
 passages_from stop place [] = []
-passages_from stop place (item ∷ items) = passages_at stop place item ++ passages_from stop (next_place place item) items
+passages_from stop place (item ∷ items) =
+    passages_at stop place item ++ passages_from stop (next_place place item) items
 
 -- what a queue comes to
 abbrev pub passages_of : Option ℕ → List Item → List Passage

@@ -51,13 +51,15 @@ pub record Ran (clock : ℕ) (items : List Item) (ledger : LedgerState) (replies
   pub commits : Commits clock passages ledger replies
 
 -- a ledger that took these and goes on, its groups lawful under a limit
-pub record GoesOn (clock limit : ℕ) (passages : List Passage) (ledger : LedgerState) (replies : List Replied) : Type 0 where
+pub record GoesOn (clock limit : ℕ) (passages : List Passage) (ledger : LedgerState)
+    (replies : List Replied) : Type 0 where
   pub commits : Commits clock passages ledger replies
   pub unmarked : ledger.stopped ≡ false
   pub joined : AreJoined limit ledger.groups
 
 -- a front and a ledger took these items, and what the front holds is all that isn't answered; neither has stopped
-pub record IsRunning (clock limit : ℕ) (items : List Item) (front : FrontState) (ledger : LedgerState) (replies : List Replied) : Type 0 where
+pub record IsRunning (clock limit : ℕ) (items : List Item) (front : FrontState) (ledger : LedgerState)
+    (replies : List Replied) : Type 0 where
   pub sent : List Passage
   pub under : front.limit ≡ limit
   pub passed : Passes items front.closed front.stopped (sent ++ held_by front)
@@ -65,7 +67,8 @@ pub record IsRunning (clock limit : ℕ) (items : List Item) (front : FrontState
   pub unstopped : front.stopped ≡ false
 
 -- all of it was taken, and nothing is held any more
-pub record IsThrough (clock limit : ℕ) (items : List Item) (ledger : LedgerState) (replies : List Replied) : Type 0 where
+pub record IsThrough (clock limit : ℕ) (items : List Item) (ledger : LedgerState)
+    (replies : List Replied) : Type 0 where
   pub ran : Ran clock items ledger replies
   pub unmarked : ledger.stopped ≡ false
   pub unstopped : ran.stopped ≡ false
@@ -75,6 +78,9 @@ pub record IsThrough (clock limit : ℕ) (items : List Item) (ledger : LedgerSta
 -- the report is lawful.
 abbrev pub RunIsLawful : Type 0
 RunIsLawful =
-    (clock submitters : ℕ) (queue : List Ticket) (queued : ℕ → List Item) (ledger : LedgerState) (answers : List Replied) (replies : ℕ → List Replied) →
-    IsQueueOf submitters queue queued → Ran clock (items_in queue) ledger answers → ((submitter : ℕ) → submitter < submitters → replies submitter ≡ replies_to answers submitter) →
-    LawfulReport clock submitters queue queued (works ledger) (replay ledger.opening (works ledger)) ledger.stopped replies
+    (clock submitters : ℕ) (queue : List Ticket) (queued : ℕ → List Item) (ledger : LedgerState)
+        (answers : List Replied) (replies : ℕ → List Replied) →
+    IsQueueOf submitters queue queued → Ran clock (items_in queue) ledger answers
+        → ((submitter : ℕ) → submitter < submitters → replies submitter ≡ replies_to answers submitter) →
+    LawfulReport clock submitters queue queued (works ledger)
+        (replay ledger.opening (works ledger)) ledger.stopped replies

@@ -13,12 +13,14 @@ use Rattle.tb_work.specs.Reply.{Replied, reply_with}
 
 -- the reply to one packet of a batch that failed so: its own failures, counted from its first event
 abbrev pub reply_at : ℕ → ℕ → List Failure → Numbered → Replied
-reply_at place offset failures job = reply_with (Committed place (Failures (failures_within offset (count_of job.packet) failures))) job
+reply_at place offset failures job =
+    reply_with (Committed place (Failures (failures_within offset (count_of job.packet) failures))) job
 
 -- packet after packet, each one place further and behind the events of those before it
 abbrev pub replies_from : ℕ → ℕ → List Failure → List Numbered → List Replied
 replies_from place offset failures [] = []
-replies_from place offset failures (job ∷ jobs) = reply_at place offset failures job ∷ replies_from (place + 1) (offset + count_of job.packet) failures jobs
+replies_from place offset failures (job ∷ jobs) =
+    reply_at place offset failures job ∷ replies_from (place + 1) (offset + count_of job.packet) failures jobs
 
 abbrev pub replies_with_answer : ℕ → Answer → List Numbered → List Replied
 replies_with_answer place (Failures failures) jobs = replies_from place 0 failures jobs
@@ -32,8 +34,10 @@ replies_to Stopped jobs = map (reply_with Stopped) jobs
 
 -- failures of the packets' events stand where no packet is a lookup, accounts where the one packet is
 abbrev pub IsAnswerToAll : Answer → List Numbered → Type 0
-IsAnswerToAll (Failures failures) jobs = RiseWithin 0 (count_of_all jobs) failures × (list_all (λ job. not (is_lookup job.packet)) jobs ≡ true)
-IsAnswerToAll (Accounts accounts) jobs = (job : Numbered) × (jobs ≡ job ∷ []) × (is_lookup job.packet ≡ true) × (length accounts ≤ count_of job.packet)
+IsAnswerToAll (Failures failures) jobs =
+    RiseWithin 0 (count_of_all jobs) failures × (list_all (λ job. not (is_lookup job.packet)) jobs ≡ true)
+IsAnswerToAll (Accounts accounts) jobs =
+    (job : Numbered) × (jobs ≡ job ∷ []) × (is_lookup job.packet ≡ true) × (length accounts ≤ count_of job.packet)
 
 abbrev pub IsOutcomeOfAll : Outcome → List Numbered → Type 0
 IsOutcomeOfAll (Committed place answer) jobs = (place + length jobs ≤ 2 ^ 63) × IsAnswerToAll answer jobs

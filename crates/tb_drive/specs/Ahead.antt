@@ -7,4 +7,5 @@ use Rattle.tb_work.specs.declared.packet.Packet.{Packet}
 
 -- what the submitter queued, and then this packet with this number
 abbrev pub with_packet : SubmitterState → ℕ → Packet → SubmitterState
-with_packet submitter number packet = with_item submitter (item.Packet (numbered_packet submitter.origin.seat.number number packet))
+with_packet submitter number packet =
+    with_item submitter (item.Packet (numbered_packet submitter.origin.seat.number number packet))

@@ -28,11 +28,16 @@ module _ {D : Type 0} (has_seen : D → List Numbered → List Replied → Type 
 
   -- each driver has seen it of the submitter of its index
   abbrev pub HaveSeen : List D → List SubmitterState → Type 0
-  HaveSeen drivers submitters = (k : ℕ) (driver : D) (submitter : SubmitterState) → slice_get drivers k ≡ Some driver → slice_get submitters k ≡ Some submitter → HasSeen driver submitter
+  HaveSeen drivers submitters =
+      (k : ℕ) (driver : D) (submitter : SubmitterState) → slice_get drivers k ≡ Some driver
+      → slice_get submitters k ≡ Some submitter → HasSeen driver submitter
 
   abbrev pub HaveSeenEnds : List D → List EndedState → Type 0
-  HaveSeenEnds drivers ends = (k : ℕ) (driver : D) (ended : EndedState) → slice_get drivers k ≡ Some driver → slice_get ends k ≡ Some ended → HasSeenEnd driver ended
+  HaveSeenEnds drivers ends =
+      (k : ℕ) (driver : D) (ended : EndedState) → slice_get drivers k ≡ Some driver → slice_get ends k ≡ Some ended
+      → HasSeenEnd driver ended
 
 -- a driver has seen it, and asked for a packet to be queued
-abbrev pub HasAsked : {D : Type 0} → (D → packets.Packet → List Numbered → List Replied → Type 0) → D → packets.Packet → SubmitterState → Type 0
+abbrev pub HasAsked : {D : Type 0} → (D → packets.Packet → List Numbered → List Replied → Type 0) → D
+    → packets.Packet → SubmitterState → Type 0
 HasAsked has_asked driver packet submitter = has_asked driver packet (jobs_in submitter.queued) submitter.read

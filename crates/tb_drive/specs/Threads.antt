@@ -21,7 +21,9 @@ items_to_queue driver = driver.control.queued ++ lines_of driver.lines.moments.i
 
 -- what the control's thread leaves, if anything, is its own end, its lines queued, and how many of its pulses were refused
 abbrev pub IsControlEnd : ControlDriver → Option ControlLeft → Type 0
-IsControlEnd driver left = IfSome left (λ l. (l.end ≡ with_items driver.control (lines_of driver.lines.moments.items driver.lines.shuts)) × (l.refused ≡ refused_of driver.lines.moments.items))
+IsControlEnd driver left =
+    IfSome left (λ l. (l.end ≡ with_items driver.control (lines_of driver.lines.moments.items driver.lines.shuts))
+    × (l.refused ≡ refused_of driver.lines.moments.items))
 
 -- the same of what a thread promises
 abbrev pub items_promised : EndOfControl → List Item
@@ -31,7 +33,11 @@ abbrev pub refused_promised : EndOfControl → ℕ
 refused_promised promise = refused_of promise.moments.value.items
 
 abbrev pub IsEndPromised : EndOfControl → ControlLeft → Type 0
-IsEndPromised promise left = (left.end ≡ with_items promise.control.value (lines_of promise.moments.value.items promise.shuts)) × (left.refused ≡ refused_promised promise)
+IsEndPromised promise left =
+    (left.end ≡ with_items promise.control.value (lines_of promise.moments.value.items promise.shuts))
+    × (left.refused ≡ refused_promised promise)
 
 abbrev pub IsPromiseOf : ControlDriver → EndOfControl → Type 0
-IsPromiseOf driver promise = (promise.control.value ≡ driver.control) × (promise.moments.value ≡ driver.lines.moments) × (promise.shuts ≡ driver.lines.shuts)
+IsPromiseOf driver promise =
+    (promise.control.value ≡ driver.control) × (promise.moments.value ≡ driver.lines.moments)
+    × (promise.shuts ≡ driver.lines.shuts)

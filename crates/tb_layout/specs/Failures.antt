@@ -5,7 +5,8 @@ use Rattle.tb_layout.specs.declared.failure.Failure.{Failure}
 -- their indices rise, from `low` on and below `high`
 abbrev pub RiseWithin : ℕ → ℕ → List Failure → Type 0
 RiseWithin low high [] = Unit {0}
-RiseWithin low high (failure ∷ failures) = (low ≤ failure.index) × (failure.index < high) × RiseWithin (failure.index + 1) high failures
+RiseWithin low high (failure ∷ failures) =
+    (low ≤ failure.index) × (failure.index < high) × RiseWithin (failure.index + 1) high failures
 
 -- whether a failure is one of so many events from an offset on
 abbrev pub is_within : ℕ → ℕ → Failure → Bool

@@ -19,7 +19,8 @@ pub record Halves : Type 0 where
   pub lines : List Line
 
 abbrev pub with_planned : Halves → Planned → Halves
-with_planned halves planned = record { queue = halves.queue ++ queued_items planned; lines = halves.lines ++ line_of planned ∷ [] }
+with_planned halves planned =
+    record { queue = halves.queue ++ queued_items planned; lines = halves.lines ++ line_of planned ∷ [] }
 
 abbrev pub halves_of : List Planned → Halves
 halves_of plan = record { queue = queue_of plan; lines = map line_of plan }

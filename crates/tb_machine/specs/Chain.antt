@@ -30,7 +30,8 @@ before_chains event (chain ∷ chains) = (event ∷ chain) ∷ chains
 abbrev pub chains_of : {Event : Type 0} → (Event → Bool) → List Event → List (List Event)
 chains_of is_linked [] = []
 chains_of is_linked (event ∷ events) =
-    if is_linked event then before_chains event (chains_of is_linked events) else (event ∷ []) ∷ chains_of is_linked events
+    if is_linked event then before_chains event (chains_of is_linked events)
+    else (event ∷ []) ∷ chains_of is_linked events
 
 abbrev pub all_but_last : {Event : Type 0} → List Event → List Event
 all_but_last [] = []
@@ -57,13 +58,16 @@ abbrev pub first_fault : {Event : Type 0} → Operation Event → ℕ → ℕ �
 first_fault operation index clock facts [] = None
 first_fault operation index clock facts (event ∷ events) =
     let code = verdict_at operation facts (next_timestamp clock) event in
-    if code == 0 then first_fault operation (index + 1) (clock_after clock 1) (facts_with operation facts (next_timestamp clock) event) events
+    if code == 0 then first_fault operation (index + 1) (clock_after clock 1)
+        (facts_with operation facts (next_timestamp clock) event) events
     else Some (record { index = index; event = event; code = code })
 
 -- the results of so many events that fail together: the first fault has its own code
 abbrev pub failed_results : {Event : Type 0} → ℕ → Option (Fault Event) → List ℕ
 failed_results count None = replicate count linked_event_failed
-failed_results count (Some fault) = replicate fault.index linked_event_failed ++ fault.code ∷ replicate (count - fault.index - 1) linked_event_failed
+failed_results count (Some fault) =
+    replicate fault.index linked_event_failed ++ fault.code
+    ∷ replicate (count - fault.index - 1) linked_event_failed
 
 -- what a failed chain leaves behind
 abbrev pub left_behind : {Event : Type 0} → Operation Event → Facts → Option (Fault Event) → Facts
@@ -77,14 +81,16 @@ pub record Outcome : Type 0 where
 
 -- a chain that is not open succeeds where it has no fault
 abbrev pub closed_outcome : {Event : Type 0} → Operation Event → ℕ → Facts → List Event → Option (Fault Event) → Outcome
-closed_outcome operation clock facts chain None = record { results = replicate (length chain) 0; facts = facts_with_all operation clock facts chain }
+closed_outcome operation clock facts chain None =
+    record { results = replicate (length chain) 0; facts = facts_with_all operation clock facts chain }
 closed_outcome operation clock facts chain (Some fault) =
     record { results = failed_results (length chain) (Some fault); facts = left_behind operation facts (Some fault) }
 
 -- an open chain fails, and its last event is not examined
 abbrev pub open_outcome : {Event : Type 0} → Operation Event → Facts → List Event → Option (Fault Event) → Outcome
 open_outcome operation facts front fault =
-    record { results = failed_results (length front) fault ++ linked_event_chain_open ∷ []; facts = left_behind operation facts fault }
+    record { results = failed_results (length front) fault ++ linked_event_chain_open ∷ [];
+        facts = left_behind operation facts fault }
 
 abbrev pub chain_outcome : {Event : Type 0} → Operation Event → ℕ → Facts → List Event → Outcome
 chain_outcome operation clock facts chain =

@@ -21,4 +21,5 @@ fault_as become (Some fault) = Some (record { index = fault.index; event = becom
 
 -- what becomes of an event that is a chain by itself and isn't linked
 abbrev pub event_outcome : {Event : Type 0} → Operation Event → ℕ → Facts → Event → Outcome
-event_outcome operation clock facts event = closed_outcome operation clock facts (event ∷ []) (first_fault operation 0 clock facts (event ∷ []))
+event_outcome operation clock facts event =
+    closed_outcome operation clock facts (event ∷ []) (first_fault operation 0 clock facts (event ∷ []))

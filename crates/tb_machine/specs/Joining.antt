@@ -18,7 +18,8 @@ none_open is_linked packets = list_all (λ packet. not (is_last_linked is_linked
 -- the failures of each of some packets that lie one after another from an offset on, with indices from 0
 abbrev pub cuts : {Event : Type 0} → ℕ → List (List Event) → List Failure → List (List Failure)
 cuts offset [] failures = []
-cuts offset (packet ∷ packets) failures = failures_within offset (length packet) failures ∷ cuts (offset + length packet) packets failures
+cuts offset (packet ∷ packets) failures =
+    failures_within offset (length packet) failures ∷ cuts (offset + length packet) packets failures
 
 -- the failures of each packet by itself, in the state that those before it left
 abbrev pub failures_each : State → List Events → List (List Failure)
@@ -30,15 +31,19 @@ abbrev pub IsGroup : {Event : Type 0} → (Event → Bool) → List (List Event)
 IsGroup is_linked packets = 1 < length packets → none_open is_linked packets ≡ true
 
 -- laid one after another they give each packet what it gives by itself, and leave the same state
-pub record GiveAsEach {Event : Type 0} (packet_of : List Event → Events) (state : State) (packets : List (List Event)) : Type 0 where
+pub record GiveAsEach {Event : Type 0} (packet_of : List Event → Events) (state : State)
+    (packets : List (List Event)) : Type 0 where
   pub rise : RiseWithin 0 (length (events_in_turn packets)) (failures_of state (packet_of (events_in_turn packets)))
-  pub failures : cuts 0 packets (failures_of state (packet_of (events_in_turn packets))) ≡ failures_each state (map packet_of packets)
-  pub state_after : after_packet state (packet_of (events_in_turn packets)) ≡ fold after_packet state (map packet_of packets)
+  pub failures : cuts 0 packets (failures_of state (packet_of (events_in_turn packets)))
+      ≡ failures_each state (map packet_of packets)
+  pub state_after : after_packet state (packet_of (events_in_turn packets))
+      ≡ fold after_packet state (map packet_of packets)
 
 -- so does every group, in every state that a machine can have
 abbrev pub JoiningIsInvisible : {Event : Type 0} → (List Event → Events) → (Event → Bool) → Type 0
 JoiningIsInvisible {Event} packet_of is_linked =
-    (state : State) (packets : List (List Event)) → state.clock ≤ clock_max → IsGroup is_linked packets → GiveAsEach packet_of state packets
+    (state : State) (packets : List (List Event)) → state.clock ≤ clock_max → IsGroup is_linked packets
+        → GiveAsEach packet_of state packets
 
 -- a lookup is a group by itself: its accounts, whole, are its answer, and the state stays as it is
 pub record GivesAsAlone (state : State) (ids : List ℕ) : Type 0 where

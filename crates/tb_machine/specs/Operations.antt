@@ -25,7 +25,8 @@ accounts_operation = record {
 
 -- the results that later events could change: an account or a pending transfer wasn't found, or a limit would be passed
 abbrev pub transient_codes : List TransferCode
-transient_codes = DebitAccountNotFound ∷ CreditAccountNotFound ∷ PendingTransferNotFound ∷ ExceedsCredits ∷ ExceedsDebits ∷ []
+transient_codes =
+    DebitAccountNotFound ∷ CreditAccountNotFound ∷ PendingTransferNotFound ∷ ExceedsCredits ∷ ExceedsDebits ∷ []
 
 -- whether a transfer that failed with this code leaves its id behind
 abbrev pub is_transient : ℕ → Bool

@@ -63,7 +63,8 @@ after_packet state (Ids ids) = state
 
 -- the clock is raised to the moment, and whatever is due then expires
 abbrev pub after_pulse : State → ℕ → State
-after_pulse state moment = record { clock = max state.clock moment; facts = expire_due (max state.clock moment) state.facts }
+after_pulse state moment =
+    record { clock = max state.clock moment; facts = expire_due (max state.clock moment) state.facts }
 
 -- ---- packets and pulses
 

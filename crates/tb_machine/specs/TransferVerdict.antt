@@ -46,7 +46,8 @@ resolved_transfer_of None event = event
 
 -- what is stored: the event with its timestamp, and a post or a void with its fields resolved
 abbrev pub stored_transfer : Facts → ℕ → Transfer → Transfer
-stored_transfer facts timestamp event = record (resolved_transfer_of (transfer_with facts event.pending_id) event) { timestamp = timestamp }
+stored_transfer facts timestamp event =
+    record (resolved_transfer_of (transfer_with facts event.pending_id) event) { timestamp = timestamp }
 
 -- ---- each table has its checks in their order, and what follows where none applies
 
@@ -91,11 +92,14 @@ pending_checks pending event =
     []
 
 abbrev pub against_pending : Facts → ℕ → Transfer → Transfer → TransferCode
-against_pending facts timestamp pending event = first_row (pending_checks pending event) (against_status (status_of facts pending.id) (is_due timestamp pending))
+against_pending facts timestamp pending event =
+    first_row (pending_checks pending event) (against_status (status_of facts pending.id)
+    (is_due timestamp pending))
 
 abbrev pub against_named : Facts → ℕ → Option Transfer → Transfer → TransferCode
 against_named facts timestamp None event = PendingTransferNotFound
-against_named facts timestamp (Some pending) event = against_pending facts timestamp pending (resolved_transfer pending event)
+against_named facts timestamp (Some pending) event =
+    against_pending facts timestamp pending (resolved_transfer pending event)
 
 abbrev pub resolving_checks : Transfer → List (Bool × TransferCode)
 resolving_checks event =
@@ -106,7 +110,8 @@ resolving_checks event =
     []
 
 abbrev pub resolving_verdict : Facts → ℕ → Transfer → TransferCode
-resolving_verdict facts timestamp event = first_row (resolving_checks event) (against_named facts timestamp (transfer_with facts event.pending_id) event)
+resolving_verdict facts timestamp event =
+    first_row (resolving_checks event) (against_named facts timestamp (transfer_with facts event.pending_id) event)
 
 -- ---- a plain or pending transfer
 
@@ -121,9 +126,12 @@ balance_checks timestamp debit credit event =
     (nat_lt u128_max (credit.credits_posted + event.amount), OverflowsCreditsPosted) ∷
     (nat_lt u128_max (debit.debits_pending + debit.debits_posted + event.amount), OverflowsDebits) ∷
     (nat_lt u128_max (credit.credits_pending + credit.credits_posted + event.amount), OverflowsCredits) ∷
-    (not (event.timeout == 0) && nat_lt clock_max (expires_at (record event { timestamp = timestamp })), OverflowsTimeout) ∷
-    (debits_must_not_exceed_credits debit && nat_lt debit.credits_posted (debit.debits_pending + debit.debits_posted + event.amount), ExceedsCredits) ∷
-    (credits_must_not_exceed_debits credit && nat_lt credit.debits_posted (credit.credits_pending + credit.credits_posted + event.amount), ExceedsDebits) ∷
+    (not (event.timeout == 0) && nat_lt clock_max
+        (expires_at (record event { timestamp = timestamp })), OverflowsTimeout) ∷
+    (debits_must_not_exceed_credits debit && nat_lt debit.credits_posted
+        (debit.debits_pending + debit.debits_posted + event.amount), ExceedsCredits) ∷
+    (credits_must_not_exceed_debits credit && nat_lt credit.debits_posted
+        (credit.credits_pending + credit.credits_posted + event.amount), ExceedsDebits) ∷
     []
 
 abbrev pub between : ℕ → Account → Account → Transfer → TransferCode
@@ -148,13 +156,16 @@ moving_checks event =
     []
 
 abbrev pub moving_verdict : Facts → ℕ → Transfer → TransferCode
-moving_verdict facts timestamp event = first_row (moving_checks event) (between_found timestamp (balanced_account facts event.debit_account_id) (balanced_account facts event.credit_account_id) event)
+moving_verdict facts timestamp event =
+    first_row (moving_checks event) (between_found timestamp (balanced_account facts event.debit_account_id)
+    (balanced_account facts event.credit_account_id) event)
 
 -- ---- any event
 
 -- whether more than one of pending, post and void is set
 abbrev pub has_exclusive_flags : Transfer → Bool
-has_exclusive_flags event = (is_pending event && is_post event) || (is_pending event && is_void event) || (is_post event && is_void event)
+has_exclusive_flags event =
+    (is_pending event && is_post event) || (is_pending event && is_void event) || (is_post event && is_void event)
 
 -- an event with a new id
 abbrev pub new_id_checks : Facts → Transfer → List (Bool × TransferCode)
@@ -164,10 +175,13 @@ new_id_checks facts event =
     []
 
 abbrev pub of_new_id : Facts → ℕ → Transfer → TransferCode
-of_new_id facts timestamp event = first_row (new_id_checks facts event) (if is_resolving event then resolving_verdict facts timestamp event else moving_verdict facts timestamp event)
+of_new_id facts timestamp event =
+    first_row (new_id_checks facts event) (if is_resolving event then resolving_verdict facts timestamp event
+    else moving_verdict facts timestamp event)
 
 abbrev pub against_id : Facts → ℕ → Option Transfer → Transfer → TransferCode
-against_id facts timestamp (Some stored) event = against_stored stored (resolved_transfer_of (transfer_with facts stored.pending_id) event)
+against_id facts timestamp (Some stored) event =
+    against_stored stored (resolved_transfer_of (transfer_with facts stored.pending_id) event)
 against_id facts timestamp None event = of_new_id facts timestamp event
 
 abbrev pub event_checks : Transfer → List (Bool × TransferCode)
@@ -183,4 +197,5 @@ abbrev pub new_transfer_verdict : Facts → ℕ → Transfer → TransferCode
 new_transfer_verdict facts timestamp event = first_row (event_checks event) (of_new_id facts timestamp event)
 
 abbrev pub transfer_verdict : Facts → ℕ → Transfer → TransferCode
-transfer_verdict facts timestamp event = first_row (event_checks event) (against_id facts timestamp (transfer_with facts event.id) event)
+transfer_verdict facts timestamp event =
+    first_row (event_checks event) (against_id facts timestamp (transfer_with facts event.id) event)

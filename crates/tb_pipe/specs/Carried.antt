@@ -44,7 +44,8 @@ given_on outcomes.Nothing = []
 given_on outcomes.Last = outcomes.Last ∷ []
 
 -- a front of so many submitters under a limit took a queue, and these parcels were given on
-pub record IsBatched (limit submitters : ℕ) (queue : List Ticket) (front : FrontState) (given : List Parcel) : Type 0 where
+pub record IsBatched (limit submitters : ℕ) (queue : List Ticket) (front : FrontState)
+    (given : List Parcel) : Type 0 where
   pub under : front.limit ≡ limit
   pub among : front.submitters ≡ submitters
   pub passes : Passes (items_in queue) front.closed front.stopped (all_passages_in given ++ held_by front)

@@ -16,7 +16,9 @@ pub record PipelineState : Type 0 where
   pub submitters : List Origin
 
 abbrev pub pipeline_of : Stages → PipelineState
-pipeline_of stages = record { clock = stages.ledger.opening; intake = stages.intake; submitters = origins stages.intake stages.outlets.items }
+pipeline_of stages =
+    record { clock = stages.ledger.opening; intake = stages.intake;
+        submitters = origins stages.intake stages.outlets.items }
 
 pub record IsPipeline (stages : Stages) : Type 0 where
   pub ready : IsReady stages
@@ -42,5 +44,6 @@ pub record IsServed (remains : Remains) : Type 0 where
   pub rings : IsRing remains.batches remains.committed.inlet × IsRing remains.committed.outlet remains.routed.inlet
   pub number : length remains.routed.outlets.items ≡ remains.intake.submitters
   pub batched : AllBatched remains.intake.limit remains.intake.submitters remains.intake.taken (given remains.batches)
-  pub committed : AllCommitted remains.committed.ledger.opening (taken remains.committed.inlet) remains.committed.ledger (given remains.committed.outlet)
+  pub committed : AllCommitted remains.committed.ledger.opening
+      (taken remains.committed.inlet) remains.committed.ledger (given remains.committed.outlet)
   pub routed : AllRouted (taken remains.routed.inlet) remains.routed.outlets.items

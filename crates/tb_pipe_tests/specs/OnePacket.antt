@@ -24,9 +24,12 @@ pub record IsRunOfOne (clock : ℕ) (packet : Packet) (ledger : LedgerState) (en
   pub controlled : queued 1 ≡ item.End ∷ []
   pub long : length ends ≡ 1
   pub unread : (d : EndedState) → (slice_index_or ends 0 d).read ≡ []
-  pub lawful : LawfulReport clock 1 queue queued (works ledger) (replay ledger.opening (works ledger)) ledger.stopped (replies_of ends)
+  pub lawful : LawfulReport clock 1 queue queued (works ledger)
+      (replay ledger.opening (works ledger)) ledger.stopped (replies_of ends)
 
 -- the packet as it was handed in, Stopped, or committed at place 0 and answered by the state that was opened
 abbrev pub IsReplyToOne : ℕ → Packet → Replied → Type 0
 IsReplyToOne clock packet reply =
-    (reply ≡ reply_with Stopped (numbered_packet 0 0 packet)) ⊎ (reply ≡ reply_with (Committed 0 (answer_of (opening clock) (events_in packet))) (numbered_packet 0 0 packet))
+    (reply ≡ reply_with Stopped (numbered_packet 0 0 packet))
+        ⊎ (reply ≡ reply_with (Committed 0 (answer_of (opening clock) (events_in packet)))
+            (numbered_packet 0 0 packet))

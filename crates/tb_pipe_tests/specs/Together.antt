@@ -11,13 +11,17 @@ use Rattle.tb_pipe.specs.Run.{PipelineState}
 
 -- the submitters and the control are a pipeline's own, by rising number
 abbrev pub AreTogether : PipelineState → List SubmitterState → SenderState → Type 0
-AreTogether pipeline submitters control = (map origin_of submitters ≡ pipeline.submitters) × (control.seat ≡ control_seat pipeline.intake)
+AreTogether pipeline submitters control =
+    (map origin_of submitters ≡ pipeline.submitters) × (control.seat ≡ control_seat pipeline.intake)
 
 -- a pipeline that was opened with this clock and this limit, for so many submitters
 abbrev pub IsOpenedAs : ℕ → ℕ → ℕ → PipelineState → Type 0
-IsOpenedAs clock limit submitters pipeline = (pipeline.clock ≡ clock) × (pipeline.intake.limit ≡ limit) × (pipeline.intake.submitters ≡ submitters)
+IsOpenedAs clock limit submitters pipeline =
+    (pipeline.clock ≡ clock) × (pipeline.intake.limit ≡ limit) × (pipeline.intake.submitters ≡ submitters)
 
 -- of some queue that its senders filled, the report is lawful, and the journal's groups are lawful under the limit
 abbrev pub IsRun : ℕ → ℕ → ℕ → LedgerState → List EndedState → Type 0
 IsRun clock limit submitters ledger ends =
-    (queue : List Ticket) × (queued : ℕ → List Item) × LawfulReport clock submitters queue queued (works ledger) (replay ledger.opening (works ledger)) ledger.stopped (replies_of ends) × IsGrouping limit ledger.groups
+    (queue : List Ticket) × (queued : ℕ → List Item)
+        × LawfulReport clock submitters queue queued (works ledger)
+            (replay ledger.opening (works ledger)) ledger.stopped (replies_of ends) × IsGrouping limit ledger.groups

@@ -25,7 +25,9 @@ pub record IsAnsweredBy (driver : ScriptDriver) (ended : EndedState) : Type 0 wh
   pub number : length queued ≡ length (ended.read ++ ended.lying)
 
 abbrev pub AreAllAnswered : List ScriptDriver → List EndedState → Type 0
-AreAllAnswered drivers ends = (k : ℕ) (driver : ScriptDriver) (ended : EndedState) → slice_get drivers k ≡ Some driver → slice_get ends k ≡ Some ended → IsAnsweredBy driver ended
+AreAllAnswered drivers ends =
+    (k : ℕ) (driver : ScriptDriver) (ended : EndedState) → slice_get drivers k ≡ Some driver
+    → slice_get ends k ≡ Some ended → IsAnsweredBy driver ended
 
 abbrev pub AreAllDone : List ScriptDriver → Type 0
 AreAllDone drivers = (k : ℕ) (driver : ScriptDriver) → slice_get drivers k ≡ Some driver → IsDone driver

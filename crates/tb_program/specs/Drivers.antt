@@ -21,7 +21,8 @@ HasSeenOf driver queued read = HasNoted (share_of driver) (into_iter_items drive
 
 -- and of one that it has handed out besides
 abbrev pub HasAskedOf : ScriptDriver → Packet → List Numbered → List Replied → Type 0
-HasAskedOf driver packet queued read = HasNoted (share_of driver) (packet ∷ into_iter_items driver.packets) driver.notes queued read
+HasAskedOf driver packet queued read =
+    HasNoted (share_of driver) (packet ∷ into_iter_items driver.packets) driver.notes queued read
 
 -- it noted all that it was to note, and has no packet left
 abbrev pub IsDone : ScriptDriver → Type 0

@@ -27,12 +27,16 @@ pub record IsHandedIn (share rest : List Packet) (told : List Told) (queued : Li
 
 -- notes that found room have all of it, and the replies that were read
 abbrev pub HasNoted : List Packet → List Packet → Notes → List Numbered → List Replied → Type 0
-HasNoted share rest notes queued read = notes.complete ≡ true → IsHandedIn share rest notes.told.items queued × (notes.replies.items ≡ read)
+HasNoted share rest notes queued read =
+    notes.complete ≡ true → IsHandedIn share rest notes.told.items queued × (notes.replies.items ≡ read)
 
 -- submitters of which so many packets may be in flight
 abbrev pub HaveCredit : ℕ → List SubmitterState → Type 0
-HaveCredit credit submitters = (k : ℕ) (submitter : SubmitterState) → slice_get submitters k ≡ Some submitter → submitter.credit ≡ credit
+HaveCredit credit submitters =
+    (k : ℕ) (submitter : SubmitterState) → slice_get submitters k ≡ Some submitter → submitter.credit ≡ credit
 
 -- submitters that have neither queued nor read anything
 abbrev pub AreFresh : List SubmitterState → Type 0
-AreFresh submitters = (k : ℕ) (submitter : SubmitterState) → slice_get submitters k ≡ Some submitter → (submitter.queued ≡ []) × (submitter.read ≡ [])
+AreFresh submitters =
+    (k : ℕ) (submitter : SubmitterState) → slice_get submitters k ≡ Some submitter
+    → (submitter.queued ≡ []) × (submitter.read ≡ [])

@@ -35,14 +35,16 @@ behind_told (Refused refusal) replies = replies
 
 unfoldable pub told_text : ℕ → List Told → List Replied → List ℕ
 told_text submitter [] replies = []
-told_text submitter (told ∷ others) replies = told_line submitter told replies ++ told_text submitter others (behind_told told replies)
+told_text submitter (told ∷ others) replies =
+    told_line submitter told replies ++ told_text submitter others (behind_told told replies)
 
 -- ---- the packets of all, by rising number of their submitters
 
 -- from a submitter on, the first of whose replies are those of 0
 unfoldable pub packets_text : ℕ → List (List Told) → (ℕ → List Replied) → List ℕ
 packets_text submitter [] replies = []
-packets_text submitter (own ∷ others) replies = told_text submitter own (replies zero) ++ packets_text (submitter + 1) others (λ k. replies (suc k))
+packets_text submitter (own ∷ others) replies =
+    told_text submitter own (replies zero) ++ packets_text (submitter + 1) others (λ k. replies (suc k))
 
 -- ---- what was committed
 
@@ -69,12 +71,15 @@ run_text told replies works refused_pulses state = packets_text 0 told replies +
 
 -- all of these shares were handed in: of each packet was told what became of it, and just those are queued of which it was told
 abbrev pub AreHandedIn : List (List packets.Packet) → List (List Told) → (ℕ → List Item) → Type 0
-AreHandedIn shares told queued = (k : ℕ) (share : List packets.Packet) (own : List Told) → slice_get shares k ≡ Some share → slice_get told k ≡ Some own → IsHandedIn share [] own (jobs_in (queued k))
+AreHandedIn shares told queued =
+    (k : ℕ) (share : List packets.Packet) (own : List Told) → slice_get shares k ≡ Some share
+    → slice_get told k ≡ Some own → IsHandedIn share [] own (jobs_in (queued k))
 
 -- Of a run from this clock on under this limit, with a submitter for each of these shares and a control that queued these items:
 -- the text is that of a lawful report of some queue, in which each submitter queued its share but for what it was refused, and whose
 -- committed pulses are the first of the control's. Which packets are refused, and why, is left open.
-pub record IsRunText (clock limit : ℕ) (shares : List (List packets.Packet)) (controlled : List Item) (refused_pulses : ℕ) (text : List ℕ) : Type 0 where
+pub record IsRunText (clock limit : ℕ) (shares : List (List packets.Packet)) (controlled : List Item)
+    (refused_pulses : ℕ) (text : List ℕ) : Type 0 where
   pub queue : List Ticket
   pub queued : ℕ → List Item
   pub groups : List (List Work)
@@ -94,7 +99,8 @@ pub record IsRunText (clock limit : ℕ) (shares : List (List packets.Packet)) (
 abbrev pub IsTextOf : Said → List ℕ → Type 0
 IsTextOf said text =
     let items = items_of said in
-    IsRunText (clock_of said.settings) (limit_of said.settings) (shares_of 0 (submitters_of said.settings) items) (lines_of (moments_in items) (shuts_in items))
+    IsRunText (clock_of said.settings) (limit_of said.settings) (shares_of 0 (submitters_of said.settings) items)
+        (lines_of (moments_in items) (shuts_in items))
     (refused_of (moments_in items)) text
 
 -- of bytes that are a faultless script

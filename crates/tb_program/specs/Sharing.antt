@@ -40,4 +40,5 @@ shares_of submitter (suc count) items = packets_by submitter items ∷ shares_of
 -- the submitters from a number on have their packets
 abbrev pub AreDealt : ℕ → List (Vec packets.Packet Global) → List Item → Type 0
 AreDealt submitter [] items = ⊤
-AreDealt submitter (packets ∷ others) items = (packets.items ≡ packets_by submitter items) × AreDealt (suc submitter) others items
+AreDealt submitter (packets ∷ others) items =
+    (packets.items ≡ packets_by submitter items) × AreDealt (suc submitter) others items

@@ -75,7 +75,8 @@ new_field draft (Some field) = if slice_index_or draft.given field.place false t
 -- the number in the field's place, its lowest byte first
 abbrev pub with_number : Draft → Field → ℕ → Draft
 with_number draft field number = record {
-  bytes = take field.offset draft.bytes ++ take field.size (to_le_bytes w128 number) ++ drop (field.offset + field.size) draft.bytes;
+  bytes = take field.offset draft.bytes ++ take field.size (to_le_bytes w128 number)
+      ++ drop (field.offset + field.size) draft.bytes;
   given = set draft.given field.place true;
 }
 

@@ -26,11 +26,15 @@ NoLineIsFaulty number said lines =
 
 -- where no line is faulty, the lines have no fault
 abbrev pub FaultlessLinesAreSaid : Type 0
-FaultlessLinesAreSaid = (number : ℕ) (said : Said) (lines : List (List ℕ)) → NoLineIsFaulty number said lines → IsOk (after_lines number said lines)
+FaultlessLinesAreSaid =
+    (number : ℕ) (said : Said) (lines : List (List ℕ)) → NoLineIsFaulty number said lines
+    → IsOk (after_lines number said lines)
 
 -- a script spelled from settings and items is read as these
 abbrev pub IsReadAsSpelled : Settings → List Item → Type 0
-IsReadAsSpelled settings items = (said : Said) × (script_of (spelling_of settings items) ≡ Ok said) × (said.settings ≡ settings) × (items_of said ≡ items)
+IsReadAsSpelled settings items =
+    (said : Said) × (script_of (spelling_of settings items) ≡ Ok said) × (said.settings ≡ settings)
+    × (items_of said ≡ items)
 
 abbrev pub SpelledScriptsAreRead : Type 0
 SpelledScriptsAreRead =

@@ -9,7 +9,8 @@ use Rattle.tb_script.specs.declared.fault.Fault.TheVariants.{BadNumber}
 -- 1 to 39 decimal digits
 unfoldable pub number_of : List ℕ → Option ℕ
 number_of word =
-    if nat_lt 0 (length word) && nat_lt (length word) 40 && list_all is_ascii_digit word then Some (digits_value 10 word) else None
+    if nat_lt 0 (length word) && nat_lt (length word) 40 && list_all is_ascii_digit word
+    then Some (digits_value 10 word) else None
 
 -- a number that is in its bounds
 abbrev pub within : ℕ → ℕ → Option ℕ → Result ℕ Fault

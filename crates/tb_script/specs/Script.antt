@@ -165,7 +165,8 @@ with_line said word.Shut words = do
 
 abbrev pub with_keyword : Said → Option Keyword → List (List ℕ) → Result Said Fault
 with_keyword said None words = Err UnknownWord
-with_keyword said (Some keyword) words = if is_in_place said keyword then with_line said keyword words else Err OutOfPlace
+with_keyword said (Some keyword) words =
+    if is_in_place said keyword then with_line said keyword words else Err OutOfPlace
 
 -- a line without words, or whose first word begins with `#`, is skipped
 abbrev pub with_words : Said → List (List ℕ) → Result Said Fault
@@ -190,7 +191,8 @@ at_line number (Err fault) = Err (number, fault)
 -- what lines say, the first of them having this number, or the number and the fault of the first faulty one
 unfoldable pub after_lines : ℕ → Said → List (List ℕ) → Result Said (ℕ × Fault)
 after_lines number said [] = Ok said
-after_lines number said (line ∷ lines) = at_line number (after_line said line) >>= λ next. after_lines (number + 1) next lines
+after_lines number said (line ∷ lines) =
+    at_line number (after_line said line) >>= λ next. after_lines (number + 1) next lines
 
 -- what a script says
 abbrev pub script_of : List ℕ → Result Said (ℕ × Fault)

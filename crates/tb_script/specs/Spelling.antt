@@ -38,7 +38,9 @@ byte_line byte = line_of_words (codes "hex" ∷ encode_lower (byte ∷ []) ∷ [
 
 -- a packet's line, and one for each byte of its data
 abbrev pub packet_lines : Submission → List (List ℕ)
-packet_lines packet = line_of_words (codes "packet" ∷ decimal packet.submitter ∷ decimal packet.operation ∷ []) ∷ map byte_line packet.bytes
+packet_lines packet =
+    line_of_words (codes "packet" ∷ decimal packet.submitter ∷ decimal packet.operation ∷ [])
+    ∷ map byte_line packet.bytes
 
 abbrev pub item_lines : Item → List (List ℕ)
 item_lines (Packet packet) = packet_lines packet
@@ -135,4 +137,5 @@ shut_by shut Shut = true
 
 abbrev pub CanAllBeSaid : ℕ → Bool → List Item → Type 0
 CanAllBeSaid submitters shut [] = Unit {0}
-CanAllBeSaid submitters shut (item ∷ items) = CanBeSaid submitters shut item × CanAllBeSaid submitters (shut_by shut item) items
+CanAllBeSaid submitters shut (item ∷ items) =
+    CanBeSaid submitters shut item × CanAllBeSaid submitters (shut_by shut item) items

@@ -55,7 +55,8 @@ with_taken intake ticket = record intake { taken = intake.taken ++ ticket ∷ []
 -- ---- the senders of an intake's queue
 
 abbrev pub seat_at : IntakeState → ℕ → Seat
-seat_at intake number = record { queue = Some intake.queue; submitters = intake.submitters; limit = intake.limit; number = number }
+seat_at intake number =
+    record { queue = Some intake.queue; submitters = intake.submitters; limit = intake.limit; number = number }
 
 abbrev pub control_seat : IntakeState → Seat
 control_seat intake = seat_at intake intake.submitters
@@ -63,7 +64,8 @@ control_seat intake = seat_at intake intake.submitters
 -- the submitters with these seats whose replies come by these rings, from a number on
 abbrev pub origins_from : (ℕ → Seat) → ℕ → List (Outlet Replied) → List Origin
 origins_from seats number [] = []
-origins_from seats number (outlet ∷ outlets) = record { seat = seats number; ring = outlet_ring outlet } ∷ origins_from seats (suc number) outlets
+origins_from seats number (outlet ∷ outlets) =
+    record { seat = seats number; ring = outlet_ring outlet } ∷ origins_from seats (suc number) outlets
 
 abbrev pub origins : IntakeState → List (Outlet Replied) → List Origin
 origins intake outlets = origins_from (seat_at intake) 0 outlets
@@ -83,7 +85,8 @@ abbrev pub new_control : IntakeState → SenderState
 new_control intake = record { seat = control_seat intake; queued = [] }
 
 abbrev pub new_intake : TableId → ℕ → ℕ → ℕ → IntakeState
-new_intake queue submitters limit capacity = record { queue = queue; submitters = submitters; limit = limit; capacity = capacity; taken = [] }
+new_intake queue submitters limit capacity =
+    record { queue = queue; submitters = submitters; limit = limit; capacity = capacity; taken = [] }
 
 -- ---- one item more
 
@@ -95,7 +98,9 @@ sender_with sender item = record sender { queued = sender.queued ++ item ∷ [] 
 
 -- the submitter with this as its last item
 abbrev pub ended_with : SubmitterState → Item → EndedState
-ended_with submitter item = record { origin = submitter.origin; queued = submitter.queued ++ item ∷ []; read = submitter.read; lying = submitter.lying }
+ended_with submitter item =
+    record { origin = submitter.origin; queued = submitter.queued ++ item ∷ []; read = submitter.read;
+        lying = submitter.lying }
 
 -- ---- all that have ended, by rising number
 

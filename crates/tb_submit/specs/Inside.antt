@@ -40,10 +40,13 @@ pub record ReaderState : Type 0 where
   pub count : ℕ
 
 abbrev pub seat_with : Option TableId → ℕ → ℕ → ℕ → Seat
-seat_with queue submitters limit number = record { queue = queue; submitters = submitters; limit = limit; number = number }
+seat_with queue submitters limit number =
+    record { queue = queue; submitters = submitters; limit = limit; number = number }
 
 abbrev pub state_while_open : Pass Ticket View → ℕ → ℕ → ℕ → SenderState
-state_while_open pass submitters limit number = record { seat = seat_with (Some pass.table_id) submitters limit number; queued = first_pushed (view_of pass).entries }
+state_while_open pass submitters limit number =
+    record { seat = seat_with (Some pass.table_id) submitters limit number;
+        queued = first_pushed (view_of pass).entries }
 
 -- a sender that has ended, whose pass may be gone
 abbrev pub state_once_ended : Option (Pass Ticket View) → ℕ → ℕ → ℕ → SenderState
@@ -53,10 +56,12 @@ state_once_ended (Some pass) submitters limit number = state_while_open pass sub
 abbrev pub IsLeft : Option (Pass Ticket View) → ℕ → ℕ → ℕ → Type 0
 IsLeft None submitters limit number = ⊤
 IsLeft (Some pass) submitters limit number =
-    (pass.me.1 ≡ []) × (view_of pass ≡ sender number (first_pushed (view_of pass).entries)) × IsFiled limit submitters number (first_pushed (view_of pass).entries)
+    (pass.me.1 ≡ []) × (view_of pass ≡ sender number (first_pushed (view_of pass).entries))
+        × IsFiled limit submitters number (first_pushed (view_of pass).entries)
 
 -- a submitter's counts: of what it queued, and of the replies read, as far as 64 bits go
-pub record IsSubmitter (seat : Seat) (queued : List Item) (count credit seen : ℕ) (first : Option Refusal) (read : List Replied) : Type 0 where
+pub record IsSubmitter (seat : Seat) (queued : List Item) (count credit seen : ℕ) (first : Option Refusal)
+    (read : List Replied) : Type 0 where
   pub among : seat.number < seat.submitters
   pub limited : seat.limit ≤ batch_max
   pub packets : ArePackets seat.limit seat.number 0 queued

@@ -20,7 +20,9 @@ AreWithin limit queue = AllByRecursion (λ (ticket : Ticket). IsWithin limit tic
 -- packets alone, a submitter's own, numbered from a number on, each admitted under the limit
 abbrev pub ArePackets : ℕ → ℕ → ℕ → List Item → Type 0
 ArePackets limit sender number [] = Unit {0}
-ArePackets limit sender number (Packet job ∷ items) = (job.submitter ≡ sender) × (job.number ≡ number) × IsOk (admission_of limit job.packet) × ArePackets limit sender (number + 1) items
+ArePackets limit sender number (Packet job ∷ items) =
+    (job.submitter ≡ sender) × (job.number ≡ number) × IsOk (admission_of limit job.packet)
+    × ArePackets limit sender (number + 1) items
 ArePackets limit sender number (Pulse moment ∷ items) = ⊥
 ArePackets limit sender number (End ∷ items) = ⊥
 ArePackets limit sender number (Close ∷ items) = ⊥

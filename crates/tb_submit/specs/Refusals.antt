@@ -26,13 +26,15 @@ or_else (Some refusal) other = Some refusal
 abbrev pub queue_refusal : ℕ → ℕ → ℕ → ℕ → Option Refusal
 queue_refusal limit capacity credit submitters =
     if nat_lt limit 1 || nat_lt batch_max limit then Some BadLimit
-    else if nat_lt capacity 1 || nat_lt capacity_max capacity || nat_lt credit 1 || nat_lt capacity_max credit then Some BadCapacity
+    else if nat_lt capacity 1 || nat_lt capacity_max capacity || nat_lt credit 1 || nat_lt capacity_max credit
+    then Some BadCapacity
     else if nat_lt submitters 1 || nat_lt submitters_max submitters then Some BadSubmitters
     else None
 
 -- why it isn't opened: the refusal that is due, or want of memory where none is
 abbrev pub IsQueueRefusal : ℕ → ℕ → ℕ → ℕ → Refusal → Type 0
-IsQueueRefusal limit capacity credit submitters refusal = IsRefusal (queue_refusal limit capacity credit submitters) (λ other. other ≡ NoMemory) refusal
+IsQueueRefusal limit capacity credit submitters refusal =
+    IsRefusal (queue_refusal limit capacity credit submitters) (λ other. other ≡ NoMemory) refusal
 
 -- ---- submitting
 
@@ -59,8 +61,10 @@ in_flight submitter = length submitter.queued - length submitter.read
 abbrev pub submit_refusal : SubmitterState → Packet → Option Refusal
 submit_refusal submitter packet =
     or_else (told_in submitter.read)
-    (or_else (refusal_in (admission_of submitter.origin.seat.limit packet)) (if in_flight submitter == submitter.credit then Some InFlight else None))
+    (or_else (refusal_in (admission_of submitter.origin.seat.limit packet))
+        (if in_flight submitter == submitter.credit then Some InFlight else None))
 
 -- why a packet isn't queued: the refusal that is due, or where none is, want of memory or a full queue
 abbrev pub IsSubmitRefusal : SubmitterState → Packet → Refusal → Type 0
-IsSubmitRefusal submitter packet refusal = IsRefusal (submit_refusal submitter packet) (λ other. (other ≡ NoMemory) ⊎ (other ≡ Full)) refusal
+IsSubmitRefusal submitter packet refusal =
+    IsRefusal (submit_refusal submitter packet) (λ other. (other ≡ NoMemory) ⊎ (other ≡ Full)) refusal

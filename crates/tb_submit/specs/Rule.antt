@@ -82,7 +82,9 @@ FitsMark reader count taken pass None = ⊤
 FitsMark reader count taken pass (Some mark) = (pass ≡ reader) × (mark.taken ≡ taken) × (mark.count ≡ count)
 
 abbrev pub Fits : (ℕ → ℕ) → ℕ → ℕ → List Ticket → List Ticket → ℕ → View → Type 0
-Fits pass_of reader count taken items pass view = AllByRecursion (FitsEntry pass_of count (taken ++ items) pass) view.entries × FitsMark reader count taken pass view.mark
+Fits pass_of reader count taken items pass view =
+    AllByRecursion (FitsEntry pass_of count (taken ++ items) pass) view.entries
+    × FitsMark reader count taken pass view.mark
 
 abbrev pub InView : List View → ℕ → ℕ → Type 0
 InView views pass number = (view : View) × (get_elem? views pass ≡ some view) × Stands number view.entries
@@ -93,7 +95,8 @@ pub record Kept (items : List Ticket) (views : List View) : Type 0 where
   pub reader : ℕ
   pub count : ℕ
   pub taken : List Ticket
-  pub fits : (pass : ℕ) (view : View) → get_elem? views pass ≡ some view → Fits pass_of reader count taken items pass view
+  pub fits : (pass : ℕ) (view : View) → get_elem? views pass ≡ some view
+      → Fits pass_of reader count taken items pass view
   pub stands : (number : ℕ) → number < count → InView views (pass_of number) number
   pub strangers : (number : ℕ) → count ≤ number → part number (taken ++ items) ≡ []
 
@@ -102,7 +105,8 @@ pub record Kept (items : List Ticket) (views : List View) : Type 0 where
 -- of each number that stands in it, taken and queued together are what was pushed
 abbrev pub IsWhole : List Entry → List Ticket → ℕ → List Ticket → Type 0
 IsWhole entries taken count items =
-    AllByRecursion (λ (e : Entry). part e.number (taken ++ items) ≡ e.pushed) entries × ((number : ℕ) → count ≤ number → part number (taken ++ items) ≡ [])
+    AllByRecursion (λ (e : Entry). part e.number (taken ++ items) ≡ e.pushed) entries
+        × ((number : ℕ) → count ≤ number → part number (taken ++ items) ≡ [])
 
 abbrev pub TellsMark : List Entry → Option Mark → List Ticket → Type 0
 TellsMark entries None items = ⊤

@@ -22,7 +22,8 @@ abbrev pub debits_posted : Facts → ℕ → ℕ
 debits_posted facts id = amount_of (λ transfer. is_posting transfer && (transfer.debit_account_id == id)) facts
 
 abbrev pub credits_pending : Facts → ℕ → ℕ
-credits_pending facts id = amount_of (λ transfer. is_reserving facts transfer && (transfer.credit_account_id == id)) facts
+credits_pending facts id =
+    amount_of (λ transfer. is_reserving facts transfer && (transfer.credit_account_id == id)) facts
 
 abbrev pub credits_posted : Facts → ℕ → ℕ
 credits_posted facts id = amount_of (λ transfer. is_posting transfer && (transfer.credit_account_id == id)) facts

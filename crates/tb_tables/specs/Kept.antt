@@ -62,7 +62,8 @@ abbrev pub transfer_rows : Facts → List TransferRecord → List (ℕ × Row)
 transfer_rows facts transfers = map (λ transfer. (transfer.id, row_in facts transfer)) transfers
 
 -- the maps hold the facts
-pub record Hold (facts : Facts) (account_entries : List (ℕ × AccountRecord)) (transfer_entries : List (ℕ × Row)) : Type 0 where
+pub record Hold (facts : Facts) (account_entries : List (ℕ × AccountRecord))
+    (transfer_entries : List (ℕ × Row)) : Type 0 where
   pub accounts_are : account_entries ≡ account_rows (sums_of facts) facts.accounts
   pub transfers_are : transfer_entries ≡ transfer_rows facts facts.transfers
 
@@ -98,7 +99,8 @@ abbrev pub has_account : ℕ → List AccountRecord → Bool
 has_account id accounts = list_any (λ (account : AccountRecord). account.id == id) accounts
 
 -- a transfer is between accounts, what it names is there, and the moment at which it expires can be written down
-pub record IsGrounded (accounts : List AccountRecord) (transfers : List TransferRecord) (transfer : TransferRecord) : Type 0 where
+pub record IsGrounded (accounts : List AccountRecord) (transfers : List TransferRecord)
+    (transfer : TransferRecord) : Type 0 where
   pub debit : has_account transfer.debit_account_id accounts ≡ true
   pub credit : has_account transfer.credit_account_id accounts ≡ true
   pub named : is_resolving transfer ≡ true → has_id transfer.pending_id transfers ≡ true
@@ -109,8 +111,10 @@ AreGrounded facts = AllByRecursion (IsGrounded facts.accounts facts.transfers) f
 
 -- what expired stands in order of making, and is pending and unresolved
 pub record AreExpiries (facts : Facts) : Type 0 where
-  pub ordered : facts.expired ≡ map (λ (transfer : TransferRecord). transfer.id) (filter (λ transfer. is_expired facts transfer.id) facts.transfers)
-  pub open_ones : (place : ℕ) (transfer : TransferRecord) → slice_get facts.transfers place ≡ Some transfer → is_expired facts transfer.id ≡ true → (is_pending transfer ≡ true) × (is_resolved facts transfer.id ≡ false)
+  pub ordered : facts.expired ≡ map (λ (transfer : TransferRecord). transfer.id)
+      (filter (λ transfer. is_expired facts transfer.id) facts.transfers)
+  pub open_ones : (place : ℕ) (transfer : TransferRecord) → slice_get facts.transfers place ≡ Some transfer
+      → is_expired facts transfer.id ≡ true → (is_pending transfer ≡ true) × (is_resolved facts transfer.id ≡ false)
 
 pub record IsSound (is_indexed : ℕ → ℕ → Bool) (facts : Facts) : Type 0 where
   pub lawful : IsLawful facts
@@ -120,7 +124,8 @@ pub record IsSound (is_indexed : ℕ → ℕ → Bool) (facts : Facts) : Type 0 
   pub paired : (moment place : ℕ) → expects facts moment place ≡ true → is_indexed moment place ≡ true
 
 -- the maps hold the facts, and each pair is that of a transfer
-pub record AreHeld (account_entries : List (ℕ × AccountRecord)) (transfer_entries : List (ℕ × Row)) (is_indexed : ℕ → ℕ → Bool) (facts : Facts) : Type 0 where
+pub record AreHeld (account_entries : List (ℕ × AccountRecord)) (transfer_entries : List (ℕ × Row))
+    (is_indexed : ℕ → ℕ → Bool) (facts : Facts) : Type 0 where
   pub hold : Hold facts account_entries transfer_entries
   pub timed : (moment place : ℕ) → is_indexed moment place ≡ true → is_pair facts moment place ≡ true
   pub sound : IsSound is_indexed facts
@@ -130,7 +135,8 @@ IsKept stored = AreHeld stored.accounts stored.transfers stored.is_indexed (fact
 
 -- the pair of a transfer that is stored next
 abbrev pub its_pair : Facts → TransferRecord → ℕ → ℕ → Bool
-its_pair facts transfer moment place = is_timed transfer && same_pair (expires_at transfer) (length facts.transfers) moment place
+its_pair facts transfer moment place =
+    is_timed transfer && same_pair (expires_at transfer) (length facts.transfers) moment place
 
 -- ---- what was owed for a transfer that was stored
 
@@ -189,7 +195,8 @@ IsUndoable indexed change facts = IsSound indexed (before change facts) × WasMa
 
 abbrev pub AreUndoable : (ℕ → ℕ → Bool) → List (Change Places) → Facts → Type 0
 AreUndoable indexed [] facts = Unit {0}
-AreUndoable indexed (change ∷ changes) facts = IsUndoable indexed change (oldest before changes facts) × AreUndoable indexed changes facts
+AreUndoable indexed (change ∷ changes) facts =
+    IsUndoable indexed change (oldest before changes facts) × AreUndoable indexed changes facts
 
 -- each pair of the places below a count that is in the one index is in the other
 abbrev pub KeepsPairs : ℕ → (ℕ → ℕ → Bool) → (ℕ → ℕ → Bool) → Type 0
@@ -197,7 +204,9 @@ KeepsPairs count old new = (moment place : ℕ) → place < count → old moment
 
 -- what a change resolved is there
 abbrev pub NamesOne : Facts → Change Places → Type 0
-NamesOne facts change = (place : ℕ) → resolves_at place change ≡ true → (transfer : TransferRecord) × (slice_get facts.transfers place ≡ Some transfer)
+NamesOne facts change =
+    (place : ℕ) → resolves_at place change ≡ true
+    → (transfer : TransferRecord) × (slice_get facts.transfers place ≡ Some transfer)
 
 abbrev pub history_in : List (Change Places) → Facts → History
 history_in changes facts = history_of before (λ (now : Facts). now) changes facts

@@ -39,7 +39,8 @@ abbrev pub is_resolved : Facts → ℕ → Bool
 is_resolved facts id = list_any (λ other. is_resolving other && (other.pending_id == id)) facts.transfers
 
 abbrev pub is_reserving : Facts → Transfer → Bool
-is_reserving facts transfer = is_pending transfer && not (is_resolved facts transfer.id) && not (is_expired facts transfer.id)
+is_reserving facts transfer =
+    is_pending transfer && not (is_resolved facts transfer.id) && not (is_expired facts transfer.id)
 
 -- when a transfer with a timeout expires, in nanoseconds; the timeout is in seconds
 abbrev pub expires_at : Transfer → ℕ
@@ -52,5 +53,6 @@ is_due clock transfer = not (transfer.timeout == 0) && nat_le (expires_at transf
 -- the facts once each transfer that still reserves its amount and is due has expired
 abbrev pub expire_due : ℕ → Facts → Facts
 expire_due clock facts =
-    let expires : Transfer → Bool = λ transfer. is_expired facts transfer.id || (is_reserving facts transfer && is_due clock transfer) in
+    let expires : Transfer → Bool = λ transfer. is_expired facts transfer.id
+        || (is_reserving facts transfer && is_due clock transfer) in
     record facts { expired = map (λ (transfer : Transfer). transfer.id) (filter expires facts.transfers) }

@@ -25,19 +25,23 @@ pub record Step (transfer : Transfer) (places : Places) : Type 0 where
   pub allow : Allow facts transfer places
 
 -- the balances, and the statuses of the others, are what some facts say
-pub record AreOf (now : Facts) (facts : Facts) (more : List (ℕ × Row)) (account_entries : List (ℕ × Account)) (transfer_entries : List (ℕ × Row)) : Type 0 where
+pub record AreOf (now : Facts) (facts : Facts) (more : List (ℕ × Row)) (account_entries : List (ℕ × Account))
+    (transfer_entries : List (ℕ × Row)) : Type 0 where
   pub accounts_are : account_entries ≡ account_rows (sums_of now) facts.accounts
   pub transfers_are : transfer_entries ≡ transfer_rows now facts.transfers ++ more
 
 -- nothing that it changes is changed, or all of it is
-abbrev pub IsBefore : {transfer : Transfer} {places : Places} → Step transfer places → List (ℕ × Account) → List (ℕ × Row) → Type 0
+abbrev pub IsBefore : {transfer : Transfer} {places : Places} → Step transfer places → List (ℕ × Account)
+    → List (ℕ × Row) → Type 0
 IsBefore step = AreOf step.facts step.facts step.more
 
-abbrev pub IsAfter : {transfer : Transfer} {places : Places} → Step transfer places → List (ℕ × Account) → List (ℕ × Row) → Type 0
+abbrev pub IsAfter : {transfer : Transfer} {places : Places} → Step transfer places → List (ℕ × Account)
+    → List (ℕ × Row) → Type 0
 IsAfter {transfer} step = AreOf (add_transfer step.facts transfer) step.facts step.more
 
 -- it is stored, with the balances and the status that it changes
-pub record IsStored (facts : Facts) (transfer : Transfer) (places : Places) (account_entries : List (ℕ × Account)) (transfer_entries : List (ℕ × Row)) : Type 0 where
+pub record IsStored (facts : Facts) (transfer : Transfer) (places : Places) (account_entries : List (ℕ × Account))
+    (transfer_entries : List (ℕ × Row)) : Type 0 where
   pub allow : Allow facts transfer places
   pub hold : Hold (add_transfer facts transfer) account_entries transfer_entries
 
@@ -55,20 +59,25 @@ is_open_status (Some Expired) = false
 is_open_status None = false
 
 -- a transfer is at a place, and the moment at which it expires can be written down
-pub record IsForgettable (facts : Facts) (transfer : Transfer) (transfer_entries : List (ℕ × Row)) (place : ℕ) : Type 0 where
+pub record IsForgettable (facts : Facts) (transfer : Transfer) (transfer_entries : List (ℕ × Row))
+    (place : ℕ) : Type 0 where
   pub transfers_are : transfer_entries ≡ transfer_rows facts facts.transfers
   pub at : slice_get facts.transfers place ≡ Some transfer
   pub expiry_fits : is_pending transfer ≡ true → expires_at transfer < 2 ^ 64
 
 -- what a change names can be forgotten
 abbrev pub CanForget : Facts → Change Places → List (ℕ × Row) → Type 0
-CanForget facts change transfer_entries = (place : ℕ) → resolves_at place change ≡ true → (transfer : Transfer) × IsForgettable facts transfer transfer_entries place
+CanForget facts change transfer_entries =
+    (place : ℕ) → resolves_at place change ≡ true
+    → (transfer : Transfer) × IsForgettable facts transfer transfer_entries place
 
 -- the transfer at a place reserves its amount
-pub record CanExpire (facts : Facts) (account_entries : List (ℕ × Account)) (transfer_entries : List (ℕ × Row)) (place : ℕ) : Type 0 where
+pub record CanExpire (facts : Facts) (account_entries : List (ℕ × Account)) (transfer_entries : List (ℕ × Row))
+    (place : ℕ) : Type 0 where
   pub lawful : IsLawful facts
   pub grounded : AreGrounded facts
-  pub ordered : facts.expired ≡ map (λ (transfer : Transfer). transfer.id) (filter (λ transfer. is_expired facts transfer.id) facts.transfers)
+  pub ordered : facts.expired ≡ map (λ (transfer : Transfer). transfer.id)
+      (filter (λ transfer. is_expired facts transfer.id) facts.transfers)
   pub hold : Hold facts account_entries transfer_entries
   pub transfer : Transfer
   pub at : slice_get facts.transfers place ≡ Some transfer
@@ -76,4 +85,6 @@ pub record CanExpire (facts : Facts) (account_entries : List (ℕ × Account)) (
 
 -- the facts once one more transfer has expired, which has this id
 abbrev pub expire_one : ℕ → Facts → Facts
-expire_one id facts = record facts { expired = map (λ (transfer : Transfer). transfer.id) (filter (λ transfer. is_expired facts transfer.id || (id == transfer.id)) facts.transfers) }
+expire_one id facts =
+    record facts { expired = map (λ (transfer : Transfer). transfer.id)
+    (filter (λ transfer. is_expired facts transfer.id || (id == transfer.id)) facts.transfers) }

@@ -84,7 +84,8 @@ credits_in Posted = CreditsPosted
 
 -- an amount more between two accounts
 abbrev pub with_amount : Phase → ℕ → ℕ → ℕ → Sums → Sums
-with_amount phase debit credit amount sums = with_more (credits_in phase) credit amount (with_more (debits_in phase) debit amount sums)
+with_amount phase debit credit amount sums =
+    with_more (credits_in phase) credit amount (with_more (debits_in phase) debit amount sums)
 
 abbrev pub posted_if : Bool → ℕ → ℕ → ℕ → Sums → Sums
 posted_if true debit credit amount sums = with_amount Posted debit credit amount sums

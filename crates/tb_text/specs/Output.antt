@@ -25,13 +25,16 @@ fault_line number text = codes "fault " ++ decimal number ++ codes " " ++ text +
 
 unfoldable pub refused_line : ℕ → Refusal → List ℕ
 refused_line submitter refusal =
-    codes "packet " ++ decimal submitter ++ codes " refused " ++ decimal (number_of refusal) ++ codes " " ++ name_of refusal ++ codes "\n"
+    codes "packet " ++ decimal submitter ++ codes " refused " ++ decimal (number_of refusal) ++ codes " "
+        ++ name_of refusal ++ codes "\n"
 
 abbrev pub failure_text : Failure → List ℕ
 failure_text failure = codes " " ++ decimal failure.index ++ codes ":" ++ decimal failure.code
 
 unfoldable pub found_debits : Account → List ℕ
-found_debits account = codes " " ++ decimal account.id ++ codes ":" ++ decimal account.debits_pending ++ codes ":" ++ decimal account.debits_posted
+found_debits account =
+    codes " " ++ decimal account.id ++ codes ":" ++ decimal account.debits_pending ++ codes ":"
+    ++ decimal account.debits_posted
 
 unfoldable pub found_credits : Account → List ℕ
 found_credits account = codes ":" ++ decimal account.credits_pending ++ codes ":" ++ decimal account.credits_posted
@@ -69,7 +72,8 @@ account_front id timestamp = codes "account " ++ decimal id ++ codes " " ++ deci
 
 unfoldable pub balances_text : Account → List ℕ
 balances_text account =
-    codes " " ++ decimal account.debits_pending ++ codes " " ++ decimal account.debits_posted ++ codes " " ++ decimal account.credits_pending
+    codes " " ++ decimal account.debits_pending ++ codes " " ++ decimal account.debits_posted ++ codes " "
+        ++ decimal account.credits_pending
     ++ codes " " ++ decimal account.credits_posted ++ codes "\n"
 
 abbrev pub account_line : Account → List ℕ
@@ -96,7 +100,8 @@ line_text clock works place RefusedPulse = refused_pulse_line
 
 unfoldable pub lines_from : ℕ → List Work → Place → List Planned → List ℕ
 lines_from clock works place [] = []
-lines_from clock works place (planned ∷ plan) = line_text clock works place planned ++ lines_from clock works (place_behind place (queued_items planned)) plan
+lines_from clock works place (planned ∷ plan) =
+    line_text clock works place planned ++ lines_from clock works (place_behind place (queued_items planned)) plan
 
 -- all that is queued ahead of the Close is committed
 abbrev pub plan_text : ℕ → List Planned → List ℕ
@@ -113,7 +118,8 @@ script_text (Err (number, fault)) = fault_line number (fault_text fault)
 
 -- the output for the bytes of a script
 abbrev pub out : List ℕ → List ℕ
-out bytes = if nat_lt 16777216 (length bytes) then fault_line 0 (codes "script too long") else script_text (script_of bytes)
+out bytes =
+    if nat_lt 16777216 (length bytes) then fault_line 0 (codes "script too long") else script_text (script_of bytes)
 
 abbrev pub is_ok_script : Result Said (ℕ × Fault) → Bool
 is_ok_script (Ok said) = true

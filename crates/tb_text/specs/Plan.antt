@@ -46,7 +46,8 @@ packet_of submission = record { operation = submission.operation; bytes = submis
 
 -- a packet behind what is queued
 abbrev pub packet_as : List work.Item → Submission → Result ℕ Refusal → Planned
-packet_as items submission (Ok count) = Packet (numbered_packet submission.submitter (number_in submission.submitter items) (packet_of submission))
+packet_as items submission (Ok count) =
+    Packet (numbered_packet submission.submitter (number_in submission.submitter items) (packet_of submission))
 packet_as items submission (Err refusal) = RefusedPacket submission.submitter refusal
 
 -- a moment above 2^62 is refused
@@ -54,11 +55,13 @@ abbrev pub pulse_as : ℕ → Planned
 pulse_as moment = if nat_lt (2 ^ 62) moment then RefusedPulse else Pulse moment
 
 abbrev pub planned_as : ℕ → List work.Item → Item → Planned
-planned_as limit items (script.Packet submission) = packet_as items submission (admission_of limit (packet_of submission))
+planned_as limit items (script.Packet submission) =
+    packet_as items submission (admission_of limit (packet_of submission))
 planned_as limit items (script.Pulse moment) = pulse_as moment
 planned_as limit items script.Shut = Close
 
 -- what a script's items come to behind what is queued, packets being of so many events at most
 unfoldable pub plan_behind : ℕ → List work.Item → List Item → List Planned
 plan_behind limit items [] = []
-plan_behind limit items (item ∷ others) = planned_as limit items item ∷ plan_behind limit (items ++ queued_items (planned_as limit items item)) others
+plan_behind limit items (item ∷ others) =
+    planned_as limit items item ∷ plan_behind limit (items ++ queued_items (planned_as limit items item)) others

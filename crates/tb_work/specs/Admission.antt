@@ -7,7 +7,9 @@ use Rattle.tb_work.specs.declared.refusal.Refusal.TheVariants.{InvalidOperation,
 
 -- the bytes of one event of an operation; a lookup's events are ids
 abbrev pub event_size : ℕ → Option ℕ
-event_size operation = if operation == create_accounts then Some 128 else if operation == create_transfers then Some 128 else if operation == lookup_accounts then Some 16 else None
+event_size operation =
+    if operation == create_accounts then Some 128 else if operation == create_transfers then Some 128
+    else if operation == lookup_accounts then Some 16 else None
 
 abbrev pub admission_of_size : ℕ → List ℕ → Option ℕ → Result ℕ Refusal
 admission_of_size limit bytes None = Err InvalidOperation

@@ -41,7 +41,8 @@ numbered_packet submitter number packet = record { submitter = submitter; number
 -- whether a chunk of a packet's data is a linked event
 abbrev pub is_chunk_linked : ℕ → List ℕ → Bool
 is_chunk_linked operation chunk =
-    if operation == create_accounts then is_linked_account (account_of chunk) else if operation == create_transfers then is_linked_transfer (transfer_of chunk) else false
+    if operation == create_accounts then is_linked_account (account_of chunk)
+    else if operation == create_transfers then is_linked_transfer (transfer_of chunk) else false
 
 -- it is admitted, and so many failures have room
 pub record IsJob (packet : Packet) (count : ℕ) (room : SmallVec Failure) : Type 0 where

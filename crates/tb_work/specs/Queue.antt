@@ -54,12 +54,14 @@ IsSubmitted submitters sender End = Unit {0}
 IsSubmitted submitters sender Close = sender ≡ submitters
 
 abbrev pub AreSubmitted : ℕ → List Ticket → Type 0
-AreSubmitted submitters queue = AllByRecursion (λ (ticket : Ticket). IsSubmitted submitters ticket.sender ticket.item) queue
+AreSubmitted submitters queue =
+    AllByRecursion (λ (ticket : Ticket). IsSubmitted submitters ticket.sender ticket.item) queue
 
 -- a sender's packets are its own, and numbered from a number on
 abbrev pub AreNumbered : ℕ → ℕ → List Item → Type 0
 AreNumbered sender number [] = Unit {0}
-AreNumbered sender number (Packet job ∷ items) = (job.submitter ≡ sender) × (job.number ≡ number) × AreNumbered sender (number + 1) items
+AreNumbered sender number (Packet job ∷ items) =
+    (job.submitter ≡ sender) × (job.number ≡ number) × AreNumbered sender (number + 1) items
 AreNumbered sender number (Pulse moment ∷ items) = AreNumbered sender number items
 AreNumbered sender number (End ∷ items) = AreNumbered sender number items
 AreNumbered sender number (Close ∷ items) = AreNumbered sender number items

@@ -12,4 +12,5 @@ pub record Replied : Type 0 where
   pub outcome : Outcome
 
 abbrev pub reply_with : Outcome → Numbered → Replied
-reply_with outcome job = record { submitter = job.submitter; number = job.number; packet = job.packet; outcome = outcome }
+reply_with outcome job =
+    record { submitter = job.submitter; number = job.number; packet = job.packet; outcome = outcome }

@@ -60,20 +60,24 @@ pub record IsLawfulSoFar (clock submitters : ℕ) (queue : List Ticket) (world :
   pub submitted : AreSubmitted submitters queue
   pub numbered : (sender : ℕ) → sender ≤ submitters → AreNumbered sender 0 (part sender queue)
   pub committed : IsPrefix (works world.ledger) (ahead (items_in queue))
-  pub received : (submitter : ℕ) → submitter < submitters → IsPrefix (received_of world submitter) (due clock queue (works world.ledger) submitter)
+  pub received : (submitter : ℕ) → submitter < submitters
+      → IsPrefix (received_of world submitter) (due clock queue (works world.ledger) submitter)
 
 -- no submitter was told of a stop
 abbrev pub NoneStopped : ℕ → WorldState → Type 0
-NoneStopped submitters world = (submitter : ℕ) → submitter < submitters → tell_a_stop (received_of world submitter) ≡ false
+NoneStopped submitters world =
+    (submitter : ℕ) → submitter < submitters → tell_a_stop (received_of world submitter) ≡ false
 
 -- the report of a World: its senders queued what they pushed
 abbrev pub Reports : ℕ → ℕ → List Ticket → WorldState → Type 0
 Reports clock submitters queue world =
-    LawfulReport clock submitters queue (λ sender. part sender queue) (works world.ledger) (replay world.ledger.opening (works world.ledger)) world.ledger.stopped (received_of world)
+    LawfulReport clock submitters queue (λ sender. part sender queue) (works world.ledger)
+        (replay world.ledger.opening (works world.ledger)) world.ledger.stopped (received_of world)
 
 -- a World at rest, of which so much was pushed
 pub record Rests (clock submitters : ℕ) (queue : List Ticket) (world : WorldState) : Type 0 where
-  pub received : (submitter : ℕ) → submitter < submitters → received_of world submitter ≡ due clock queue (works world.ledger) submitter
+  pub received : (submitter : ℕ) → submitter < submitters
+      → received_of world submitter ≡ due clock queue (works world.ledger) submitter
   pub reports : HaveAllEnded submitters queue → Reports clock submitters queue world
 
 -- A World after these events, whatever they are; and what is true besides where no growth was refused, and at rest.
@@ -82,4 +86,5 @@ pub record HasRun (clock limit submitters : ℕ) (events : List Event) (world : 
   pub so_far : IsLawfulSoFar clock submitters (history (new_world clock limit submitters) events) world
   pub untold : list_any is_refused events ≡ false → NoneStopped submitters world
   pub at_rest : IsAtRest world → Rests clock submitters (history (new_world clock limit submitters) events) world
-  pub whole : list_any is_refused events ≡ false → IsAtRest world → works world.ledger ≡ ahead (items_in (history (new_world clock limit submitters) events))
+  pub whole : list_any is_refused events ≡ false → IsAtRest world
+      → works world.ledger ≡ ahead (items_in (history (new_world clock limit submitters) events))

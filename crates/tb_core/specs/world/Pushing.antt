@@ -9,7 +9,8 @@ use Rattle.tb_core.specs.declared.world.sender.Sender.{Sender}
 -- behind the last submitter, pushes pulses, and its End or Close
 abbrev pub may_push_item : ℕ → ℕ → ℕ → Sender → Item → Bool
 may_push_item limit submitters number sender (Packet job) =
-    nat_lt number submitters && ((job.submitter == number) && ((job.number == sender.pushed) && nat_le (count_of job.packet) limit))
+    nat_lt number submitters && ((job.submitter == number)
+        && ((job.number == sender.pushed) && nat_le (count_of job.packet) limit))
 may_push_item limit submitters number sender (Pulse moment) = number == submitters
 may_push_item limit submitters number sender End = nat_le number submitters
 may_push_item limit submitters number sender Close = number == submitters

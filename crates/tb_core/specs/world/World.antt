@@ -38,15 +38,19 @@ abbrev pub sender_at : List Sender → ℕ → Sender
 sender_at senders number = slice_index_or senders number newcomer
 
 abbrev pub is_lawful : WorldState → Ticket → Bool
-is_lawful world ticket = may_push world.limit world.submitters ticket.sender (sender_at world.senders ticket.sender) ticket.item
+is_lawful world ticket =
+    may_push world.limit world.submitters ticket.sender (sender_at world.senders ticket.sender) ticket.item
 
 -- the senders after a ticket
 abbrev pub senders_after : List Sender → Ticket → List Sender
-senders_after senders ticket = slice_set senders ticket.sender (sender_after (sender_at senders ticket.sender) ticket.item)
+senders_after senders ticket =
+    slice_set senders ticket.sender (sender_after (sender_at senders ticket.sender) ticket.item)
 
 abbrev pub push : WorldState → Ticket → Option WorldState
 push world ticket =
-    if is_lawful world ticket then Some (record world { senders = senders_after world.senders ticket; queue = world.queue ++ ticket ∷ [] }) else None
+    if is_lawful world ticket
+    then Some (record world { senders = senders_after world.senders ticket; queue = world.queue ++ ticket ∷ [] })
+    else None
 
 -- ---- the batcher
 
@@ -60,9 +64,14 @@ pop refused world (parcel ∷ parcels) queue = None
 
 -- it pushes its first parcel, else the group held, else Last once all have ended
 abbrev pub batch_push : WorldState → List Parcel → List Numbered → Option WorldState
-batch_push world (parcel ∷ parcels) held = Some (record world { parcels = parcels; batches = world.batches ++ parcel ∷ [] })
-batch_push world [] (job ∷ jobs) = Some (record world { front = with_group world.front []; batches = world.batches ++ Batch (job ∷ jobs) ∷ [] })
-batch_push world [] [] = if all_ended world.front && not world.last_sent then Some (record world { last_sent = true; batches = world.batches ++ Last ∷ [] }) else None
+batch_push world (parcel ∷ parcels) held =
+    Some (record world { parcels = parcels; batches = world.batches ++ parcel ∷ [] })
+batch_push world [] (job ∷ jobs) =
+    Some (record world { front = with_group world.front []; batches = world.batches ++ Batch (job ∷ jobs) ∷ [] })
+batch_push world [] [] =
+    if all_ended world.front && not world.last_sent
+    then Some (record world { last_sent = true; batches = world.batches ++ Last ∷ [] })
+    else None
 
 -- ---- the committer
 
@@ -95,7 +104,8 @@ outcome_pop world (reply ∷ replies) outcomes = None
 
 abbrev pub reply_push : WorldState → List Replied → Option WorldState
 reply_push world [] = None
-reply_push world (reply ∷ replies) = Some (record world { replies = replies; shelves = shelves_with world.shelves reply })
+reply_push world (reply ∷ replies) =
+    Some (record world { replies = replies; shelves = shelves_with world.shelves reply })
 
 -- ---- the submitters
 
@@ -140,7 +150,8 @@ new_world clock limit submitters =
       submitters = submitters;
       senders = replicate (submitters + 1) newcomer;
       queue = [];
-      front = record { limit = limit; submitters = submitters; held = []; closed = false; stopped = false; ended = replicate 17 false };
+      front = record { limit = limit; submitters = submitters; held = []; closed = false; stopped = false;
+          ended = replicate 17 false };
       parcels = [];
       last_sent = false;
       batches = [];
