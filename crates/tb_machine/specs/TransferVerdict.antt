@@ -93,8 +93,8 @@ pending_checks pending event =
 
 abbrev pub against_pending : Facts → ℕ → Transfer → Transfer → TransferCode
 against_pending facts timestamp pending event =
-    first_row (pending_checks pending event) (against_status (status_of facts pending.id)
-    (is_due timestamp pending))
+    first_row (pending_checks pending event)
+    (against_status (status_of facts pending.id) (is_due timestamp pending))
 
 abbrev pub against_named : Facts → ℕ → Option Transfer → Transfer → TransferCode
 against_named facts timestamp None event = PendingTransferNotFound
@@ -157,8 +157,9 @@ moving_checks event =
 
 abbrev pub moving_verdict : Facts → ℕ → Transfer → TransferCode
 moving_verdict facts timestamp event =
-    first_row (moving_checks event) (between_found timestamp (balanced_account facts event.debit_account_id)
-    (balanced_account facts event.credit_account_id) event)
+    first_row (moving_checks event)
+    (between_found timestamp (balanced_account facts event.debit_account_id)
+        (balanced_account facts event.credit_account_id) event)
 
 -- ---- any event
 
@@ -176,8 +177,8 @@ new_id_checks facts event =
 
 abbrev pub of_new_id : Facts → ℕ → Transfer → TransferCode
 of_new_id facts timestamp event =
-    first_row (new_id_checks facts event) (if is_resolving event then resolving_verdict facts timestamp event
-    else moving_verdict facts timestamp event)
+    first_row (new_id_checks facts event)
+    (if is_resolving event then resolving_verdict facts timestamp event else moving_verdict facts timestamp event)
 
 abbrev pub against_id : Facts → ℕ → Option Transfer → Transfer → TransferCode
 against_id facts timestamp (Some stored) event =
