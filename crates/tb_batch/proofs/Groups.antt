@@ -18,12 +18,14 @@ use Rattle.tb_batch.specs.Held.{Held, IsHeld}
 use Rattle.tb_batch.specs.Offering.{Offers}
 use Rattle.tb_batch.specs.Batch.{HasRoom, IsGroupOf, AreAdmitted, body_of}
 
-count_of_all-push : (jobs : List Numbered) (job : Numbered) → count_of_all (jobs ++ job ∷ []) ≡ count_of_all jobs + count_of job.packet
+count_of_all-push : (jobs : List Numbered) (job : Numbered)
+    → count_of_all (jobs ++ job ∷ []) ≡ count_of_all jobs + count_of job.packet
 count_of_all-push [] job = omega arith
 count_of_all-push (first ∷ jobs) job = omega (arith, count_of_all-push jobs job)
 
 -- packets of one operation are of another's where these are the same
-are_of-other : (operation other : ℕ) (jobs : List Numbered) → 0 < length jobs → are_of operation jobs ≡ true → are_of other jobs ≡ (operation == other)
+are_of-other : (operation other : ℕ) (jobs : List Numbered) → 0 < length jobs → are_of operation jobs ≡ true
+    → are_of other jobs ≡ (operation == other)
 are_of-other operation other [] some h = absurd (omega arith)
 are_of-other operation other (job ∷ []) some h =
     let same = eqb-true job.packet.operation operation (and_parts (job.packet.operation == operation) true h).0 in
@@ -31,19 +33,24 @@ are_of-other operation other (job ∷ []) some h =
 are_of-other operation other (job ∷ next ∷ jobs) some h =
     let parts = and_parts (job.packet.operation == operation) (are_of operation (next ∷ jobs)) h in
     let same = eqb-true job.packet.operation operation parts.0 in
-    rw (same, are_of-other operation other (next ∷ jobs) (omega arith) parts.1) (elim (operation == other) as (λ b. (b && b) ≡ b) [ true ↦ refl | false ↦ refl ])
+    rw (same, are_of-other operation other (next ∷ jobs) (omega arith) parts.1)
+        (elim (operation == other) as (λ b. (b && b) ≡ b) [ true ↦ refl | false ↦ refl ])
 
-taken_is_joins : (limit : ℕ) (jobs : List Numbered) (job : Numbered) → 0 < length jobs → is_taken limit jobs job ≡ joins limit jobs job
+taken_is_joins : (limit : ℕ) (jobs : List Numbered) (job : Numbered) → 0 < length jobs
+    → is_taken limit jobs job ≡ joins limit jobs job
 taken_is_joins limit [] job some = absurd (omega arith)
 taken_is_joins limit (first ∷ jobs) job some = refl
 
 -- what a group knows tells whether a packet joins it
 pub taken_by : (parts : Parts) (shares : Bool) (events limit : ℕ) (job : Numbered) → IsGroupOf parts shares events →
-    is_taken limit parts.jobs.items job ≡ (shares && (can_share job && ((parts.operation == job.packet.operation) && nat_le (events + count_of job.packet) limit)))
+    is_taken limit parts.jobs.items job ≡ (shares
+        && (can_share job && ((parts.operation == job.packet.operation)
+        && nat_le (events + count_of job.packet) limit)))
 taken_by parts shares events limit job h =
     let jobs = parts.jobs.items in
     taken_is_joins limit jobs job h.whole.lawful.some
-    ∙ rw (are_of-other parts.operation job.packet.operation jobs h.whole.lawful.some h.whole.lawful.one_operation, h.sharing, h.counted) refl
+    ∙ rw (are_of-other parts.operation job.packet.operation jobs h.whole.lawful.some h.whole.lawful.one_operation,
+            h.sharing, h.counted) refl
 
 -- ---- the group
 
@@ -51,27 +58,34 @@ and_more : (a b c : Bool) → (a && b) ≡ true → (b ≡ true → c ≡ true) 
 and_more true b c h f = f h
 and_more false b c h f = cc
 
-joined_behind : (limit : ℕ) (group jobs : List Numbered) (job : Numbered) → join_in_turn limit group jobs ≡ true → joins limit (group ++ jobs) job ≡ true → join_in_turn limit group (jobs ++ job ∷ []) ≡ true
+joined_behind : (limit : ℕ) (group jobs : List Numbered) (job : Numbered) → join_in_turn limit group jobs ≡ true
+    → joins limit (group ++ jobs) job ≡ true → join_in_turn limit group (jobs ++ job ∷ []) ≡ true
 joined_behind limit group [] job h j = ap (λ b. b && true) (ap (λ l. joins limit l job) (sym (append-nil group)) ∙ j)
 joined_behind limit group (next ∷ jobs) job h j =
-    and_more (joins limit group next) (join_in_turn limit (group ++ next ∷ []) jobs) (join_in_turn limit (group ++ next ∷ []) (jobs ++ job ∷ [])) h
-    (λ rest. joined_behind limit (group ++ next ∷ []) jobs job rest (ap (λ l. joins limit l job) (append_assoc group (next ∷ []) jobs) ∙ j))
+    and_more (joins limit group next) (join_in_turn limit (group ++ next ∷ []) jobs)
+        (join_in_turn limit (group ++ next ∷ []) (jobs ++ job ∷ [])) h
+    (λ rest. joined_behind limit (group ++ next ∷ []) jobs job rest
+        (ap (λ l. joins limit l job) (append_assoc group (next ∷ []) jobs) ∙ j))
 
-pub group_more : (limit : ℕ) (jobs : List Numbered) (job : Numbered) → IsGroup limit jobs → is_taken limit jobs job ≡ true → IsGroup limit (jobs ++ job ∷ [])
+pub group_more : (limit : ℕ) (jobs : List Numbered) (job : Numbered) → IsGroup limit jobs
+    → is_taken limit jobs job ≡ true → IsGroup limit (jobs ++ job ∷ [])
 group_more limit [] job h j = refl
 group_more limit (first ∷ jobs) job h j = joined_behind limit (first ∷ []) jobs job h j
 
 -- what is held after an offer is a group
-pub offered_group : (old new : Held) (job : Numbered) (offered : Offered) → IsGroup old.limit old.jobs → Offers old job offered new → IsGroup new.limit new.jobs
+pub offered_group : (old new : Held) (job : Numbered) (offered : Offered) → IsGroup old.limit old.jobs
+    → Offers old job offered new → IsGroup new.limit new.jobs
 offered_group old new job Joined group is = rw is.0 (group_more old.limit old.jobs job group is.1)
 offered_group old new job (Sealed batch) group is = rw is.1 refl
 offered_group old new job (Refused back refused) group is = rw is.1 group
 
 -- a group joined by a packet, or left as it was, is held
-pub still_held : {E : Type 0} (result : Result (Unit {0}) E) (limit : ℕ) (old new : List Numbered) (job : Numbered) → IsHeld limit old → is_taken limit old job ≡ true →
+pub still_held : {E : Type 0} (result : Result (Unit {0}) E) (limit : ℕ) (old new : List Numbered) (job : Numbered)
+    → IsHeld limit old → is_taken limit old job ≡ true →
     OnOk result (new ≡ old ++ job ∷ []) → OnErr result (new ≡ old) → IsHeld limit new
 still_held (Ok done) limit old new job h taken joined same =
-    record { limit_low = h.limit_low; limit_high = h.limit_high; group = rw joined (group_more limit old job h.group taken) }
+    record { limit_low = h.limit_low; limit_high = h.limit_high;
+        group = rw joined (group_more limit old job h.group taken) }
 still_held (Err refused) limit old new job h taken joined same = rw same h
 
 -- ---- the batch
@@ -94,21 +108,29 @@ pub given : {T E : Type 0} (r : Result T E) (P : Type 0) → is_err r ≡ false 
 given (Ok x) P h p = p
 given (Err e) P h p = cc
 
-admitted-push : (jobs : List Numbered) (job : Numbered) → AreAdmitted jobs → IsOk (admission_of 8190 job.packet) → AreAdmitted (jobs ++ job ∷ [])
+admitted-push : (jobs : List Numbered) (job : Numbered) → AreAdmitted jobs → IsOk (admission_of 8190 job.packet)
+    → AreAdmitted (jobs ++ job ∷ [])
 admitted-push [] job all ok = (ok, tt)
 admitted-push (first ∷ jobs) job all ok = (all.0, admitted-push jobs job all.1 ok)
 
 -- one job more, for which there was room
-pub batch_more : (old new : Parts) (shares : Bool) (events limit : ℕ) (job : Numbered) → IsGroupOf old shares events → limit ≤ 8190 → is_taken limit old.jobs.items job ≡ true →
-    IsOk (admission_of 8190 job.packet) → new.operation ≡ old.operation → new.jobs.items ≡ old.jobs.items ++ job ∷ [] → new.stubs.items ≡ old.stubs.items ++ stub_of job ∷ [] → new.body.items ≡ old.body.items ++ job.packet.bytes →
-    HasRoom old.operation (events + count_of job.packet) new.failures new.accounts → IsGroupOf new shares (events + count_of job.packet)
+pub batch_more : (old new : Parts) (shares : Bool) (events limit : ℕ) (job : Numbered) → IsGroupOf old shares events
+    → limit ≤ 8190 → is_taken limit old.jobs.items job ≡ true →
+    IsOk (admission_of 8190 job.packet) → new.operation ≡ old.operation
+        → new.jobs.items ≡ old.jobs.items ++ job ∷ [] → new.stubs.items ≡ old.stubs.items ++ stub_of job ∷ []
+        → new.body.items ≡ old.body.items ++ job.packet.bytes →
+    HasRoom old.operation (events + count_of job.packet) new.failures new.accounts
+        → IsGroupOf new shares (events + count_of job.packet)
 batch_more old new shares events limit job h few taken ok operation jobs stubs body room =
-    let known = both_true shares (can_share job) (old.operation == job.packet.operation) (nat_le (events + count_of job.packet) limit) (sym (taken_by old shares events limit job h) ∙ taken) in
+    let known = both_true shares (can_share job) (old.operation == job.packet.operation)
+        (nat_le (events + count_of job.packet) limit) (sym (taken_by old shares events limit job h) ∙ taken) in
     let lawful = h.whole.lawful in
-    let count : count_of_all new.jobs.items ≡ events + count_of job.packet = ap count_of_all jobs ∙ count_of_all-push old.jobs.items job ∙ ap (λ n. n + count_of job.packet) (sym h.counted) in
+    let count : count_of_all new.jobs.items ≡ events + count_of job.packet = ap count_of_all jobs
+        ∙ count_of_all-push old.jobs.items job ∙ ap (λ n. n + count_of job.packet) (sym h.counted) in
     let same = eqb-true old.operation job.packet.operation known.2 in
     let all_share : list_all can_share new.jobs.items ≡ true =
-    ap (list_all can_share) jobs ∙ list_all-append can_share old.jobs.items (job ∷ []) ∙ rw (sym h.sharing ∙ known.0, known.1) refl in
+    ap (list_all can_share) jobs ∙ list_all-append can_share old.jobs.items (job ∷ [])
+        ∙ rw (sym h.sharing ∙ known.0, known.1) refl in
     let one_operation : (are_of new.operation old.jobs.items && are_of new.operation (job ∷ [])) ≡ true =
     rw (operation, lawful.one_operation, sym same) (ap (λ b. b && true) (equal_numbers old.operation)) in
     record {
@@ -116,12 +138,18 @@ batch_more old new shares events limit job h few taken ok operation jobs stubs b
         lawful = record {
           some = omega (arith, ap length jobs, length-append old.jobs.items (job ∷ []));
           all_admitted = subst AreAdmitted (sym jobs) (admitted-push old.jobs.items job lawful.all_admitted ok);
-          one_operation = ap (are_of new.operation) jobs ∙ list_all-append (λ (j : Numbered). j.packet.operation == new.operation) old.jobs.items (job ∷ []) ∙ one_operation;
+          one_operation = ap (are_of new.operation) jobs
+              ∙ list_all-append (λ (j : Numbered). j.packet.operation == new.operation) old.jobs.items
+                  (job ∷ []) ∙ one_operation;
           few = omega (arith, count, le_true (events + count_of job.packet) limit known.3);
           alone = λ _. all_share;
         };
-        stubs = stubs ∙ ap (λ ss. ss ++ stub_of job ∷ []) h.whole.stubs ∙ sym (map-append stub_of old.jobs.items (job ∷ [])) ∙ ap (map stub_of) (sym jobs);
-        body = body ∙ ap (λ bs. bs ++ job.packet.bytes) h.whole.body ∙ ap (λ bs. body_of old.jobs.items ++ bs) (sym (append-nil job.packet.bytes)) ∙ sym (flat_map-append (λ (j : Numbered). j.packet.bytes) old.jobs.items (job ∷ [])) ∙ ap body_of (sym jobs);
+        stubs = stubs ∙ ap (λ ss. ss ++ stub_of job ∷ []) h.whole.stubs
+            ∙ sym (map-append stub_of old.jobs.items (job ∷ [])) ∙ ap (map stub_of) (sym jobs);
+        body = body ∙ ap (λ bs. bs ++ job.packet.bytes) h.whole.body
+            ∙ ap (λ bs. body_of old.jobs.items ++ bs) (sym (append-nil job.packet.bytes))
+            ∙ sym (flat_map-append (λ (j : Numbered). j.packet.bytes) old.jobs.items (job ∷ []))
+            ∙ ap body_of (sym jobs);
         room = rw (operation, count) room;
       };
       sharing = known.0 ∙ sym all_share;

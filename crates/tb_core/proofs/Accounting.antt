@@ -28,15 +28,21 @@ abbrev pub IsClear : FrontState → Type 0
 IsClear front = (front.closed || front.stopped) ≡ true → front.held ≡ []
 
 abbrev pub IsAccounted : FrontState → Item → Taken → Type 0
-IsAccounted front item taken = all_passages_in taken.parcels ++ held_by taken.front ≡ held_by front ++ passages_of_item front.closed taken.front.stopped item
+IsAccounted front item taken =
+    all_passages_in taken.parcels ++ held_by taken.front
+    ≡ held_by front ++ passages_of_item front.closed taken.front.stopped item
 
 abbrev front_of : ℕ → ℕ → List Numbered → Bool → Bool → List Bool → FrontState
-front_of limit submitters held closed stopped ended = record { limit = limit; submitters = submitters; held = held; closed = closed; stopped = stopped; ended = ended }
+front_of limit submitters held closed stopped ended =
+    record { limit = limit; submitters = submitters; held = held; closed = closed;
+        stopped = stopped; ended = ended }
 
 -- the front after a ticket, and what it hands out, of which each parcel is so
-pub record IsStep (P : Parcel → Type 0) (refused : Bool) (front : FrontState) (sender : ℕ) (x : Item) (taken : Taken) : Type 0 where
+pub record IsStep (P : Parcel → Type 0) (refused : Bool) (front : FrontState) (sender : ℕ) (x : Item)
+    (taken : Taken) : Type 0 where
   pub accounted : IsAccounted front x taken
-  pub next : taken.front ≡ front_of front.limit front.submitters taken.front.held (closed_after front.closed x) taken.front.stopped (ends_after front.ended sender x)
+  pub next : taken.front ≡ front_of front.limit front.submitters taken.front.held
+      (closed_after front.closed x) taken.front.stopped (ends_after front.ended sender x)
   pub goes : Goes refused front.closed front.stopped x taken.front.stopped
   pub clear : IsClear taken.front
   pub parcels : AllByRecursion P taken.parcels
@@ -45,62 +51,97 @@ sealed : (held : List Numbered) → all_passages_in (group_as_batch held) ≡ ma
 sealed [] = refl
 sealed (job ∷ jobs) = append-nil (map Admitted (job ∷ jobs))
 
-sealed_before : (held : List Numbered) (parcel : Parcel) → all_passages_in (group_as_batch held ++ parcel ∷ []) ++ [] ≡ map Admitted held ++ passages_in parcel
-sealed_before held parcel = simp (append-nil, flat_map-append passages_in (group_as_batch held) (parcel ∷ []), sealed held)
+sealed_before : (held : List Numbered) (parcel : Parcel)
+    → all_passages_in (group_as_batch held ++ parcel ∷ []) ++ [] ≡ map Admitted held ++ passages_in parcel
+sealed_before held parcel =
+    simp (append-nil, flat_map-append passages_in (group_as_batch held) (parcel ∷ []), sealed held)
 
-none_held : (held : List Numbered) (passage : Passage) → held ≡ [] → passage ∷ map Admitted held ≡ map Admitted held ++ passage ∷ []
+none_held : (held : List Numbered) (passage : Passage) → held ≡ []
+    → passage ∷ map Admitted held ≡ map Admitted held ++ passage ∷ []
 none_held held passage none = rw none refl
 
 -- what is so of the group held and of all parcels that are no batch
-module _ (P : Parcel → Type 0) (pulses : (moment : ℕ) → P (Pulse moment)) (returns : (job : Numbered) (cause : Cause) → P (Return job cause)) where
+module _ (P : Parcel → Type 0) (pulses : (moment : ℕ) → P (Pulse moment))
+    (returns : (job : Numbered) (cause : Cause) → P (Return job cause)) where
   abbrev IsSealed : List Numbered → Type 0
   IsSealed held = (job : Numbered) (jobs : List Numbered) → held ≡ job ∷ jobs → P (Batch (job ∷ jobs))
 
-  sealed_with : (held : List Numbered) (others : List Parcel) → IsSealed held → AllByRecursion P others → AllByRecursion P (group_as_batch held ++ others)
+  sealed_with : (held : List Numbered) (others : List Parcel) → IsSealed held → AllByRecursion P others
+      → AllByRecursion P (group_as_batch held ++ others)
   sealed_with [] others one all = all
   sealed_with (job ∷ jobs) others one all = (one job jobs refl, all)
 
   alone : (held : List Numbered) → IsSealed held → AllByRecursion P (group_as_batch held)
   alone held one = subst (AllByRecursion P) (append-nil (group_as_batch held)) (sealed_with held [] one tt)
 
-  packet : (refused joins : Bool) (limit submitters : ℕ) (held : List Numbered) (closed stopped : Bool) (ended : List Bool) (sender : ℕ) (job : Numbered) → IsSealed held → ((closed || stopped) ≡ true → held ≡ []) → is_taken limit held job ≡ joins →
-      IsStep P refused (front_of limit submitters held closed stopped ended) sender (item.Packet job) (step_of_packet refused (front_of limit submitters held closed stopped ended) job)
+  packet : (refused joins : Bool) (limit submitters : ℕ) (held : List Numbered) (closed stopped : Bool)
+      (ended : List Bool) (sender : ℕ) (job : Numbered) → IsSealed held → ((closed || stopped) ≡ true → held ≡ [])
+      → is_taken limit held job ≡ joins →
+      IsStep P refused (front_of limit submitters held closed stopped ended) sender (item.Packet job)
+          (step_of_packet refused (front_of limit submitters held closed stopped ended) job)
   packet refused joins limit submitters held true stopped ended sender job one clear is =
-      record { accounted = none_held held (Returned job Shutdown) (clear refl); next = refl; goes = Stays refl; clear = clear; parcels = (returns job Shutdown, tt) }
+      record { accounted = none_held held (Returned job Shutdown) (clear refl); next = refl; goes = Stays refl;
+          clear = clear; parcels = (returns job Shutdown, tt) }
   packet refused joins limit submitters held false true ended sender job one clear is =
-      record { accounted = none_held held (Returned job Stopped) (clear refl); next = refl; goes = Stays refl; clear = clear; parcels = (returns job Stopped, tt) }
+      record { accounted = none_held held (Returned job Stopped) (clear refl); next = refl; goes = Stays refl;
+          clear = clear; parcels = (returns job Stopped, tt) }
   packet true joins limit submitters held false false ended sender job one clear is =
-      record { accounted = sealed_before held (Return job Stopped); next = refl; goes = Stops refl refl refl refl job refl; clear = λ e. refl; parcels = sealed_with held (Return job Stopped ∷ []) one (returns job Stopped, tt) }
+      record { accounted = sealed_before held (Return job Stopped); next = refl;
+          goes = Stops refl refl refl refl job refl; clear = λ e. refl; parcels =
+          sealed_with held (Return job Stopped ∷ []) one (returns job Stopped, tt) }
   packet false true limit submitters held false false ended sender job one clear is =
-      rw is (record { accounted = map-append Admitted held (job ∷ []); next = refl; goes = Stays refl; clear = λ e. cc; parcels = tt })
+      rw is (record { accounted = map-append Admitted held (job ∷ []); next = refl; goes = Stays refl;
+          clear = λ e. cc; parcels = tt })
   packet false false limit submitters held false false ended sender job one clear is =
-      rw is (record { accounted = ap (λ passages. passages ++ Admitted job ∷ []) (sealed held); next = refl; goes = Stays refl; clear = λ e. cc; parcels = alone held one })
+      rw is (record { accounted = ap (λ passages. passages ++ Admitted job ∷ []) (sealed held); next = refl;
+          goes = Stays refl; clear = λ e. cc; parcels = alone held one })
 
-  pulse : (refused b : Bool) (front : FrontState) (sender moment : ℕ) → IsSealed front.held → IsClear front → (front.closed || front.stopped) ≡ b → IsStep P refused front sender (item.Pulse moment) (step_of_pulse front moment)
-  pulse refused true front sender moment one clear is = rw is (record { accounted = rw is (sym (append-nil (held_by front))); next = refl; goes = Stays refl; clear = clear; parcels = tt })
+  pulse : (refused b : Bool) (front : FrontState) (sender moment : ℕ) → IsSealed front.held → IsClear front
+      → (front.closed || front.stopped) ≡ b → IsStep P refused front sender (item.Pulse moment)
+          (step_of_pulse front moment)
+  pulse refused true front sender moment one clear is =
+      rw is (record { accounted = rw is (sym (append-nil (held_by front))); next = refl; goes = Stays refl;
+          clear = clear; parcels = tt })
   pulse refused false front sender moment one clear is =
-      rw is (record { accounted = rw is (sealed_before front.held (Pulse moment)); next = refl; goes = Stays refl; clear = λ e. refl; parcels = sealed_with front.held (Pulse moment ∷ []) one (pulses moment, tt) })
+      rw is (record { accounted = rw is (sealed_before front.held (Pulse moment)); next = refl; goes = Stays refl;
+          clear = λ e. refl; parcels = sealed_with front.held (Pulse moment ∷ []) one (pulses moment, tt) })
 
   end : (refused all : Bool) (front : FrontState) (sender : ℕ) → IsSealed front.held → IsClear front →
-      IsStep P refused front sender item.End (let next = with_end front sender in if all then take_result (with_group next []) (group_as_batch front.held) else take_result next [])
-  end refused true front sender one clear = record { accounted = ap (λ passages. passages ++ []) (sealed front.held); next = refl; goes = Stays refl; clear = λ e. refl; parcels = alone front.held one }
-  end refused false front sender one clear = record { accounted = sym (append-nil (held_by front)); next = refl; goes = Stays refl; clear = clear; parcels = tt }
+      IsStep P refused front sender item.End (let next = with_end front sender in if all
+          then take_result (with_group next []) (group_as_batch front.held) else take_result next [])
+  end refused true front sender one clear =
+      record { accounted = ap (λ passages. passages ++ []) (sealed front.held); next = refl; goes = Stays refl;
+          clear = λ e. refl; parcels = alone front.held one }
+  end refused false front sender one clear =
+      record { accounted = sym (append-nil (held_by front)); next = refl; goes = Stays refl;
+          clear = clear; parcels = tt }
 
-  pub is_step : (refused : Bool) (front : FrontState) (sender : ℕ) (x : Item) → IsSealed front.held → IsClear front → IsStep P refused front sender x (take_step refused front sender x)
+  pub is_step : (refused : Bool) (front : FrontState) (sender : ℕ) (x : Item) → IsSealed front.held → IsClear front
+      → IsStep P refused front sender x (take_step refused front sender x)
   is_step refused front sender (item.Packet job) one clear =
-      packet refused (is_taken front.limit front.held job) front.limit front.submitters front.held front.closed front.stopped front.ended sender job one clear refl
-  is_step refused front sender (item.Pulse moment) one clear = pulse refused (front.closed || front.stopped) front sender moment one clear refl
-  is_step refused front sender item.End one clear = end refused (all_ended (with_end front sender)) front sender one clear
+      packet refused (is_taken front.limit front.held job) front.limit front.submitters front.held front.closed
+          front.stopped front.ended sender job one clear refl
+  is_step refused front sender (item.Pulse moment) one clear =
+      pulse refused (front.closed || front.stopped) front sender moment one clear refl
+  is_step refused front sender item.End one clear =
+      end refused (all_ended (with_end front sender)) front sender one clear
   is_step refused front sender item.Close one clear =
-      record { accounted = ap (λ passages. passages ++ []) (sealed front.held); next = refl; goes = Stays refl; clear = λ e. refl; parcels = alone front.held one }
+      record { accounted = ap (λ passages. passages ++ []) (sealed front.held); next = refl; goes = Stays refl;
+          clear = λ e. refl; parcels = alone front.held one }
 
-module _ (P : Parcel → Type 0) (refused : Bool) (front : FrontState) (sender : ℕ) (x : Item) (taken : Taken) (step : IsStep P refused front sender x taken) where
+module _ (P : Parcel → Type 0) (refused : Bool) (front : FrontState) (sender : ℕ) (x : Item) (taken : Taken)
+    (step : IsStep P refused front sender x taken) where
   -- the queue with the ticket after it
-  pub passes_then : (items : List Item) (sent : List Passage) → Passes items front.closed front.stopped (sent ++ held_by front) →
-      Passes (items ++ x ∷ []) taken.front.closed taken.front.stopped ((sent ++ all_passages_in taken.parcels) ++ held_by taken.front)
+  pub passes_then : (items : List Item) (sent : List Passage)
+      → Passes items front.closed front.stopped (sent ++ held_by front) →
+      Passes (items ++ x ∷ []) taken.front.closed taken.front.stopped
+          ((sent ++ all_passages_in taken.parcels) ++ held_by taken.front)
   passes_then items sent passes =
-      passes_more refused items front.closed front.stopped (sent ++ held_by front) passes x taken.front.closed taken.front.stopped _ (ap (λ (f : FrontState). f.closed) step.next)
-      (append_assoc sent (all_passages_in taken.parcels) (held_by taken.front) ∙ ap (λ passages. sent ++ passages) step.accounted ∙ sym (append_assoc sent (held_by front) _)) step.goes
+      passes_more refused items front.closed front.stopped
+          (sent ++ held_by front) passes x taken.front.closed taken.front.stopped _
+          (ap (λ (f : FrontState). f.closed) step.next)
+      (append_assoc sent (all_passages_in taken.parcels) (held_by taken.front)
+          ∙ ap (λ passages. sent ++ passages) step.accounted ∙ sym (append_assoc sent (held_by front) _)) step.goes
 
   -- a front whose growth isn't refused goes on
   pub goes_on : refused ≡ false → front.stopped ≡ false → taken.front.stopped ≡ false
@@ -112,9 +153,13 @@ module _ (P : Parcel → Type 0) (refused : Bool) (front : FrontState) (sender :
 
 -- ---- who has ended then
 
-pub part_push : (sender : ℕ) (queue : List Ticket) (ticket : Ticket) → part sender (queue ++ ticket ∷ []) ≡ part sender queue ++ (if ticket.sender == sender then ticket.item ∷ [] else [])
+pub part_push : (sender : ℕ) (queue : List Ticket) (ticket : Ticket)
+    → part sender (queue ++ ticket ∷ []) ≡ part sender queue
+    ++ (if ticket.sender == sender then ticket.item ∷ [] else [])
 part_push sender queue ticket =
-    ap (map item_in) (filter-append is_its queue (ticket ∷ [])) ∙ map-append item_in (filter is_its queue) (filter is_its (ticket ∷ [])) ∙ ap (λ items. part sender queue ++ items) (one (ticket.sender == sender))
+    ap (map item_in) (filter-append is_its queue (ticket ∷ []))
+        ∙ map-append item_in (filter is_its queue) (filter is_its (ticket ∷ []))
+        ∙ ap (λ items. part sender queue ++ items) (one (ticket.sender == sender))
   where
     item_in : Ticket → Item
     item_in ticket = ticket.item
@@ -127,38 +172,51 @@ part_push sender queue ticket =
     one false = refl
 
 -- one ticket more in a queue of which it is known who has ended
-ends_more : (ended : List Bool) (queue : List Ticket) (ticket : Ticket) (sender : ℕ) → ticket.sender < length ended → get_or ended sender false ≡ list_any is_end (part sender queue) →
-    get_or (ends_after ended ticket.sender ticket.item) sender false ≡ list_any is_end (part sender (queue ++ ticket ∷ []))
+ends_more : (ended : List Bool) (queue : List Ticket) (ticket : Ticket) (sender : ℕ) → ticket.sender < length ended
+    → get_or ended sender false ≡ list_any is_end (part sender queue) →
+    get_or (ends_after ended ticket.sender ticket.item) sender false
+        ≡ list_any is_end (part sender (queue ++ ticket ∷ []))
 ends_more ended queue ticket sender within known =
-    by (is_end ticket.item) (ticket.sender == sender) refl refl ∙ sym (ap (list_any is_end) (part_push sender queue ticket) ∙ list_any-append is_end (part sender queue) (if ticket.sender == sender then ticket.item ∷ [] else []))
+    by (is_end ticket.item) (ticket.sender == sender) refl refl
+        ∙ sym (ap (list_any is_end) (part_push sender queue ticket)
+        ∙ list_any-append is_end (part sender queue) (if ticket.sender == sender then ticket.item ∷ [] else []))
   where
     by : (end its : Bool) → is_end ticket.item ≡ end → (ticket.sender == sender) ≡ its →
-        get_or (if end then slice_set ended ticket.sender true else ended) sender false ≡ (list_any is_end (part sender queue) || list_any is_end (if its then ticket.item ∷ [] else []))
+        get_or (if end then slice_set ended ticket.sender true else ended) sender false
+            ≡ (list_any is_end (part sender queue) || list_any is_end (if its then ticket.item ∷ [] else []))
     by false false e i = known ∙ sym (or-false _)
     by false true e i = rw e (known ∙ sym (or-false _))
-    by true false e i = get_or-set_other ended ticket.sender sender true false (λ same. eqb-false ticket.sender sender i (sym same)) ∙ known ∙ sym (or-false _)
+    by true false e i =
+        get_or-set_other ended ticket.sender sender true false (λ same. eqb-false ticket.sender sender i (sym same))
+        ∙ known ∙ sym (or-false _)
     by true true e i =
         let same = eqb-true ticket.sender sender i in
-        rw e (ap (λ n. get_or (slice_set ended ticket.sender true) n false) (sym same) ∙ get_or-set_same ended ticket.sender true false within ∙ sym (or-true _))
+        rw e (ap (λ n. get_or (slice_set ended ticket.sender true) n false) (sym same)
+            ∙ get_or-set_same ended ticket.sender true false within ∙ sym (or-true _))
 
 -- all that holds of a front that took a ticket
 pub record HasTaken (refused : Bool) (front : FrontState) (ticket : Ticket) (taken : Taken) : Type 0 where
   pub accounted : IsAccounted front ticket.item taken
-  pub passes : (items : List Item) (sent : List Passage) → Passes items front.closed front.stopped (sent ++ held_by front) →
-      Passes (items ++ ticket.item ∷ []) taken.front.closed taken.front.stopped ((sent ++ all_passages_in taken.parcels) ++ held_by taken.front)
+  pub passes : (items : List Item) (sent : List Passage)
+      → Passes items front.closed front.stopped (sent ++ held_by front) →
+      Passes (items ++ ticket.item ∷ []) taken.front.closed taken.front.stopped
+          ((sent ++ all_passages_in taken.parcels) ++ held_by taken.front)
   pub lawful : AreJoinedParcels front.limit taken.parcels
   pub ends : (queue : List Ticket) → KnowsEnds queue front → KnowsEnds (queue ++ ticket ∷ []) taken.front
   pub same : (taken.front.limit ≡ front.limit) × (taken.front.submitters ≡ front.submitters)
   pub goes_on : refused ≡ false → front.stopped ≡ false → taken.front.stopped ≡ false
 
-pub has_taken : (refused : Bool) (front : FrontState) (ticket : Ticket) (taken : Taken) → IsFront front → ticket.sender ≤ front.submitters → taken ≡ take_step refused front ticket.sender ticket.item → HasTaken refused front ticket taken
+pub has_taken : (refused : Bool) (front : FrontState) (ticket : Ticket) (taken : Taken) → IsFront front
+    → ticket.sender ≤ front.submitters → taken ≡ take_step refused front ticket.sender ticket.item
+    → HasTaken refused front ticket taken
 has_taken refused front ticket taken is among took_is = subst (HasTaken refused front ticket) (sym took_is) (record {
   accounted = step.accounted;
   passes = passes_then Joined refused front sender x after step;
   lawful = step.parcels;
   ends = λ queue knows other below.
       ap (λ (f : FrontState). get_or f.ended other false) step.next
-      ∙ ends_more front.ended queue ticket other (omega (arith, among, is.few, is.places)) (knows other (subst (λ (f : FrontState). other ≤ f.submitters) step.next below));
+      ∙ ends_more front.ended queue ticket other (omega (arith, among, is.few, is.places))
+              (knows other (subst (λ (f : FrontState). other ≤ f.submitters) step.next below));
   same = (ap (λ (f : FrontState). f.limit) step.next, ap (λ (f : FrontState). f.submitters) step.next);
   goes_on = goes_on Joined refused front sender x after step;
 })
@@ -176,4 +234,5 @@ has_taken refused front ticket taken is among took_is = subst (HasTaken refused 
     after = take_step refused front sender x
 
     step : IsStep Joined refused front sender x after
-    step = is_step Joined (λ moment. tt) (λ job cause. tt) refused front sender x (λ job jobs held. subst (IsGroup front.limit) held is.group) is.clear
+    step = is_step Joined (λ moment. tt) (λ job cause. tt) refused front sender x
+        (λ job jobs held. subst (IsGroup front.limit) held is.group) is.clear

@@ -33,14 +33,16 @@ pub data Kind : ℕ → Type 0 where
   OfTransfers : Kind 130
   OfIds : Kind 131
 
-pub kind_of : (operation : ℕ) (bytes : List ℕ) → IsOk (admission_of_size 8190 bytes (event_size operation)) → Kind operation
+pub kind_of : (operation : ℕ) (bytes : List ℕ)
+    → IsOk (admission_of_size 8190 bytes (event_size operation)) → Kind operation
 kind_of operation bytes ok = by (operation == 129) (operation == 130) (operation == 131) refl refl refl ok
   where
     kind : (number : ℕ) → Kind number → (operation == number) ≡ true → Kind operation
     kind number of_it is = subst Kind (sym (eqb-true operation number is)) of_it
 
     by : (a b c : Bool) → (operation == 129) ≡ a → (operation == 130) ≡ b → (operation == 131) ≡ c →
-        IsOk (admission_of_size 8190 bytes (if a then Some 128 else if b then Some 128 else if c then Some 16 else None)) → Kind operation
+        IsOk (admission_of_size 8190 bytes (if a then Some 128 else if b then Some 128 else if c then Some 16
+            else None)) → Kind operation
     by true b c is_a is_b is_c ok = kind 129 OfAccounts is_a
     by false true c is_a is_b is_c ok = kind 130 OfTransfers is_b
     by false false true is_a is_b is_c ok = kind 131 OfIds is_c
@@ -48,17 +50,21 @@ kind_of operation bytes ok = by (operation == 129) (operation == 130) (operation
 
 kind_of_batch : (operation : ℕ) (jobs : List Numbered) → IsLawful operation jobs → Kind operation
 kind_of_batch operation [] lawful = absurd (omega (arith, lawful.some))
-kind_of_batch operation (job ∷ jobs) lawful = subst Kind (first_is operation job jobs lawful.one_operation).0 (kind_of job.packet.operation job.packet.bytes lawful.all_admitted.0)
+kind_of_batch operation (job ∷ jobs) lawful =
+    subst Kind (first_is operation job jobs lawful.one_operation).0
+    (kind_of job.packet.operation job.packet.bytes lawful.all_admitted.0)
 
 -- ---- sizes
 
-body_size : (operation size : ℕ) (jobs : List Numbered) → event_size operation ≡ Some size → are_of operation jobs ≡ true → AreAdmitted jobs → length (body_of jobs) ≡ count_of_all jobs * size
+body_size : (operation size : ℕ) (jobs : List Numbered) → event_size operation ≡ Some size
+    → are_of operation jobs ≡ true → AreAdmitted jobs → length (body_of jobs) ≡ count_of_all jobs * size
 body_size operation size [] is one all = omega arith
 body_size operation size (job ∷ jobs) is one all =
     let first = first_is operation job jobs one in
     let own = ap event_size first.0 ∙ is in
     let bytes = job.packet.bytes in
-    let count : count_of job.packet * size ≡ length bytes = ap (λ s. count_of_size bytes s * size) own ∙ whole_events job.packet size own all.0 in
+    let count : count_of job.packet * size ≡ length bytes = ap (λ s. count_of_size bytes s * size) own
+        ∙ whole_events job.packet size own all.0 in
     let rest = body_size operation size jobs is first.1 all.1 in
     length-append bytes (body_of jobs) ∙ sym (grind (arith, count, rest))
 
@@ -73,20 +79,29 @@ pub record MayLookUp (jobs : List Numbered) : Type 0 where
   pub whole : length (body_of jobs) % 16 ≡ 0
   pub count : length (body_of jobs) / 16 ≡ count_of_all jobs
 
-pub may_commit : (operation : ℕ) (jobs : List Numbered) → IsLawful operation jobs → (operation == 131) ≡ false → MayCommit operation jobs
-may_commit operation jobs lawful not_lookup = by operation (kind_of_batch operation jobs lawful) lawful.one_operation not_lookup
+pub may_commit : (operation : ℕ) (jobs : List Numbered) → IsLawful operation jobs → (operation == 131) ≡ false
+    → MayCommit operation jobs
+may_commit operation jobs lawful not_lookup =
+    by operation (kind_of_batch operation jobs lawful) lawful.one_operation not_lookup
   where
-    sized : length (body_of jobs) ≡ count_of_all jobs * 128 → (length (body_of jobs) % 128 ≡ 0) × (length (body_of jobs) / 128 ≡ count_of_all jobs)
+    sized : length (body_of jobs) ≡ count_of_all jobs * 128
+        → (length (body_of jobs) % 128 ≡ 0) × (length (body_of jobs) / 128 ≡ count_of_all jobs)
     sized size = omega (arith, size)
 
     by : (op : ℕ) → Kind op → are_of op jobs ≡ true → (op == 131) ≡ false → MayCommit op jobs
-    by op OfAccounts one other = let sizes = sized (body_size 129 128 jobs refl one lawful.all_admitted) in record { kind = refl; whole = sizes.0; count = sizes.1 }
-    by op OfTransfers one other = let sizes = sized (body_size 130 128 jobs refl one lawful.all_admitted) in record { kind = refl; whole = sizes.0; count = sizes.1 }
+    by op OfAccounts one other = let sizes =
+        sized (body_size 129 128 jobs refl one lawful.all_admitted) in record { kind = refl;
+            whole = sizes.0; count = sizes.1 }
+    by op OfTransfers one other = let sizes =
+        sized (body_size 130 128 jobs refl one lawful.all_admitted) in record { kind = refl;
+            whole = sizes.0; count = sizes.1 }
     by op OfIds one other = cc
 
-pub may_look_up : (operation : ℕ) (jobs : List Numbered) → IsLawful operation jobs → (operation == 131) ≡ true → MayLookUp jobs
+pub may_look_up : (operation : ℕ) (jobs : List Numbered) → IsLawful operation jobs
+    → (operation == 131) ≡ true → MayLookUp jobs
 may_look_up operation jobs lawful lookup =
-    let size = body_size operation 16 jobs (ap event_size (eqb-true operation 131 lookup)) lawful.one_operation lawful.all_admitted in
+    let size = body_size operation 16 jobs (ap event_size (eqb-true operation 131 lookup))
+        lawful.one_operation lawful.all_admitted in
     record { whole = omega (arith, size); count = omega (arith, size) }
 
 -- ---- what it gives
@@ -96,14 +111,19 @@ pub record JoinInvisibly : Type 0 where
   pub accounts : JoiningIsInvisible Accounts is_linked_account
   pub transfers : JoiningIsInvisible Transfers is_linked_transfer
 
-pub gives_each : (law : JoinInvisibly) (place operation : ℕ) (state : State) (jobs : List Numbered) → state.clock ≤ clock_max → IsLawful operation jobs → (operation == 131) ≡ false → GivesEach place operation state jobs
-gives_each law place operation state jobs in_range lawful not_lookup = by operation (kind_of_batch operation jobs lawful) lawful.one_operation not_lookup
+pub gives_each : (law : JoinInvisibly) (place operation : ℕ) (state : State) (jobs : List Numbered)
+    → state.clock ≤ clock_max → IsLawful operation jobs → (operation == 131) ≡ false
+    → GivesEach place operation state jobs
+gives_each law place operation state jobs in_range lawful not_lookup =
+    by operation (kind_of_batch operation jobs lawful) lawful.one_operation not_lookup
   where
     by : (op : ℕ) → Kind op → are_of op jobs ≡ true → (op == 131) ≡ false → GivesEach place op state jobs
     by op OfAccounts one other =
-        gives is_linked_account 129 account_of Accounts law.accounts refl (λ bytes. refl) (λ state events. refl) (λ events. refl) place state jobs in_range one lawful.all_admitted lawful.alone
+        gives is_linked_account 129 account_of Accounts law.accounts refl (λ bytes. refl) (λ state events. refl)
+            (λ events. refl) place state jobs in_range one lawful.all_admitted lawful.alone
     by op OfTransfers one other =
-        gives is_linked_transfer 130 transfer_of Transfers law.transfers refl (λ bytes. refl) (λ state events. refl) (λ events. refl) place state jobs in_range one lawful.all_admitted lawful.alone
+        gives is_linked_transfer 130 transfer_of Transfers law.transfers refl (λ bytes. refl) (λ state events. refl)
+            (λ events. refl) place state jobs in_range one lawful.all_admitted lawful.alone
     by op OfIds one other = cc
 
 -- of a lookup, which is one packet
@@ -111,7 +131,8 @@ pub record GivesOne (place operation : ℕ) (state : State) (jobs : List Numbere
   pub job : Numbered
   pub only : jobs ≡ job ∷ []
   pub lookup : is_lookup job.packet ≡ true
-  pub replies : map (reply_with (Committed place (Looked_up (accounts_found state.facts (ids_of (body_of jobs)))))) jobs ≡ answers_from place state jobs
+  pub replies : map (reply_with (Committed place (Looked_up (accounts_found state.facts (ids_of (body_of jobs))))))
+      jobs ≡ answers_from place state jobs
   pub states : state ≡ fold after_packet state (map (λ (job : Numbered). events_in job.packet) jobs)
   pub few : length (accounts_found state.facts (ids_of (body_of jobs))) ≤ count_of job.packet
 
@@ -119,11 +140,13 @@ length-found : {X Y : Type 0} (f : X → Option Y) (xs : List X) → length (fil
 length-found f [] = omega arith
 length-found {X} {Y} f (x ∷ xs) = by (f x) (length-found f xs)
   where
-    by : (found : Option Y) → length (filter_map f xs) ≤ length xs → length (cons_option found (filter_map f xs)) ≤ length (x ∷ xs)
+    by : (found : Option Y) → length (filter_map f xs) ≤ length xs
+        → length (cons_option found (filter_map f xs)) ≤ length (x ∷ xs)
     by None h = omega arith
     by (Some y) h = omega arith
 
-pub gives_one : (place operation : ℕ) (state : State) (jobs : List Numbered) → IsLawful operation jobs → (operation == 131) ≡ true → GivesOne place operation state jobs
+pub gives_one : (place operation : ℕ) (state : State) (jobs : List Numbered) → IsLawful operation jobs
+    → (operation == 131) ≡ true → GivesOne place operation state jobs
 gives_one place operation state [] lawful lookup = absurd (omega (arith, lawful.some))
 gives_one place operation state (job ∷ []) lawful lookup =
     let first = first_is operation job [] lawful.one_operation in
@@ -132,17 +155,20 @@ gives_one place operation state (job ∷ []) lawful lookup =
     let bytes = job.packet.bytes in
     let events : events_in job.packet ≡ Ids (ids_of bytes) = ap (λ op. events_of op bytes) number in
     let count : count_of job.packet ≡ length bytes / 16 = ap (λ op. count_of_size bytes (event_size op)) number in
-    let ids : length (ids_of bytes) ≡ length bytes / 16 = length-map (chunks 16 bytes) little_endian ∙ length-chunks 16 (length bytes / 16) bytes in
+    let ids : length (ids_of bytes) ≡ length bytes / 16 = length-map (chunks 16 bytes) little_endian
+        ∙ length-chunks 16 (length bytes / 16) bytes in
     let found = length-found (balanced_account state.facts) (ids_of bytes) in
     let same : ids_of (bytes ++ []) ≡ ids_of bytes = ap ids_of (append-nil bytes) in
     record {
       job = job;
       only = refl;
       lookup = is;
-      replies = ap (λ all_ids. reply_with (Committed place (Looked_up (accounts_found state.facts all_ids))) job ∷ []) same
+      replies = ap (λ all_ids. reply_with (Committed place (Looked_up (accounts_found state.facts all_ids))) job
+          ∷ []) same
           ∙ ap (λ es. reply_with (Committed place (answer_of state es)) job ∷ []) (sym events);
       states = ap (after_packet state) (sym events);
-      few = subst (λ all_ids. length (accounts_found state.facts all_ids) ≤ count_of job.packet) (sym same) (omega (arith, found, ids, count));
+      few = subst (λ all_ids. length (accounts_found state.facts all_ids) ≤ count_of job.packet) (sym same)
+          (omega (arith, found, ids, count));
     }
 gives_one place operation state (job ∷ next ∷ jobs) lawful lookup =
     let first = first_is operation job (next ∷ jobs) lawful.one_operation in
@@ -153,7 +179,8 @@ gives_one place operation state (job ∷ next ∷ jobs) lawful lookup =
 
 -- ---- what its journal entry has
 
-pub entry_has : (operation : ℕ) (jobs : List Numbered) → IsLawful operation jobs → packets_of operation (body_of jobs) (map stub_of jobs) ≡ map work_of jobs
+pub entry_has : (operation : ℕ) (jobs : List Numbered) → IsLawful operation jobs
+    → packets_of operation (body_of jobs) (map stub_of jobs) ≡ map work_of jobs
 entry_has operation jobs lawful = by operation (kind_of_batch operation jobs lawful) lawful.one_operation
   where
     by : (op : ℕ) → Kind op → are_of op jobs ≡ true → packets_of op (body_of jobs) (map stub_of jobs) ≡ map work_of jobs

@@ -26,7 +26,8 @@ use Rattle.tb_core.specs.Run.{replies_in, Commits}
 use Rattle.tb_core.proofs.Growing.{works-more}
 
 -- what is so of each is so with one more
-pub all-push : {X : Type 0} (P : X → Type 0) (xs : List X) (x : X) → AllByRecursion P xs → P x → AllByRecursion P (xs ++ x ∷ [])
+pub all-push : {X : Type 0} (P : X → Type 0) (xs : List X) (x : X) → AllByRecursion P xs → P x
+    → AllByRecursion P (xs ++ x ∷ [])
 all-push P [] x all is = (is, tt)
 all-push P (first ∷ xs) x all is = (all.0, all-push P xs x all.1 is)
 
@@ -41,15 +42,20 @@ at_seam : {X : Type 0} (xs : List X) (y : X) (ys : List X) → slice_get (xs ++ 
 at_seam [] y ys = refl
 at_seam (x ∷ xs) y ys = at_seam xs y ys
 
-outcome_within : (clock place : ℕ) (journal others : List Work) → place < length journal → outcome_at clock (journal ++ others) (Ahead place) ≡ outcome_at clock journal (Ahead place)
-outcome_within clock place journal others h = rw (take-append-le place journal others (omega (arith, h)), get_within place journal others h) refl
+outcome_within : (clock place : ℕ) (journal others : List Work) → place < length journal
+    → outcome_at clock (journal ++ others) (Ahead place) ≡ outcome_at clock journal (Ahead place)
+outcome_within clock place journal others h =
+    rw (take-append-le place journal others (omega (arith, h)), get_within place journal others h) refl
 
-pub outcome_past : (clock place : ℕ) (journal : List Work) → length journal ≤ place → outcome_at clock journal (Ahead place) ≡ outcome.Stopped
+pub outcome_past : (clock place : ℕ) (journal : List Work) → length journal ≤ place
+    → outcome_at clock journal (Ahead place) ≡ outcome.Stopped
 outcome_past clock place journal h = rw (slice_get_past journal place h) refl
 
 -- the packet at a place, with those before it
-pub outcome_here : (clock place : ℕ) (state : State) (before : List Work) (job : Numbered) (rest : List Work) → place ≡ length before → state ≡ replay clock before →
-    outcome_at clock (before ++ work_of job ∷ rest) (Ahead place) ≡ outcome.Committed place (answer_of state (events_in job.packet))
+pub outcome_here : (clock place : ℕ) (state : State) (before : List Work) (job : Numbered) (rest : List Work)
+    → place ≡ length before → state ≡ replay clock before →
+    outcome_at clock (before ++ work_of job ∷ rest) (Ahead place)
+        ≡ outcome.Committed place (answer_of state (events_in job.packet))
 outcome_here clock place state before job rest place_is state_is =
     rw (state_is, place_is, take-append_seam before (work_of job ∷ rest), at_seam before (work_of job) rest) refl
 
@@ -66,48 +72,69 @@ works_in-admitted [] = refl
 works_in-admitted (job ∷ jobs) = ap (λ ws. work_of job ∷ ws) (works_in-admitted jobs)
 
 pub replies_from-append : (clock : ℕ) (journal : List Work) (place : ℕ) (xs ys : List Passage) →
-    replies_from clock journal place (xs ++ ys) ≡ replies_from clock journal place xs ++ replies_from clock journal (place + length (works_in xs)) ys
+    replies_from clock journal place (xs ++ ys) ≡ replies_from clock journal place xs
+        ++ replies_from clock journal (place + length (works_in xs)) ys
 replies_from-append clock journal place [] ys = ap (λ n. replies_from clock journal n ys) (omega arith)
 replies_from-append clock journal place (Admitted job ∷ xs) ys =
     ap (λ rs. reply_with (outcome_at clock journal (Ahead place)) job ∷ rs)
-    (replies_from-append clock journal (place + 1) xs ys ∙ ap (λ n. replies_from clock journal (place + 1) xs ++ replies_from clock journal n ys) (omega arith))
+    (replies_from-append clock journal (place + 1) xs ys
+        ∙ ap (λ n. replies_from clock journal (place + 1) xs ++ replies_from clock journal n ys) (omega arith))
 replies_from-append clock journal place (Pulsed moment ∷ xs) ys =
-    replies_from-append clock journal (place + 1) xs ys ∙ ap (λ n. replies_from clock journal (place + 1) xs ++ replies_from clock journal n ys) (omega arith)
-replies_from-append clock journal place (Returned job cause ∷ xs) ys = ap (λ rs. reply_with (outcome_of cause) job ∷ rs) (replies_from-append clock journal place xs ys)
+    replies_from-append clock journal (place + 1) xs ys
+        ∙ ap (λ n. replies_from clock journal (place + 1) xs ++ replies_from clock journal n ys) (omega arith)
+replies_from-append clock journal place (Returned job cause ∷ xs) ys =
+    ap (λ rs. reply_with (outcome_of cause) job ∷ rs) (replies_from-append clock journal place xs ys)
 
 -- a longer journal answers what it had answered the same
-pub replies_from-longer : (clock : ℕ) (journal others : List Work) (place : ℕ) (xs : List Passage) → place + length (works_in xs) ≤ length journal → replies_from clock (journal ++ others) place xs ≡ replies_from clock journal place xs
+pub replies_from-longer : (clock : ℕ) (journal others : List Work) (place : ℕ) (xs : List Passage)
+    → place + length (works_in xs) ≤ length journal
+    → replies_from clock (journal ++ others) place xs ≡ replies_from clock journal place xs
 replies_from-longer clock journal others place [] h = refl
 replies_from-longer clock journal others place (Admitted job ∷ xs) h =
-    ap (λ o. reply_with o job ∷ replies_from clock (journal ++ others) (place + 1) xs) (outcome_within clock place journal others (omega (arith, h)))
-    ∙ ap (λ rs. reply_with (outcome_at clock journal (Ahead place)) job ∷ rs) (replies_from-longer clock journal others (place + 1) xs (omega (arith, h)))
-replies_from-longer clock journal others place (Pulsed moment ∷ xs) h = replies_from-longer clock journal others (place + 1) xs (omega (arith, h))
-replies_from-longer clock journal others place (Returned job cause ∷ xs) h = ap (λ rs. reply_with (outcome_of cause) job ∷ rs) (replies_from-longer clock journal others place xs h)
+    ap (λ o. reply_with o job ∷ replies_from clock (journal ++ others) (place + 1) xs)
+        (outcome_within clock place journal others (omega (arith, h)))
+    ∙ ap (λ rs. reply_with (outcome_at clock journal (Ahead place)) job ∷ rs)
+            (replies_from-longer clock journal others (place + 1) xs (omega (arith, h)))
+replies_from-longer clock journal others place (Pulsed moment ∷ xs) h =
+    replies_from-longer clock journal others (place + 1) xs (omega (arith, h))
+replies_from-longer clock journal others place (Returned job cause ∷ xs) h =
+    ap (λ rs. reply_with (outcome_of cause) job ∷ rs) (replies_from-longer clock journal others place xs h)
 
 -- packets that the journal doesn't reach are Stopped
-replies_from-stopped : (clock : ℕ) (journal : List Work) (place : ℕ) (jobs : List Numbered) → length journal ≤ place → replies_from clock journal place (map Admitted jobs) ≡ map (reply_with outcome.Stopped) jobs
+replies_from-stopped : (clock : ℕ) (journal : List Work) (place : ℕ) (jobs : List Numbered) → length journal ≤ place
+    → replies_from clock journal place (map Admitted jobs) ≡ map (reply_with outcome.Stopped) jobs
 replies_from-stopped clock journal place [] h = refl
 replies_from-stopped clock journal place (job ∷ jobs) h =
-    ap (λ o. reply_with o job ∷ replies_from clock journal (place + 1) (map Admitted jobs)) (outcome_past clock place journal h)
-    ∙ ap (λ rs. reply_with outcome.Stopped job ∷ rs) (replies_from-stopped clock journal (place + 1) jobs (omega (arith, h)))
+    ap (λ o. reply_with o job ∷ replies_from clock journal (place + 1) (map Admitted jobs))
+        (outcome_past clock place journal h)
+    ∙ ap (λ rs. reply_with outcome.Stopped job ∷ rs)
+            (replies_from-stopped clock journal (place + 1) jobs (omega (arith, h)))
 
 -- packets that were just committed are answered by the machine, each in the state that those before it left
-pub replies_from-answers : (clock place : ℕ) (state : State) (journal before : List Work) (jobs : List Numbered) → journal ≡ before ++ map work_of jobs → place ≡ length before → state ≡ replay clock before →
+pub replies_from-answers : (clock place : ℕ) (state : State) (journal before : List Work) (jobs : List Numbered)
+    → journal ≡ before ++ map work_of jobs → place ≡ length before → state ≡ replay clock before →
     answers_from place state jobs ≡ replies_from clock journal place (map Admitted jobs)
 replies_from-answers clock place state journal before [] all place_is state_is = refl
 replies_from-answers clock place state journal before (job ∷ jobs) all place_is state_is =
     let one = work_of job ∷ [] in
     let later = after_packet state (events_in job.packet) in
-    ap (λ o. reply_with o job ∷ answers_from (place + 1) later jobs) (sym (outcome_here clock place state before job (map work_of jobs) place_is state_is))
+    ap (λ o. reply_with o job ∷ answers_from (place + 1) later jobs)
+        (sym (outcome_here clock place state before job (map work_of jobs) place_is state_is))
     ∙ ap (λ ws. reply_with (outcome_at clock ws (Ahead place)) job ∷ answers_from (place + 1) later jobs) (sym all)
     ∙ ap (λ rs. reply_with (outcome_at clock journal (Ahead place)) job ∷ rs)
-    (replies_from-answers clock (place + 1) later journal (before ++ one) jobs (all ∙ sym (append_assoc before one (map work_of jobs))) (omega (arith, place_is, length-append before one))
-    (ap (λ s. after_packet s (events_in job.packet)) state_is ∙ sym (fold-append after_work (opening clock) before one)))
+    (replies_from-answers clock (place + 1) later journal (before ++ one) jobs
+        (all ∙ sym (append_assoc before one (map work_of jobs))) (omega (arith, place_is, length-append before one))
+    (ap (λ s. after_packet s (events_in job.packet)) state_is
+        ∙ sym (fold-append after_work (opening clock) before one)))
 
 -- a batch that the machine took, and the journal has as one entry, is applied
-pub batch_applied : (ledger : LedgerState) (state : State) (places : ℕ) (groups : List (List Work)) (jobs batch : List Numbered) (replies : List Replied) → IsLedger ledger state places →
-    groups ≡ ledger.groups ++ map work_of jobs ∷ [] → jobs ≡ batch → replies ≡ replies_from ledger.opening (works ledger ++ map work_of jobs) places (map Admitted jobs) → must_stop false ledger (length batch) ≡ false →
-    apply_result (record { opening = ledger.opening; groups = groups; stopped = ledger.stopped }) (Cut replies) ≡ apply_step false ledger (parcel.Batch batch)
+pub batch_applied : (ledger : LedgerState) (state : State) (places : ℕ) (groups : List (List Work))
+    (jobs batch : List Numbered) (replies : List Replied) → IsLedger ledger state places →
+    groups ≡ ledger.groups ++ map work_of jobs ∷ [] → jobs ≡ batch
+        → replies ≡ replies_from ledger.opening (works ledger ++ map work_of jobs) places (map Admitted jobs)
+        → must_stop false ledger (length batch) ≡ false →
+    apply_result (record { opening = ledger.opening; groups = groups; stopped = ledger.stopped }) (Cut replies)
+        ≡ apply_step false ledger (parcel.Batch batch)
 batch_applied ledger state places groups jobs batch replies is groups_is same replies_is goes =
     rw (goes, groups_is, replies_is, is.counted, same, works-more ledger.groups (map work_of batch)) refl
 
@@ -124,7 +151,8 @@ nothing_after : {X : Type 0} (xs : List X) (y : X) (ys : List X) → xs ++ y ∷
 nothing_after [] y ys e = cc
 nothing_after (x ∷ xs) y ys e = cc
 
-module _ (clock : ℕ) (sent : List Passage) (ledger : LedgerState) (replies : List Replied) (is : Commits clock sent ledger replies) where
+module _ (clock : ℕ) (sent : List Passage) (ledger : LedgerState) (replies : List Replied)
+    (is : Commits clock sent ledger replies) where
   abbrev journal : List Work
   journal = works ledger
 
@@ -132,61 +160,84 @@ module _ (clock : ℕ) (sent : List Passage) (ledger : LedgerState) (replies : L
   ThenCommits passages next answers = Commits clock (sent ++ passages) next (replies ++ answers)
 
   -- all of them are committed
-  entered : (group : List Work) (passages : List Passage) (answers : List Replied) → ledger.stopped ≡ false → works_in passages ≡ group →
-      answers ≡ replies_from clock (works (with_entry ledger group)) (length journal) passages → ThenCommits passages (with_entry ledger group) answers
+  entered : (group : List Work) (passages : List Passage) (answers : List Replied) → ledger.stopped ≡ false
+      → works_in passages ≡ group →
+      answers ≡ replies_from clock (works (with_entry ledger group)) (length journal) passages
+          → ThenCommits passages (with_entry ledger group) answers
   entered group passages answers goes group_is answers_are =
       let longer : works (with_entry ledger group) ≡ journal ++ group = works-more ledger.groups group in
-      let all : journal ≡ works_in sent = sym (append-nil journal) ∙ ap (λ ws. journal ++ ws) (sym (is.whole goes)) ∙ is.committed in
+      let all : journal ≡ works_in sent = sym (append-nil journal)
+          ∙ ap (λ ws. journal ++ ws) (sym (is.whole goes)) ∙ is.committed in
       let count : 0 + length (works_in sent) ≡ length journal = omega (arith, ap length all) in
-      let before : replies ≡ replies_from clock (journal ++ group) 0 sent = is.replied ∙ sym (replies_from-longer clock journal group 0 sent (omega (arith, count))) in
+      let before : replies ≡ replies_from clock (journal ++ group) 0 sent = is.replied
+          ∙ sym (replies_from-longer clock journal group 0 sent (omega (arith, count))) in
       record {
         from = is.from;
         behind = [];
-        committed = append-nil _ ∙ longer ∙ ap (λ ws. ws ++ group) all ∙ ap (λ ws. works_in sent ++ ws) (sym group_is) ∙ sym (works_in-append sent passages);
+        committed = append-nil _ ∙ longer ∙ ap (λ ws. ws ++ group) all
+            ∙ ap (λ ws. works_in sent ++ ws) (sym group_is) ∙ sym (works_in-append sent passages);
         whole = λ any. refl;
         unstopped = λ any. goes;
-        replied = rw (replies_from-append clock (works (with_entry ledger group)) 0 sent passages, count, answers_are, longer, before) refl;
+        replied = rw (replies_from-append clock (works (with_entry ledger group)) 0 sent passages, count,
+            answers_are, longer, before) refl;
       }
 
   -- the journal stays, and what was to be committed stands after it
-  kept : (passages : List Passage) (stopped : Bool) (answers : List Replied) → (stopped ≡ false → (ledger.stopped ≡ false) × (works_in passages ≡ [])) → (is.behind ++ works_in passages ≡ [] → stopped ≡ false) →
-      ((place : ℕ) → length journal ≤ place → answers ≡ replies_from clock journal place passages) → ThenCommits passages (record ledger { stopped = stopped }) answers
+  kept : (passages : List Passage) (stopped : Bool) (answers : List Replied)
+      → (stopped ≡ false → (ledger.stopped ≡ false) × (works_in passages ≡ []))
+      → (is.behind ++ works_in passages ≡ [] → stopped ≡ false) →
+      ((place : ℕ) → length journal ≤ place → answers ≡ replies_from clock journal place passages)
+          → ThenCommits passages (record ledger { stopped = stopped }) answers
   kept passages stopped answers goes stays answers_are =
-      let after = answers_are (0 + length (works_in sent)) (omega (arith, ap length is.committed, length-append journal is.behind)) in
+      let after = answers_are (0 + length (works_in sent))
+          (omega (arith, ap length is.committed, length-append journal is.behind)) in
       record {
         from = is.from;
         behind = is.behind ++ works_in passages;
-        committed = sym (append_assoc journal is.behind (works_in passages)) ∙ ap (λ ws. ws ++ works_in passages) is.committed ∙ sym (works_in-append sent passages);
+        committed = sym (append_assoc journal is.behind (works_in passages))
+            ∙ ap (λ ws. ws ++ works_in passages) is.committed ∙ sym (works_in-append sent passages);
         whole = λ on. (let both = goes on in ap (λ ws. ws ++ works_in passages) (is.whole both.0) ∙ both.1);
         unstopped = stays;
-        replied = ap (λ rs. rs ++ answers) is.replied ∙ ap (λ rs. replies_from clock journal 0 sent ++ rs) after ∙ sym (replies_from-append clock journal 0 sent passages);
+        replied = ap (λ rs. rs ++ answers) is.replied ∙ ap (λ rs. replies_from clock journal 0 sent ++ rs) after
+            ∙ sym (replies_from-append clock journal 0 sent passages);
       }
 
   -- nothing of it was to be committed
-  aside : (passages : List Passage) (answers : List Replied) → works_in passages ≡ [] → ((place : ℕ) → answers ≡ replies_from clock journal place passages) → ThenCommits passages ledger answers
+  aside : (passages : List Passage) (answers : List Replied) → works_in passages ≡ []
+      → ((place : ℕ) → answers ≡ replies_from clock journal place passages) → ThenCommits passages ledger answers
   aside passages answers none answers_are =
-      kept passages ledger.stopped answers (λ on. (on, none)) (λ e. is.unstopped (sym (append-nil is.behind) ∙ ap (λ ws. is.behind ++ ws) (sym none) ∙ e)) (λ place far. answers_are place)
+      kept passages ledger.stopped answers (λ on. (on, none))
+          (λ e. is.unstopped (sym (append-nil is.behind) ∙ ap (λ ws. is.behind ++ ws) (sym none) ∙ e))
+          (λ place far. answers_are place)
 
   -- the ledger is marked
-  halted : (first : Work) (others : List Work) (passages : List Passage) (answers : List Replied) → works_in passages ≡ first ∷ others → ((place : ℕ) → length journal ≤ place → answers ≡ replies_from clock journal place passages) →
+  halted : (first : Work) (others : List Work) (passages : List Passage) (answers : List Replied)
+      → works_in passages ≡ first ∷ others → ((place : ℕ) → length journal ≤ place
+      → answers ≡ replies_from clock journal place passages) →
       ThenCommits passages (with_stop ledger) answers
-  halted first others passages answers some answers_are = kept passages true answers (λ on. cc) (λ e. absurd (nothing_after is.behind first others (ap (λ ws. is.behind ++ ws) (sym some) ∙ e))) answers_are
+  halted first others passages answers some answers_are =
+      kept passages true answers (λ on. cc) (λ e. absurd
+      (nothing_after is.behind first others (ap (λ ws. is.behind ++ ws) (sym some) ∙ e))) answers_are
 
   abbrev Then : List Passage → Applied → Type 0
   Then passages next = ThenCommits passages next.ledger (replies_in next.outcomes)
 
-  pub commits_more : (refused : Bool) (handed : Parcel) → HasJobs handed → Then (passages_in handed) (apply_step refused ledger handed)
+  pub commits_more : (refused : Bool) (handed : Parcel) → HasJobs handed
+      → Then (passages_in handed) (apply_step refused ledger handed)
   commits_more refused (parcel.Batch []) some = absurd (omega (arith, some))
   commits_more refused (parcel.Batch (job ∷ jobs)) some =
       let passages = map Admitted (job ∷ jobs) in
       let group = works_in-admitted (job ∷ jobs) in
       let next = step_of_batch ledger (job ∷ jobs) in
       cond_both (must_stop refused ledger (length (job ∷ jobs))) _ _ (Then passages)
-      (λ stops. halted (work_of job) (map work_of jobs) passages _ group (λ place far. sym (replies_from-stopped clock journal place (job ∷ jobs) far)))
-      (λ goes. entered (map work_of (job ∷ jobs)) passages _ (or_parts ledger.stopped _ goes).0 group (ap (λ start. replies_from start (works next.ledger) (length journal) passages) is.from))
+      (λ stops. halted (work_of job) (map work_of jobs) passages _ group
+          (λ place far. sym (replies_from-stopped clock journal place (job ∷ jobs) far)))
+      (λ goes. entered (map work_of (job ∷ jobs)) passages _ (or_parts ledger.stopped _ goes).0 group
+          (ap (λ start. replies_from start (works next.ledger) (length journal) passages) is.from))
   commits_more refused (parcel.Pulse moment) some =
       let passages = Pulsed moment ∷ [] in
-      cond_both (must_stop refused ledger 1) _ _ (Then passages) (λ stops. halted (work.Pulse moment) [] passages [] refl (λ place far. refl))
+      cond_both (must_stop refused ledger 1) _ _ (Then passages)
+          (λ stops. halted (work.Pulse moment) [] passages [] refl (λ place far. refl))
       (λ goes. entered (work.Pulse moment ∷ []) passages [] (or_parts ledger.stopped _ goes).0 refl refl)
   commits_more refused (parcel.Return job cause) some = aside (Returned job cause ∷ []) _ refl (λ place. refl)
   commits_more refused parcel.Last some = aside [] [] refl (λ place. refl)

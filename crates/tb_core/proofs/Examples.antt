@@ -57,7 +57,8 @@ refused_second_commit : outcomes (due 0 pulsed (work_of first ∷ []) 0) ≡ Com
 refused_second_commit = refl
 
 -- where nothing is refused, a pulse takes a place
-all_committed : outcomes (due 0 pulsed (ahead (items pulsed)) 0) ≡ Committed 0 (Failures []) ∷ Committed 2 (Failures []) ∷ []
+all_committed : outcomes (due 0 pulsed (ahead (items pulsed)) 0)
+    ≡ Committed 0 (Failures []) ∷ Committed 2 (Failures []) ∷ []
 all_committed = refl
 
 all_committed-clock : (replay 0 (ahead (items pulsed))).clock ≡ 6
@@ -70,5 +71,6 @@ doubled = packet first ∷ packet (job 1 0 (event 1)) ∷ []
 own_replies : outcomes (due 0 doubled (ahead (items doubled)) 0) ≡ Committed 0 (Failures []) ∷ []
 own_replies = refl
 
-other_replies : outcomes (due 0 doubled (ahead (items doubled)) 1) ≡ Committed 1 (Failures (record { index = 0; code = 21 } ∷ [])) ∷ []
+other_replies : outcomes (due 0 doubled (ahead (items doubled)) 1)
+    ≡ Committed 1 (Failures (record { index = 0; code = 21 } ∷ [])) ∷ []
 other_replies = refl

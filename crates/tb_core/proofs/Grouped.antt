@@ -32,12 +32,20 @@ use Rattle.tb_core.proofs.Committing.{length-chunks}
 record AreSeen (operation : ℕ) (bytes : List ℕ) : Type 0 where
   number : operation_of (events_of operation bytes) ≡ operation
   count : count_of_events (events_of operation bytes) ≡ count_of_size bytes (event_size operation)
-  joinable : (not (is_open (events_of operation bytes)) && not (operation == 131)) ≡ true → can_join (events_of operation bytes) ≡ true
+  joinable : (not (is_open (events_of operation bytes)) && not (operation == 131)) ≡ true
+      → can_join (events_of operation bytes) ≡ true
 
 seen_of : (operation : ℕ) (bytes : List ℕ) → Kind operation → AreSeen operation bytes
-seen_of operation bytes OfAccounts = record { number = refl; count = length-map (chunks 128 bytes) account_of ∙ length-chunks 128 _ bytes; joinable = λ share. (and_parts _ _ share).0 }
-seen_of operation bytes OfTransfers = record { number = refl; count = length-map (chunks 128 bytes) transfer_of ∙ length-chunks 128 _ bytes; joinable = λ share. (and_parts _ _ share).0 }
-seen_of operation bytes OfIds = record { number = refl; count = length-map (chunks 16 bytes) little_endian ∙ length-chunks 16 _ bytes; joinable = λ share. (let e = (and_parts (not (is_open (events_of 131 bytes))) (not (131 == 131)) share).1 in cc) }
+seen_of operation bytes OfAccounts =
+    record { number = refl; count = length-map (chunks 128 bytes) account_of
+    ∙ length-chunks 128 _ bytes; joinable = λ share. (and_parts _ _ share).0 }
+seen_of operation bytes OfTransfers =
+    record { number = refl; count = length-map (chunks 128 bytes) transfer_of
+    ∙ length-chunks 128 _ bytes; joinable = λ share. (and_parts _ _ share).0 }
+seen_of operation bytes OfIds =
+    record { number = refl; count = length-map (chunks 16 bytes) little_endian
+    ∙ length-chunks 16 _ bytes; joinable =
+    λ share. (let e = (and_parts (not (is_open (events_of 131 bytes))) (not (131 == 131)) share).1 in cc) }
 
 seen : (job : Numbered) → IsOk (admission_of 8190 job.packet) → AreSeen job.packet.operation job.packet.bytes
 seen job ok = seen_of job.packet.operation job.packet.bytes (kind_of job.packet.operation job.packet.bytes ok)
@@ -48,44 +56,62 @@ count_all : (jobs : List Numbered) → AreAdmitted jobs → events_together (map
 count_all [] all = refl
 count_all (job ∷ jobs) all = omega (arith, (seen job all.0).count, count_all jobs all.1)
 
-stand_all : (job : Numbered) (group : List Numbered) → IsOk (admission_of 8190 job.packet) → AreAdmitted group → list_all can_share group ≡ true → are_of job.packet.operation group ≡ true →
+stand_all : (job : Numbered) (group : List Numbered) → IsOk (admission_of 8190 job.packet) → AreAdmitted group
+    → list_all can_share group ≡ true → are_of job.packet.operation group ≡ true →
     list_all (can_stand_with (events_in job.packet)) (map work_of group) ≡ true
 stand_all job [] ok all share one = refl
 stand_all job (first ∷ group) ok all share one =
     let shares = and_parts (can_share first) (list_all can_share group) share in
     let ones = and_parts (first.packet.operation == job.packet.operation) (are_of job.packet.operation group) one in
     let same : (operation_of (events_in first.packet) == operation_of (events_in job.packet)) ≡ true =
-    ap (λ n. n == operation_of (events_in job.packet)) (seen first all.0).number ∙ ap (λ n. first.packet.operation == n) (seen job ok).number ∙ ones.0 in
-    and_from (can_join (events_in first.packet) && (operation_of (events_in first.packet) == operation_of (events_in job.packet))) (list_all (can_stand_with (events_in job.packet)) (map work_of group))
-    (and_from (can_join (events_in first.packet)) _ ((seen first all.0).joinable shares.0) same) (stand_all job group ok all.1 shares.1 ones.1)
+    ap (λ n. n == operation_of (events_in job.packet)) (seen first all.0).number
+        ∙ ap (λ n. first.packet.operation == n) (seen job ok).number ∙ ones.0 in
+    and_from (can_join (events_in first.packet) && (operation_of (events_in first.packet) == operation_of
+        (events_in job.packet))) (list_all (can_stand_with (events_in job.packet)) (map work_of group))
+    (and_from (can_join (events_in first.packet)) _ ((seen first all.0).joinable shares.0) same)
+        (stand_all job group ok all.1 shares.1 ones.1)
 
-joins_seen : (limit : ℕ) (group : List Numbered) (job : Numbered) → AreAdmitted group → IsOk (admission_of 8190 job.packet) → joins limit group job ≡ true → joins_group limit (map work_of group) (work_of job) ≡ true
+joins_seen : (limit : ℕ) (group : List Numbered) (job : Numbered) → AreAdmitted group
+    → IsOk (admission_of 8190 job.packet) → joins limit group job ≡ true
+    → joins_group limit (map work_of group) (work_of job) ≡ true
 joins_seen limit group job all ok is =
     let first = and_parts (list_all can_share group) _ is in
     let second = and_parts (can_share job) _ first.1 in
     let third = and_parts (are_of job.packet.operation group) _ second.1 in
     let few : nat_le (events_together (map work_of group) + count_of_events (events_in job.packet)) limit ≡ true =
-    ap (λ n. nat_le (n + count_of_events (events_in job.packet)) limit) (count_all group all) ∙ ap (λ n. nat_le (count_of_all group + n) limit) (seen job ok).count ∙ third.1 in
-    and_from (list_all (can_stand_with (events_in job.packet)) (map work_of group)) _ (stand_all job group ok all first.0 third.0) (and_from (can_join (events_in job.packet)) _ ((seen job ok).joinable second.0) few)
+    ap (λ n. nat_le (n + count_of_events (events_in job.packet)) limit) (count_all group all)
+        ∙ ap (λ n. nat_le (count_of_all group + n) limit) (seen job ok).count ∙ third.1 in
+    and_from (list_all (can_stand_with (events_in job.packet)) (map work_of group)) _
+        (stand_all job group ok all first.0 third.0) (and_from (can_join (events_in job.packet)) _
+        ((seen job ok).joinable second.0) few)
 
-join_seen : (limit : ℕ) (group jobs : List Numbered) → AreAdmitted group → AreAdmitted jobs → join_in_turn limit group jobs ≡ true → join_one_by_one limit (map work_of group) (map work_of jobs) ≡ true
+join_seen : (limit : ℕ) (group jobs : List Numbered) → AreAdmitted group → AreAdmitted jobs
+    → join_in_turn limit group jobs ≡ true → join_one_by_one limit (map work_of group) (map work_of jobs) ≡ true
 join_seen limit group [] all more is = refl
 join_seen limit group (job ∷ jobs) all more is =
     let parts = and_parts (joins limit group job) (join_in_turn limit (group ++ job ∷ []) jobs) is in
     and_from (joins_group limit (map work_of group) (work_of job)) _ (joins_seen limit group job all more.0 parts.0)
-    (ap (λ ws. join_one_by_one limit ws (map work_of jobs)) (sym (map-append work_of group (job ∷ []))) ∙ join_seen limit (group ++ job ∷ []) jobs (all-push (λ (j : Numbered). IsOk (admission_of 8190 j.packet)) group job all more.0) more.1 parts.1)
+    (ap (λ ws. join_one_by_one limit ws (map work_of jobs)) (sym (map-append work_of group (job ∷ [])))
+        ∙ join_seen limit (group ++ job ∷ []) jobs (all-push
+            (λ (j : Numbered). IsOk (admission_of 8190 j.packet)) group job all more.0) more.1 parts.1)
 
-group_joined : (limit : ℕ) (jobs : List Numbered) → HasPackets (parcel.Batch jobs) → IsGroup limit jobs → IsJoined limit (map work_of jobs)
+group_joined : (limit : ℕ) (jobs : List Numbered) → HasPackets (parcel.Batch jobs) → IsGroup limit jobs
+    → IsJoined limit (map work_of jobs)
 group_joined limit [] some is = absurd (omega (arith, some.0))
 group_joined limit (job ∷ jobs) some is = join_seen limit (job ∷ []) jobs (some.1.0, tt) some.1.1 is
 
 -- ---- a ledger
 
-joined_more : (refused : Bool) (ledger : LedgerState) (handed : Parcel) (limit : ℕ) → HasPackets handed → IsJoinedParcel limit handed → AreJoined limit ledger.groups → AreJoined limit (apply_step refused ledger handed).ledger.groups
+joined_more : (refused : Bool) (ledger : LedgerState) (handed : Parcel) (limit : ℕ) → HasPackets handed
+    → IsJoinedParcel limit handed → AreJoined limit ledger.groups
+    → AreJoined limit (apply_step refused ledger handed).ledger.groups
 joined_more refused ledger (parcel.Batch jobs) limit some joined all =
-    cond_both (must_stop refused ledger (length jobs)) _ _ (λ (a : Applied). AreJoined limit a.ledger.groups) (λ stops. all) (λ goes. all-push (IsJoined limit) ledger.groups (map work_of jobs) all (group_joined limit jobs some joined))
+    cond_both (must_stop refused ledger (length jobs)) _ _ (λ (a : Applied). AreJoined limit a.ledger.groups)
+        (λ stops. all) (λ goes. all-push (IsJoined limit) ledger.groups (map work_of jobs) all
+        (group_joined limit jobs some joined))
 joined_more refused ledger (parcel.Pulse moment) limit some joined all =
-    cond_both (must_stop refused ledger 1) _ _ (λ (a : Applied). AreJoined limit a.ledger.groups) (λ stops. all) (λ goes. all-push (IsJoined limit) ledger.groups (Pulse moment ∷ []) all refl)
+    cond_both (must_stop refused ledger 1) _ _ (λ (a : Applied). AreJoined limit a.ledger.groups) (λ stops. all)
+        (λ goes. all-push (IsJoined limit) ledger.groups (Pulse moment ∷ []) all refl)
 joined_more refused ledger p limit some joined all = all
 
 has_jobs : (p : Parcel) → HasPackets p → HasJobs p
@@ -94,11 +120,16 @@ has_jobs p some = tt
 
 -- all that holds of a ledger that applied a parcel
 pub record HasApplied (ledger : LedgerState) (handed : Parcel) (next : Applied) : Type 0 where
-  pub commits : (clock : ℕ) (passages : List Passage) (replies : List Replied) → Commits clock passages ledger replies → Commits clock (passages ++ passages_in handed) next.ledger (replies ++ replies_in next.outcomes)
-  pub joined : (limit : ℕ) → IsJoinedParcel limit handed → AreJoined limit ledger.groups → AreJoined limit next.ledger.groups
+  pub commits : (clock : ℕ) (passages : List Passage) (replies : List Replied)
+      → Commits clock passages ledger replies → Commits clock (passages ++ passages_in handed) next.ledger
+          (replies ++ replies_in next.outcomes)
+  pub joined : (limit : ℕ) → IsJoinedParcel limit handed → AreJoined limit ledger.groups
+      → AreJoined limit next.ledger.groups
 
-pub has_applied : (refused : Bool) (ledger : LedgerState) (handed : Parcel) (next : Applied) → HasPackets handed → next ≡ apply_step refused ledger handed → HasApplied ledger handed next
+pub has_applied : (refused : Bool) (ledger : LedgerState) (handed : Parcel) (next : Applied) → HasPackets handed
+    → next ≡ apply_step refused ledger handed → HasApplied ledger handed next
 has_applied refused ledger handed next some is = subst (HasApplied ledger handed) (sym is) (record {
-  commits = λ clock passages replies commits. commits_more clock passages ledger replies commits refused handed (has_jobs handed some);
+  commits = λ clock passages replies commits. commits_more clock passages ledger replies commits refused
+      handed (has_jobs handed some);
   joined = λ limit. joined_more refused ledger handed limit some;
 })

@@ -27,113 +27,159 @@ use Rattle.tb_core.proofs.Passing.{never_stops}
 
 -- after the Close each packet comes back
 behind_close : (clock place : ℕ) (stop : Option ℕ) (journal : List Work) (items : List Item) →
-    (works_in (passages_from stop Behind items) ≡ []) × (replies_from clock journal place (passages_from stop Behind items) ≡ all_due_from clock journal Behind items)
+    (works_in (passages_from stop Behind items) ≡ [])
+        × (replies_from clock journal place (passages_from stop Behind items)
+        ≡ all_due_from clock journal Behind items)
 behind_close clock place stop journal [] = (refl, refl)
 behind_close clock place stop journal (item.Packet job ∷ items) =
-    let others = behind_close clock place stop journal items in (others.0, ap (λ rs. reply_with outcome.Shutdown job ∷ rs) others.1)
+    let others = behind_close clock place stop journal
+        items in (others.0, ap (λ rs. reply_with outcome.Shutdown job ∷ rs) others.1)
 behind_close clock place stop journal (x ∷ items) = behind_close clock place stop journal items
 
 -- from the stop on each packet comes back, as one that the journal doesn't reach
-from_stop : (clock place through k : ℕ) (journal : List Work) (items : List Item) → length journal ≤ through → through ≤ k →
-    (works_in (passages_from (Some through) (Ahead k) items) ≡ []) × (replies_from clock journal place (passages_from (Some through) (Ahead k) items) ≡ all_due_from clock journal (Ahead k) items)
+from_stop : (clock place through k : ℕ) (journal : List Work) (items : List Item)
+    → length journal ≤ through → through ≤ k →
+    (works_in (passages_from (Some through) (Ahead k) items) ≡ [])
+        × (replies_from clock journal place (passages_from (Some through) (Ahead k) items)
+        ≡ all_due_from clock journal (Ahead k) items)
 from_stop clock place through k journal [] far h = (refl, refl)
 from_stop clock place through k journal (item.Packet job ∷ items) far h =
     let others = from_stop clock place through (k + 1) journal items far (omega (arith, h)) in
-    rw (le-leb through k h) (others.0, rw (outcome_past clock k journal (omega (arith, far, h))) (ap (λ rs. reply_with outcome.Stopped job ∷ rs) others.1))
-from_stop clock place through k journal (item.Pulse moment ∷ items) far h = rw (le-leb through k h) (from_stop clock place through (k + 1) journal items far (omega (arith, h)))
+    rw (le-leb through k h) (others.0, rw (outcome_past clock k journal (omega (arith, far, h)))
+        (ap (λ rs. reply_with outcome.Stopped job ∷ rs) others.1))
+from_stop clock place through k journal (item.Pulse moment ∷ items) far h =
+    rw (le-leb through k h) (from_stop clock place through (k + 1) journal items far (omega (arith, h)))
 from_stop clock place through k journal (item.End ∷ items) far h = from_stop clock place through k journal items far h
-from_stop clock place through k journal (item.Close ∷ items) far h = behind_close clock place (Some through) journal items
+from_stop clock place through k journal (item.Close ∷ items) far h =
+    behind_close clock place (Some through) journal items
 
 -- what was let through, so many at most, is the first of what is ahead; and a journal that reaches no further answers what is due
-let_through : (clock most through k : ℕ) (journal : List Work) (items : List Item) → length journal ≤ through → through ≡ k + most →
-    (works_in (passages_from (Some through) (Ahead k) items) ≡ take most (ahead items)) × (replies_from clock journal k (passages_from (Some through) (Ahead k) items) ≡ all_due_from clock journal (Ahead k) items)
+let_through : (clock most through k : ℕ) (journal : List Work) (items : List Item)
+    → length journal ≤ through → through ≡ k + most →
+    (works_in (passages_from (Some through) (Ahead k) items) ≡ take most (ahead items))
+        × (replies_from clock journal k (passages_from (Some through) (Ahead k) items)
+        ≡ all_due_from clock journal (Ahead k) items)
 let_through clock zero through k journal items far h = from_stop clock k through k journal items far (omega (arith, h))
 let_through clock (suc most) through k journal [] far h = (refl, refl)
 let_through clock (suc most) through k journal (item.Packet job ∷ items) far h =
     let others = let_through clock most through (k + 1) journal items far (omega (arith, h)) in
-    rw (lt-leb through k (omega (arith, h))) (ap (λ ws. work_of job ∷ ws) others.0, ap (λ rs. reply_with (outcome_at clock journal (Ahead k)) job ∷ rs) others.1)
+    rw (lt-leb through k (omega (arith, h))) (ap (λ ws. work_of job ∷ ws) others.0, ap
+        (λ rs. reply_with (outcome_at clock journal (Ahead k)) job ∷ rs) others.1)
 let_through clock (suc most) through k journal (item.Pulse moment ∷ items) far h =
-    let others = let_through clock most through (k + 1) journal items far (omega (arith, h)) in rw (lt-leb through k (omega (arith, h))) (ap (λ ws. work.Pulse moment ∷ ws) others.0, others.1)
-let_through clock (suc most) through k journal (item.End ∷ items) far h = let_through clock (suc most) through k journal items far h
-let_through clock (suc most) through k journal (item.Close ∷ items) far h = behind_close clock k (Some through) journal items
+    let others = let_through clock most through (k + 1) journal items far (omega (arith, h)) in rw
+        (lt-leb through k (omega (arith, h))) (ap (λ ws. work.Pulse moment ∷ ws) others.0, others.1)
+let_through clock (suc most) through k journal (item.End ∷ items) far h =
+    let_through clock (suc most) through k journal items far h
+let_through clock (suc most) through k journal (item.Close ∷ items) far h =
+    behind_close clock k (Some through) journal items
 
 -- how many were let through at most, where the front may have stopped
 abbrev most_of : Option ℕ → List Item → ℕ
 most_of None items = length (ahead items)
 most_of (Some through) items = through
 
-passed_through : (clock : ℕ) (stop : Option ℕ) (journal : List Work) (items : List Item) → length journal ≤ most_of stop items →
-    (works_in (passages_of stop items) ≡ take (most_of stop items) (ahead items)) × (replies_from clock journal 0 (passages_of stop items) ≡ all_due clock items journal)
-passed_through clock None journal items far = let most = length (ahead items) in rw (never_stops 0 most items (omega arith)) (let_through clock most most 0 journal items far (omega arith))
-passed_through clock (Some through) journal items far = let_through clock through through 0 journal items far (omega arith)
+passed_through : (clock : ℕ) (stop : Option ℕ) (journal : List Work) (items : List Item)
+    → length journal ≤ most_of stop items →
+    (works_in (passages_of stop items) ≡ take (most_of stop items) (ahead items))
+        × (replies_from clock journal 0 (passages_of stop items) ≡ all_due clock items journal)
+passed_through clock None journal items far = let most =
+    length (ahead items) in rw (never_stops 0 most items (omega arith))
+    (let_through clock most most 0 journal items far (omega arith))
+passed_through clock (Some through) journal items far =
+    let_through clock through through 0 journal items far (omega arith)
 
 -- ---- who is told that the pipeline stopped
 
-none_behind : (clock : ℕ) (journal : List Work) (items : List Item) → tell_a_stop (all_due_from clock journal Behind items) ≡ false
+none_behind : (clock : ℕ) (journal : List Work) (items : List Item)
+    → tell_a_stop (all_due_from clock journal Behind items) ≡ false
 none_behind clock journal [] = refl
 none_behind clock journal (item.Packet job ∷ items) = none_behind clock journal items
 none_behind clock journal (x ∷ items) = none_behind clock journal items
 
 -- nobody, where the journal has all that is ahead
-none_told : (clock k : ℕ) (journal before : List Work) (items : List Item) → journal ≡ before ++ ahead items → k ≡ length before → tell_a_stop (all_due_from clock journal (Ahead k) items) ≡ false
+none_told : (clock k : ℕ) (journal before : List Work) (items : List Item) → journal ≡ before ++ ahead items
+    → k ≡ length before → tell_a_stop (all_due_from clock journal (Ahead k) items) ≡ false
 none_told clock k journal before [] all k_is = refl
 none_told clock k journal before (item.Packet job ∷ items) all k_is =
     let one = work_of job ∷ [] in
-    let here = ap (λ ws. outcome_at clock ws (Ahead k)) all ∙ outcome_here clock k (replay clock before) before job (ahead items) k_is refl in
-    rw here (none_told clock (k + 1) journal (before ++ one) items (all ∙ sym (append_assoc before one (ahead items))) (omega (arith, k_is, length-append before one)))
+    let here = ap (λ ws. outcome_at clock ws (Ahead k)) all
+        ∙ outcome_here clock k (replay clock before) before job (ahead items) k_is refl in
+    rw here (none_told clock (k + 1) journal (before ++ one) items
+        (all ∙ sym (append_assoc before one (ahead items))) (omega (arith, k_is, length-append before one)))
 none_told clock k journal before (item.Pulse moment ∷ items) all k_is =
     let one = work.Pulse moment ∷ [] in
-    none_told clock (k + 1) journal (before ++ one) items (all ∙ sym (append_assoc before one (ahead items))) (omega (arith, k_is, length-append before one))
+    none_told clock (k + 1) journal (before ++ one) items (all ∙ sym (append_assoc before one (ahead items)))
+        (omega (arith, k_is, length-append before one))
 none_told clock k journal before (item.End ∷ items) all k_is = none_told clock k journal before items all k_is
 none_told clock k journal before (item.Close ∷ items) all k_is = none_behind clock journal items
 
 -- somebody, where the journal ends in front of a packet that is ahead
-one_told : (clock k left : ℕ) (journal : List Work) (items : List Item) → length journal ≤ k + left → IsPacket (slice_get (ahead items) left) → tell_a_stop (all_due_from clock journal (Ahead k) items) ≡ true
+one_told : (clock k left : ℕ) (journal : List Work) (items : List Item) → length journal ≤ k + left
+    → IsPacket (slice_get (ahead items) left) → tell_a_stop (all_due_from clock journal (Ahead k) items) ≡ true
 one_told clock k left journal [] far packet = absurd packet
-one_told clock k zero journal (item.Packet job ∷ items) far packet = rw (outcome_past clock k journal (omega (arith, far))) refl
-one_told clock k (suc left) journal (item.Packet job ∷ items) far packet = or_right _ _ (one_told clock (k + 1) left journal items (omega (arith, far)) packet)
+one_told clock k zero journal (item.Packet job ∷ items) far packet =
+    rw (outcome_past clock k journal (omega (arith, far))) refl
+one_told clock k (suc left) journal (item.Packet job ∷ items) far packet =
+    or_right _ _ (one_told clock (k + 1) left journal items (omega (arith, far)) packet)
 one_told clock k zero journal (item.Pulse moment ∷ items) far packet = absurd packet
-one_told clock k (suc left) journal (item.Pulse moment ∷ items) far packet = one_told clock (k + 1) left journal items (omega (arith, far)) packet
+one_told clock k (suc left) journal (item.Pulse moment ∷ items) far packet =
+    one_told clock (k + 1) left journal items (omega (arith, far)) packet
 one_told clock k left journal (item.End ∷ items) far packet = one_told clock k left journal items far packet
 one_told clock k left journal (item.Close ∷ items) far packet = absurd packet
 
 -- nobody of the first of them
-pub none_of_first : (replies others all : List Replied) → replies ++ others ≡ all → tell_a_stop all ≡ false → tell_a_stop replies ≡ false
-none_of_first replies others all is none = (or_parts (tell_a_stop replies) (tell_a_stop others) (sym (list_any-append (λ (reply : Replied). is_stopped reply.outcome) replies others) ∙ ap tell_a_stop is ∙ none)).0
+pub none_of_first : (replies others all : List Replied) → replies ++ others ≡ all → tell_a_stop all ≡ false
+    → tell_a_stop replies ≡ false
+none_of_first replies others all is none =
+    (or_parts (tell_a_stop replies) (tell_a_stop others)
+    (sym (list_any-append (λ (reply : Replied). is_stopped reply.outcome) replies others)
+    ∙ ap tell_a_stop is ∙ none)).0
 
 -- nobody of some
-pub none_among : (q : Replied → Bool) (replies : List Replied) → tell_a_stop replies ≡ false → tell_a_stop (filter q replies) ≡ false
+pub none_among : (q : Replied → Bool) (replies : List Replied) → tell_a_stop replies ≡ false
+    → tell_a_stop (filter q replies) ≡ false
 none_among q [] none = refl
 none_among q (reply ∷ replies) none =
     let parts = or_parts (is_stopped reply.outcome) (tell_a_stop replies) none in
     let others = none_among q replies parts.1 in
-    cond_both (q reply) _ _ (λ rs. tell_a_stop rs ≡ false) (λ taken. or_from (is_stopped reply.outcome) _ parts.0 others) (λ left. others)
+    cond_both (q reply) _ _ (λ rs. tell_a_stop rs ≡ false)
+        (λ taken. or_from (is_stopped reply.outcome) _ parts.0 others) (λ left. others)
 
 abbrev AreAmong : ℕ → List Replied → Type 0
 AreAmong submitters replies = AllByRecursion (λ (reply : Replied). reply.submitter < submitters) replies
 
 -- replies to a queue are replies to its submitters
-due_among : (clock submitters : ℕ) (journal : List Work) (place : Place) (queue : List Ticket) → AreSubmitted submitters queue → AreAmong submitters (all_due_from clock journal place (items_in queue))
+due_among : (clock submitters : ℕ) (journal : List Work) (place : Place) (queue : List Ticket)
+    → AreSubmitted submitters queue → AreAmong submitters (all_due_from clock journal place (items_in queue))
 due_among clock submitters journal place [] all = tt
-due_among clock submitters journal place (ticket ∷ queue) all = one ticket.item all.0 (due_among clock submitters journal (next_place place ticket.item) queue all.1)
+due_among clock submitters journal place (ticket ∷ queue) all =
+    one ticket.item all.0 (due_among clock submitters journal (next_place place ticket.item) queue all.1)
   where
-    one : (x : Item) → IsSubmitted submitters ticket.sender x → AreAmong submitters (all_due_from clock journal (next_place place x) (items_in queue)) →
-        AreAmong submitters (reply_due (outcome_at clock journal place) x ++ all_due_from clock journal (next_place place x) (items_in queue))
+    one : (x : Item) → IsSubmitted submitters ticket.sender x
+        → AreAmong submitters (all_due_from clock journal (next_place place x) (items_in queue)) →
+        AreAmong submitters (reply_due (outcome_at clock journal place) x
+            ++ all_due_from clock journal (next_place place x) (items_in queue))
     one (item.Packet job) is others = (subst (λ n. n < submitters) (sym is.0) is.1, others)
     one x is others = others
 
 -- where none of the submitters is told, nobody is
-none_at_all : (submitters : ℕ) (replies : List Replied) → AreAmong submitters replies → ((submitter : ℕ) → submitter < submitters → tell_a_stop (replies_to replies submitter) ≡ false) → tell_a_stop replies ≡ false
+none_at_all : (submitters : ℕ) (replies : List Replied) → AreAmong submitters replies
+    → ((submitter : ℕ) → submitter < submitters → tell_a_stop (replies_to replies submitter) ≡ false)
+    → tell_a_stop replies ≡ false
 none_at_all submitters [] all none = refl
 none_at_all submitters (reply ∷ replies) all none =
-    or_from (is_stopped reply.outcome) (tell_a_stop replies) (own (none reply.submitter all.0)) (none_at_all submitters replies all.1 (λ submitter below. others submitter (reply.submitter == submitter) (none submitter below)))
+    or_from (is_stopped reply.outcome) (tell_a_stop replies) (own (none reply.submitter all.0))
+        (none_at_all submitters replies all.1 (λ submitter below.
+        others submitter (reply.submitter == submitter) (none submitter below)))
   where
     own : tell_a_stop (replies_to (reply ∷ replies) reply.submitter) ≡ false → is_stopped reply.outcome ≡ false
     own h =
         let its : (reply.submitter == reply.submitter) ≡ true = eq-eqb reply.submitter reply.submitter refl in
         (or_parts (is_stopped reply.outcome) _ (rw its at h)).0
 
-    others : (submitter : ℕ) (b : Bool) → tell_a_stop (if b then reply ∷ replies_to replies submitter else replies_to replies submitter) ≡ false → tell_a_stop (replies_to replies submitter) ≡ false
+    others : (submitter : ℕ) (b : Bool) → tell_a_stop
+        (if b then reply ∷ replies_to replies submitter else replies_to replies submitter) ≡ false
+        → tell_a_stop (replies_to replies submitter) ≡ false
     others submitter true h = (or_parts (is_stopped reply.outcome) _ h).1
     others submitter false h = h
 
@@ -144,7 +190,8 @@ nothing_left [] ys e = (refl, e)
 nothing_left (x ∷ xs) ys e = cc
 
 -- a ledger took some of what a front made of a queue, and the rest is on the way
-pub record SoFar (clock : ℕ) (items : List Item) (stopped : Bool) (ledger : LedgerState) (answers : List Replied) (way : List Passage) : Type 0 where
+pub record SoFar (clock : ℕ) (items : List Item) (stopped : Bool) (ledger : LedgerState) (answers : List Replied)
+    (way : List Passage) : Type 0 where
   pub behind : List Work
   pub committed : works ledger ++ behind ≡ ahead items
   pub later : List Replied
@@ -157,18 +204,23 @@ pub record SoFar (clock : ℕ) (items : List Item) (stopped : Bool) (ledger : Le
   pub nothing_behind : way ≡ [] → ledger.stopped ≡ false → tell_a_stop answers ≡ false → behind ≡ []
   pub nothing_stopped : behind ≡ [] → (ledger.stopped ≡ false) × (tell_a_stop answers ≡ false)
 
-pub so_far : (clock : ℕ) (items : List Item) (closed stopped : Bool) (applied way : List Passage) (ledger : LedgerState) (answers : List Replied) → Passes items closed stopped (applied ++ way) → Commits clock applied ledger answers →
+pub so_far : (clock : ℕ) (items : List Item) (closed stopped : Bool) (applied way : List Passage)
+    (ledger : LedgerState) (answers : List Replied) → Passes items closed stopped (applied ++ way)
+    → Commits clock applied ledger answers →
     SoFar clock items stopped ledger answers way
 so_far clock items closed stopped applied way ledger answers passes commits =
     record {
       behind = (commits.behind ++ works_in way) ++ rest;
-      committed = sym (append_assoc journal (commits.behind ++ works_in way) rest) ∙ ap (λ ws. ws ++ rest) longer ∙ parts;
+      committed = sym (append_assoc journal (commits.behind ++ works_in way) rest)
+          ∙ ap (λ ws. ws ++ rest) longer ∙ parts;
       later = replies_from clock journal here way;
       due = due;
       replied = replied;
       whole = λ on goes. all (journal_is (commits.whole goes)) (rest_is passes.stop refl (sym on ∙ passes.stops));
-      untold = λ on goes. let is = journal_is (commits.whole goes) in told is (all is (rest_is passes.stop refl (sym on ∙ passes.stops)));
-      nothing_behind = λ none goes untold. ap (λ ws. (ws ++ works_in way) ++ rest) (commits.whole goes) ∙ ap (λ ps. works_in ps ++ rest) none ∙ left passes.stop refl passes.at_packet none untold;
+      untold = λ on goes. let is =
+          journal_is (commits.whole goes) in told is (all is (rest_is passes.stop refl (sym on ∙ passes.stops)));
+      nothing_behind = λ none goes untold. ap (λ ws. (ws ++ works_in way) ++ rest) (commits.whole goes)
+          ∙ ap (λ ps. works_in ps ++ rest) none ∙ left passes.stop refl passes.at_packet none untold;
       nothing_stopped = λ none.
           let two = nothing_left (commits.behind ++ works_in way) rest none in
           let one = nothing_left commits.behind (works_in way) two.0 in
@@ -196,13 +248,18 @@ so_far clock items closed stopped applied way ledger answers passes commits =
     parts = ap (λ ws. ws ++ rest) through ∙ take-append-drop most (ahead items)
 
     longer : journal ++ (commits.behind ++ works_in way) ≡ works_in (applied ++ way)
-    longer = sym (append_assoc journal commits.behind (works_in way)) ∙ ap (λ ws. ws ++ works_in way) commits.committed ∙ sym (works_in-append applied way)
+    longer = sym (append_assoc journal commits.behind (works_in way))
+        ∙ ap (λ ws. ws ++ works_in way) commits.committed ∙ sym (works_in-append applied way)
 
-    replies_are : (now : List Work) → length now ≤ most → replies_from clock now 0 applied ++ replies_from clock now here way ≡ all_due clock items now
-    replies_are now short = sym (replies_from-append clock now 0 applied way) ∙ ap (replies_from clock now 0) passes.all ∙ (passed_through clock passes.stop now items short).1
+    replies_are : (now : List Work) → length now ≤ most
+        → replies_from clock now 0 applied ++ replies_from clock now here way ≡ all_due clock items now
+    replies_are now short =
+        sym (replies_from-append clock now 0 applied way) ∙ ap (replies_from clock now 0) passes.all
+        ∙ (passed_through clock passes.stop now items short).1
 
     short : length journal ≤ most
-    short = omega (arith, ap length longer, length-append journal (commits.behind ++ works_in way), ap length through, length-take most (ahead items))
+    short = omega (arith, ap length longer, length-append journal
+        (commits.behind ++ works_in way), ap length through, length-take most (ahead items))
 
     due : answers ++ replies_from clock journal here way ≡ all_due clock items journal
     due = ap (λ rs. rs ++ replies_from clock journal here way) commits.replied ∙ replies_are journal short
@@ -215,48 +272,68 @@ so_far clock items closed stopped applied way ledger answers passes commits =
     rest_is (Some k) is on = cc
 
     -- a front that stopped left a packet that is ahead, and that packet is told
-    left : (stop : Option ℕ) → passes.stop ≡ stop → IfSome stop (λ k. IsPacket (slice_get (ahead items) k)) → way ≡ [] → tell_a_stop answers ≡ false → rest ≡ []
+    left : (stop : Option ℕ) → passes.stop ≡ stop → IfSome stop (λ k. IsPacket (slice_get (ahead items) k))
+        → way ≡ [] → tell_a_stop answers ≡ false → rest ≡ []
     left None is packet none untold = rest_is None is refl
     left (Some k) is packet none untold =
-        absurd (both_ways (tell_a_stop answers) untold (ap tell_a_stop (replied none) ∙ one_told clock 0 k journal items (omega (arith, short, ap (λ stop. most_of stop items) is)) packet))
+        absurd (both_ways (tell_a_stop answers) untold
+            (ap tell_a_stop (replied none) ∙ one_told clock 0 k journal items
+            (omega (arith, short, ap (λ stop. most_of stop items) is)) packet))
 
     journal_is : commits.behind ≡ [] → journal ≡ works_in applied
     journal_is none = sym (append-nil journal) ∙ ap (λ ws. journal ++ ws) (sym none) ∙ commits.committed
 
     all : journal ≡ works_in applied → rest ≡ [] → journal ++ works_in way ≡ ahead items
-    all is none = ap (λ ws. ws ++ works_in way) is ∙ sym (works_in-append applied way) ∙ sym (append-nil _) ∙ ap (λ ws. works_in (applied ++ way) ++ ws) (sym none) ∙ parts
+    all is none =
+        ap (λ ws. ws ++ works_in way) is ∙ sym (works_in-append applied way) ∙ sym (append-nil _)
+        ∙ ap (λ ws. works_in (applied ++ way) ++ ws) (sym none) ∙ parts
 
     -- what is on the way doesn't change what was answered
     told : journal ≡ works_in applied → journal ++ works_in way ≡ ahead items → tell_a_stop answers ≡ false
     told is all_is =
         let now = journal ++ works_in way in
-        let same : answers ≡ replies_from clock now 0 applied = commits.replied ∙ sym (replies_from-longer clock journal (works_in way) 0 applied (omega (arith, ap length is))) in
-        let within : length now ≤ most = omega (arith, ap length (ap (λ ws. ws ++ works_in way) is ∙ sym (works_in-append applied way) ∙ through), length-take most (ahead items)) in
-        none_of_first answers (replies_from clock now here way) (all_due clock items now) (ap (λ rs. rs ++ replies_from clock now here way) same ∙ replies_are now within) (none_told clock 0 now [] items all_is refl)
+        let same : answers ≡ replies_from clock now 0 applied = commits.replied
+            ∙ sym (replies_from-longer clock journal (works_in way) 0 applied (omega (arith, ap length is))) in
+        let within : length now ≤ most = omega (arith, ap length
+            (ap (λ ws. ws ++ works_in way) is ∙ sym (works_in-append applied way) ∙ through),
+            length-take most (ahead items)) in
+        none_of_first answers (replies_from clock now here way) (all_due clock items now)
+            (ap (λ rs. rs ++ replies_from clock now here way) same ∙ replies_are now within)
+            (none_told clock 0 now [] items all_is refl)
 
-run_so_far : (clock : ℕ) (items : List Item) (ledger : LedgerState) (answers : List Replied) (run : Ran clock items ledger answers) → SoFar clock items run.stopped ledger answers []
-run_so_far clock items ledger answers run = so_far clock items run.closed run.stopped run.passages [] ledger answers (subst (Passes items run.closed run.stopped) (sym (append-nil run.passages)) run.passed) run.commits
+run_so_far : (clock : ℕ) (items : List Item) (ledger : LedgerState) (answers : List Replied)
+    (run : Ran clock items ledger answers) → SoFar clock items run.stopped ledger answers []
+run_so_far clock items ledger answers run =
+    so_far clock items run.closed run.stopped run.passages [] ledger answers
+    (subst (Passes items run.closed run.stopped) (sym (append-nil run.passages)) run.passed) run.commits
 
 pub run_is_lawful : RunIsLawful
 run_is_lawful clock submitters queue queued ledger answers replies filled run theirs =
     let far = run_so_far clock (items_in queue) ledger answers run in
-    let among = subst (AreAmong submitters) (sym (far.replied refl)) (due_among clock submitters (works ledger) (Ahead 0) queue filled.submitted) in
+    let among = subst (AreAmong submitters) (sym (far.replied refl))
+        (due_among clock submitters (works ledger) (Ahead 0) queue filled.submitted) in
     record {
       filled = filled;
       behind = far.behind;
       committed = far.committed;
-      whole = λ nothing. far.nothing_behind refl nothing.unmarked (none_at_all submitters answers among (λ submitter below. sym (ap tell_a_stop (theirs submitter below)) ∙ nothing.untold submitter below));
+      whole = λ nothing. far.nothing_behind refl nothing.unmarked
+          (none_at_all submitters answers among (λ submitter below. sym (ap tell_a_stop (theirs submitter below))
+          ∙ nothing.untold submitter below));
       unstopped = λ none. record {
         unmarked = (far.nothing_stopped none).0;
-        untold = λ submitter below. ap tell_a_stop (theirs submitter below) ∙ none_among (λ (reply : Replied). reply.submitter == submitter) answers (far.nothing_stopped none).1;
+        untold = λ submitter below. ap tell_a_stop (theirs submitter below)
+            ∙ none_among (λ (reply : Replied). reply.submitter == submitter) answers (far.nothing_stopped none).1;
       };
       state_is = ap (λ start. replay start (works ledger)) run.commits.from;
       replied = λ submitter below. theirs submitter below ∙ ap (λ rs. replies_to rs submitter) (far.replied refl);
     }
 
 -- where neither stopped, a list has been run whole
-pub run_is_listed : (clock : ℕ) (items : List Item) (ledger : LedgerState) (answers : List Replied) (run : Ran clock items ledger answers) → ledger.stopped ≡ false → run.stopped ≡ false → IsListed clock items ledger answers
+pub run_is_listed : (clock : ℕ) (items : List Item) (ledger : LedgerState) (answers : List Replied)
+    (run : Ran clock items ledger answers) → ledger.stopped ≡ false → run.stopped ≡ false
+    → IsListed clock items ledger answers
 run_is_listed clock items ledger answers run goes on =
     let far = run_so_far clock items ledger answers run in
     let all = sym (append-nil (works ledger)) ∙ far.whole on goes in
-    record { from = run.commits.from; goes_on = goes; committed = all; replied = far.replied refl ∙ ap (all_due clock items) all }
+    record { from = run.commits.from; goes_on = goes; committed = all; replied = far.replied refl
+        ∙ ap (all_due clock items) all }

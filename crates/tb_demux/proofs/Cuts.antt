@@ -33,104 +33,153 @@ not_at_least a b h = grind (arith, nat_tests)
 
 -- ---- the leading failures of a rising list
 
-rise_own-if : (low high end : ℕ) (failure : Failure) (failures : List Failure) (b : Bool) → nat_lt failure.index end ≡ b → RiseWithin low high (failure ∷ failures) →
-    RiseWithin (failure.index + 1) end (take (count_below end failures) failures) → RiseWithin low end (take (if b then suc (count_below end failures) else 0) (failure ∷ failures))
+rise_own-if : (low high end : ℕ) (failure : Failure) (failures : List Failure) (b : Bool)
+    → nat_lt failure.index end ≡ b → RiseWithin low high (failure ∷ failures) →
+    RiseWithin (failure.index + 1) end (take (count_below end failures) failures)
+        → RiseWithin low end (take (if b then suc (count_below end failures) else 0) (failure ∷ failures))
 rise_own-if low high end failure failures true is rise own = (rise.0, below failure.index end is, own)
 rise_own-if low high end failure failures false is rise own = tt
 
-pub rise_own : (low high end : ℕ) (failures : List Failure) → RiseWithin low high failures → RiseWithin low end (take (count_below end failures) failures)
+pub rise_own : (low high end : ℕ) (failures : List Failure) → RiseWithin low high failures
+    → RiseWithin low end (take (count_below end failures) failures)
 rise_own low high end [] rise = tt
 rise_own low high end (failure ∷ failures) rise =
-    rise_own-if low high end failure failures (nat_lt failure.index end) refl rise (rise_own (failure.index + 1) high end failures rise.2)
+    rise_own-if low high end failure failures (nat_lt failure.index end) refl rise
+        (rise_own (failure.index + 1) high end failures rise.2)
 
-rise_behind-if : (low high end : ℕ) (failure : Failure) (failures : List Failure) (b : Bool) → nat_lt failure.index end ≡ b → RiseWithin low high (failure ∷ failures) →
-    RiseWithin end high (drop (count_below end failures) failures) → RiseWithin end high (drop (if b then suc (count_below end failures) else 0) (failure ∷ failures))
+rise_behind-if : (low high end : ℕ) (failure : Failure) (failures : List Failure) (b : Bool)
+    → nat_lt failure.index end ≡ b → RiseWithin low high (failure ∷ failures) →
+    RiseWithin end high (drop (count_below end failures) failures)
+        → RiseWithin end high (drop (if b then suc (count_below end failures) else 0) (failure ∷ failures))
 rise_behind-if low high end failure failures true is rise behind = behind
 rise_behind-if low high end failure failures false is rise behind = (not_below failure.index end is, rise.1, rise.2)
 
-pub rise_behind : (low high end : ℕ) (failures : List Failure) → RiseWithin low high failures → RiseWithin end high (drop (count_below end failures) failures)
+pub rise_behind : (low high end : ℕ) (failures : List Failure) → RiseWithin low high failures
+    → RiseWithin end high (drop (count_below end failures) failures)
 rise_behind low high end [] rise = tt
 rise_behind low high end (failure ∷ failures) rise =
-    rise_behind-if low high end failure failures (nat_lt failure.index end) refl rise (rise_behind (failure.index + 1) high end failures rise.2)
+    rise_behind-if low high end failure failures (nat_lt failure.index end) refl rise
+        (rise_behind (failure.index + 1) high end failures rise.2)
 
-skip : (a b : Bool) (failure : Failure) (failures : List Failure) → b ≡ false → (if a && b then failure ∷ failures else failures) ≡ failures
+skip : (a b : Bool) (failure : Failure) (failures : List Failure) → b ≡ false
+    → (if a && b then failure ∷ failures else failures) ≡ failures
 skip true b failure failures h = ap (λ c. if c then failure ∷ failures else failures) h
 skip false b failure failures h = refl
 
 -- behind the end of a range lies nothing of it
-none_within : (offset count low high : ℕ) (failures : List Failure) → offset + count ≤ low → RiseWithin low high failures → filter (is_within offset count) failures ≡ []
+none_within : (offset count low high : ℕ) (failures : List Failure) → offset + count ≤ low
+    → RiseWithin low high failures → filter (is_within offset count) failures ≡ []
 none_within offset count low high [] past rise = refl
 none_within offset count low high (failure ∷ failures) past rise =
     let out : nat_lt failure.index (offset + count) ≡ false = grind (arith, nat_tests, rise.0) in
-    skip (nat_le offset failure.index) (nat_lt failure.index (offset + count)) failure (filter (is_within offset count) failures) out ∙ none_within offset count (failure.index + 1) high failures (omega (arith, rise.0)) rise.2
+    skip (nat_le offset failure.index) (nat_lt failure.index (offset + count)) failure
+        (filter (is_within offset count) failures) out
+        ∙ none_within offset count (failure.index + 1) high failures (omega (arith, rise.0)) rise.2
 
-own-if : (offset count low high : ℕ) (failure : Failure) (failures : List Failure) (b : Bool) → nat_lt failure.index (offset + count) ≡ b → offset ≤ low → RiseWithin low high (failure ∷ failures) →
+own-if : (offset count low high : ℕ) (failure : Failure) (failures : List Failure) (b : Bool)
+    → nat_lt failure.index (offset + count) ≡ b → offset ≤ low → RiseWithin low high (failure ∷ failures) →
     filter (is_within offset count) failures ≡ take (count_below (offset + count) failures) failures →
-    filter (is_within offset count) (failure ∷ failures) ≡ take (if b then suc (count_below (offset + count) failures) else 0) (failure ∷ failures)
-own-if offset count low high failure failures true is from rise own = rw (at_least offset failure.index (omega (arith, rise.0)), is) (ap (λ fs. failure ∷ fs) own)
+    filter (is_within offset count) (failure ∷ failures)
+        ≡ take (if b then suc (count_below (offset + count) failures) else 0) (failure ∷ failures)
+own-if offset count low high failure failures true is from rise own =
+    rw (at_least offset failure.index (omega (arith, rise.0)), is) (ap (λ fs. failure ∷ fs) own)
 own-if offset count low high failure failures false is from rise own =
-    none_within offset count failure.index high (failure ∷ failures) (not_below failure.index (offset + count) is) (omega arith, rise.1, rise.2)
+    none_within offset count failure.index high (failure ∷ failures) (not_below failure.index (offset + count) is)
+        (omega arith, rise.1, rise.2)
 
-own : (offset count low high : ℕ) (failures : List Failure) → offset ≤ low → RiseWithin low high failures → filter (is_within offset count) failures ≡ take (count_below (offset + count) failures) failures
+own : (offset count low high : ℕ) (failures : List Failure) → offset ≤ low → RiseWithin low high failures
+    → filter (is_within offset count) failures ≡ take (count_below (offset + count) failures) failures
 own offset count low high [] from rise = refl
 own offset count low high (failure ∷ failures) from rise =
-    own-if offset count low high failure failures (nat_lt failure.index (offset + count)) refl from rise (own offset count (failure.index + 1) high failures (omega (arith, rise.0)) rise.2)
+    own-if offset count low high failure failures (nat_lt failure.index (offset + count)) refl from rise
+        (own offset count (failure.index + 1) high failures (omega (arith, rise.0)) rise.2)
 
 -- a packet's own failures are the leading ones
-pub cut_leading : (offset count high : ℕ) (failures : List Failure) → RiseWithin offset high failures → failures_within offset count failures ≡ map (from_offset offset) (take (count_below (offset + count) failures) failures)
-cut_leading offset count high failures rise = ap (map (from_offset offset)) (own offset count offset high failures (omega arith) rise)
+pub cut_leading : (offset count high : ℕ) (failures : List Failure) → RiseWithin offset high failures
+    → failures_within offset count failures ≡ map (from_offset offset)
+        (take (count_below (offset + count) failures) failures)
+cut_leading offset count high failures rise =
+    ap (map (from_offset offset)) (own offset count offset high failures (omega arith) rise)
 
 -- ---- the packets behind
 
-skipped-if : (end offset count : ℕ) (failure : Failure) (failures : List Failure) (b : Bool) → nat_lt failure.index end ≡ b → end ≤ offset →
-    filter (is_within offset count) failures ≡ filter (is_within offset count) (drop (count_below end failures) failures) →
-    filter (is_within offset count) (failure ∷ failures) ≡ filter (is_within offset count) (drop (if b then suc (count_below end failures) else 0) (failure ∷ failures))
+skipped-if : (end offset count : ℕ) (failure : Failure) (failures : List Failure) (b : Bool)
+    → nat_lt failure.index end ≡ b → end ≤ offset →
+    filter (is_within offset count) failures ≡ filter (is_within offset count)
+        (drop (count_below end failures) failures) →
+    filter (is_within offset count) (failure ∷ failures)
+        ≡ filter (is_within offset count) (drop (if b then suc (count_below end failures)
+        else 0) (failure ∷ failures))
 skipped-if end offset count failure failures true is past same =
     rw (not_at_least offset failure.index (omega (arith, below failure.index end is))) same
 skipped-if end offset count failure failures false is past same = refl
 
-skipped : (end offset count : ℕ) (failures : List Failure) → end ≤ offset → filter (is_within offset count) failures ≡ filter (is_within offset count) (drop (count_below end failures) failures)
+skipped : (end offset count : ℕ) (failures : List Failure) → end ≤ offset
+    → filter (is_within offset count) failures ≡ filter (is_within offset count)
+        (drop (count_below end failures) failures)
 skipped end offset count [] past = refl
-skipped end offset count (failure ∷ failures) past = skipped-if end offset count failure failures (nat_lt failure.index end) refl past (skipped end offset count failures past)
+skipped end offset count (failure ∷ failures) past =
+    skipped-if end offset count failure failures (nat_lt failure.index end) refl past
+    (skipped end offset count failures past)
 
-replies_behind : (end place offset : ℕ) (failures : List Failure) (jobs : List Numbered) → end ≤ offset → replies_from place offset failures jobs ≡ replies_from place offset (drop (count_below end failures) failures) jobs
+replies_behind : (end place offset : ℕ) (failures : List Failure) (jobs : List Numbered) → end ≤ offset
+    → replies_from place offset failures jobs ≡ replies_from place offset
+        (drop (count_below end failures) failures) jobs
 replies_behind end place offset failures [] past = refl
 replies_behind end place offset failures (job ∷ jobs) past =
-    ap (λ fs. reply_with (Committed place (Failures (map (from_offset offset) fs))) job ∷ replies_from (place + 1) (offset + count_of job.packet) failures jobs) (skipped end offset (count_of job.packet) failures past)
-    ∙ ap (λ replies. reply_at place offset (drop (count_below end failures) failures) job ∷ replies) (replies_behind end (place + 1) (offset + count_of job.packet) failures jobs (omega (arith, past)))
+    ap (λ fs. reply_with (Committed place (Failures (map (from_offset offset) fs))) job
+        ∷ replies_from (place + 1) (offset + count_of job.packet) failures jobs)
+        (skipped end offset (count_of job.packet) failures past)
+    ∙ ap (λ replies. reply_at place offset (drop (count_below end failures) failures) job ∷ replies)
+            (replies_behind end (place + 1) (offset + count_of job.packet) failures jobs (omega (arith, past)))
 
 -- where no failures are left the offset doesn't matter
-replies_empty : (place offset other : ℕ) (jobs : List Numbered) → replies_from place offset [] jobs ≡ replies_from place other [] jobs
+replies_empty : (place offset other : ℕ) (jobs : List Numbered)
+    → replies_from place offset [] jobs ≡ replies_from place other [] jobs
 replies_empty place offset other [] = refl
-replies_empty place offset other (job ∷ jobs) = ap (λ replies. reply_at place offset [] job ∷ replies) (replies_empty (place + 1) (offset + count_of job.packet) (other + count_of job.packet) jobs)
+replies_empty place offset other (job ∷ jobs) =
+    ap (λ replies. reply_at place offset [] job ∷ replies)
+    (replies_empty (place + 1) (offset + count_of job.packet) (other + count_of job.packet) jobs)
 
 -- ---- the cutter behind one reply
 
-rise_left : (offset other high : ℕ) (failures : List Failure) (end : ℕ) → RiseWithin end high failures → high ≡ end + other → (offset ≡ end) ⊎ (failures ≡ []) → RiseWithin offset (offset + other) failures
+rise_left : (offset other high : ℕ) (failures : List Failure) (end : ℕ) → RiseWithin end high failures
+    → high ≡ end + other → (offset ≡ end) ⊎ (failures ≡ []) → RiseWithin offset (offset + other) failures
 rise_left offset other high failures end rise is (inl same) = rw (same, sym is) rise
 rise_left offset other high failures end rise is (inr empty) = rw empty tt
 
 -- what is left is that of the packets behind
-pub next_left : (old new : Uncut) (job : Numbered) (jobs : List Numbered) → IsUncut old (job ∷ jobs) → failures_left new ≡ drop (count_below (old.offset + count_of job.packet) (failures_left old)) (failures_left old) →
-    new.taken ≤ length new.failures → (new.offset ≡ old.offset + count_of job.packet) ⊎ (failures_left new ≡ []) → new.place ≡ old.place + 1 → IsUncut new jobs
+pub next_left : (old new : Uncut) (job : Numbered) (jobs : List Numbered) → IsUncut old (job ∷ jobs)
+    → failures_left new ≡ drop (count_below (old.offset + count_of job.packet) (failures_left old))
+        (failures_left old) →
+    new.taken ≤ length new.failures → (new.offset ≡ old.offset + count_of job.packet) ⊎ (failures_left new ≡ [])
+        → new.place ≡ old.place + 1 → IsUncut new jobs
 next_left old new job jobs h is taken offset place =
     let end = old.offset + count_of job.packet in
     let high = old.offset + (count_of job.packet + count_of_all jobs) in
-    let behind : RiseWithin end high (failures_left new) = rw is (rise_behind old.offset high end (failures_left old) h.rise) in
+    let behind : RiseWithin end high (failures_left new) = rw is
+        (rise_behind old.offset high end (failures_left old) h.rise) in
     record {
       places = omega (arith, h.places, place);
       taken = taken;
       rise = rise_left new.offset (count_of_all jobs) high (failures_left new) end behind (omega arith) offset;
-      no_lookup = (and_parts (not (is_lookup job.packet)) (list_all (λ (j : Numbered). not (is_lookup j.packet)) jobs) h.no_lookup).1;
+      no_lookup = (and_parts (not (is_lookup job.packet))
+          (list_all (λ (j : Numbered). not (is_lookup j.packet)) jobs) h.no_lookup).1;
     }
 
-replies_left : (place offset end : ℕ) (failures : List Failure) (jobs : List Numbered) → (offset ≡ end) ⊎ (failures ≡ []) → replies_from place end failures jobs ≡ replies_from place offset failures jobs
+replies_left : (place offset end : ℕ) (failures : List Failure) (jobs : List Numbered)
+    → (offset ≡ end) ⊎ (failures ≡ []) → replies_from place end failures jobs
+    ≡ replies_from place offset failures jobs
 replies_left place offset end failures jobs (inl same) = ap (λ o. replies_from place o failures jobs) (sym same)
 replies_left place offset end failures jobs (inr empty) = rw empty (replies_empty place end offset jobs)
 
-pub next_replies : (old new : Uncut) (job : Numbered) (jobs : List Numbered) → failures_left new ≡ drop (count_below (old.offset + count_of job.packet) (failures_left old)) (failures_left old) →
+pub next_replies : (old new : Uncut) (job : Numbered) (jobs : List Numbered)
+    → failures_left new ≡ drop (count_below (old.offset + count_of job.packet) (failures_left old))
+        (failures_left old) →
     (new.offset ≡ old.offset + count_of job.packet) ⊎ (failures_left new ≡ []) → new.place ≡ old.place + 1 →
-    replies_from old.place old.offset (failures_left old) (job ∷ jobs) ≡ reply_at old.place old.offset (failures_left old) job ∷ replies_from new.place new.offset (failures_left new) jobs
+    replies_from old.place old.offset (failures_left old) (job ∷ jobs)
+        ≡ reply_at old.place old.offset (failures_left old) job
+            ∷ replies_from new.place new.offset (failures_left new) jobs
 next_replies old new job jobs is offset place =
     let end = old.offset + count_of job.packet in
     ap (λ replies. reply_at old.place old.offset (failures_left old) job ∷ replies)
@@ -140,10 +189,13 @@ next_replies old new job jobs is offset place =
     ∙ ap (λ p. replies_from p new.offset (failures_left new) jobs) (sym place))
 
 -- behind a lookup nothing is left
-pub none_left : (outcome other : Outcome) (job : Numbered) (jobs : List Numbered) → IsForOne outcome (job ∷ jobs) → IsForOne other jobs
+pub none_left : (outcome other : Outcome) (job : Numbered) (jobs : List Numbered)
+    → IsForOne outcome (job ∷ jobs) → IsForOne other jobs
 none_left outcome other job [] h = record { one = omega arith; fits = λ one is. cc }
 none_left outcome other job (next ∷ jobs) h = absurd (omega (arith, h.one))
 
-pub none_left_replies : (outcome other : Outcome) (job : Numbered) (jobs : List Numbered) → IsForOne outcome (job ∷ jobs) → map (reply_with outcome) (job ∷ jobs) ≡ reply_with outcome job ∷ map (reply_with other) jobs
+pub none_left_replies : (outcome other : Outcome) (job : Numbered) (jobs : List Numbered)
+    → IsForOne outcome (job ∷ jobs) → map (reply_with outcome) (job ∷ jobs)
+    ≡ reply_with outcome job ∷ map (reply_with other) jobs
 none_left_replies outcome other job [] h = refl
 none_left_replies outcome other job (next ∷ jobs) h = absurd (omega (arith, h.one))

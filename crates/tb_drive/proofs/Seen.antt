@@ -8,13 +8,15 @@ use Rattle.tb_work.specs.Reply.{Replied}
 use Rattle.tb_drive.specs.Seen.{HaveSeen, HaveSeenEnds, HasSeen, HasSeenEnd, jobs_in}
 
 -- what a submitter queued stands in its end
-queued_by_end : (ends : List EndedState) (control : SenderState) (k : ℕ) (ended : EndedState) → slice_get ends k ≡ Some ended → queued_by ends control k ≡ ended.queued
+queued_by_end : (ends : List EndedState) (control : SenderState) (k : ℕ) (ended : EndedState)
+    → slice_get ends k ≡ Some ended → queued_by ends control k ≡ ended.queued
 queued_by_end [] control k ended is = cc
 queued_by_end (first ∷ ends) control zero ended is = cc
 queued_by_end (first ∷ ends) control (suc k) ended is = queued_by_end ends control k ended is
 
 module _ {D : Type 0} (has_seen : D → List Numbered → List Replied → Type 0) where
-  pub one_more : (drivers : List D) (ends : List EndedState) (last : D) (ended : EndedState) → length drivers ≡ length ends → HaveSeenEnds has_seen drivers ends → HasSeenEnd has_seen last ended
+  pub one_more : (drivers : List D) (ends : List EndedState) (last : D) (ended : EndedState)
+      → length drivers ≡ length ends → HaveSeenEnds has_seen drivers ends → HasSeenEnd has_seen last ended
       → HaveSeenEnds has_seen (drivers ++ last ∷ []) (ends ++ ended ∷ [])
   one_more [] [] last ended long have has zero driver end driver_is end_is =
       let driver_same : last ≡ driver = cc in
@@ -23,28 +25,40 @@ module _ {D : Type 0} (has_seen : D → List Numbered → List Replied → Type 
   one_more [] [] last ended long have has (suc k) driver end driver_is end_is = cc
   one_more [] (first ∷ ends) last ended long have has k driver end driver_is end_is = absurd (omega (arith, long))
   one_more (first ∷ drivers) [] last ended long have has k driver end driver_is end_is = absurd (omega (arith, long))
-  one_more (d ∷ drivers) (e ∷ ends) last ended long have has zero driver end driver_is end_is = have zero driver end driver_is end_is
+  one_more (d ∷ drivers) (e ∷ ends) last ended long have has zero driver end driver_is end_is =
+      have zero driver end driver_is end_is
   one_more (d ∷ drivers) (e ∷ ends) last ended long have has (suc k) driver end driver_is end_is =
       one_more drivers ends last ended (omega (arith, long)) (λ k. have (suc k)) has k driver end driver_is end_is
 
   -- what is so of each in two lists is so of the first two, and of each behind them
-  pub first_has : {drivers others : List D} {submitters rest : List SubmitterState} {driver : D} {submitter : SubmitterState} → drivers ≡ driver ∷ others → submitters ≡ submitter ∷ rest
+  pub first_has : {drivers others : List D} {submitters rest : List SubmitterState} {driver : D}
+      {submitter : SubmitterState} → drivers ≡ driver ∷ others → submitters ≡ submitter ∷ rest
       → HaveSeen has_seen drivers submitters → HasSeen has_seen driver submitter
-  first_has {driver = driver} {submitter = submitter} drivers_are submitters_are have = have zero driver submitter (ap (λ ds. slice_get ds zero) drivers_are) (ap (λ ss. slice_get ss zero) submitters_are)
+  first_has {driver = driver} {submitter = submitter} drivers_are submitters_are have =
+      have zero driver submitter (ap (λ ds. slice_get ds zero) drivers_are)
+      (ap (λ ss. slice_get ss zero) submitters_are)
 
-  pub others_have : {drivers others : List D} {submitters rest : List SubmitterState} {driver : D} {submitter : SubmitterState} → drivers ≡ driver ∷ others → submitters ≡ submitter ∷ rest
+  pub others_have : {drivers others : List D} {submitters rest : List SubmitterState} {driver : D}
+      {submitter : SubmitterState} → drivers ≡ driver ∷ others → submitters ≡ submitter ∷ rest
       → HaveSeen has_seen drivers submitters → HaveSeen has_seen others rest
   others_have drivers_are submitters_are have k driver submitter driver_is submitter_is =
-      have (suc k) driver submitter (ap (λ ds. slice_get ds (suc k)) drivers_are ∙ driver_is) (ap (λ ss. slice_get ss (suc k)) submitters_are ∙ submitter_is)
+      have (suc k) driver submitter (ap (λ ds. slice_get ds (suc k)) drivers_are ∙ driver_is)
+          (ap (λ ss. slice_get ss (suc k)) submitters_are ∙ submitter_is)
 
   -- settling leaves what each end has read
-  pub once_settled : (drivers : List D) (ends settled : List EndedState) (control : SenderState) → length settled ≡ length ends
-      → ((k : ℕ) (d : EndedState) → (slice_index_or settled k d).read ≡ (slice_index_or ends k d).read) → HaveSeenEnds has_seen drivers ends
-      → (k : ℕ) (driver : D) (ended : EndedState) → slice_get drivers k ≡ Some driver → slice_get settled k ≡ Some ended → has_seen driver (jobs_in (queued_by ends control k)) ended.read
+  pub once_settled : (drivers : List D) (ends settled : List EndedState) (control : SenderState)
+      → length settled ≡ length ends
+      → ((k : ℕ) (d : EndedState) → (slice_index_or settled k d).read ≡ (slice_index_or ends k d).read)
+          → HaveSeenEnds has_seen drivers ends
+      → (k : ℕ) (driver : D) (ended : EndedState) → slice_get drivers k ≡ Some driver
+          → slice_get settled k ≡ Some ended → has_seen driver (jobs_in (queued_by ends control k)) ended.read
   once_settled drivers ends settled control long same have k driver ended driver_is ended_is =
       let within : k < length ends = omega (arith, slice_get_within settled k ended ended_is, long) in
       let before = get_or ends k ended in
       let before_is : slice_get ends k ≡ Some before = slice_get-get_or ends k ended within in
-      let read : before.read ≡ ended.read = sym (same k ended) ∙ ap (λ (e : EndedState). e.read) (get_or_from_slice_get settled k ended ended ended_is) in
+      let read : before.read ≡ ended.read = sym (same k ended)
+          ∙ ap (λ (e : EndedState). e.read) (get_or_from_slice_get settled k ended ended ended_is) in
       let seen : has_seen driver (jobs_in before.queued) before.read = have k driver before driver_is before_is in
-      subst (λ items. has_seen driver (jobs_in items) ended.read) (sym (queued_by_end ends control k before before_is)) (subst (λ r. has_seen driver (jobs_in before.queued) r) read seen)
+      subst (λ items. has_seen driver (jobs_in items) ended.read)
+          (sym (queued_by_end ends control k before before_is))
+          (subst (λ r. has_seen driver (jobs_in before.queued) r) read seen)

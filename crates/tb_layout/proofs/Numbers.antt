@@ -20,7 +20,8 @@ byte_at-pow zero number = ap (λ (n : ℕ). n % 256) (sym (div-one number))
 byte_at-pow (suc place) number = refl
 
 -- the bytes that `byteorder` writes
-bytes_low_first-bytes_of : (place size number : ℕ) → bytes_low_first place size number ≡ bytes_of size (number / 256 ^ place)
+bytes_low_first-bytes_of : (place size number : ℕ)
+    → bytes_low_first place size number ≡ bytes_of size (number / 256 ^ place)
 unfolding bytes_of
 bytes_low_first-bytes_of place zero number = refl
 bytes_low_first-bytes_of place (suc size) number =
@@ -29,18 +30,26 @@ bytes_low_first-bytes_of place (suc size) number =
     rw (byte_at-pow place number, bytes_low_first-bytes_of (suc place) size number, next) refl
 
 -- a write at an offset, seen from the front
-pub written : (offset size count number : ℕ) (xs part : List ℕ) → offset + size ≤ length xs → count ≡ offset + size - offset →
+pub written : (offset size count number : ℕ) (xs part : List ℕ) → offset + size ≤ length xs
+    → count ≡ offset + size - offset →
     part ≡ bytes_low_first 0 size number ++ drop size (take count (drop offset xs)) →
     take (offset + size) (put_mid offset count xs part) ≡ take offset xs ++ bytes_of size number
 written offset size count number xs part h count_is is =
-    let low : bytes_low_first 0 size number ≡ bytes_of size number = bytes_low_first-bytes_of 0 size number ∙ ap (bytes_of size) (div-one number) in
-    let none : drop size (take count (drop offset xs)) ≡ [] = drop_all size (take count (drop offset xs)) (omega (arith, length-take-le count (drop offset xs) (omega (arith, length-drop offset xs)))) in
+    let low : bytes_low_first 0 size number ≡ bytes_of size number = bytes_low_first-bytes_of 0 size number
+        ∙ ap (bytes_of size) (div-one number) in
+    let none : drop size (take count (drop offset xs))
+        ≡ [] =
+        drop_all size (take count (drop offset xs)) (omega
+        (arith, length-take-le count (drop offset xs) (omega (arith, length-drop offset xs)))) in
     let exact : part ≡ bytes_of size number =
     is ∙ ap (λ bytes. bytes_low_first 0 size number ++ bytes) none ∙ append-nil (bytes_low_first 0 size number) ∙ low in
-    take-put_mid offset count xs part (offset + size) (sym (ap (λ bytes. offset + length bytes) exact ∙ ap (λ n. offset + n) (length-bytes_of size number))) (omega arith) ∙ ap (λ bytes. take offset xs ++ bytes) exact
+    take-put_mid offset count xs part (offset + size)
+        (sym (ap (λ bytes. offset + length bytes) exact ∙ ap (λ n. offset + n) (length-bytes_of size number)))
+        (omega arith) ∙ ap (λ bytes. take offset xs ++ bytes) exact
 
 -- a number in two parts, the lower of them first
-pub bytes_of-append : (size more low high : ℕ) → low < 256 ^ size → bytes_of size low ++ bytes_of more high ≡ bytes_of (size + more) (low + 256 ^ size * high)
+pub bytes_of-append : (size more low high : ℕ) → low < 256 ^ size
+    → bytes_of size low ++ bytes_of more high ≡ bytes_of (size + more) (low + 256 ^ size * high)
 unfolding bytes_of
 bytes_of-append zero more low high h =
     let count : 0 + more ≡ more = omega arith in
@@ -57,13 +66,16 @@ bytes_of-append (suc size) more low high h =
     rw (count, first, others) (ap (λ bytes. low % 256 ∷ bytes) (bytes_of-append size more (low / 256) high fits))
 
 -- a number of 16 bytes, written in two halves
-pub halves : (offset number : ℕ) (old between new : List ℕ) → take (offset + 8) between ≡ take offset old ++ bytes_of 8 (number % 18446744073709551616) →
-    take (offset + 8 + 8) new ≡ take (offset + 8) between ++ bytes_of 8 (number / 18446744073709551616) → take (offset + 16) new ≡ take offset old ++ bytes_of 16 number
+pub halves : (offset number : ℕ) (old between new : List ℕ)
+    → take (offset + 8) between ≡ take offset old ++ bytes_of 8 (number % 18446744073709551616) →
+    take (offset + 8 + 8) new ≡ take (offset + 8) between ++ bytes_of 8 (number / 18446744073709551616)
+        → take (offset + 16) new ≡ take offset old ++ bytes_of 16 number
 halves offset number old between new low high =
     let small : number % 18446744073709551616 < 256 ^ 8 = omega arith in
     let whole : number % 18446744073709551616 + 256 ^ 8 * (number / 18446744073709551616) ≡ number = omega arith in
     let end : offset + 16 ≡ offset + 8 + 8 = omega arith in
-    let parts = bytes_of-append 8 8 (number % 18446744073709551616) (number / 18446744073709551616) small ∙ ap (bytes_of 16) whole in
+    let parts = bytes_of-append 8 8 (number % 18446744073709551616) (number / 18446744073709551616) small
+        ∙ ap (bytes_of 16) whole in
     ap (λ n. take n new) end ∙ high ∙ ap (λ bytes. bytes ++ bytes_of 8 (number / 18446744073709551616)) low
     ∙ append_assoc (take offset old) _ _ ∙ ap (λ bytes. take offset old ++ bytes) parts
 
@@ -75,7 +87,8 @@ little_endian-bytes_of (suc size) number h =
     let rest = little_endian-bytes_of size (number / 256) (omega arith) in
     omega arith
 
-bytes_of-little_endian : (bytes : List ℕ) → All (λ byte. byte < 256) bytes → bytes_of (length bytes) (little_endian bytes) ≡ bytes
+bytes_of-little_endian : (bytes : List ℕ) → All (λ byte. byte < 256) bytes
+    → bytes_of (length bytes) (little_endian bytes) ≡ bytes
 unfolding bytes_of
 bytes_of-little_endian [] h = refl
 bytes_of-little_endian (byte ∷ bytes) h =
@@ -83,7 +96,8 @@ bytes_of-little_endian (byte ∷ bytes) h =
     let whole = byte + 256 * little_endian bytes in
     let first : whole % 256 ≡ byte = omega arith in
     let others : whole / 256 ≡ little_endian bytes = omega arith in
-    rw (first, others) (ap (λ more. byte ∷ more) (bytes_of-little_endian bytes (λ place d within. h (suc place) d (omega arith))))
+    rw (first, others) (ap (λ more. byte ∷ more) (bytes_of-little_endian bytes
+        (λ place d within. h (suc place) d (omega arith))))
 
 -- ---- numbers that lie one behind the other
 
@@ -95,7 +109,8 @@ size_of ((size, number) ∷ fields) = size + size_of fields
 drop-laid : (front back : List (ℕ × ℕ)) → drop (size_of front) (bytes_in_turn (front ++ back)) ≡ bytes_in_turn back
 drop-laid [] back = refl
 drop-laid ((size, number) ∷ front) back =
-    ap (λ n. drop (n + size_of front) (bytes_of size number ++ bytes_in_turn (front ++ back))) (sym (length-bytes_of size number))
+    ap (λ n. drop (n + size_of front) (bytes_of size number ++ bytes_in_turn (front ++ back)))
+        (sym (length-bytes_of size number))
     ∙ drop-append-add (bytes_of size number) (bytes_in_turn (front ++ back)) (size_of front) ∙ drop-laid front back
 
 -- a number is found where it lies
@@ -122,7 +137,8 @@ end_of-le [] offset = omega arith
 end_of-le (size ∷ sizes) offset = omega (arith, end_of-le sizes (offset + size))
 
 -- laid again, they are the bytes
-pub laid-fields_from : (sizes : List ℕ) (offset : ℕ) (bytes : List ℕ) → end_of sizes offset ≡ length bytes → All (λ byte. byte < 256) bytes →
+pub laid-fields_from : (sizes : List ℕ) (offset : ℕ) (bytes : List ℕ) → end_of sizes offset ≡ length bytes
+    → All (λ byte. byte < 256) bytes →
     bytes_in_turn (fields_from sizes offset bytes) ≡ drop offset bytes
 laid-fields_from [] offset bytes h small = sym (drop_all offset bytes (omega arith))
 laid-fields_from (size ∷ sizes) offset bytes h small =
@@ -133,7 +149,9 @@ laid-fields_from (size ∷ sizes) offset bytes h small =
     let first : bytes_of size (number_at bytes offset size) ≡ part =
     ap (λ n. bytes_of size (little_endian (take n (drop offset bytes)))) count
     ∙ ap (λ n. bytes_of n (little_endian part)) (sym long)
-    ∙ bytes_of-little_endian part (All-take (λ byte. byte < 256) size (drop offset bytes) (All-drop (λ byte. byte < 256) offset bytes small)) in
+    ∙ bytes_of-little_endian part (All-take (λ byte. byte < 256) size (drop offset bytes)
+            (All-drop (λ byte. byte < 256) offset bytes small)) in
     ap (λ front. front ++ bytes_in_turn (fields_from sizes (offset + size) bytes)) first
-    ∙ ap (λ back. part ++ back) (laid-fields_from sizes (offset + size) bytes h small ∙ sym (drop-drop size offset bytes))
+    ∙ ap (λ back. part ++ back) (laid-fields_from sizes (offset + size) bytes h small
+        ∙ sym (drop-drop size offset bytes))
     ∙ take-append-drop size (drop offset bytes)

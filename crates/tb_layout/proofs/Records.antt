@@ -77,7 +77,8 @@ pub record IsTransfer (transfer : Transfer) : Type 0 where
   pub flags : transfer.flags < 256 ^ 2
   pub timestamp : transfer.timestamp < 256 ^ 8
 
-pub transfer_of-transfer_bytes : (transfer : Transfer) → IsTransfer transfer → transfer_of (transfer_bytes transfer) ≡ transfer
+pub transfer_of-transfer_bytes : (transfer : Transfer) → IsTransfer transfer
+    → transfer_of (transfer_bytes transfer) ≡ transfer
 transfer_of-transfer_bytes transfer h =
     let all = transfer_fields transfer in λ i. record {
       id = number_at-laid (take 0 all) 16 transfer.id (drop 1 all) h.id i;
@@ -97,9 +98,11 @@ transfer_of-transfer_bytes transfer h =
 
 -- the only bytes that are read as a transfer are its own
 pub transfer_bytes-transfer_of : (bytes : List ℕ) → IsBytes 128 bytes → transfer_bytes (transfer_of bytes) ≡ bytes
-transfer_bytes-transfer_of bytes h = laid-fields_from (16 ∷ 16 ∷ 16 ∷ 16 ∷ 16 ∷ 16 ∷ 8 ∷ 4 ∷ 4 ∷ 4 ∷ 2 ∷ 2 ∷ 8 ∷ []) 0 bytes (sym h.count) h.each
+transfer_bytes-transfer_of bytes h =
+    laid-fields_from (16 ∷ 16 ∷ 16 ∷ 16 ∷ 16 ∷ 16 ∷ 8 ∷ 4 ∷ 4 ∷ 4 ∷ 2 ∷ 2 ∷ 8 ∷ []) 0 bytes (sym h.count) h.each
 
-pub failure_of-failure_bytes : (failure : Failure) → failure.index < 256 ^ 4 → failure.code < 256 ^ 4 → failure_of (failure_bytes failure) ≡ failure
+pub failure_of-failure_bytes : (failure : Failure) → failure.index < 256 ^ 4 → failure.code < 256 ^ 4
+    → failure_of (failure_bytes failure) ≡ failure
 failure_of-failure_bytes failure index code = λ i. record {
   index = number_at-laid [] 4 failure.index ((4, failure.code) ∷ []) index i;
   code = number_at-laid ((4, failure.index) ∷ []) 4 failure.code [] code i;

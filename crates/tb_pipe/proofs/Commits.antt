@@ -17,11 +17,14 @@ use Rattle.tb_pipe.proofs.Lists.{either_same, none_more, any_more, all_first}
 
 -- ---- the last parcel comes to the last outcome, and no other does
 
-final_is : (refused : Bool) (ledger next : LedgerState) (handed : Parcel) (given : Outcomes) → apply_result next given ≡ apply_step refused ledger handed → is_final given ≡ is_last handed
+final_is : (refused : Bool) (ledger next : LedgerState) (handed : Parcel) (given : Outcomes)
+    → apply_result next given ≡ apply_step refused ledger handed → is_final given ≡ is_last handed
 final_is refused ledger next (parcel.Batch jobs) given is =
-    let view : Applied → Bool = λ step. is_final step.outcomes in ap view is ∙ either_same view (must_stop refused ledger (length jobs)) _ _ false refl refl
+    let view : Applied → Bool = λ step. is_final step.outcomes in ap view is
+        ∙ either_same view (must_stop refused ledger (length jobs)) _ _ false refl refl
 final_is refused ledger next (parcel.Pulse moment) given is =
-    let view : Applied → Bool = λ step. is_final step.outcomes in ap view is ∙ either_same view (must_stop refused ledger 1) _ _ false refl refl
+    let view : Applied → Bool = λ step. is_final step.outcomes in ap view is
+        ∙ either_same view (must_stop refused ledger 1) _ _ false refl refl
 final_is refused ledger next (parcel.Return job cause) given is = ap (λ (step : Applied). is_final step.outcomes) is
 final_is refused ledger next parcel.Last given is = ap (λ (step : Applied). is_final step.outcomes) is
 
@@ -43,14 +46,18 @@ is_the_last (outcomes.One reply) is = cc
 is_the_last outcomes.Nothing is = cc
 is_the_last outcomes.Last is = refl
 
-last_of : (limit : ℕ) (sent : List Parcel) (handed : Parcel) → AreJoinedParcels limit (sent ++ handed ∷ []) → IsJoinedParcel limit handed
+last_of : (limit : ℕ) (sent : List Parcel) (handed : Parcel) → AreJoinedParcels limit (sent ++ handed ∷ [])
+    → IsJoinedParcel limit handed
 last_of limit [] handed all = all.0
 last_of limit (first ∷ sent) handed all = last_of limit sent handed all.1
 
-pub parcel_more : (clock : ℕ) (sent : List Parcel) (handed : Parcel) (last : Bool) (ledger next : LedgerState) (before : List Outcomes) (given : Outcomes) → last ≡ is_last handed →
+pub parcel_more : (clock : ℕ) (sent : List Parcel) (handed : Parcel) (last : Bool) (ledger next : LedgerState)
+    (before : List Outcomes) (given : Outcomes) → last ≡ is_last handed →
     (refused : Bool) × (apply_result next given ≡ apply_step refused ledger handed) →
-    ((clock : ℕ) (sent : List Passage) (replies : List Replied) → Commits clock sent ledger replies → Commits clock (sent ++ passages_in handed) next (replies ++ replies_in given)) →
-    ((limit : ℕ) → IsJoinedParcel limit handed → AreJoined limit ledger.groups → AreJoined limit next.groups) → IsCommitted clock sent ledger before →
+    ((clock : ℕ) (sent : List Passage) (replies : List Replied) → Commits clock sent ledger replies
+        → Commits clock (sent ++ passages_in handed) next (replies ++ replies_in given)) →
+    ((limit : ℕ) → IsJoinedParcel limit handed → AreJoined limit ledger.groups → AreJoined limit next.groups)
+        → IsCommitted clock sent ledger before →
     CommittedTo last clock (sent ++ handed ∷ []) next (before ++ given_on given)
 parcel_more clock sent handed last ledger next before given last_is step more joined_more is = by last last_is
   where
@@ -58,27 +65,36 @@ parcel_more clock sent handed last ledger next before given last_is step more jo
     final = final_is step.0 ledger next handed given step.1
 
     spelling : all_passages_in (sent ++ handed ∷ []) ≡ all_passages_in sent ++ passages_in handed
-    spelling = flat_map-append passages_in sent (handed ∷ []) ∙ ap (λ ps. all_passages_in sent ++ ps) (append-nil (passages_in handed))
+    spelling = flat_map-append passages_in sent (handed ∷ [])
+        ∙ ap (λ ps. all_passages_in sent ++ ps) (append-nil (passages_in handed))
 
     commits : Commits clock (all_passages_in (sent ++ handed ∷ [])) next (answers_in before ++ replies_in given)
-    commits = subst (λ ps. Commits clock ps next (answers_in before ++ replies_in given)) (sym spelling) (more clock (all_passages_in sent) (answers_in before) is.commits)
+    commits = subst (λ ps. Commits clock ps next (answers_in before ++ replies_in given)) (sym spelling)
+        (more clock (all_passages_in sent) (answers_in before) is.commits)
 
     joined : (limit : ℕ) → AreJoinedParcels limit (sent ++ handed ∷ []) → AreJoined limit next.groups
-    joined limit all = joined_more limit (last_of limit sent handed all) (is.joined limit (all_first (IsJoinedParcel limit) sent (handed ∷ []) all))
+    joined limit all =
+        joined_more limit (last_of limit sent handed all)
+        (is.joined limit (all_first (IsJoinedParcel limit) sent (handed ∷ []) all))
 
-    by : (last : Bool) → last ≡ is_last handed → CommittedTo last clock (sent ++ handed ∷ []) next (before ++ given_on given)
+    by : (last : Bool) → last ≡ is_last handed → CommittedTo last clock (sent ++ handed ∷ []) next
+        (before ++ given_on given)
     by true ends =
         let end : given ≡ outcomes.Last = is_the_last given (final ∙ sym ends) in
         record {
           before = before;
           parts = ap (λ (o : Outcomes). before ++ given_on o) end;
-          commits = subst (λ rs. Commits clock (all_passages_in (sent ++ handed ∷ [])) next rs) (ap (λ (o : Outcomes). answers_in before ++ replies_in o) end ∙ append-nil (answers_in before)) commits;
+          commits = subst (λ rs. Commits clock (all_passages_in (sent ++ handed ∷ [])) next rs)
+              (ap (λ (o : Outcomes). answers_in before ++ replies_in o) end
+              ∙ append-nil (answers_in before)) commits;
           joined = joined;
           ended = any_more is_last sent handed (sym ends);
           unfinished = is.unfinished;
         }
     by false ends = record {
-      commits = subst (λ rs. Commits clock (all_passages_in (sent ++ handed ∷ [])) next rs) (ap (λ rs. answers_in before ++ rs) (sym (answers-given_on given)) ∙ sym (flat_map-append replies_in before (given_on given))) commits;
+      commits = subst (λ rs. Commits clock (all_passages_in (sent ++ handed ∷ [])) next rs)
+          (ap (λ rs. answers_in before ++ rs) (sym (answers-given_on given))
+          ∙ sym (flat_map-append replies_in before (given_on given))) commits;
       joined = joined;
       unended = none_more is_last sent (handed ∷ []) is.unended (ap (λ found. found || false) (sym ends));
       unfinished = none_more is_final before (given_on given) is.unfinished (none_final given (final ∙ sym ends));

@@ -38,23 +38,40 @@ pub record HasRun (clock limit : ℕ) (queue : List Ticket) (ledger : LedgerStat
   pub joined : AreJoined limit ledger.groups
 
 -- where each stage took all that the one before it gave, and gave all that it made of it
-pub drained : (clock limit submitters : ℕ) (queue : List Ticket) (given_parcels taken_parcels left_parcels : List Parcel) (ledger : LedgerState) (given_outcomes taken_outcomes left_outcomes : List Outcomes) →
-    AllBatched limit submitters queue given_parcels → AllCommitted clock taken_parcels ledger given_outcomes → taken_parcels ++ left_parcels ≡ given_parcels → taken_outcomes ++ left_outcomes ≡ given_outcomes → has_final taken_outcomes ≡ true →
+pub drained : (clock limit submitters : ℕ) (queue : List Ticket)
+    (given_parcels taken_parcels left_parcels : List Parcel) (ledger : LedgerState)
+    (given_outcomes taken_outcomes left_outcomes : List Outcomes) →
+    AllBatched limit submitters queue given_parcels → AllCommitted clock taken_parcels ledger given_outcomes
+        → taken_parcels ++ left_parcels ≡ given_parcels → taken_outcomes ++ left_outcomes ≡ given_outcomes
+        → has_final taken_outcomes ≡ true →
     HasRun clock limit queue ledger (answers_in taken_outcomes)
-drained clock limit submitters queue given_parcels taken_parcels left_parcels ledger given_outcomes taken_outcomes left_outcomes batched committed parcels_are outcomes_are final =
-    let all_parcels : taken_parcels ≡ batched.before ++ parcel.Last ∷ [] = all_taken is_last batched.before parcel.Last taken_parcels left_parcels batched.unended (parcels_are ∙ batched.parts) committed.ended in
-    let spelling : all_passages_in taken_parcels ≡ all_passages_in batched.before = ap all_passages_in all_parcels ∙ flat_map-append passages_in batched.before (parcel.Last ∷ []) ∙ append-nil (all_passages_in batched.before) in
-    let all_outcomes : taken_outcomes ≡ committed.before ++ outcomes.Last ∷ [] = all_taken is_final committed.before outcomes.Last taken_outcomes left_outcomes committed.unfinished (outcomes_are ∙ committed.parts) final in
-    let answers : answers_in taken_outcomes ≡ answers_in committed.before = ap answers_in all_outcomes ∙ flat_map-append replies_in committed.before (outcomes.Last ∷ []) ∙ append-nil (answers_in committed.before) in
+drained clock limit submitters queue given_parcels taken_parcels left_parcels ledger given_outcomes taken_outcomes
+    left_outcomes batched committed parcels_are outcomes_are final =
+    let all_parcels : taken_parcels ≡ batched.before
+        ++ parcel.Last ∷ [] =
+        all_taken is_last batched.before parcel.Last taken_parcels left_parcels batched.unended
+        (parcels_are ∙ batched.parts) committed.ended in
+    let spelling : all_passages_in taken_parcels ≡ all_passages_in batched.before = ap all_passages_in all_parcels
+        ∙ flat_map-append passages_in batched.before (parcel.Last ∷ [])
+        ∙ append-nil (all_passages_in batched.before) in
+    let all_outcomes : taken_outcomes ≡ committed.before
+        ++ outcomes.Last ∷ [] =
+        all_taken is_final committed.before outcomes.Last taken_outcomes left_outcomes committed.unfinished
+        (outcomes_are ∙ committed.parts) final in
+    let answers : answers_in taken_outcomes ≡ answers_in committed.before = ap answers_in all_outcomes
+        ∙ flat_map-append replies_in committed.before (outcomes.Last ∷ [])
+        ∙ append-nil (answers_in committed.before) in
     record {
       ran = record {
         closed = batched.closed;
         stopped = batched.stopped;
         passages = all_passages_in batched.before;
         passed = batched.passes;
-        commits = subst (λ rs. Commits clock (all_passages_in batched.before) ledger rs) (sym answers) (subst (λ ps. Commits clock ps ledger (answers_in committed.before)) spelling committed.commits);
+        commits = subst (λ rs. Commits clock (all_passages_in batched.before) ledger rs) (sym answers)
+            (subst (λ ps. Commits clock ps ledger (answers_in committed.before)) spelling committed.commits);
       };
-      joined = committed.joined limit (subst (AreJoinedParcels limit) (sym all_parcels) (all_more (IsJoinedParcel limit) batched.before (parcel.Last ∷ []) batched.joined (tt, tt)));
+      joined = committed.joined limit (subst (AreJoinedParcels limit) (sym all_parcels)
+          (all_more (IsJoinedParcel limit) batched.before (parcel.Last ∷ []) batched.joined (tt, tt)));
     }
 
 -- ---- no packet of the journal has more events than the limit
@@ -66,19 +83,22 @@ length-chunks size (suc n) bytes = ap suc (length-chunks size n (drop size bytes
 abbrev result_of : Result ℕ Refusal → Result ℕ Refusal
 result_of result = result
 
-few : (limit : ℕ) (bytes : List ℕ) (size : ℕ) → IsOk (admission_of_size limit bytes (Some size)) → length (chunks size bytes) ≤ limit
+few : (limit : ℕ) (bytes : List ℕ) (size : ℕ) → IsOk (admission_of_size limit bytes (Some size))
+    → length (chunks size bytes) ≤ limit
 few limit bytes size ok = by (not (length bytes % size == 0)) (nat_lt limit (length bytes / size)) refl ok
   where
     below : nat_lt limit (length bytes / size) ≡ false → length bytes / size ≤ limit
     below is = grind (arith, nat_tests)
 
     by : (odd above : Bool) → nat_lt limit (length bytes / size) ≡ above →
-        IsOk (result_of (if odd then Err InvalidDataSize else if above then Err TooMuchData else Ok (length bytes / size))) → length (chunks size bytes) ≤ limit
+        IsOk (result_of (if odd then Err InvalidDataSize else if above then Err TooMuchData
+            else Ok (length bytes / size))) → length (chunks size bytes) ≤ limit
     by true above is ok = absurd (true≢false (sym ok))
     by false true is ok = absurd (true≢false (sym ok))
     by false false is ok = subst (λ n. n ≤ limit) (sym (length-chunks size (length bytes / size) bytes)) (below is)
 
-few_mapped : {A : Type 0} (limit : ℕ) (f : List ℕ → A) (all : List (List ℕ)) → length all ≤ limit → length (map f all) ≤ limit
+few_mapped : {A : Type 0} (limit : ℕ) (f : List ℕ → A) (all : List (List ℕ)) → length all ≤ limit
+    → length (map f all) ≤ limit
 few_mapped limit f all most = subst (λ n. n ≤ limit) (sym (length-map all f)) most
 
 few_events : (limit : ℕ) (packet : Packet) → IsOk (admission_of limit packet) → count_of (events_in packet) ≤ limit
@@ -87,14 +107,18 @@ few_events limit packet ok = by (packet.operation == 129) (packet.operation == 1
     bytes : List ℕ
     bytes = packet.bytes
 
-    by : (accounts transfers lookup : Bool) → IsOk (admission_of_size limit bytes (if accounts then Some 128 else if transfers then Some 128 else if lookup then Some 16 else None)) →
-        count_of (if accounts then Accounts (accounts_of bytes) else if transfers then Transfers (transfers_of bytes) else Ids (ids_of bytes)) ≤ limit
+    by : (accounts transfers lookup : Bool) → IsOk
+        (admission_of_size limit bytes (if accounts then Some 128 else if transfers then Some 128
+        else if lookup then Some 16 else None)) →
+        count_of (if accounts then Accounts (accounts_of bytes)
+            else if transfers then Transfers (transfers_of bytes) else Ids (ids_of bytes)) ≤ limit
     by true transfers lookup ok = few_mapped limit account_of (chunks 128 bytes) (few limit bytes 128 ok)
     by false true lookup ok = few_mapped limit transfer_of (chunks 128 bytes) (few limit bytes 128 ok)
     by false false true ok = few_mapped limit little_endian (chunks 16 bytes) (few limit bytes 16 ok)
     by false false false ok = absurd (true≢false (sym ok))
 
-one_within : (limit : ℕ) (x : Item) (others : List Work) → IsWithin limit x → AreWorksWithin limit others → AreWorksWithin limit (ahead_of x others)
+one_within : (limit : ℕ) (x : Item) (others : List Work) → IsWithin limit x → AreWorksWithin limit others
+    → AreWorksWithin limit (ahead_of x others)
 one_within limit (item.Packet job) others within all = (few_events limit job.packet within, all)
 one_within limit (item.Pulse moment) others within all = (tt, all)
 one_within limit item.End others within all = all
@@ -102,12 +126,16 @@ one_within limit item.Close others within all = tt
 
 ahead_within : (limit : ℕ) (queue : List Ticket) → AreWithin limit queue → AreWorksWithin limit (ahead (items_in queue))
 ahead_within limit [] all = tt
-ahead_within limit (ticket ∷ queue) all = one_within limit ticket.item (ahead (items_in queue)) all.0 (ahead_within limit queue all.1)
+ahead_within limit (ticket ∷ queue) all =
+    one_within limit ticket.item (ahead (items_in queue)) all.0 (ahead_within limit queue all.1)
 
-pub grouped : (limit : ℕ) (queue : List Ticket) (ledger : LedgerState) (behind : List Work) → AreJoined limit ledger.groups → AreWithin limit queue → works ledger ++ behind ≡ ahead (items_in queue) → IsGrouping limit ledger.groups
+pub grouped : (limit : ℕ) (queue : List Ticket) (ledger : LedgerState) (behind : List Work)
+    → AreJoined limit ledger.groups → AreWithin limit queue → works ledger ++ behind ≡ ahead (items_in queue)
+    → IsGrouping limit ledger.groups
 grouped limit queue ledger behind joined within committed = record {
   joined = joined;
-  within = all_first (IsWorkWithin limit) (works ledger) behind (subst (AreWorksWithin limit) (sym committed) (ahead_within limit queue within));
+  within = all_first (IsWorkWithin limit) (works ledger) behind
+      (subst (AreWorksWithin limit) (sym committed) (ahead_within limit queue within));
 }
 
 -- ---- a reply ring of each number below theirs

@@ -14,13 +14,18 @@ use Rattle.tb_rings.specs.declared.Outlet.{Outlet}
 use Rattle.tb_pipe.specs.Carried.{answers_in, IsBatched, IsCommitted}
 use Rattle.tb_pipe.specs.Outlets.{AllGiven}
 
-pub fresh_batched : (limit submitters : ℕ) (queue : List Ticket) (front : FrontState) (given : List Parcel) → front.limit ≡ limit → front.submitters ≡ submitters → Passes [] front.closed front.stopped (held_by front) → KnowsEnds [] front →
+pub fresh_batched : (limit submitters : ℕ) (queue : List Ticket) (front : FrontState) (given : List Parcel)
+    → front.limit ≡ limit → front.submitters ≡ submitters
+    → Passes [] front.closed front.stopped (held_by front) → KnowsEnds [] front →
     queue ≡ [] → given ≡ [] → IsBatched limit submitters queue front given
 fresh_batched limit submitters queue front given under among passes knows no_queue none =
     subst (λ q. IsBatched limit submitters q front given) (sym no_queue)
-    (subst (λ g. IsBatched limit submitters [] front g) (sym none) (record { under = under; among = among; passes = passes; joined = tt; unended = refl; knows = knows }))
+    (subst (λ g. IsBatched limit submitters [] front g) (sym none)
+        (record { under = under; among = among; passes = passes; joined = tt; unended = refl; knows = knows }))
 
-pub fresh_committed : (clock : ℕ) (taken : List Parcel) (ledger : LedgerState) (given : List Outcomes) → ledger ≡ record { opening = clock; groups = []; stopped = false } → Commits clock [] ledger [] → taken ≡ [] → given ≡ [] →
+pub fresh_committed : (clock : ℕ) (taken : List Parcel) (ledger : LedgerState) (given : List Outcomes)
+    → ledger ≡ record { opening = clock; groups = []; stopped = false } → Commits clock [] ledger []
+    → taken ≡ [] → given ≡ [] →
     IsCommitted ledger.opening taken ledger given
 fresh_committed clock taken ledger given new commits no_parcels none =
     subst (λ t. IsCommitted ledger.opening t ledger given) (sym no_parcels)
@@ -32,5 +37,6 @@ fresh_committed clock taken ledger given new commits no_parcels none =
       unfinished = refl;
     }))
 
-pub fresh_given : (taken : List Outcomes) (outlets : List (Outlet Replied)) → taken ≡ [] → All (λ (outlet : Outlet Replied). given outlet ≡ []) outlets → AllGiven (answers_in taken) outlets
+pub fresh_given : (taken : List Outcomes) (outlets : List (Outlet Replied)) → taken ≡ []
+    → All (λ (outlet : Outlet Replied). given outlet ≡ []) outlets → AllGiven (answers_in taken) outlets
 fresh_given taken outlets none all = subst (λ t. AllGiven (answers_in t) outlets) (sym none) all

@@ -12,25 +12,30 @@ use Rattle.tb_pipe.specs.declared.stages.Stages.{Stages}
 use Rattle.tb_pipe.specs.declared.stages.Remains.{Remains}
 
 -- the same rings have the same origins
-same_origins : (seats : ℕ → Seat) (n : ℕ) (old new : List (Outlet Replied)) → SameOutlets old new → origins_from seats n new ≡ origins_from seats n old
+same_origins : (seats : ℕ → Seat) (n : ℕ) (old new : List (Outlet Replied)) → SameOutlets old new
+    → origins_from seats n new ≡ origins_from seats n old
 same_origins seats n [] [] same = refl
 same_origins seats n [] (y ∷ ys) same = absurd (omega (arith, same.0))
 same_origins seats n (x ∷ xs) [] same = absurd (omega (arith, same.0))
 same_origins seats n (x ∷ xs) (y ∷ ys) same =
     let ring : outlet_ring y ≡ outlet_ring x = same.1 0 x (omega arith) in
-    let rest = same_origins seats (suc n) xs ys (omega (arith, same.0), λ k d below. same.1 (suc k) d (omega (arith, below))) in
+    let rest = same_origins seats (suc n) xs ys (omega (arith, same.0), λ k d below.
+        same.1 (suc k) d (omega (arith, below))) in
     λ t. record { seat = seats n; ring = ring t } ∷ rest t
 
 -- ---- each ring's origin
 
-pub length-origins : (seats : ℕ → Seat) (n : ℕ) (outlets : List (Outlet Replied)) → length (origins_from seats n outlets) ≡ length outlets
+pub length-origins : (seats : ℕ → Seat) (n : ℕ) (outlets : List (Outlet Replied))
+    → length (origins_from seats n outlets) ≡ length outlets
 length-origins seats n [] = refl
 length-origins seats n (outlet ∷ outlets) = ap suc (length-origins seats (suc n) outlets)
 
-pub seat-origins : (seats : ℕ → Seat) (n : ℕ) (outlets : List (Outlet Replied)) (k : ℕ) (d : Origin) → k < length outlets → (get_or (origins_from seats n outlets) k d).seat ≡ seats (n + k)
+pub seat-origins : (seats : ℕ → Seat) (n : ℕ) (outlets : List (Outlet Replied)) (k : ℕ) (d : Origin)
+    → k < length outlets → (get_or (origins_from seats n outlets) k d).seat ≡ seats (n + k)
 seat-origins seats n [] k d below = absurd (omega (arith, below))
 seat-origins seats n (outlet ∷ outlets) zero d below = ap seats (omega arith)
-seat-origins seats n (outlet ∷ outlets) (suc k) d below = seat-origins seats (suc n) outlets k d (omega (arith, below)) ∙ ap seats (omega arith)
+seat-origins seats n (outlet ∷ outlets) (suc k) d below =
+    seat-origins seats (suc n) outlets k d (omega (arith, below)) ∙ ap seats (omega arith)
 
 -- ---- serving
 
@@ -40,7 +45,8 @@ pub record IsServedOf (stages : Stages) (remains : Remains) : Type 0 where
   pub clock : (served_of remains).clock ≡ (pipeline_of stages).clock
   pub submitters : (served_of remains).submitters ≡ (pipeline_of stages).submitters
 
-pub served_is : (stages : Stages) (remains : Remains) → IsPipeline stages → HaveServed stages remains → IsServedOf stages remains
+pub served_is : (stages : Stages) (remains : Remains) → IsPipeline stages → HaveServed stages remains
+    → IsServedOf stages remains
 served_is stages remains is served =
     let same = served.intake in
     let clock : remains.committed.ledger.opening ≡ stages.ledger.opening = served.committed.commits.from in
@@ -48,10 +54,13 @@ served_is stages remains is served =
       served = record {
         rings = (served.rings.1 ∙ is.rings.0 ∙ sym served.rings.0, served.rings.3 ∙ is.rings.1 ∙ sym served.rings.2);
         number = served.rings.4.0 ∙ is.number ∙ sym (ap (λ (i : IntakeState). i.submitters) same);
-        batched = subst (λ (i : IntakeState). AllBatched i.limit i.submitters remains.intake.taken (given remains.batches)) (sym same) served.batched;
-        committed = subst (λ n. AllCommitted n (taken remains.committed.inlet) remains.committed.ledger (given remains.committed.outlet)) (sym clock) served.committed;
+        batched = subst (λ (i : IntakeState). AllBatched i.limit i.submitters remains.intake.taken
+            (given remains.batches)) (sym same) served.batched;
+        committed = subst (λ n. AllCommitted n (taken remains.committed.inlet) remains.committed.ledger
+            (given remains.committed.outlet)) (sym clock) served.committed;
         routed = served.routed;
       };
       clock = clock;
-      submitters = ap (λ (i : IntakeState). origins i remains.routed.outlets.items) same ∙ same_origins (seat_at stages.intake) 0 stages.outlets.items remains.routed.outlets.items served.rings.4;
+      submitters = ap (λ (i : IntakeState). origins i remains.routed.outlets.items) same
+          ∙ same_origins (seat_at stages.intake) 0 stages.outlets.items remains.routed.outlets.items served.rings.4;
     }

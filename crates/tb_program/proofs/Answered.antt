@@ -27,23 +27,29 @@ first_part submitter ticket queue true is = rw is refl
 first_part submitter ticket queue false is = rw is refl
 
 -- a packet of a submitter has one reply due to it, and nothing else has
-as_many_due : (clock submitters submitter : ℕ) (committed : List Work) (place : Place) (queue : List Ticket) → AreSubmitted submitters queue
-    → length (jobs_in (part submitter queue)) ≡ length (replies_to (all_due_from clock committed place (items_in queue)) submitter)
+as_many_due : (clock submitters submitter : ℕ) (committed : List Work) (place : Place) (queue : List Ticket)
+    → AreSubmitted submitters queue
+    → length (jobs_in (part submitter queue)) ≡ length
+            (replies_to (all_due_from clock committed place (items_in queue)) submitter)
 as_many_due clock submitters submitter committed place [] all = refl
 as_many_due clock submitters submitter committed place (ticket ∷ queue) all =
     ap (λ items. length (jobs_in items)) (first_part submitter ticket queue (ticket.sender == submitter) refl)
-    ∙ one ticket.item (ticket.sender == submitter) refl all.0 (as_many_due clock submitters submitter committed (next_place place ticket.item) queue all.1)
+    ∙ one ticket.item (ticket.sender == submitter) refl all.0
+            (as_many_due clock submitters submitter committed (next_place place ticket.item) queue all.1)
   where
     one : (x : Item) (own : Bool) → (ticket.sender == submitter) ≡ own → IsSubmitted submitters ticket.sender x
-        → length (jobs_in (part submitter queue)) ≡ length (replies_to (all_due_from clock committed (next_place place x) (items_in queue)) submitter)
+        → length (jobs_in (part submitter queue)) ≡ length
+                (replies_to (all_due_from clock committed (next_place place x) (items_in queue)) submitter)
         → length (jobs_in (if own then x ∷ part submitter queue else part submitter queue))
-        ≡ length (replies_to (reply_due (outcome_at clock committed place) x ++ all_due_from clock committed (next_place place x) (items_in queue)) submitter)
+        ≡ length (replies_to (reply_due (outcome_at clock committed place) x
+            ++ all_due_from clock committed (next_place place x) (items_in queue)) submitter)
     one (item.Packet job) true own is others = rw (ap (λ n. n == submitter) is.0 ∙ own) (ap suc others)
     one (item.Packet job) false own is others = rw (ap (λ n. n == submitter) is.0 ∙ own) others
     one x true own is others = others
     one x false own is others = others
 
-replies_at : (ends : List EndedState) (k : ℕ) (ended : EndedState) → slice_get ends k ≡ Some ended → replies_of ends k ≡ ended.read ++ ended.lying
+replies_at : (ends : List EndedState) (k : ℕ) (ended : EndedState) → slice_get ends k ≡ Some ended
+    → replies_of ends k ≡ ended.read ++ ended.lying
 replies_at [] k ended is = cc
 replies_at (first ∷ ends) zero ended is = cc
 replies_at (first ∷ ends) (suc k) ended is = replies_at ends k ended is
@@ -53,7 +59,8 @@ some_at [] k below = absurd (omega (arith, below))
 some_at (x ∷ xs) zero below = (x, refl)
 some_at (x ∷ xs) (suc k) below = some_at xs k (omega (arith, below))
 
-module _ {clock limit submitters : ℕ} {controlled : List Item} {drivers : List ScriptDriver} {ledger : LedgerState} {ends : List EndedState}
+module _ {clock limit submitters : ℕ} {controlled : List Item} {drivers : List ScriptDriver} {ledger : LedgerState}
+    {ends : List EndedState}
     (reported : HasReported HasSeenOf clock limit submitters controlled drivers ledger ends) where
   pub all_answered : AreAllAnswered drivers ends
   all_answered k driver ended driver_is ended_is =
@@ -63,12 +70,14 @@ module _ {clock limit submitters : ℕ} {controlled : List Item} {drivers : List
       record {
         queued = jobs_in (reported.queued k);
         seen = reported.seen k driver ended driver_is ended_is;
-        number = ap (λ items. length (jobs_in items)) (sym parts) ∙ as_many_due clock submitters k (works ledger) (Ahead 0) reported.queue filled.submitted
+        number = ap (λ items. length (jobs_in items)) (sym parts)
+            ∙ as_many_due clock submitters k (works ledger) (Ahead 0) reported.queue filled.submitted
             ∙ ap length (sym (reported.report.replied k below) ∙ replies_at ends k ended ended_is);
       }
 
   -- the driver whose share and notes these are
-  driver_at : (all : List ScriptDriver) (k : ℕ) (share : List packets.Packet) (told : List Told) → slice_get (map share_of all) k ≡ Some share → slice_get (map told_of all) k ≡ Some told
+  driver_at : (all : List ScriptDriver) (k : ℕ) (share : List packets.Packet) (told : List Told)
+      → slice_get (map share_of all) k ≡ Some share → slice_get (map told_of all) k ≡ Some told
       → (driver : ScriptDriver) × (slice_get all k ≡ Some driver) × (share_of driver ≡ share) × (told_of driver ≡ told)
   driver_at [] k share told share_is told_is = cc
   driver_at (first ∷ all) zero share told share_is told_is = (first, refl, cc, cc)
@@ -78,9 +87,12 @@ module _ {clock limit submitters : ℕ} {controlled : List Item} {drivers : List
   all_handed_in done k share told share_is told_is =
       let its = driver_at drivers k share told share_is told_is in
       let driver = its.0 in
-      let within : k < length ends = omega (arith, slice_get_within drivers k driver its.1, reported.driven, reported.number) in
+      let within : k < length ends = omega (arith, slice_get_within drivers k driver its.1,
+          reported.driven, reported.number) in
       let end = some_at ends k within in
       let is_done = done k driver its.1 in
       let jobs = jobs_in (reported.queued k) in
       let seen = reported.seen k driver end.0 its.1 end.1 is_done.0 in
-      subst (λ packets. IsHandedIn packets [] told jobs) its.2 (subst (λ all. IsHandedIn (share_of driver) [] all jobs) its.3 (subst (λ rest. IsHandedIn (share_of driver) rest (told_of driver) jobs) is_done.1 seen.0))
+      subst (λ packets. IsHandedIn packets [] told jobs) its.2
+          (subst (λ all. IsHandedIn (share_of driver) [] all jobs) its.3
+          (subst (λ rest. IsHandedIn (share_of driver) rest (told_of driver) jobs) is_done.1 seen.0))

@@ -5,11 +5,14 @@ use Rattle.tb_program.specs.Drivers.{AreNew, HasSeenOf}
 use Rattle.tb_program.specs.Noting.{AreFresh, HaveCredit}
 use Rattle.tb_program.specs.declared.run.driver.ScriptDriver.{ScriptDriver}
 
-pub one_more_new : (drivers : List ScriptDriver) (last : ScriptDriver) → AreNew drivers → HasSeenOf last [] [] → AreNew (drivers ++ last ∷ [])
-one_more_new [] last new is zero driver driver_is = let same : last ≡ driver = cc in subst (λ (d : ScriptDriver). HasSeenOf d [] []) same is
+pub one_more_new : (drivers : List ScriptDriver) (last : ScriptDriver) → AreNew drivers → HasSeenOf last [] []
+    → AreNew (drivers ++ last ∷ [])
+one_more_new [] last new is zero driver driver_is = let same : last ≡ driver =
+    cc in subst (λ (d : ScriptDriver). HasSeenOf d [] []) same is
 one_more_new [] last new is (suc k) driver driver_is = cc
 one_more_new (first ∷ drivers) last new is zero driver driver_is = new zero driver driver_is
-one_more_new (first ∷ drivers) last new is (suc k) driver driver_is = one_more_new drivers last (λ k. new (suc k)) is k driver driver_is
+one_more_new (first ∷ drivers) last new is (suc k) driver driver_is =
+    one_more_new drivers last (λ k. new (suc k)) is k driver driver_is
 
 opened_fresh : (credit : ℕ) (origins : List Origin) → AreFresh (map (new_submitter credit) origins)
 opened_fresh credit [] k submitter is = cc
@@ -18,7 +21,8 @@ opened_fresh credit (origin ∷ origins) zero submitter is =
     (sym (ap (λ (s : SubmitterState). s.queued) same), sym (ap (λ (s : SubmitterState). s.read) same))
 opened_fresh credit (origin ∷ origins) (suc k) submitter is = opened_fresh credit origins k submitter is
 
-pub are_fresh : (credit : ℕ) (origins : List Origin) (submitters : List SubmitterState) → submitters ≡ map (new_submitter credit) origins → AreFresh submitters
+pub are_fresh : (credit : ℕ) (origins : List Origin) (submitters : List SubmitterState)
+    → submitters ≡ map (new_submitter credit) origins → AreFresh submitters
 are_fresh credit origins submitters same = subst AreFresh (sym same) (opened_fresh credit origins)
 
 opened_with : (credit : ℕ) (origins : List Origin) → HaveCredit credit (map (new_submitter credit) origins)
@@ -28,5 +32,6 @@ opened_with credit (origin ∷ origins) zero submitter is =
     sym (ap (λ (s : SubmitterState). s.credit) same)
 opened_with credit (origin ∷ origins) (suc k) submitter is = opened_with credit origins k submitter is
 
-pub have_credit : (credit : ℕ) (origins : List Origin) (submitters : List SubmitterState) → submitters ≡ map (new_submitter credit) origins → HaveCredit credit submitters
+pub have_credit : (credit : ℕ) (origins : List Origin) (submitters : List SubmitterState)
+    → submitters ≡ map (new_submitter credit) origins → HaveCredit credit submitters
 have_credit credit origins submitters same = subst (HaveCredit credit) (sym same) (opened_with credit origins)

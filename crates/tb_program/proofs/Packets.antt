@@ -6,16 +6,21 @@ use Rattle.tb_program.specs.Drivers.{IsDone, told_of}
 use Rattle.tb_program.specs.RunText.{packets_text, told_text}
 use Rattle.tb_program.specs.declared.run.driver.ScriptDriver.{ScriptDriver}
 
-pub first_done : (driver : ScriptDriver) (others : List ScriptDriver) → IsDone driver → AreAllDone others → AreAllDone (driver ∷ others)
+pub first_done : (driver : ScriptDriver) (others : List ScriptDriver) → IsDone driver → AreAllDone others
+    → AreAllDone (driver ∷ others)
 first_done driver others done all zero d is = let same : driver ≡ d = cc in subst IsDone same done
 first_done driver others done all (suc k) d is = all k d is
 
 -- a text, the first submitter's lines, and those of the others
-pub first_text : (before after : List ℕ) (submitter : ℕ) (driver : ScriptDriver) (others all : List ScriptDriver) (ended : EndedState) (rest ends : List EndedState)
-    → all ≡ driver ∷ others → ends ≡ ended ∷ rest → after ≡ before ++ told_text submitter (told_of driver) (ended.read ++ ended.lying)
-    → after ++ packets_text (submitter + 1) (map told_of others) (replies_of rest) ≡ before ++ packets_text submitter (map told_of all) (replies_of ends)
+pub first_text : (before after : List ℕ) (submitter : ℕ) (driver : ScriptDriver) (others all : List ScriptDriver)
+    (ended : EndedState) (rest ends : List EndedState)
+    → all ≡ driver ∷ others → ends ≡ ended ∷ rest
+        → after ≡ before ++ told_text submitter (told_of driver) (ended.read ++ ended.lying)
+    → after ++ packets_text (submitter + 1) (map told_of others) (replies_of rest)
+        ≡ before ++ packets_text submitter (map told_of all) (replies_of ends)
 unfolding packets_text
 first_text before after submitter driver others all ended rest ends all_is ends_is text =
     ap (λ t. t ++ packets_text (submitter + 1) (map told_of others) (replies_of rest)) text ∙ append_assoc before _ _
-    ∙ ap (λ (ds : List ScriptDriver). before ++ packets_text submitter (map told_of ds) (replies_of (ended ∷ rest))) (sym all_is)
+    ∙ ap (λ (ds : List ScriptDriver). before ++ packets_text submitter (map told_of ds) (replies_of (ended ∷ rest)))
+            (sym all_is)
     ∙ ap (λ (es : List EndedState). before ++ packets_text submitter (map told_of all) (replies_of es)) (sym ends_is)

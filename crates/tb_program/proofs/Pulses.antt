@@ -10,17 +10,24 @@ use Rattle.tb_text.specs.Output.{pulse_line}
 use Rattle.tb_program.specs.RunText.{pulses_text}
 
 -- those of some packets and pulses, and of others behind them
-pub pulses_behind : (place : ℕ) (works others : List Work) → pulses_text place (works ++ others) ≡ pulses_text place works ++ pulses_text (place + length works) others
+pub pulses_behind : (place : ℕ) (works others : List Work)
+    → pulses_text place (works ++ others) ≡ pulses_text place works ++ pulses_text (place + length works) others
 pulses_behind place [] others = ap (λ p. pulses_text p others) (omega arith)
 pulses_behind place (Packet submitter number events ∷ works) others =
-    pulses_behind (suc place) works others ∙ ap (λ p. pulses_text (suc place) works ++ pulses_text p others) (omega arith)
+    pulses_behind (suc place) works others ∙ ap (λ p.
+        pulses_text (suc place) works ++ pulses_text p others) (omega arith)
 pulses_behind place (Pulse moment ∷ works) others =
-    ap (λ text. pulse_line place ++ text) (pulses_behind (suc place) works others ∙ ap (λ p. pulses_text (suc place) works ++ pulses_text p others) (omega arith))
-    ∙ sym (append_assoc (pulse_line place) (pulses_text (suc place) works) (pulses_text (place + suc (length works)) others))
+    ap (λ text. pulse_line place ++ text) (pulses_behind (suc place) works others
+        ∙ ap (λ p. pulses_text (suc place) works ++ pulses_text p others) (omega arith))
+    ∙ sym (append_assoc (pulse_line place) (pulses_text (suc place) works)
+            (pulses_text (place + suc (length works)) others))
 
 -- those of an entry, and of the others behind it
-pub first_pulses : (before after : List ℕ) (place behind : ℕ) (entry : Entry) (others all : List Entry) → all ≡ entry ∷ others → behind ≡ place + length (group_of entry)
-    → after ≡ before ++ pulses_text place (group_of entry) → after ++ pulses_text behind (flat_map group_of others) ≡ before ++ pulses_text place (flat_map group_of all)
+pub first_pulses : (before after : List ℕ) (place behind : ℕ) (entry : Entry) (others all : List Entry)
+    → all ≡ entry ∷ others → behind ≡ place + length (group_of entry)
+    → after ≡ before ++ pulses_text place (group_of entry)
+        → after ++ pulses_text behind (flat_map group_of others)
+        ≡ before ++ pulses_text place (flat_map group_of all)
 first_pulses before after place behind entry others all all_is behind_is text =
     ap (λ t. t ++ pulses_text behind (flat_map group_of others)) text ∙ append_assoc before _ _
     ∙ ap (λ p. before ++ (pulses_text place (group_of entry) ++ pulses_text p (flat_map group_of others))) behind_is
@@ -28,15 +35,20 @@ first_pulses before after place behind entry others all all_is behind_is text =
     ∙ ap (λ es. before ++ pulses_text place (flat_map group_of es)) (sym all_is)
 
 -- the packets and pulses of a ledger's entries
-pub of_entries : (journal : List Entry) (ledger : LedgerState) → map group_of journal ≡ ledger.groups → flat_map group_of journal ≡ works ledger
+pub of_entries : (journal : List Entry) (ledger : LedgerState) → map group_of journal ≡ ledger.groups
+    → flat_map group_of journal ≡ works ledger
 of_entries journal ledger is = sym (flat_map-map (λ group. group) group_of journal) ∙ ap (flat_map (λ group. group)) is
 
 -- a batch has no pulse
-pub none_in_batch : (place operation : ℕ) (body : List ℕ) (stubs : List Stub) → pulses_text place (packets_of operation body stubs) ≡ []
+pub none_in_batch : (place operation : ℕ) (body : List ℕ) (stubs : List Stub)
+    → pulses_text place (packets_of operation body stubs) ≡ []
 none_in_batch place operation body [] = refl
-none_in_batch place operation body (stub ∷ stubs) = none_in_batch (suc place) operation (drop (stub.count * size_of operation) body) stubs
+none_in_batch place operation body (stub ∷ stubs) =
+    none_in_batch (suc place) operation (drop (stub.count * size_of operation) body) stubs
 
 -- and a packet for each stub
-pub as_many_packets : (operation : ℕ) (body : List ℕ) (stubs : List Stub) → length (packets_of operation body stubs) ≡ length stubs
+pub as_many_packets : (operation : ℕ) (body : List ℕ) (stubs : List Stub)
+    → length (packets_of operation body stubs) ≡ length stubs
 as_many_packets operation body [] = refl
-as_many_packets operation body (stub ∷ stubs) = ap suc (as_many_packets operation (drop (stub.count * size_of operation) body) stubs)
+as_many_packets operation body (stub ∷ stubs) =
+    ap suc (as_many_packets operation (drop (stub.count * size_of operation) body) stubs)

@@ -12,44 +12,63 @@ use Rattle.tb_text.specs.Plan.{packet_of}
 use Rattle.tb_program.specs.Drivers.{lists_of}
 use Rattle.tb_program.specs.Sharing.{AreDealt, packet_by, packets_by, shares_of}
 
-one_more : (submitter : ℕ) (items : List Item) (item : Item) → packets_by submitter (items ++ item ∷ []) ≡ packets_by submitter items ++ packet_by submitter item
-one_more submitter items item = flat_map-append (packet_by submitter) items (item ∷ []) ∙ ap (λ last. packets_by submitter items ++ last) (append-nil (packet_by submitter item))
+one_more : (submitter : ℕ) (items : List Item) (item : Item)
+    → packets_by submitter (items ++ item ∷ []) ≡ packets_by submitter items ++ packet_by submitter item
+one_more submitter items item =
+    flat_map-append (packet_by submitter) items (item ∷ [])
+    ∙ ap (λ last. packets_by submitter items ++ last) (append-nil (packet_by submitter item))
 
-pub not_its : (submitter : ℕ) (submission : Submission) → (submission.submitter ≡ submitter → ⊥) → packet_by submitter (Packet submission) ≡ []
+pub not_its : (submitter : ℕ) (submission : Submission) → (submission.submitter ≡ submitter → ⊥)
+    → packet_by submitter (Packet submission) ≡ []
 not_its submitter submission other = rw (ne_eqb submission.submitter submitter other) refl
 
 -- an item that is no packet of these submitters changes nothing
 pub dealt_past : (submitter : ℕ) (shares : List (Vec packets.Packet Global)) (items : List Item) (item : Item)
-    → ((other : ℕ) → submitter ≤ other → other < submitter + length shares → packet_by other item ≡ []) → AreDealt submitter shares items → AreDealt submitter shares (items ++ item ∷ [])
+    → ((other : ℕ) → submitter ≤ other → other < submitter + length shares → packet_by other item ≡ [])
+        → AreDealt submitter shares items → AreDealt submitter shares (items ++ item ∷ [])
 dealt_past submitter [] items item none dealt = dealt
 dealt_past submitter (own ∷ shares) items item none dealt = (
-  dealt.0 ∙ sym (one_more submitter items item ∙ ap (λ last. packets_by submitter items ++ last) (none submitter (omega arith) (omega arith)) ∙ append-nil (packets_by submitter items)),
-  dealt_past (suc submitter) shares items item (λ other least most. none other (omega (arith, least)) (omega (arith, most))) dealt.1,
+  dealt.0 ∙ sym (one_more submitter items item ∙ ap (λ last. packets_by submitter items ++ last)
+      (none submitter (omega arith) (omega arith)) ∙ append-nil (packets_by submitter items)),
+  dealt_past (suc submitter) shares items item (λ other least most.
+      none other (omega (arith, least)) (omega (arith, most))) dealt.1,
 )
 
 -- a packet goes to its submitter
-pub dealt_to : (submitter k : ℕ) (shares : List (Vec packets.Packet Global)) (items : List Item) (submission : Submission) (share : Vec packets.Packet Global)
-    → submission.submitter ≡ submitter + k → k < length shares → share.items ≡ (get_or shares k share).items ++ packet_of submission ∷ []
+pub dealt_to : (submitter k : ℕ) (shares : List (Vec packets.Packet Global)) (items : List Item)
+    (submission : Submission) (share : Vec packets.Packet Global)
+    → submission.submitter ≡ submitter + k → k < length shares
+        → share.items ≡ (get_or shares k share).items ++ packet_of submission ∷ []
     → AreDealt submitter shares items → AreDealt submitter (set shares k share) (items ++ Packet submission ∷ [])
 dealt_to submitter k [] items submission share its within is dealt = absurd (omega (arith, within))
 dealt_to submitter zero (own ∷ shares) items submission share its within is dealt =
     let same : submission.submitter ≡ submitter = omega (arith, its) in
-    let last : packet_by submitter (Packet submission) ≡ packet_of submission ∷ [] = rw (eq-eqb submission.submitter submitter same) refl in (
-      is ∙ ap (λ before. before ++ packet_of submission ∷ []) dealt.0 ∙ sym (one_more submitter items (Packet submission) ∙ ap (λ end. packets_by submitter items ++ end) last),
-      dealt_past (suc submitter) shares items (Packet submission) (λ other least most. not_its other submission (λ e. omega (arith, e, same, least))) dealt.1,
+    let last : packet_by submitter (Packet submission)
+        ≡ packet_of submission ∷ [] = rw (eq-eqb submission.submitter submitter same) refl in (
+      is ∙ ap (λ before. before ++ packet_of submission ∷ []) dealt.0
+          ∙ sym (one_more submitter items (Packet submission) ∙ ap (λ end. packets_by submitter items ++ end) last),
+      dealt_past (suc submitter) shares items (Packet submission)
+          (λ other least most. not_its other submission (λ e. omega (arith, e, same, least))) dealt.1,
     )
 dealt_to submitter (suc k) (own ∷ shares) items submission share its within is dealt = (
-  dealt.0 ∙ sym (one_more submitter items (Packet submission) ∙ ap (λ last. packets_by submitter items ++ last) (not_its submitter submission (λ e. omega (arith, e, its))) ∙ append-nil (packets_by submitter items)),
+  dealt.0 ∙ sym (one_more submitter items (Packet submission)
+      ∙ ap (λ last. packets_by submitter items ++ last) (not_its submitter submission (λ e. omega (arith, e, its)))
+      ∙ append-nil (packets_by submitter items)),
   dealt_to (suc submitter) k shares items submission share (omega (arith, its)) (omega (arith, within)) is dealt.1,
 )
 
 -- what is dealt are the submitters' shares
-pub dealt_lists : (submitter : ℕ) (shares : List (Vec packets.Packet Global)) (items : List Item) → AreDealt submitter shares items → lists_of shares ≡ shares_of submitter (length shares) items
+pub dealt_lists : (submitter : ℕ) (shares : List (Vec packets.Packet Global)) (items : List Item)
+    → AreDealt submitter shares items → lists_of shares ≡ shares_of submitter (length shares) items
 dealt_lists submitter [] items dealt = refl
 dealt_lists submitter (own ∷ shares) items dealt =
-    ap (λ first. first ∷ lists_of shares) dealt.0 ∙ ap (λ others. packets_by submitter items ∷ others) (dealt_lists (suc submitter) shares items dealt.1)
+    ap (λ first. first ∷ lists_of shares) dealt.0
+        ∙ ap (λ others. packets_by submitter items ∷ others) (dealt_lists (suc submitter) shares items dealt.1)
 
 -- one submitter more, for whom there is nothing yet
-pub one_more_submitter : (submitter : ℕ) (shares : List (Vec packets.Packet Global)) (share : Vec packets.Packet Global) → share.items ≡ [] → AreDealt submitter shares [] → AreDealt submitter (shares ++ share ∷ []) []
+pub one_more_submitter : (submitter : ℕ) (shares : List (Vec packets.Packet Global))
+    (share : Vec packets.Packet Global) → share.items ≡ [] → AreDealt submitter shares []
+    → AreDealt submitter (shares ++ share ∷ []) []
 one_more_submitter submitter [] share none dealt = (none, dealt)
-one_more_submitter submitter (own ∷ shares) share none dealt = (dealt.0, one_more_submitter (suc submitter) shares share none dealt.1)
+one_more_submitter submitter (own ∷ shares) share none dealt =
+    (dealt.0, one_more_submitter (suc submitter) shares share none dealt.1)

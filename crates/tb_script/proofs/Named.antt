@@ -21,20 +21,23 @@ use Rattle.tb_script.specs.Text.{words_of, first_word, behind_first_word}
 use Rattle.tb_script.proofs.Texts.{words_first, empty_words}
 use Rattle.tb_script.proofs.Tables.{AreOwn, own_row, same_rows}
 
-up_to_equals : (name digits : List ℕ) → list_all (λ byte. not (byte == 61)) name ≡ true → position_or_len (λ byte. byte == 61) (name ++ 61 ∷ digits) ≡ length name
+up_to_equals : (name digits : List ℕ) → list_all (λ byte. not (byte == 61)) name ≡ true
+    → position_or_len (λ byte. byte == 61) (name ++ 61 ∷ digits) ≡ length name
 up_to_equals [] digits h = refl
 up_to_equals (byte ∷ name) digits h =
     let parts = and_parts (not (byte == 61)) (list_all (λ byte. not (byte == 61)) name) h in
     rw (parts.0, up_to_equals name digits parts.1) (omega arith)
 
-pub sides_of_named : (name digits : List ℕ) → list_all (λ byte. not (byte == 61)) name ≡ true → sides_of (name ++ 61 ∷ digits) ≡ Ok (name, digits)
+pub sides_of_named : (name digits : List ℕ) → list_all (λ byte. not (byte == 61)) name ≡ true
+    → sides_of (name ++ 61 ∷ digits) ≡ Ok (name, digits)
 sides_of_named name digits h =
     let inside : length name < length (name ++ 61 ∷ digits) = omega (arith, length-append name (61 ∷ digits)) in
     rw (up_to_equals name digits h, lt-ltb (length name) (length (name ++ 61 ∷ digits)) inside)
     (rw (take-append_seam name (61 ∷ digits), drop-append-add name (61 ∷ digits) 1) refl)
 
 -- where the name and `=` stand at the front, the row is the one
-pub found_here : (word name number : List ℕ) (f : Field) (rows : List (List ℕ × Field)) → IsBare name → word ≡ name ++ 61 ∷ number →
+pub found_here : (word name number : List ℕ) (f : Field) (rows : List (List ℕ × Field)) → IsBare name
+    → word ≡ name ++ 61 ∷ number →
     named word ((name, f) ∷ rows) ≡ Ok (f, number)
 found_here word name number f rows bare e =
     let same : bytes_eq name name ≡ true = (bytes_eq-Decides name name).1 refl in
@@ -42,7 +45,8 @@ found_here word name number f rows bare e =
 
 -- where the first word ends of a line that begins with a name and `=`
 up_to_space : (name others : List ℕ) → list_all (λ byte. not (byte == 32)) name ≡ true →
-    position_or_len (λ byte. byte == 32) (name ++ 61 ∷ others) ≡ length name + suc (position_or_len (λ byte. byte == 32) others)
+    position_or_len (λ byte. byte == 32) (name ++ 61 ∷ others)
+        ≡ length name + suc (position_or_len (λ byte. byte == 32) others)
 up_to_space [] others h = omega arith
 up_to_space (byte ∷ name) others h =
     let parts = and_parts (not (byte == 32)) (list_all (λ byte. not (byte == 32)) name) h in
@@ -62,24 +66,31 @@ named_first line name others bare e =
     }
 
 -- a line that begins so not, has no such first word
-pub not_first : (line name : List ℕ) → ((others : List ℕ) → line ≡ name ++ 61 ∷ others → ⊥) → (number : List ℕ) → first_word line ≡ name ++ 61 ∷ number → ⊥
+pub not_first : (line name : List ℕ) → ((others : List ℕ) → line ≡ name ++ 61 ∷ others → ⊥) → (number : List ℕ)
+    → first_word line ≡ name ++ 61 ∷ number → ⊥
 not_first line name differs number e = differs (number ++ behind_first_word line)
-    (sym (take-append-drop (position_or_len (λ byte. byte == 32) line) line) ∙ ap (λ front. front ++ behind_first_word line) e ∙ append_assoc name (61 ∷ number) (behind_first_word line))
+    (sym (take-append-drop (position_or_len (λ byte. byte == 32) line) line)
+        ∙ ap (λ front. front ++ behind_first_word line) e
+        ∙ append_assoc name (61 ∷ number) (behind_first_word line))
 
 parts_of : (word : List ℕ) → position_or_len (λ byte. byte == 61) word < length word →
     word ≡ before_first (λ byte. byte == 61) word ++ (61 ∷ after_sign (λ byte. byte == 61) word)
 parts_of word h =
     let at = split_at_first (λ byte. byte == 61) word 0 h in
-    let sign = (Decides-eqb (get_or word (position_or_len (λ byte. byte == 61) word) 0) 61).0 (passes_at_first (λ byte. byte == 61) word 0 h) in
+    let sign = (Decides-eqb (get_or word (position_or_len (λ byte. byte == 61) word) 0) 61).0
+        (passes_at_first (λ byte. byte == 61) word 0 h) in
     at ∙ ap (λ byte. before_first (λ byte. byte == 61) word ++ (byte ∷ after_sign (λ byte. byte == 61) word)) sign
 
 -- where they don't, the others decide
-pub found_later : (word name : List ℕ) (f : Field) (rows : List (List ℕ × Field)) → ((number : List ℕ) → word ≡ name ++ 61 ∷ number → ⊥) →
+pub found_later : (word name : List ℕ) (f : Field) (rows : List (List ℕ × Field))
+    → ((number : List ℕ) → word ≡ name ++ 61 ∷ number → ⊥) →
     named word ((name, f) ∷ rows) ≡ named word rows
 found_later word name f rows differs = elim (cases_lt (position_or_len (λ byte. byte == 61) word) (length word)) [
   | inl below ↦
       let other : bytes_eq (before_first (λ byte. byte == 61) word) name ≡ false =
-      false_from_ne_true _ (λ same. differs (after_sign (λ byte. byte == 61) word) (parts_of word below ∙ ap (λ front. front ++ (61 ∷ after_sign (λ byte. byte == 61) word)) ((bytes_eq-Decides (before_first (λ byte. byte == 61) word) name).0 same))) in
+      false_from_ne_true _ (λ same. differs (after_sign (λ byte. byte == 61) word)
+          (parts_of word below ∙ ap (λ front. front ++ (61 ∷ after_sign (λ byte. byte == 61) word))
+          ((bytes_eq-Decides (before_first (λ byte. byte == 61) word) name).0 same))) in
       rw (lt-ltb (position_or_len (λ byte. byte == 61) word) (length word) below, other) refl
   | inr above ↦ rw (le-ltb (position_or_len (λ byte. byte == 61) word) (length word) above) refl
 ]
@@ -103,12 +114,16 @@ begins_with word name number e = record {
   front = rw e (take-append_seam name (61 ∷ number));
 }
 
-pub behind_sign : (word name : List ℕ) → BeginsWith word name → word ≡ name ++ 61 ∷ take (length word - (length name + 1)) (drop (length name + 1) word)
+pub behind_sign : (word name : List ℕ) → BeginsWith word name
+    → word ≡ name ++ 61 ∷ take (length word - (length name + 1)) (drop (length name + 1) word)
 behind_sign word name h =
-    let rest : take (length word - (length name + 1)) (drop (length name + 1) word) ≡ drop (length name + 1) word = grind (arith, common_steps) in
+    let rest : take (length word - (length name + 1)) (drop (length name + 1) word)
+        ≡ drop (length name + 1) word = grind (arith, common_steps) in
     let one : suc (length name) ≡ length name + 1 = omega arith in
-    rw rest (split_at word (length name) 0 h.long ∙ ap (λ front. front ++ get_or word (length name) 0 ∷ drop (suc (length name)) word) h.front
-    ∙ ap (λ byte. name ++ byte ∷ drop (suc (length name)) word) h.sign ∙ ap (λ (count : ℕ). name ++ 61 ∷ drop count word) one)
+    rw rest (split_at word (length name) 0 h.long
+        ∙ ap (λ front. front ++ get_or word (length name) 0 ∷ drop (suc (length name)) word) h.front
+    ∙ ap (λ byte. name ++ byte ∷ drop (suc (length name)) word) h.sign
+        ∙ ap (λ (count : ℕ). name ++ 61 ∷ drop count word) one)
 
 abbrev row_of : Bor (List ℕ) × Field → List ℕ × Field
 row_of row = (row.0.now, row.1)
@@ -119,7 +134,8 @@ pub record FirstRow (table : List (Bor (List ℕ) × Field)) (first : Bor (List 
   pub bare : IsBare first.0.now
   pub others : All (λ row. IsBare row.0.now) (take (length table - 1) (drop 1 table))
 
-pub first_row : (table : List (Bor (List ℕ) × Field)) (d : Bor (List ℕ) × Field) → All (λ row. IsBare row.0.now) table → 1 ≤ length table →
+pub first_row : (table : List (Bor (List ℕ) × Field)) (d : Bor (List ℕ) × Field)
+    → All (λ row. IsBare row.0.now) table → 1 ≤ length table →
     FirstRow table (slice_index_or table 0 d)
 first_row [] d bare h = absurd (omega arith)
 first_row (row ∷ rows) d bare h =
@@ -146,52 +162,65 @@ told_by_field draft number None = refl
 told_by_field draft number (Some field) = refl
 
 told_by_sides : (layout : Layout) (draft : Draft) (sides : Result (List ℕ × List ℕ) Fault) →
-    (sides >>= λ s. new_field draft (field_of layout s.0) >>= λ f. number_within 0 (greatest f.size) s.1 >>= λ n. Ok (with_number draft f n))
+    (sides >>= λ s. new_field draft (field_of layout s.0) >>= λ f. number_within 0 (greatest f.size) s.1 >>= λ n.
+        Ok (with_number draft f n))
     ≡ told_of draft (sides >>= λ s. found (look_up s.0 (fields_of layout)) >>= λ f. Ok (f, s.1))
 unfolding field_of
 told_by_sides layout draft (Err fault) = refl
 told_by_sides layout draft (Ok sides) = told_by_field draft sides.1 (look_up sides.0 (fields_of layout))
 
 -- a word is told by the field that it names
-pub after_word_named : (layout : Layout) (draft : Draft) (word : List ℕ) (both : Result (Field × List ℕ) Fault) → both ≡ field_and_number layout word →
+pub after_word_named : (layout : Layout) (draft : Draft) (word : List ℕ) (both : Result (Field × List ℕ) Fault)
+    → both ≡ field_and_number layout word →
     after_word layout draft word ≡ told_of draft both
 unfolding after_word field_and_number
 after_word_named layout draft word both e = told_by_sides layout draft (sides_of word) ∙ ap (told_of draft) (sym e)
 
 -- ---- one word after another
 
-pub after_first : (layout : Layout) (draft next : Draft) (line : List ℕ) → 0 < position_or_len (λ byte. byte == 32) line →
-    after_word layout draft (first_word line) ≡ Ok next → after_words layout next (words_of (behind_first_word line)) ≡ after_words layout draft (words_of line)
+pub after_first : (layout : Layout) (draft next : Draft) (line : List ℕ)
+    → 0 < position_or_len (λ byte. byte == 32) line →
+    after_word layout draft (first_word line) ≡ Ok next
+        → after_words layout next (words_of (behind_first_word line)) ≡ after_words layout draft (words_of line)
 unfolding after_words
 after_first layout draft next line some e = rw (words_first line some, e) refl
 
-pub faulty_first : (layout : Layout) (draft : Draft) (line : List ℕ) (fault : Fault) → 0 < position_or_len (λ byte. byte == 32) line →
+pub faulty_first : (layout : Layout) (draft : Draft) (line : List ℕ) (fault : Fault)
+    → 0 < position_or_len (λ byte. byte == 32) line →
     after_word layout draft (first_word line) ≡ Err fault → after_words layout draft (words_of line) ≡ Err fault
 unfolding after_words
 faulty_first layout draft line fault some e = rw (words_first line some, e) refl
 
-pub after_none : (layout : Layout) (draft : Draft) (line : List ℕ) → length line ≡ 0 → after_words layout draft (words_of line) ≡ Ok draft
+pub after_none : (layout : Layout) (draft : Draft) (line : List ℕ) → length line ≡ 0
+    → after_words layout draft (words_of line) ≡ Ok draft
 unfolding after_words
 after_none layout draft line none = rw (empty_words line none) refl
 
 -- ---- some rows of a table
 
-told_by_row : (table rows : List (List ℕ × Field)) (name number : List ℕ) (row : Option Field) (both : Field × List ℕ) → row ≡ look_up name rows → AreOwn table rows →
+told_by_row : (table rows : List (List ℕ × Field)) (name number : List ℕ) (row : Option Field)
+    (both : Field × List ℕ) → row ≡ look_up name rows → AreOwn table rows →
     (found row >>= λ f. Ok (f, number)) ≡ Ok both → (found (look_up name table) >>= λ f. Ok (f, number)) ≡ Ok both
 told_by_row table rows name number None both e own h = absurd (search (rules, h))
 told_by_row table rows name number (Some f) both e own h = rw (own_row table rows name f own (sym e)) h
 
-told_by_parts : (table rows : List (List ℕ × Field)) (sides : Result (List ℕ × List ℕ) Fault) (both : Field × List ℕ) → AreOwn table rows →
-    (sides >>= λ s. found (look_up s.0 rows) >>= λ f. Ok (f, s.1)) ≡ Ok both → (sides >>= λ s. found (look_up s.0 table) >>= λ f. Ok (f, s.1)) ≡ Ok both
+told_by_parts : (table rows : List (List ℕ × Field)) (sides : Result (List ℕ × List ℕ) Fault)
+    (both : Field × List ℕ) → AreOwn table rows →
+    (sides >>= λ s. found (look_up s.0 rows) >>= λ f. Ok (f, s.1)) ≡ Ok both
+        → (sides >>= λ s. found (look_up s.0 table) >>= λ f. Ok (f, s.1)) ≡ Ok both
 told_by_parts table rows (Err fault) both own h = h
-told_by_parts table rows (Ok sides) both own h = told_by_row table rows sides.0 sides.1 (look_up sides.0 rows) both refl own h
+told_by_parts table rows (Ok sides) both own h =
+    told_by_row table rows sides.0 sides.1 (look_up sides.0 rows) both refl own h
 
 -- the field that a word names in the rows from a place on is the one that it names in the table
 pub named_from_place : (word : List ℕ) (table : List (Bor (List ℕ) × Field)) (place : ℕ) (both : Field × List ℕ) →
-    All (λ row. look_up row.0.now (map row_of table) ≡ Some row.1) table → named word (map row_of (drop place table)) ≡ Ok both →
+    All (λ row. look_up row.0.now (map row_of table) ≡ Some row.1) table
+        → named word (map row_of (drop place table)) ≡ Ok both →
     named word (map row_of table) ≡ Ok both
-named_from_place word table place both own h = told_by_parts (map row_of table) (map row_of (drop place table)) (sides_of word) both
-    (All-map (λ row. look_up row.0 (map row_of table) ≡ Some row.1) row_of (drop place table) (All-drop (λ row. look_up row.0.now (map row_of table) ≡ Some row.1) place table own)) h
+named_from_place word table place both own h =
+    told_by_parts (map row_of table) (map row_of (drop place table)) (sides_of word) both
+    (All-map (λ row. look_up row.0 (map row_of table) ≡ Some row.1) row_of (drop place table)
+        (All-drop (λ row. look_up row.0.now (map row_of table) ≡ Some row.1) place table own)) h
 
 -- ---- a table in another order
 
@@ -200,10 +229,12 @@ beside number field = do
   f ← found field
   Ok (f, number)
 
-in_order : (rows table : List (List ℕ × Field)) (sides : Result (List ℕ × List ℕ) Fault) → AreOwn table rows → AreOwn rows table →
+in_order : (rows table : List (List ℕ × Field)) (sides : Result (List ℕ × List ℕ) Fault)
+    → AreOwn table rows → AreOwn rows table →
     (sides >>= λ s. beside s.1 (look_up s.0 rows)) ≡ (sides >>= λ s. beside s.1 (look_up s.0 table))
 in_order rows table (Err fault) own back = refl
 in_order rows table (Ok sides) own back = ap (beside sides.1) (same_rows rows table sides.0 own back)
 
-pub named_in_order : (word : List ℕ) (rows table : List (List ℕ × Field)) → AreOwn table rows → AreOwn rows table → named word rows ≡ named word table
+pub named_in_order : (word : List ℕ) (rows table : List (List ℕ × Field)) → AreOwn table rows → AreOwn rows table
+    → named word rows ≡ named word table
 named_in_order word rows table own back = in_order rows table (sides_of word) own back

@@ -35,31 +35,39 @@ pub no_digits : (word : List ℕ) → list_all is_ascii_digit word ≡ false →
 unfolding number_of
 no_digits word h = grind (arith, common_steps)
 
-pub no_digit_at : (word : List ℕ) (place : ℕ) → place < length word → is_ascii_digit (get_or word place 0) ≡ false → number_of word ≡ None
+pub no_digit_at : (word : List ℕ) (place : ℕ) → place < length word
+    → is_ascii_digit (get_or word place 0) ≡ false → number_of word ≡ None
 no_digit_at word place within no_digit = no_digits word (list_all_at is_ascii_digit word place 0 within no_digit)
 
 pub no_number : (word : List ℕ) → length word ≡ 0 → number_of word ≡ None
 unfolding number_of
 no_number word none = grind (arith, common_steps)
 
-pub all_digits : (word : List ℕ) → 0 < length word → length word < 20 → list_all is_ascii_digit word ≡ true → number_of word ≡ Some (digits_value 10 word)
+pub all_digits : (word : List ℕ) → 0 < length word → length word < 20 → list_all is_ascii_digit word ≡ true
+    → number_of word ≡ Some (digits_value 10 word)
 unfolding number_of
-all_digits word some short digits = rw (lt-ltb 0 (length word) some, lt-ltb (length word) 40 (omega (arith, short)), digits) refl
+all_digits word some short digits =
+    rw (lt-ltb 0 (length word) some, lt-ltb (length word) 40 (omega (arith, short)), digits) refl
 
 -- what a word comes to with one digit more, of 19 at most
 pub record OneMore (word : List ℕ) (place : ℕ) : Type 0 where
   pub digits : list_all is_ascii_digit (take (place + 1) word) ≡ true
-  pub value : digits_value 10 (take (place + 1) word) ≡ 10 * digits_value 10 (take place word) + (get_or word place 0 - 48)
+  pub value : digits_value 10 (take (place + 1) word)
+      ≡ 10 * digits_value 10 (take place word) + (get_or word place 0 - 48)
   pub small : digits_value 10 (take (place + 1) word) < 10 ^ 19
 
-pub one_more : (word : List ℕ) (place : ℕ) → place < length word → place < 19 → list_all is_ascii_digit (take place word) ≡ true →
+pub one_more : (word : List ℕ) (place : ℕ) → place < length word → place < 19
+    → list_all is_ascii_digit (take place word) ≡ true →
     is_ascii_digit (get_or word place 0) ≡ true → OneMore word place
 one_more word place within short digits digit =
-    let more : list_all is_ascii_digit (take (place + 1) word) ≡ true = list_all_more is_ascii_digit word place 0 within ∙ rw (digits, digit) refl in
+    let more : list_all is_ascii_digit (take (place + 1) word)
+        ≡ true = list_all_more is_ascii_digit word place 0 within ∙ rw (digits, digit) refl in
     record {
       digits = more;
-      value = omega (arith, digits_value_more 10 word place within, digit_value_digit (get_or word place 0) (search (rules, digit)));
-      small = digits_value_short own (take (place + 1) word) 19 more (omega (arith, length-take-le (place + 1) word (omega arith), short, within));
+      value = omega (arith, digits_value_more 10 word place within, digit_value_digit (get_or word place 0)
+          (search (rules, digit)));
+      small = digits_value_short own (take (place + 1) word) 19 more
+          (omega (arith, length-take-le (place + 1) word (omega arith), short, within));
     }
 
 no_space : (byte : ℕ) → is_ascii_digit byte ≡ true → (byte == 32) ≡ false
@@ -72,7 +80,8 @@ digits_end line count within digits ends =
     let pass = AllPass-from_list_all is_ascii_digit (take count line) digits in
     let long = length-take-le count line within in
     position_or_len_is (λ byte. byte == 32) line count 0 within
-    (λ k below. no_space (get_or line k 0) (rw (get_or-take count line k 0 below) at (pass k 0 (omega (arith, below, long)))))
+    (λ k below. no_space (get_or line k 0) (rw (get_or-take count line k 0 below) at
+        (pass k 0 (omega (arith, below, long)))))
     (λ below. rw (ends below) refl)
 
 -- what such a line begins with
@@ -80,7 +89,8 @@ pub record LeadingDigits (line : List ℕ) (count : ℕ) : Type 0 where
   pub number : number_of (first_word line) ≡ Some (digits_value 10 (take count line))
   pub rest : take (length line - count) (drop count line) ≡ behind_first_word line
 
-pub leading_digits : (line : List ℕ) (count : ℕ) → 0 < count → count ≤ 19 → count ≤ length line → list_all is_ascii_digit (take count line) ≡ true →
+pub leading_digits : (line : List ℕ) (count : ℕ) → 0 < count → count ≤ 19 → count ≤ length line
+    → list_all is_ascii_digit (take count line) ≡ true →
     (count < length line → get_or line count 0 ≡ 32) → LeadingDigits line count
 leading_digits line count some short within digits ends =
     let at = digits_end line count within digits ends in
@@ -90,14 +100,18 @@ leading_digits line count some short within digits ends =
       rest = rw at (grind (arith, common_steps));
     }
 
-digits_read : {E : Type 0} (word : List ℕ) (r : Result ℕ E) → OkIff r ((0 < length word) × (digits_value 10 word < 2 ^ 128)) (digits_value 10 word) →
+digits_read : {E : Type 0} (word : List ℕ) (r : Result ℕ E)
+    → OkIff r ((0 < length word) × (digits_value 10 word < 2 ^ 128)) (digits_value 10 word) →
     list_all is_ascii_digit word ≡ true → length word < 40 → result_ok r ≡ fitting (number_of word)
 unfolding number_of
-digits_read word (Ok n) h digits short = rw (lt-ltb 0 (length word) h.0.0, lt-ltb (length word) 40 short, digits, lt-ltb (digits_value 10 word) (2 ^ 128) h.0.1) (ap Some h.1)
+digits_read word (Ok n) h digits short =
+    rw (lt-ltb 0 (length word) h.0.0, lt-ltb (length word) 40 short, digits, lt-ltb (digits_value 10 word)
+    (2 ^ 128) h.0.1) (ap Some h.1)
 digits_read word (Err e) h digits short = elim (cases_lt 0 (length word)) [
   | inl some ↦ elim (cases_lt (digits_value 10 word) (2 ^ 128)) [
     | inl small ↦ absurd (h (some, small))
-    | inr large ↦ rw (lt-ltb 0 (length word) some, lt-ltb (length word) 40 short, digits, le-ltb (digits_value 10 word) (2 ^ 128) large) refl
+    | inr large ↦ rw (lt-ltb 0 (length word) some, lt-ltb (length word) 40 short, digits, le-ltb
+        (digits_value 10 word) (2 ^ 128) large) refl
   ]
   | inr none ↦ rw (le-ltb 0 (length word) none) refl
 ]
@@ -107,11 +121,13 @@ pub parsed : {E : Type 0} (word : List ℕ) (r : Result ℕ E) → ParsesUnsigne
 parsed word r h digits short = digits_read word r (parse_digits own 128 word r h digits) digits short
 
 -- a line that begins with a number begins with a word
-pub number_first : (line : List ℕ) (n : ℕ) → number_of (first_word line) ≡ Some n → words_of line ≡ first_word line ∷ words_of (behind_first_word line)
+pub number_first : (line : List ℕ) (n : ℕ) → number_of (first_word line) ≡ Some n
+    → words_of line ≡ first_word line ∷ words_of (behind_first_word line)
 number_first line n number = elim (cases_lt 0 (position_or_len (λ byte. byte == 32) line)) [
   | inl some ↦ words_first line some
   | inr none ↦
-      let empty = no_number (first_word line) (omega (arith, length-take-le (position_or_len (λ byte. byte == 32) line) line (search rules), none)) in
+      let empty = no_number (first_word line) (omega
+          (arith, length-take-le (position_or_len (λ byte. byte == 32) line) line (search rules), none)) in
       cc
 ]
 
@@ -125,6 +141,8 @@ small (suc count) place n (suc k) = small count (suc place) n k
 
 pub halves : (n : ℕ) → n < 2 ^ 128 → to_le_bytes w64 (n % 2 ^ 64) ++ to_le_bytes w64 (n / 2 ^ 64) ≡ to_le_bytes w128 n
 halves n fits =
-    let low : to_le_bytes w64 (n % 2 ^ 64) ≡ bytes_low_first 0 8 n = le_bytes_8 (bytes_low_first 0 8 n) (n % 2 ^ 64) refl (small 8 0 n) (omega arith) in
-    let high : to_le_bytes w64 (n / 2 ^ 64) ≡ bytes_low_first 8 8 n = le_bytes_8 (bytes_low_first 8 8 n) (n / 2 ^ 64) refl (small 8 8 n) (omega (arith, fits)) in
+    let low : to_le_bytes w64 (n % 2 ^ 64) ≡ bytes_low_first 0 8 n = le_bytes_8 (bytes_low_first 0 8 n)
+        (n % 2 ^ 64) refl (small 8 0 n) (omega arith) in
+    let high : to_le_bytes w64 (n / 2 ^ 64) ≡ bytes_low_first 8 8 n = le_bytes_8 (bytes_low_first 8 8 n)
+        (n / 2 ^ 64) refl (small 8 8 n) (omega (arith, fits)) in
     ap (λ bytes. bytes ++ to_le_bytes w64 (n / 2 ^ 64)) low ∙ ap (λ bytes. bytes_low_first 0 8 n ++ bytes) high

@@ -7,12 +7,14 @@ use Rattle.tb_script.specs.declared.fault.Fault.{Fault}
 use Rattle.tb_script.specs.Text.{lines_of}
 use Rattle.tb_script.specs.Script.{Said, after_line, after_lines, is_text}
 
-pub line_said : (n : ℕ) (said next : Said) (bs line rest : List ℕ) → lines_of bs ≡ line ∷ lines_of rest → after_line said line ≡ Ok next →
+pub line_said : (n : ℕ) (said next : Said) (bs line rest : List ℕ) → lines_of bs ≡ line ∷ lines_of rest
+    → after_line said line ≡ Ok next →
     after_lines n said (lines_of bs) ≡ after_lines (n + 1) next (lines_of rest)
 unfolding after_lines
 line_said n said next bs line rest e h = rw e (rw h refl)
 
-pub line_faulty : (n : ℕ) (said : Said) (f : Fault) (bs line rest : List ℕ) → lines_of bs ≡ line ∷ lines_of rest → after_line said line ≡ Err f →
+pub line_faulty : (n : ℕ) (said : Said) (f : Fault) (bs line rest : List ℕ) → lines_of bs ≡ line ∷ lines_of rest
+    → after_line said line ≡ Err f →
     after_lines n said (lines_of bs) ≡ Err (n, f)
 unfolding after_lines
 line_faulty n said f bs line rest e h = rw e (rw h refl)
@@ -38,12 +40,14 @@ longer : (first line others : Bool) → ((first && line) && others) ≡ (first &
 longer true line others = refl
 longer false line others = refl
 
-text_onto : (byte : ℕ) (lines : List (List ℕ)) → list_all is_text (onto_first byte lines) ≡ (is_text_byte byte && list_all is_text lines)
+text_onto : (byte : ℕ) (lines : List (List ℕ))
+    → list_all is_text (onto_first byte lines) ≡ (is_text_byte byte && list_all is_text lines)
 text_onto byte [] = longer (is_text_byte byte) true true
 text_onto byte (line ∷ lines) = longer (is_text_byte byte) (is_text line) (list_all is_text lines)
 
 text_ended : (ends : Bool) (byte : ℕ) (lines : List (List ℕ)) →
-    list_all is_text (if ends then [] ∷ lines else onto_first byte lines) ≡ ((ends || is_text_byte byte) && list_all is_text lines)
+    list_all is_text (if ends then [] ∷ lines else onto_first byte lines)
+        ≡ ((ends || is_text_byte byte) && list_all is_text lines)
 text_ended true byte lines = refl
 text_ended false byte lines = text_onto byte lines
 
@@ -51,4 +55,5 @@ text_ended false byte lines = text_onto byte lines
 pub texts_by_bytes : (bs : List ℕ) → list_all is_text (lines_of bs) ≡ list_all is_text_or_end bs
 unfolding lines_of
 texts_by_bytes [] = refl
-texts_by_bytes (byte ∷ bs) = text_ended (byte == 10) byte (lines_of bs) ∙ ap (λ others. is_text_or_end byte && others) (texts_by_bytes bs)
+texts_by_bytes (byte ∷ bs) =
+    text_ended (byte == 10) byte (lines_of bs) ∙ ap (λ others. is_text_or_end byte && others) (texts_by_bytes bs)

@@ -39,13 +39,15 @@ is_word_byte byte = nat_le 33 byte && nat_le byte 126
 abbrev pub is_word : List ℕ → Bool
 is_word word = nat_lt 0 (length word) && list_all is_word_byte word
 
-pub list_all-implied : (p q : ℕ → Bool) (xs : List ℕ) → ((x : ℕ) → p x ≡ true → q x ≡ true) → list_all p xs ≡ true → list_all q xs ≡ true
+pub list_all-implied : (p q : ℕ → Bool) (xs : List ℕ) → ((x : ℕ) → p x ≡ true → q x ≡ true)
+    → list_all p xs ≡ true → list_all q xs ≡ true
 list_all-implied p q [] h all = refl
 list_all-implied p q (x ∷ xs) h all =
     let parts = and_parts (p x) (list_all p xs) all in
     rw (h x parts.0, list_all-implied p q xs h parts.1) refl
 
-all-implied : (p : ℕ → Bool) (P : ℕ → Type 0) (xs : List ℕ) → ((x : ℕ) → p x ≡ true → P x) → list_all p xs ≡ true → All P xs
+all-implied : (p : ℕ → Bool) (P : ℕ → Type 0) (xs : List ℕ) → ((x : ℕ) → p x ≡ true → P x)
+    → list_all p xs ≡ true → All P xs
 all-implied p P [] h all = All-nil P
 all-implied p P (x ∷ xs) h all =
     let parts = and_parts (p x) (list_all p xs) all in
@@ -63,27 +65,33 @@ text_no_end x h = grind (arith, nat_tests)
 digit_is_word : (x : ℕ) → is_ascii_digit x ≡ true → is_word_byte x ≡ true
 digit_is_word x h = grind (arith, nat_tests)
 
-words_of-line_of_words : (words : List (List ℕ)) → list_all is_word words ≡ true → words_of (line_of_words words) ≡ words
+words_of-line_of_words : (words : List (List ℕ)) → list_all is_word words ≡ true
+    → words_of (line_of_words words) ≡ words
 unfolding words_of
 words_of-line_of_words [] h = refl
 words_of-line_of_words (word ∷ []) h =
     let parts = and_parts (nat_lt 0 (length word)) (list_all is_word_byte word) (and_parts (is_word word) true h).0 in
-    ap (filter (λ w. nat_lt 0 (length w))) (slice_split_none (λ b. b == 32) word (all-implied is_word_byte (λ x. (x == 32) ≡ false) word no_space parts.1))
+    ap (filter (λ w. nat_lt 0 (length w))) (slice_split_none (λ b. b == 32) word
+        (all-implied is_word_byte (λ x. (x == 32) ≡ false) word no_space parts.1))
     ∙ rw parts.0 refl
 words_of-line_of_words (word ∷ next ∷ words) h =
     let both = and_parts (is_word word) (list_all is_word (next ∷ words)) h in
     let parts = and_parts (nat_lt 0 (length word)) (list_all is_word_byte word) both.0 in
-    ap (filter (λ w. nat_lt 0 (length w))) (slice_split_at (λ b. b == 32) word 32 (line_of_words (next ∷ words)) (all-implied is_word_byte (λ x. (x == 32) ≡ false) word no_space parts.1) refl)
+    ap (filter (λ w. nat_lt 0 (length w))) (slice_split_at (λ b. b == 32) word 32 (line_of_words (next ∷ words))
+        (all-implied is_word_byte (λ x. (x == 32) ≡ false) word no_space parts.1) refl)
     ∙ rw parts.0 (ap (λ ws. word ∷ ws) (words_of-line_of_words (next ∷ words) both.1))
 
 is_text-line_of_words : (words : List (List ℕ)) → list_all is_word words ≡ true → is_text (line_of_words words) ≡ true
 is_text-line_of_words [] h = refl
 is_text-line_of_words (word ∷ []) h =
-    list_all-implied is_word_byte (λ b. nat_le 32 b && nat_le b 126) word word_is_text (and_parts (nat_lt 0 (length word)) (list_all is_word_byte word) (and_parts (is_word word) true h).0).1
+    list_all-implied is_word_byte (λ b. nat_le 32 b && nat_le b 126) word word_is_text
+        (and_parts (nat_lt 0 (length word)) (list_all is_word_byte word) (and_parts (is_word word) true h).0).1
 is_text-line_of_words (word ∷ next ∷ words) h =
     let both = and_parts (is_word word) (list_all is_word (next ∷ words)) h in
-    let front = list_all-implied is_word_byte (λ b. nat_le 32 b && nat_le b 126) word word_is_text (and_parts (nat_lt 0 (length word)) (list_all is_word_byte word) both.0).1 in
-    list_all-append (λ b. nat_le 32 b && nat_le b 126) word (32 ∷ line_of_words (next ∷ words)) ∙ rw (front, is_text-line_of_words (next ∷ words) both.1) refl
+    let front = list_all-implied is_word_byte (λ b. nat_le 32 b && nat_le b 126) word word_is_text
+        (and_parts (nat_lt 0 (length word)) (list_all is_word_byte word) both.0).1 in
+    list_all-append (λ b. nat_le 32 b && nat_le b 126) word (32 ∷ line_of_words (next ∷ words))
+        ∙ rw (front, is_text-line_of_words (next ∷ words) both.1) refl
 
 -- ---- lines
 
@@ -94,7 +102,8 @@ lines_of-one_more (b ∷ line) rest h =
     let parts = and_parts (nat_le 32 b && nat_le b 126) (is_text line) h in
     rw (text_no_end b parts.0, lines_of-one_more line rest parts.1) refl
 
-lines_of-text_of_lines : (lines : List (List ℕ)) → list_all is_text lines ≡ true → lines_of (text_of_lines lines) ≡ lines
+lines_of-text_of_lines : (lines : List (List ℕ)) → list_all is_text lines ≡ true
+    → lines_of (text_of_lines lines) ≡ lines
 unfolding lines_of
 lines_of-text_of_lines [] h = refl
 lines_of-text_of_lines (line ∷ lines) h =
@@ -110,19 +119,23 @@ says_nothing : (said : Said) → Says said [] said
 unfolding after_lines
 says_nothing said = record { text = refl; read = λ number. refl }
 
-says_more : (said between next : Said) (line : List ℕ) (lines : List (List ℕ)) → is_text line ≡ true → after_line said line ≡ Ok between → Says between lines next → Says said (line ∷ lines) next
+says_more : (said between next : Said) (line : List ℕ) (lines : List (List ℕ)) → is_text line ≡ true
+    → after_line said line ≡ Ok between → Says between lines next → Says said (line ∷ lines) next
 unfolding after_lines
 says_more said between next line lines text first rest = record {
   text = rw (text, rest.text) refl;
   read = λ number. rw first (rest.read (number + 1));
 }
 
-first_step : (number : ℕ) (r : Result Said Fault) (lines : List (List ℕ)) (next : Said) → (at_line number r >>= λ s. after_lines (number + 1) s lines) ≡ Ok next →
+first_step : (number : ℕ) (r : Result Said Fault) (lines : List (List ℕ)) (next : Said)
+    → (at_line number r >>= λ s. after_lines (number + 1) s lines) ≡ Ok next →
     (s : Said) × (r ≡ Ok s) × (after_lines (number + 1) s lines ≡ Ok next)
 first_step number (Ok s) lines next h = (s, refl, h)
 first_step number (Err fault) lines next h = cc
 
-after_lines-append : (number : ℕ) (said next : Said) (front back : List (List ℕ)) → after_lines number said front ≡ Ok next → after_lines number said (front ++ back) ≡ after_lines (number + length front) next back
+after_lines-append : (number : ℕ) (said next : Said) (front back : List (List ℕ))
+    → after_lines number said front ≡ Ok next → after_lines number said (front ++ back)
+    ≡ after_lines (number + length front) next back
 unfolding after_lines
 after_lines-append number said next [] back h =
     let same : said ≡ next = cc in
@@ -133,15 +146,19 @@ after_lines-append number said next (line ∷ front) back h =
     let count : number + 1 + length front ≡ number + suc (length front) = omega arith in
     rw step.1 (after_lines-append (number + 1) step.0 next front back step.2 ∙ ap (λ n. after_lines n next back) count)
 
-says_both : (said between next : Said) (front back : List (List ℕ)) → Says said front between → Says between back next → Says said (front ++ back) next
+says_both : (said between next : Said) (front back : List (List ℕ)) → Says said front between
+    → Says between back next → Says said (front ++ back) next
 says_both said between next front back first second = record {
   text = list_all-append is_text front back ∙ rw (first.text, second.text) refl;
-  read = λ number. after_lines-append number said between front back (first.read number) ∙ second.read (number + length front);
+  read = λ number. after_lines-append number said between front back (first.read number)
+      ∙ second.read (number + length front);
 }
 
 -- a line that begins with a keyword in its place
-pub keyword_line : (said : Said) (keyword : Keyword) (name : List ℕ) (words : List (List ℕ)) → list_all is_word (name ∷ words) ≡ true → length (line_of_words (name ∷ words)) ≤ 65536 →
-    (slice_index name 0 == 35) ≡ false → keyword_of name ≡ Some keyword → is_in_place said keyword ≡ true → after_line said (line_of_words (name ∷ words)) ≡ with_line said keyword words
+pub keyword_line : (said : Said) (keyword : Keyword) (name : List ℕ) (words : List (List ℕ))
+    → list_all is_word (name ∷ words) ≡ true → length (line_of_words (name ∷ words)) ≤ 65536 →
+    (slice_index name 0 == 35) ≡ false → keyword_of name ≡ Some keyword → is_in_place said keyword ≡ true
+        → after_line said (line_of_words (name ∷ words)) ≡ with_line said keyword words
 unfolding after_line
 keyword_line said keyword name words good short mark is place =
     rw (le-ltb 65536 (length (line_of_words (name ∷ words))) short, is_text-line_of_words (name ∷ words) good)
@@ -169,25 +186,32 @@ spelled n h =
 pub decimal_is_word : (n : ℕ) → n < 2 ^ 128 → is_word (decimal n) ≡ true
 decimal_is_word n h =
     let is = spelled n h in
-    rw (lt-ltb 0 (length (decimal n)) is.some) (list_all-implied is_ascii_digit is_word_byte (decimal n) digit_is_word is.digits)
+    rw (lt-ltb 0 (length (decimal n)) is.some) (list_all-implied is_ascii_digit is_word_byte
+        (decimal n) digit_is_word is.digits)
 
 pub length-decimal : (n : ℕ) → n < 2 ^ 128 → length (decimal n) ≤ 39
 length-decimal n h = (spelled n h).short
 
-pub number_within-decimal : (low high n : ℕ) → low ≤ n → n ≤ high → n < 2 ^ 128 → number_within low high (decimal n) ≡ Ok n
+pub number_within-decimal : (low high n : ℕ) → low ≤ n → n ≤ high → n < 2 ^ 128
+    → number_within low high (decimal n) ≡ Ok n
 unfolding number_of
 number_within-decimal low high n above below h =
     let is = spelled n h in
-    rw (lt-ltb 0 (length (decimal n)) is.some, lt-ltb (length (decimal n)) 40 (omega (arith, is.short)), is.digits, is.value) (grind (arith, nat_tests))
+    rw (lt-ltb 0 (length (decimal n)) is.some, lt-ltb (length (decimal n)) 40
+        (omega (arith, is.short)), is.digits, is.value) (grind (arith, nat_tests))
 
 -- ---- settings
 
-says_setting : (said next : Said) (keyword : Keyword) (name : List ℕ) (n : ℕ) → is_word name ≡ true → length name ≤ 16 → (slice_index name 0 == 35) ≡ false →
-    keyword_of name ≡ Some keyword → is_in_place said keyword ≡ true → n < 2 ^ 128 → with_line said keyword (decimal n ∷ []) ≡ Ok next → Says said (setting_lines name (Some n)) next
+says_setting : (said next : Said) (keyword : Keyword) (name : List ℕ) (n : ℕ) → is_word name ≡ true
+    → length name ≤ 16 → (slice_index name 0 == 35) ≡ false →
+    keyword_of name ≡ Some keyword → is_in_place said keyword ≡ true → n < 2 ^ 128
+        → with_line said keyword (decimal n ∷ []) ≡ Ok next → Says said (setting_lines name (Some n)) next
 says_setting said next keyword name n good short mark is place small line =
     let words : list_all is_word (name ∷ decimal n ∷ []) ≡ true = rw (good, decimal_is_word n small) refl in
-    let count : length (line_of_words (name ∷ decimal n ∷ [])) ≤ 65536 = omega (arith, length-append name (32 ∷ decimal n), length-decimal n small) in
-    says_more said next next _ [] (is_text-line_of_words (name ∷ decimal n ∷ []) words) (keyword_line said keyword name (decimal n ∷ []) words count mark is place ∙ line) (says_nothing next)
+    let count : length (line_of_words (name ∷ decimal n ∷ []))
+        ≤ 65536 = omega (arith, length-append name (32 ∷ decimal n), length-decimal n small) in
+    says_more said next next _ [] (is_text-line_of_words (name ∷ decimal n ∷ []) words)
+        (keyword_line said keyword name (decimal n ∷ []) words count mark is place ∙ line) (says_nothing next)
 
 abbrev given : Option ℕ → Option ℕ → Option ℕ → Option ℕ → Option ℕ → Said
 given clock limit capacity credit submitters = record {
@@ -197,32 +221,53 @@ given clock limit capacity credit submitters = record {
   shut = false;
 }
 
-says_clock : (clock : Option ℕ) → IfSome clock (λ n. n ≤ clock_max) → Says nothing_said (setting_lines (codes "clock") clock) (given clock None None None None)
+says_clock : (clock : Option ℕ) → IfSome clock (λ n. n ≤ clock_max)
+    → Says nothing_said (setting_lines (codes "clock") clock) (given clock None None None None)
 unfolding with_line keyword_of
 says_clock None h = says_nothing nothing_said
-says_clock (Some n) h = says_setting nothing_said _ word.Clock (codes "clock") n refl (omega arith) refl refl refl (omega arith) (rw (number_within-decimal 0 clock_max n (omega arith) (omega arith) (omega arith)) refl)
+says_clock (Some n) h =
+    says_setting nothing_said _ word.Clock (codes "clock") n refl (omega arith) refl refl refl (omega arith)
+    (rw (number_within-decimal 0 clock_max n (omega arith) (omega arith) (omega arith)) refl)
 
-says_limit : (clock limit : Option ℕ) → IfSome limit (λ n. (1 ≤ n) × (n ≤ 8190)) → Says (given clock None None None None) (setting_lines (codes "limit") limit) (given clock limit None None None)
+says_limit : (clock limit : Option ℕ) → IfSome limit (λ n. (1 ≤ n) × (n ≤ 8190))
+    → Says (given clock None None None None) (setting_lines (codes "limit") limit)
+        (given clock limit None None None)
 unfolding with_line keyword_of
 says_limit clock None h = says_nothing _
-says_limit clock (Some n) h = says_setting _ _ word.Limit (codes "limit") n refl (omega arith) refl refl refl (omega (arith, h.1)) (rw (number_within-decimal 1 8190 n h.0 h.1 (omega (arith, h.1))) refl)
+says_limit clock (Some n) h =
+    says_setting _ _ word.Limit (codes "limit") n refl (omega arith) refl refl refl (omega (arith, h.1))
+    (rw (number_within-decimal 1 8190 n h.0 h.1 (omega (arith, h.1))) refl)
 
-says_capacity : (clock limit capacity : Option ℕ) → IfSome capacity (λ n. (1 ≤ n) × (n ≤ capacity_max)) → Says (given clock limit None None None) (setting_lines (codes "capacity") capacity) (given clock limit capacity None None)
+says_capacity : (clock limit capacity : Option ℕ) → IfSome capacity (λ n. (1 ≤ n) × (n ≤ capacity_max))
+    → Says (given clock limit None None None) (setting_lines (codes "capacity") capacity)
+        (given clock limit capacity None None)
 unfolding with_line keyword_of
 says_capacity clock limit None h = says_nothing _
-says_capacity clock limit (Some n) h = says_setting _ _ word.Capacity (codes "capacity") n refl (omega arith) refl refl refl (omega (arith, h.1)) (rw (number_within-decimal 1 capacity_max n h.0 h.1 (omega (arith, h.1))) refl)
+says_capacity clock limit (Some n) h =
+    says_setting _ _ word.Capacity (codes "capacity") n refl (omega arith) refl refl refl (omega (arith, h.1))
+    (rw (number_within-decimal 1 capacity_max n h.0 h.1 (omega (arith, h.1))) refl)
 
-says_credit : (clock limit capacity credit : Option ℕ) → IfSome credit (λ n. (1 ≤ n) × (n ≤ capacity_max)) → Says (given clock limit capacity None None) (setting_lines (codes "credit") credit) (given clock limit capacity credit None)
+says_credit : (clock limit capacity credit : Option ℕ) → IfSome credit (λ n. (1 ≤ n) × (n ≤ capacity_max))
+    → Says (given clock limit capacity None None) (setting_lines (codes "credit") credit)
+        (given clock limit capacity credit None)
 unfolding with_line keyword_of
 says_credit clock limit capacity None h = says_nothing _
-says_credit clock limit capacity (Some n) h = says_setting _ _ word.Credit (codes "credit") n refl (omega arith) refl refl refl (omega (arith, h.1)) (rw (number_within-decimal 1 capacity_max n h.0 h.1 (omega (arith, h.1))) refl)
+says_credit clock limit capacity (Some n) h =
+    says_setting _ _ word.Credit (codes "credit") n refl (omega arith) refl refl refl (omega (arith, h.1))
+    (rw (number_within-decimal 1 capacity_max n h.0 h.1 (omega (arith, h.1))) refl)
 
-says_submitters : (clock limit capacity credit submitters : Option ℕ) → IfSome submitters (λ n. (1 ≤ n) × (n ≤ submitters_max)) → Says (given clock limit capacity credit None) (setting_lines (codes "submitters") submitters) (given clock limit capacity credit submitters)
+says_submitters : (clock limit capacity credit submitters : Option ℕ)
+    → IfSome submitters (λ n. (1 ≤ n) × (n ≤ submitters_max))
+    → Says (given clock limit capacity credit None) (setting_lines (codes "submitters") submitters)
+        (given clock limit capacity credit submitters)
 unfolding with_line keyword_of
 says_submitters clock limit capacity credit None h = says_nothing _
-says_submitters clock limit capacity credit (Some n) h = says_setting _ _ word.Submitters (codes "submitters") n refl (omega arith) refl refl refl (omega (arith, h.1)) (rw (number_within-decimal 1 submitters_max n h.0 h.1 (omega (arith, h.1))) refl)
+says_submitters clock limit capacity credit (Some n) h =
+    says_setting _ _ word.Submitters (codes "submitters") n refl (omega arith) refl refl refl (omega (arith, h.1))
+    (rw (number_within-decimal 1 submitters_max n h.0 h.1 (omega (arith, h.1))) refl)
 
-says_settings : (s : Settings) → CanBeSet s → Says nothing_said (settings_lines s) (given s.clock s.limit s.capacity s.credit s.submitters)
+says_settings : (s : Settings) → CanBeSet s → Says nothing_said (settings_lines s)
+    (given s.clock s.limit s.capacity s.credit s.submitters)
 says_settings s h =
     says_both _ _ _ _ _ (says_clock s.clock h.clock)
     (says_both _ _ _ _ _ (says_limit s.clock s.limit h.limit)
@@ -258,33 +303,45 @@ abbrev adding : Settings → Bool → List Item → Submission → Said
 adding settings shut items packet = record { settings = settings; items = items; packet = Some packet; shut = shut }
 
 says_byte : (settings : Settings) (shut : Bool) (items : List Item) (packet : Submission) (byte : ℕ) → byte < 256 →
-    after_line (adding settings shut items packet) (byte_line byte) ≡ Ok (adding settings shut items (record packet { bytes = packet.bytes ++ byte ∷ [] }))
+    after_line (adding settings shut items packet) (byte_line byte)
+        ≡ Ok (adding settings shut items (record packet { bytes = packet.bytes ++ byte ∷ [] }))
 unfolding with_line keyword_of
 says_byte settings shut items packet byte h =
-    keyword_line (adding settings shut items packet) word.Hex (codes "hex") (encode_lower (byte ∷ []) ∷ []) (rw (encoded_is_word byte h) refl) (omega (arith, length-encoded byte)) refl refl refl
+    keyword_line (adding settings shut items packet) word.Hex (codes "hex") (encode_lower (byte ∷ []) ∷ [])
+        (rw (encoded_is_word byte h) refl) (omega (arith, length-encoded byte)) refl refl refl
     ∙ rw (one_byte byte h) refl
 
 byte_line_is_text : (byte : ℕ) → byte < 256 → is_text (byte_line byte) ≡ true
-byte_line_is_text byte h = is_text-line_of_words (codes "hex" ∷ encode_lower (byte ∷ []) ∷ []) (rw (encoded_is_word byte h) refl)
+byte_line_is_text byte h =
+    is_text-line_of_words (codes "hex" ∷ encode_lower (byte ∷ []) ∷ []) (rw (encoded_is_word byte h) refl)
 
-says_bytes : (settings : Settings) (shut : Bool) (items : List Item) (packet : Submission) (bytes : List ℕ) → All (λ byte. byte < 256) bytes →
-    Says (adding settings shut items packet) (map byte_line bytes) (adding settings shut items (record packet { bytes = packet.bytes ++ bytes }))
-says_bytes settings shut items packet [] h = subst (λ bs. Says (adding settings shut items packet) [] (adding settings shut items (record packet { bytes = bs }))) (sym (append-nil packet.bytes)) (says_nothing _)
+says_bytes : (settings : Settings) (shut : Bool) (items : List Item) (packet : Submission) (bytes : List ℕ)
+    → All (λ byte. byte < 256) bytes →
+    Says (adding settings shut items packet) (map byte_line bytes)
+        (adding settings shut items (record packet { bytes = packet.bytes ++ bytes }))
+says_bytes settings shut items packet [] h =
+    subst (λ bs. Says (adding settings shut items packet) []
+    (adding settings shut items (record packet { bytes = bs }))) (sym (append-nil packet.bytes)) (says_nothing _)
 says_bytes settings shut items packet (byte ∷ bytes) h =
     let small = All-head (λ b. b < 256) byte bytes h in
     let more = record packet { bytes = packet.bytes ++ byte ∷ [] } in
-    says_more _ (adding settings shut items more) _ _ _ (byte_line_is_text byte small) (says_byte settings shut items packet byte small)
-    (subst (λ bs. Says (adding settings shut items more) (map byte_line bytes) (adding settings shut items (record packet { bytes = bs }))) (append_assoc packet.bytes (byte ∷ []) bytes)
+    says_more _ (adding settings shut items more) _ _ _ (byte_line_is_text byte small)
+        (says_byte settings shut items packet byte small)
+    (subst (λ bs. Says (adding settings shut items more) (map byte_line bytes)
+        (adding settings shut items (record packet { bytes = bs }))) (append_assoc packet.bytes (byte ∷ []) bytes)
     (says_bytes settings shut items more bytes (All-tail (λ b. b < 256) byte bytes h)))
 
 abbrev packet_words : Submission → List (List ℕ)
 packet_words packet = codes "packet" ∷ decimal packet.submitter ∷ decimal packet.operation ∷ []
 
-packet_words_are_words : (packet : Submission) (submitters : ℕ) → submitters ≤ 16 → CanBeSubmitted submitters packet → list_all is_word (packet_words packet) ≡ true
+packet_words_are_words : (packet : Submission) (submitters : ℕ) → submitters ≤ 16 → CanBeSubmitted submitters packet
+    → list_all is_word (packet_words packet) ≡ true
 packet_words_are_words packet submitters few h =
-    rw (decimal_is_word packet.submitter (omega (arith, h.submitter)), decimal_is_word packet.operation (omega (arith, h.operation))) refl
+    rw (decimal_is_word packet.submitter (omega (arith, h.submitter)), decimal_is_word packet.operation
+        (omega (arith, h.operation))) refl
 
-says_packet_line : (said : Said) (packet : Submission) → submitters_of said.settings ≤ submitters_max → CanBeSubmitted (submitters_of said.settings) packet →
+says_packet_line : (said : Said) (packet : Submission) → submitters_of said.settings ≤ submitters_max
+    → CanBeSubmitted (submitters_of said.settings) packet →
     after_line said (line_of_words (packet_words packet)) ≡ Ok (with_packet said packet.submitter packet.operation)
 unfolding with_line keyword_of
 says_packet_line said packet few h =
@@ -292,33 +349,48 @@ says_packet_line said packet few h =
     let operation : packet.operation < 2 ^ 128 = omega (arith, h.operation) in
     let words = packet_words_are_words packet (submitters_of said.settings) few h in
     let short : length (line_of_words (packet_words packet)) ≤ 65536 =
-    omega (arith, length-append (decimal packet.submitter) (32 ∷ decimal packet.operation), length-decimal packet.submitter submitter, length-decimal packet.operation operation) in
-    keyword_line said word.Packet (codes "packet") (decimal packet.submitter ∷ decimal packet.operation ∷ []) words short refl refl refl
-    ∙ rw (number_within-decimal 0 (submitters_of said.settings - 1) packet.submitter (omega arith) (omega (arith, h.submitter)) submitter, number_within-decimal 0 255 packet.operation (omega arith) (omega (arith, h.operation)) operation) refl
+    omega (arith, length-append (decimal packet.submitter)
+        (32 ∷ decimal packet.operation), length-decimal packet.submitter submitter, length-decimal
+        packet.operation operation) in
+    keyword_line said word.Packet (codes "packet")
+        (decimal packet.submitter ∷ decimal packet.operation ∷ []) words short refl refl refl
+    ∙ rw (number_within-decimal 0 (submitters_of said.settings - 1) packet.submitter (omega arith)
+            (omega (arith, h.submitter)) submitter, number_within-decimal 0 255 packet.operation (omega arith)
+            (omega (arith, h.operation)) operation) refl
 
 -- a pulse's line says its pulse
-says_pulse : (said : Said) (moment : ℕ) → said.shut ≡ false → moment < 2 ^ 64 → Says said (item_lines (Pulse moment)) (with_pulse said moment)
+says_pulse : (said : Said) (moment : ℕ) → said.shut ≡ false → moment < 2 ^ 64
+    → Says said (item_lines (Pulse moment)) (with_pulse said moment)
 unfolding with_line keyword_of
 says_pulse said moment unshut small =
     let h : moment < 2 ^ 128 = omega (arith, small) in
     let words : list_all is_word (codes "pulse" ∷ decimal moment ∷ []) ≡ true = rw (decimal_is_word moment h) refl in
-    let short : length (line_of_words (codes "pulse" ∷ decimal moment ∷ [])) ≤ 65536 = omega (arith, length-decimal moment h) in
-    let line = keyword_line said word.Pulse (codes "pulse") (decimal moment ∷ []) words short refl refl (rw unshut refl) ∙ rw (number_within-decimal 0 (2 ^ 64 - 1) moment (omega arith) (omega (arith, small)) h) refl in
-    says_more said (with_pulse said moment) (with_pulse said moment) _ [] (is_text-line_of_words (codes "pulse" ∷ decimal moment ∷ []) words) line (says_nothing (with_pulse said moment))
+    let short : length (line_of_words (codes "pulse" ∷ decimal moment ∷ []))
+        ≤ 65536 = omega (arith, length-decimal moment h) in
+    let line = keyword_line said word.Pulse (codes "pulse") (decimal moment ∷ []) words short refl refl
+        (rw unshut refl) ∙ rw (number_within-decimal 0 (2 ^ 64 - 1) moment (omega arith)
+        (omega (arith, small)) h) refl in
+    says_more said (with_pulse said moment) (with_pulse said moment) _ []
+        (is_text-line_of_words (codes "pulse" ∷ decimal moment ∷ []) words) line
+        (says_nothing (with_pulse said moment))
 
 -- the line of the Close says it
 says_close : (said : Said) → said.shut ≡ false → Says said (item_lines Shut) (with_close said)
 unfolding with_line keyword_of
 says_close said unshut =
-    says_more said (with_close said) (with_close said) _ [] refl (keyword_line said word.Shut (codes "shut") [] refl (omega arith) refl refl (rw unshut refl)) (says_nothing (with_close said))
+    says_more said (with_close said) (with_close said) _ [] refl
+        (keyword_line said word.Shut (codes "shut") [] refl (omega arith) refl refl (rw unshut refl))
+        (says_nothing (with_close said))
 
 -- a packet's lines say the packet
-says_packet : (said : Said) (packet : Submission) → submitters_of said.settings ≤ submitters_max → CanBeSubmitted (submitters_of said.settings) packet →
+says_packet : (said : Said) (packet : Submission) → submitters_of said.settings ≤ submitters_max
+    → CanBeSubmitted (submitters_of said.settings) packet →
     Says said (packet_lines packet) (adding said.settings said.shut (items_of said) packet)
 says_packet said packet few h =
     let started = adding said.settings said.shut (items_of said) (record packet { bytes = [] }) in
     let words = packet_words_are_words packet (submitters_of said.settings) few h in
-    says_more said started (adding said.settings said.shut (items_of said) packet) _ (map byte_line packet.bytes) (is_text-line_of_words (packet_words packet) words) (says_packet_line said packet few h)
+    says_more said started (adding said.settings said.shut (items_of said) packet) _ (map byte_line packet.bytes)
+        (is_text-line_of_words (packet_words packet) words) (says_packet_line said packet few h)
     (says_bytes said.settings said.shut (items_of said) (record packet { bytes = [] }) packet.bytes h.bytes)
 
 -- one item behind those that were said
@@ -327,7 +399,8 @@ with_item said (Packet packet) = adding said.settings said.shut (items_of said) 
 with_item said (Pulse moment) = with_pulse said moment
 with_item said Shut = with_close said
 
-says_item : (said : Said) (item : Item) → submitters_of said.settings ≤ submitters_max → CanBeSaid (submitters_of said.settings) said.shut item → Says said (item_lines item) (with_item said item)
+says_item : (said : Said) (item : Item) → submitters_of said.settings ≤ submitters_max
+    → CanBeSaid (submitters_of said.settings) said.shut item → Says said (item_lines item) (with_item said item)
 says_item said (Packet packet) few h = says_packet said packet few h
 says_item said (Pulse moment) few h = says_pulse said moment h.0 h.1
 says_item said Shut few h = says_close said h
@@ -354,21 +427,29 @@ record SaysItems (said : Said) (items : List Item) : Type 0 where
   settings : next.settings ≡ said.settings
   all : items_of next ≡ items_of said ++ items
 
-says_items : (said : Said) (items : List Item) → submitters_of said.settings ≤ submitters_max → CanAllBeSaid (submitters_of said.settings) said.shut items → SaysItems said items
-says_items said [] few all = record { next = said; says = says_nothing said; settings = refl; all = sym (append-nil (items_of said)) }
+says_items : (said : Said) (items : List Item) → submitters_of said.settings ≤ submitters_max
+    → CanAllBeSaid (submitters_of said.settings) said.shut items → SaysItems said items
+says_items said [] few all =
+    record { next = said; says = says_nothing said; settings = refl; all = sym (append-nil (items_of said)) }
 says_items said (item ∷ items) few all =
     let between = with_item said item in
     let same = settings_stay said item in
-    let can = subst (λ b. CanAllBeSaid (submitters_of between.settings) b items) (sym (shut_after said item)) (subst (λ (s : Settings). CanAllBeSaid (submitters_of s) (shut_by said.shut item) items) (sym same) all.1) in
-    let later = says_items between items (subst (λ (s : Settings). submitters_of s ≤ submitters_max) (sym same) few) can in
+    let can = subst (λ b. CanAllBeSaid (submitters_of between.settings) b items) (sym (shut_after said item))
+        (subst (λ (s : Settings). CanAllBeSaid (submitters_of s) (shut_by said.shut item) items)
+        (sym same) all.1) in
+    let later = says_items between items (subst (λ (s : Settings). submitters_of s ≤ submitters_max) (sym same) few)
+        can in
     record {
       next = later.next;
-      says = says_both said between later.next (item_lines item) (flat_map item_lines items) (says_item said item few all.0) later.says;
+      says = says_both said between later.next (item_lines item) (flat_map item_lines items)
+          (says_item said item few all.0) later.says;
       settings = later.settings ∙ same;
-      all = later.all ∙ ap (λ xs. xs ++ items) (item_is_last said item) ∙ append_assoc (items_of said) (item ∷ []) items;
+      all = later.all ∙ ap (λ xs. xs ++ items) (item_is_last said item)
+          ∙ append_assoc (items_of said) (item ∷ []) items;
     }
 
-few_submitters : (submitters : Option ℕ) → IfSome submitters (λ n. (1 ≤ n) × (n ≤ submitters_max)) → unwrap_or submitters 2 ≤ submitters_max
+few_submitters : (submitters : Option ℕ) → IfSome submitters (λ n. (1 ≤ n) × (n ≤ submitters_max))
+    → unwrap_or submitters 2 ≤ submitters_max
 few_submitters None h = omega arith
 few_submitters (Some n) h = h.1
 
@@ -376,5 +457,8 @@ pub read_as_spelled : SpelledScriptsAreRead
 read_as_spelled settings items can all =
     let start = given settings.clock settings.limit settings.capacity settings.credit settings.submitters in
     let later = says_items start items (few_submitters settings.submitters can.submitters) all in
-    let whole = says_both nothing_said start later.next (settings_lines settings) (flat_map item_lines items) (says_settings settings can) later.says in
-    (later.next, ap (after_lines 1 nothing_said) (lines_of-text_of_lines (settings_lines settings ++ flat_map item_lines items) whole.text) ∙ whole.read 1, later.settings, later.all)
+    let whole = says_both nothing_said start later.next (settings_lines settings) (flat_map item_lines items)
+        (says_settings settings can) later.says in
+    (later.next, ap (after_lines 1 nothing_said) (lines_of-text_of_lines
+        (settings_lines settings ++ flat_map item_lines items) whole.text)
+        ∙ whole.read 1, later.settings, later.all)

@@ -12,17 +12,20 @@ use Rattle.tb_script.specs.Text.{lines_of, words_of}
 abbrev line_end : List ℕ → ℕ
 line_end bs = position_or_len (λ b. b == 10) bs
 
-one_line : (ends : Bool) (b : ℕ) → cond ends ([] ∷ []) ((b ∷ []) ∷ []) ≡ take (cond (not ends) 1 0) (b ∷ []) ∷ lines_of (drop (cond (not ends) 1 0 + 1) (b ∷ []))
+one_line : (ends : Bool) (b : ℕ) → cond ends ([] ∷ []) ((b ∷ []) ∷ [])
+    ≡ take (cond (not ends) 1 0) (b ∷ []) ∷ lines_of (drop (cond (not ends) 1 0 + 1) (b ∷ []))
 unfolding lines_of
 one_line true b = refl
 one_line false b = refl
 
 more_lines : (ends : Bool) (b n : ℕ) (bs : List ℕ) → lines_of bs ≡ take n bs ∷ lines_of (drop (n + 1) bs) →
-    cond ends ([] ∷ lines_of bs) (onto_first b (lines_of bs)) ≡ take (cond (not ends) (1 + n) 0) (b ∷ bs) ∷ lines_of (drop (cond (not ends) (1 + n) 0 + 1) (b ∷ bs))
+    cond ends ([] ∷ lines_of bs) (onto_first b (lines_of bs))
+        ≡ take (cond (not ends) (1 + n) 0) (b ∷ bs) ∷ lines_of (drop (cond (not ends) (1 + n) 0 + 1) (b ∷ bs))
 more_lines true b n bs e = refl
 more_lines false b n bs e = rw e (grind (arith, common_steps))
 
-pub lines_first : (bs : List ℕ) → 0 < length bs → lines_of bs ≡ take (line_end bs) bs ∷ lines_of (drop (line_end bs + 1) bs)
+pub lines_first : (bs : List ℕ) → 0 < length bs
+    → lines_of bs ≡ take (line_end bs) bs ∷ lines_of (drop (line_end bs + 1) bs)
 unfolding lines_of
 lines_first [] h = absurd (omega arith)
 lines_first (b ∷ []) h = one_line (b == 10) b
@@ -57,9 +60,11 @@ record Front (parts : List (List ℕ)) (n : ℕ) (bs : List ℕ) : Type 0 where
   words : some_words others ≡ words_of (drop n bs)
 
 front_more : (space : Bool) (b n : ℕ) (bs : List ℕ) → space ≡ (b == 32) → Front (slice_split (λ x. x == 32) bs) n bs →
-    Front (cond space ([] ∷ slice_split (λ x. x == 32) bs) (onto_first b (slice_split (λ x. x == 32) bs))) (cond (not space) (1 + n) 0) (b ∷ bs)
+    Front (cond space ([] ∷ slice_split (λ x. x == 32) bs) (onto_first b (slice_split (λ x. x == 32) bs)))
+        (cond (not space) (1 + n) 0) (b ∷ bs)
 unfolding words_of
-front_more true b n bs e h = record { others = slice_split (λ x. x == 32) bs; parted = refl; words = sym (words_from_space b bs (sym e)) }
+front_more true b n bs e h =
+    record { others = slice_split (λ x. x == 32) bs; parted = refl; words = sym (words_from_space b bs (sym e)) }
 front_more false b n bs e h =
     let one : 1 + n ≡ suc n = omega arith in
     record {
@@ -77,15 +82,18 @@ pub kept : (word : List ℕ) (ws : List (List ℕ)) → 0 < length word → some
 kept [] ws h = absurd (omega arith)
 kept (b ∷ bs) ws h = rw (lt-ltb 0 (length (b ∷ bs)) h) refl
 
-pub words_first : (bs : List ℕ) → 0 < word_end bs → words_of bs ≡ take (word_end bs) bs ∷ words_of (drop (word_end bs) bs)
+pub words_first : (bs : List ℕ) → 0 < word_end bs
+    → words_of bs ≡ take (word_end bs) bs ∷ words_of (drop (word_end bs) bs)
 unfolding words_of
 words_first bs h =
     let f = front bs in
     let some : 0 < length (take (word_end bs) bs) = omega (arith, length-prefix_len (λ b. not (b == 32)) bs) in
     ap some_words f.parted ∙ kept (take (word_end bs) bs) f.others some ∙ ap (λ ws. take (word_end bs) bs ∷ ws) f.words
 
-begins : (space : Bool) (b n : ℕ) (bs : List ℕ) → space ≡ (b == 32) → (length (drop n bs) ≡ 0) ⊎ (0 < word_end (drop n bs)) →
-    (length (drop (cond (not (not space)) (1 + n) 0) (b ∷ bs)) ≡ 0) ⊎ (0 < word_end (drop (cond (not (not space)) (1 + n) 0) (b ∷ bs)))
+begins : (space : Bool) (b n : ℕ) (bs : List ℕ) → space ≡ (b == 32)
+    → (length (drop n bs) ≡ 0) ⊎ (0 < word_end (drop n bs)) →
+    (length (drop (cond (not (not space)) (1 + n) 0) (b ∷ bs)) ≡ 0)
+        ⊎ (0 < word_end (drop (cond (not (not space)) (1 + n) 0) (b ∷ bs)))
 begins true b n bs e h = let one : 1 + n ≡ suc n = omega arith in rw one h
 begins false b n bs e h = inr (rw (sym e) (omega arith))
 
@@ -115,9 +123,14 @@ nowhere p bs h = elim (cases_lt (position_or_len p bs) (length bs)) [
 ]
 
 -- what stands before the place that a search found, or everything
-pub before_found : (byte : ℕ) (bs : List ℕ) (found : Option ℕ) → IsFirstByte (is_byte byte) bs found → position_or_len (λ b. b == byte) bs ≡ unwrap_or found (length bs)
-before_found byte bs None h = position_or_len_is (λ b. b == byte) bs (length bs) 0 (omega arith) (λ k below. false_from_ne_true _ (h k (omega arith) below)) (λ below. absurd (omega (arith, below)))
-before_found byte bs (Some i) h = position_or_len_is (λ b. b == byte) bs i 0 (omega (arith, h.0.high)) (λ k below. false_from_ne_true _ (h.0.before k (omega arith) below)) (λ below. h.1)
+pub before_found : (byte : ℕ) (bs : List ℕ) (found : Option ℕ) → IsFirstByte (is_byte byte) bs found
+    → position_or_len (λ b. b == byte) bs ≡ unwrap_or found (length bs)
+before_found byte bs None h =
+    position_or_len_is (λ b. b == byte) bs (length bs) 0 (omega arith)
+    (λ k below. false_from_ne_true _ (h k (omega arith) below)) (λ below. absurd (omega (arith, below)))
+before_found byte bs (Some i) h =
+    position_or_len_is (λ b. b == byte) bs i 0 (omega (arith, h.0.high))
+    (λ k below. false_from_ne_true _ (h.0.before k (omega arith) below)) (λ below. h.1)
 
 -- the first line, where a byte ends it
 pub line_ended : (bs : List ℕ) (end : ℕ) → end ≡ line_end bs → end < length bs →
@@ -127,7 +140,8 @@ line_ended bs end e h =
     rw (rest, e) (lines_first bs (omega arith))
 
 -- the first line, where none does
-pub line_unended : (bs : List ℕ) (end : ℕ) → end ≡ line_end bs → length bs ≤ end → 0 < length bs → lines_of bs ≡ bs ∷ lines_of []
+pub line_unended : (bs : List ℕ) (end : ℕ) → end ≡ line_end bs → length bs ≤ end → 0 < length bs
+    → lines_of bs ≡ bs ∷ lines_of []
 line_unended bs end e h some =
     let line : take end bs ≡ bs = grind (arith, common_steps) in
     let rest : drop (end + 1) bs ≡ [] = grind (arith, common_steps) in
@@ -139,5 +153,6 @@ empty_words [] h = refl
 empty_words (b ∷ bs) h = absurd (omega arith)
 
 -- all bytes pass, and one more
-pub all_and_next : (p : ℕ → Bool) (bs : List ℕ) (b : ℕ) (all : Bool) → all ≡ list_all p bs → (all && p b) ≡ list_all p (bs ++ b ∷ [])
+pub all_and_next : (p : ℕ → Bool) (bs : List ℕ) (b : ℕ) (all : Bool) → all ≡ list_all p bs
+    → (all && p b) ≡ list_all p (bs ++ b ∷ [])
 all_and_next p bs b all so_far = grind (arith, common_steps, list_all-append)

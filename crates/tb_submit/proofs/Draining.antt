@@ -32,51 +32,66 @@ and_parts : (a b : Bool) → (not a && b) ≡ true → (a ≡ false) × (b ≡ t
 and_parts true b e = absurd (true≢false (sym e))
 and_parts false b e = (refl, e)
 
-behind_end : (body : List Item) (last : Item) (xs ys : List Item) → IsUnended body → xs ++ ys ≡ body ++ last ∷ [] → list_any is_end xs ≡ true → ys ≡ []
+behind_end : (body : List Item) (last : Item) (xs ys : List Item) → IsUnended body → xs ++ ys ≡ body ++ last ∷ []
+    → list_any is_end xs ≡ true → ys ≡ []
 behind_end body last [] ys clear is has = absurd (true≢false (sym has))
 behind_end [] last (x ∷ xs) ys clear is has = nothing_left xs ys cc
 behind_end (b ∷ body) last (x ∷ xs) ys clear is has =
     let first : x ≡ b = cc in
     let rest : xs ++ ys ≡ body ++ last ∷ [] = cc in
     let none = and_parts (is_end b) _ clear in
-    ⊎_elim (λ (t : is_end x ≡ true). absurd (true≢false (sym t ∙ ap is_end first ∙ none.0))) (λ t. behind_end body last xs ys none.1 rest t) (or_parts (is_end x) (list_any is_end xs) has)
+    ⊎_elim (λ (t : is_end x ≡ true). absurd (true≢false (sym t ∙ ap is_end first ∙ none.0)))
+            (λ t. behind_end body last xs ys none.1 rest t) (or_parts (is_end x) (list_any is_end xs) has)
 
 -- what was taken, with an end in it, of a list that ends there
 whole_part : (items xs ys : List Item) → IsEnded items → xs ++ ys ≡ items → list_any is_end xs ≡ true → xs ≡ items
-whole_part items xs ys ended is has = sym (append-nil xs) ∙ ap (λ rest. xs ++ rest) (sym (behind_end ended.body ended.last xs ys ended.unended (is ∙ ended.parts) has)) ∙ is
+whole_part items xs ys ended is has =
+    sym (append-nil xs) ∙ ap (λ rest. xs ++ rest)
+    (sym (behind_end ended.body ended.last xs ys ended.unended (is ∙ ended.parts) has)) ∙ is
 
 -- ---- by rising number
 
-entry_at : (P : Entry → Type 0) (ends : List EndedState) (last : Entry) → AllByRecursion P (map entry_of ends ++ last ∷ []) → (k : ℕ) (d : EndedState) → k < length ends → P (entry_of (get_or ends k d))
+entry_at : (P : Entry → Type 0) (ends : List EndedState) (last : Entry)
+    → AllByRecursion P (map entry_of ends ++ last ∷ []) → (k : ℕ) (d : EndedState) → k < length ends
+    → P (entry_of (get_or ends k d))
 entry_at P [] last all k d below = absurd (omega (arith, below))
 entry_at P (ended ∷ ends) last all zero d below = all.0
 entry_at P (ended ∷ ends) last all (suc k) d below = entry_at P ends last all.1 k d (omega (arith, below))
 
-last_entry : (P : Entry → Type 0) (ends : List EndedState) (last : Entry) → AllByRecursion P (map entry_of ends ++ last ∷ []) → P last
+last_entry : (P : Entry → Type 0) (ends : List EndedState) (last : Entry)
+    → AllByRecursion P (map entry_of ends ++ last ∷ []) → P last
 last_entry P [] last all = all.0
 last_entry P (ended ∷ ends) last all = last_entry P ends last all.1
 
-pub by_number : (F : ℕ → List Item → Type 0) (ends : List EndedState) (control : SenderState) → ((k : ℕ) (d : EndedState) → k < length ends → F k (get_or ends k d).queued) → F (length ends) control.queued →
+pub by_number : (F : ℕ → List Item → Type 0) (ends : List EndedState) (control : SenderState)
+    → ((k : ℕ) (d : EndedState) → k < length ends → F k (get_or ends k d).queued) → F (length ends) control.queued →
     (sender : ℕ) → sender ≤ length ends → F sender (queued_by ends control sender)
 by_number F [] control each last zero below = last
 by_number F [] control each last (suc sender) below = absurd (omega (arith, below))
 by_number F (ended ∷ ends) control each last zero below = each 0 ended (omega arith)
-by_number F (ended ∷ ends) control each last (suc sender) below = by_number (λ k. F (suc k)) ends control (λ k d within. each (suc k) d (omega (arith, within))) last sender (omega (arith, below))
+by_number F (ended ∷ ends) control each last (suc sender) below =
+    by_number (λ k. F (suc k)) ends control (λ k d within. each (suc k) d (omega (arith, within))) last
+    sender (omega (arith, below))
 
 -- ---- what holds of each part holds of the queue
 
 abbrev part_if : Bool → Ticket → ℕ → List Ticket → List Item
 part_if b ticket sender queue =
-    map (λ (t : Ticket). t.item) (if b then ticket ∷ filter (λ (t : Ticket). t.sender == sender) queue else filter (λ (t : Ticket). t.sender == sender) queue)
+    map (λ (t : Ticket). t.item) (if b then ticket ∷ filter (λ (t : Ticket). t.sender == sender) queue
+        else filter (λ (t : Ticket). t.sender == sender) queue)
 
-all_behind : (P : Item → Type 0) (b : Bool) (ticket : Ticket) (sender : ℕ) (queue : List Ticket) → AllByRecursion P (part_if b ticket sender queue) → AllByRecursion P (part sender queue)
+all_behind : (P : Item → Type 0) (b : Bool) (ticket : Ticket) (sender : ℕ) (queue : List Ticket)
+    → AllByRecursion P (part_if b ticket sender queue) → AllByRecursion P (part sender queue)
 all_behind P true ticket sender queue all = all.1
 all_behind P false ticket sender queue all = all
 
-all_of_parts : (P : ℕ → Item → Type 0) (queue : List Ticket) → ((sender : ℕ) → AllByRecursion (P sender) (part sender queue)) → AllByRecursion (λ (ticket : Ticket). P ticket.sender ticket.item) queue
+all_of_parts : (P : ℕ → Item → Type 0) (queue : List Ticket)
+    → ((sender : ℕ) → AllByRecursion (P sender) (part sender queue))
+    → AllByRecursion (λ (ticket : Ticket). P ticket.sender ticket.item) queue
 all_of_parts P [] each = tt
 all_of_parts P (ticket ∷ queue) each = (
-  (subst (AllByRecursion (P ticket.sender)) (ap (λ b. part_if b ticket ticket.sender queue) (eq-eqb ticket.sender ticket.sender refl)) (each ticket.sender)).0,
+  (subst (AllByRecursion (P ticket.sender)) (ap (λ b. part_if b ticket ticket.sender queue)
+      (eq-eqb ticket.sender ticket.sender refl)) (each ticket.sender)).0,
   all_of_parts P queue (λ sender. all_behind (P sender) (ticket.sender == sender) ticket sender queue (each sender)),
 )
 
@@ -104,49 +119,73 @@ pub record AreSettled (intake : IntakeState) (ends : List EndedState) (control :
   pub long : length ends ≡ intake.submitters
   pub seats : (k : ℕ) (d : EndedState) → k < length ends → (get_or ends k d).origin.seat ≡ seat_at intake k
   pub filed : (k : ℕ) (d : EndedState) → k < length ends →
-      IsFiled (get_or ends k d).origin.seat.limit (get_or ends k d).origin.seat.submitters (get_or ends k d).origin.seat.number (get_or ends k d).queued
+      IsFiled (get_or ends k d).origin.seat.limit (get_or ends k d).origin.seat.submitters
+          (get_or ends k d).origin.seat.number (get_or ends k d).queued
   pub control_seat_is : control.seat ≡ control_seat intake
   pub control_filed : IsFiled control.seat.limit control.seat.submitters control.seat.number control.queued
   pub items : List Ticket
-  pub whole : IsWhole (map entry_of ends ++ entry control.seat.number control.queued ∷ []) intake.taken (intake.submitters + 1) items
+  pub whole : IsWhole (map entry_of ends ++ entry control.seat.number control.queued ∷ []) intake.taken
+      (intake.submitters + 1) items
   pub finished : (sender : ℕ) → sender ≤ intake.submitters → list_any is_end (part sender intake.taken) ≡ true
 
-drained : (intake : IntakeState) (items : List Ticket) (number : ℕ) (seat : Seat) (queued : List Item) → seat ≡ seat_at intake number → IsFiled seat.limit seat.submitters seat.number queued →
-    part seat.number (intake.taken ++ items) ≡ queued → list_any is_end (part number intake.taken) ≡ true → IsDrained intake number queued
+drained : (intake : IntakeState) (items : List Ticket) (number : ℕ) (seat : Seat) (queued : List Item)
+    → seat ≡ seat_at intake number → IsFiled seat.limit seat.submitters seat.number queued →
+    part seat.number (intake.taken ++ items) ≡ queued → list_any is_end (part number intake.taken) ≡ true
+        → IsDrained intake number queued
 drained intake items number seat queued seat_is filed is has =
-    let mine : IsFiled intake.limit intake.submitters number queued = subst (λ (s : Seat). IsFiled s.limit s.submitters s.number queued) seat_is filed in
-    let all : part number (intake.taken ++ items) ≡ queued = subst (λ (s : Seat). part s.number (intake.taken ++ items) ≡ queued) seat_is is in
-    (whole_part queued (part number intake.taken) (part number items) mine.ended (sym (part_append number intake.taken items) ∙ all) has, mine)
+    let mine : IsFiled intake.limit intake.submitters number queued = subst
+        (λ (s : Seat). IsFiled s.limit s.submitters s.number queued) seat_is filed in
+    let all : part number (intake.taken ++ items)
+        ≡ queued = subst (λ (s : Seat). part s.number (intake.taken ++ items) ≡ queued) seat_is is in
+    (whole_part queued (part number intake.taken) (part number items) mine.ended
+        (sym (part_append number intake.taken items) ∙ all) has, mine)
 
-all_drained : (intake : IntakeState) (ends : List EndedState) (control : SenderState) → AreSettled intake ends control → (sender : ℕ) → sender ≤ intake.submitters → IsDrained intake sender (queued_by ends control sender)
+all_drained : (intake : IntakeState) (ends : List EndedState) (control : SenderState)
+    → AreSettled intake ends control → (sender : ℕ) → sender ≤ intake.submitters
+    → IsDrained intake sender (queued_by ends control sender)
 all_drained intake ends control is sender below =
     let IsPart : Entry → Type 0 = λ e. part e.number (intake.taken ++ is.items) ≡ e.pushed in
     let last = entry control.seat.number control.queued in
     by_number (IsDrained intake) ends control
-    (λ k d within. drained intake is.items k (get_or ends k d).origin.seat (get_or ends k d).queued (is.seats k d within) (is.filed k d within) (entry_at IsPart ends last is.whole.0 k d within) (is.finished k (omega (arith, within, is.long))))
-    (subst (λ n. IsDrained intake n control.queued) (sym is.long) (drained intake is.items intake.submitters control.seat control.queued is.control_seat_is is.control_filed (last_entry IsPart ends last is.whole.0) (is.finished intake.submitters (omega arith))))
+    (λ k d within. drained intake is.items k (get_or ends k d).origin.seat (get_or ends k d).queued
+        (is.seats k d within) (is.filed k d within) (entry_at IsPart ends last is.whole.0 k d within)
+        (is.finished k (omega (arith, within, is.long))))
+    (subst (λ n. IsDrained intake n control.queued) (sym is.long)
+        (drained intake is.items intake.submitters control.seat control.queued is.control_seat_is is.control_filed
+        (last_entry IsPart ends last is.whole.0) (is.finished intake.submitters (omega arith))))
     sender (omega (arith, below, is.long))
 
-none_above : (intake : IntakeState) (ends : List EndedState) (control : SenderState) → AreSettled intake ends control → (sender : ℕ) → intake.submitters < sender → part sender intake.taken ≡ []
-none_above intake ends control is sender above = before_nothing (part sender intake.taken) (part sender is.items) (sym (part_append sender intake.taken is.items) ∙ is.whole.1 sender (omega (arith, above)))
+none_above : (intake : IntakeState) (ends : List EndedState) (control : SenderState)
+    → AreSettled intake ends control → (sender : ℕ) → intake.submitters < sender → part sender intake.taken ≡ []
+none_above intake ends control is sender above =
+    before_nothing (part sender intake.taken) (part sender is.items)
+    (sym (part_append sender intake.taken is.items) ∙ is.whole.1 sender (omega (arith, above)))
 
 -- what holds of all that each sender queued holds of what was taken
-each_part : (P : ℕ → Item → Type 0) (intake : IntakeState) (ends : List EndedState) (control : SenderState) → AreSettled intake ends control →
-    ((sender : ℕ) (items : List Item) → IsFiled intake.limit intake.submitters sender items → AllByRecursion (P sender) items) → (sender : ℕ) → AllByRecursion (P sender) (part sender intake.taken)
+each_part : (P : ℕ → Item → Type 0) (intake : IntakeState) (ends : List EndedState) (control : SenderState)
+    → AreSettled intake ends control →
+    ((sender : ℕ) (items : List Item) → IsFiled intake.limit intake.submitters sender items
+        → AllByRecursion (P sender) items) → (sender : ℕ) → AllByRecursion (P sender) (part sender intake.taken)
 each_part P intake ends control is each sender = ⊎_elim
-    (λ (below : sender ≤ intake.submitters). let own = all_drained intake ends control is sender below in subst (AllByRecursion (P sender)) (sym own.0) (each sender _ own.1))
-    (λ (above : intake.submitters < sender). subst (AllByRecursion (P sender)) (sym (none_above intake ends control is sender above)) tt)
+    (λ (below : sender ≤ intake.submitters). let own = all_drained intake ends control is sender below in subst
+        (AllByRecursion (P sender)) (sym own.0) (each sender _ own.1))
+    (λ (above : intake.submitters < sender). subst (AllByRecursion (P sender))
+        (sym (none_above intake ends control is sender above)) tt)
     (within_or_above sender intake.submitters)
 
-pub settled_queue : (intake : IntakeState) (ends : List EndedState) (control : SenderState) → AreSettled intake ends control → IsQueueOf intake.submitters intake.taken (queued_by ends control)
+pub settled_queue : (intake : IntakeState) (ends : List EndedState) (control : SenderState)
+    → AreSettled intake ends control → IsQueueOf intake.submitters intake.taken (queued_by ends control)
 settled_queue intake ends control is = record {
   parts = λ sender below. (all_drained intake ends control is sender below).0;
   strangers = none_above intake ends control is;
-  submitted = all_of_parts (IsSubmitted intake.submitters) intake.taken (each_part (IsSubmitted intake.submitters) intake ends control is (λ sender items filed. filed.submitted));
+  submitted = all_of_parts (IsSubmitted intake.submitters) intake.taken
+      (each_part (IsSubmitted intake.submitters) intake ends control is (λ sender items filed. filed.submitted));
   numbered = λ sender below. (all_drained intake ends control is sender below).1.numbered;
   ended = λ sender below. (all_drained intake ends control is sender below).1.ended;
 }
 
-pub settled_within : (intake : IntakeState) (ends : List EndedState) (control : SenderState) → AreSettled intake ends control → AreWithin intake.limit intake.taken
+pub settled_within : (intake : IntakeState) (ends : List EndedState) (control : SenderState)
+    → AreSettled intake ends control → AreWithin intake.limit intake.taken
 settled_within intake ends control is =
-    all_of_parts (λ sender. IsWithin intake.limit) intake.taken (each_part (λ sender. IsWithin intake.limit) intake ends control is (λ sender items filed. filed.within))
+    all_of_parts (λ sender. IsWithin intake.limit) intake.taken
+        (each_part (λ sender. IsWithin intake.limit) intake ends control is (λ sender items filed. filed.within))

@@ -12,6 +12,9 @@ else_else : (a b c : Option Refusal) → or_else (or_else a b) c ≡ or_else a (
 else_else None b c = refl
 else_else (Some refusal) b c = refl
 
-pub told_more : (replies : List Replied) (reply : Replied) → told_in (replies ++ reply ∷ []) ≡ or_else (told_in replies) (told_by reply.outcome)
+pub told_more : (replies : List Replied) (reply : Replied)
+    → told_in (replies ++ reply ∷ []) ≡ or_else (told_in replies) (told_by reply.outcome)
 told_more [] reply = none_else (told_by reply.outcome)
-told_more (first ∷ replies) reply = ap (or_else (told_by first.outcome)) (told_more replies reply) ∙ sym (else_else (told_by first.outcome) (told_in replies) (told_by reply.outcome))
+told_more (first ∷ replies) reply =
+    ap (or_else (told_by first.outcome)) (told_more replies reply)
+    ∙ sym (else_else (told_by first.outcome) (told_in replies) (told_by reply.outcome))

@@ -13,94 +13,137 @@ use Rattle.tb_tables.proofs.Expecting.{has_id-at, one-place}
 use Rattle.tb_tables.proofs.Due.{reserving-after, lawful-after, due-after, none-left}
 
 -- a new row, which isn't marked, is one transfer more
-facts_of-push : (lists : Lists) (transfer : TransferRecord) → facts_of (record lists { rows = lists.rows ++ (transfer, false) ∷ [] }) ≡ add_transfer (facts_of lists) transfer
+facts_of-push : (lists : Lists) (transfer : TransferRecord)
+    → facts_of (record lists { rows = lists.rows ++ (transfer, false) ∷ [] })
+    ≡ add_transfer (facts_of lists) transfer
 facts_of-push lists transfer =
     let row : TransferRecord × Bool = (transfer, false) in
     let transfers = map-append (λ (r : TransferRecord × Bool). r.0) lists.rows (row ∷ []) in
-    let expired : expired_in (lists.rows ++ row ∷ []) ≡ expired_in lists.rows = ap (map (λ (r : TransferRecord × Bool). r.0.id)) (filter-append (λ (r : TransferRecord × Bool). r.1) lists.rows (row ∷ []) ∙ append-nil _) in
+    let expired : expired_in (lists.rows ++ row ∷ [])
+        ≡ expired_in lists.rows =
+        ap (map (λ (r : TransferRecord × Bool). r.0.id))
+        (filter-append (λ (r : TransferRecord × Bool). r.1) lists.rows (row ∷ []) ∙ append-nil _) in
     λ i. record { accounts = lists.accounts; transfers = transfers i; expired = expired i; failed = lists.failed }
 
 module _ (changes : List Change) (old : Lists) (all : AreLawful (plain_history changes old)) where
   -- a history that goes on
   abbrev GoesOn : Change → Lists → Facts → Type 0
-  GoesOn change new facts = AreLawful (plain_history (changes ++ change ∷ []) new) × (plain_history (changes ++ change ∷ []) new ≡ with_change (plain_history changes old) facts)
+  GoesOn change new facts =
+      AreLawful (plain_history (changes ++ change ∷ []) new)
+      × (plain_history (changes ++ change ∷ []) new ≡ with_change (plain_history changes old) facts)
 
-  added : (change : Change) (new : Lists) → cut_back change new ≡ old → IsLawful (facts_of new) → GoesOn change new (facts_of new)
-  added change new back lawful = (lawful_push changes change old new back lawful all, history-push changes change old new back)
+  added : (change : Change) (new : Lists) → cut_back change new ≡ old → IsLawful (facts_of new)
+      → GoesOn change new (facts_of new)
+  added change new back lawful =
+      (lawful_push changes change old new back lawful all, history-push changes change old new back)
 
-  pub account-added : (account : AccountRecord) → GoesOn Account (record old { accounts = old.accounts ++ account ∷ [] }) (add_account (facts_of old) account)
-  account-added account = added Account _ (ap (λ accounts. record old { accounts = accounts }) (without_last-push old.accounts account)) (record { distinct = all.now.distinct; debits_fit = all.now.debits_fit; credits_fit = all.now.credits_fit })
+  pub account-added : (account : AccountRecord)
+      → GoesOn Account (record old { accounts = old.accounts ++ account ∷ [] }) (add_account (facts_of old) account)
+  account-added account =
+      added Account _ (ap (λ accounts. record old { accounts = accounts }) (without_last-push old.accounts account))
+      (record { distinct = all.now.distinct; debits_fit = all.now.debits_fit; credits_fit = all.now.credits_fit })
 
-  pub failed-added : (id : ℕ) → GoesOn Failed (record old { failed = old.failed ++ id ∷ [] }) (add_failed (facts_of old) id)
-  failed-added id = added Failed _ (ap (λ failed. record old { failed = failed }) (without_last-push old.failed id)) (record { distinct = all.now.distinct; debits_fit = all.now.debits_fit; credits_fit = all.now.credits_fit })
+  pub failed-added : (id : ℕ) → GoesOn Failed (record old { failed = old.failed ++ id ∷ [] })
+      (add_failed (facts_of old) id)
+  failed-added id =
+      added Failed _ (ap (λ failed. record old { failed = failed }) (without_last-push old.failed id))
+      (record { distinct = all.now.distinct; debits_fit = all.now.debits_fit; credits_fit = all.now.credits_fit })
 
-  pub row-added : (transfer : TransferRecord) → (IsLawful (facts_of old) → IsLawful (add_transfer (facts_of old) transfer)) → GoesOn Transfer (record old { rows = old.rows ++ (transfer, false) ∷ [] }) (add_transfer (facts_of old) transfer)
+  pub row-added : (transfer : TransferRecord) → (IsLawful (facts_of old)
+      → IsLawful (add_transfer (facts_of old) transfer))
+      → GoesOn Transfer (record old { rows = old.rows ++ (transfer, false) ∷ [] })
+          (add_transfer (facts_of old) transfer)
   row-added transfer keeps =
       let row : TransferRecord × Bool = (transfer, false) in
       let is = facts_of-push old transfer in
-      let on = added Transfer (record old { rows = old.rows ++ row ∷ [] }) (ap (λ rows. record old { rows = rows }) (without_last-push old.rows row)) (subst IsLawful (sym is) (keeps all.now)) in
+      let on = added Transfer (record old { rows = old.rows ++ row ∷ [] })
+          (ap (λ rows. record old { rows = rows }) (without_last-push old.rows row))
+          (subst IsLawful (sym is) (keeps all.now)) in
       (on.0, on.1 ∙ ap (with_change (plain_history changes old)) is)
 
 abbrev Rows : Type 0
 Rows = List (TransferRecord × Bool)
 
-transfer-at : (rows : Rows) (p : ℕ) (row : TransferRecord × Bool) → slice_get rows p ≡ Some row → slice_get (transfers_in rows) p ≡ Some row.0
+transfer-at : (rows : Rows) (p : ℕ) (row : TransferRecord × Bool) → slice_get rows p ≡ Some row
+    → slice_get (transfers_in rows) p ≡ Some row.0
 transfer-at [] p row at = cc
 transfer-at (r ∷ rows) zero row at = cc
 transfer-at (r ∷ rows) (suc p) row at = transfer-at rows p row at
 
 -- ---- a row's mark tells whether its transfer expired
 
-unmarked : (id : ℕ) (rows : Rows) → has_id id (transfers_in rows) ≡ false → list_any (λ x. x == id) (expired_in rows) ≡ false
+unmarked : (id : ℕ) (rows : Rows) → has_id id (transfers_in rows) ≡ false
+    → list_any (λ x. x == id) (expired_in rows) ≡ false
 unmarked id [] h = refl
 unmarked id (row ∷ rows) h = grind (arith, unmarked id rows)
 
-mark-is : (rows : Rows) (p : ℕ) (row : TransferRecord × Bool) → ids_distinct (transfers_in rows) ≡ true → slice_get rows p ≡ Some row → list_any (λ x. x == row.0.id) (expired_in rows) ≡ row.1
+mark-is : (rows : Rows) (p : ℕ) (row : TransferRecord × Bool) → ids_distinct (transfers_in rows) ≡ true
+    → slice_get rows p ≡ Some row → list_any (λ x. x == row.0.id) (expired_in rows) ≡ row.1
 mark-is [] p row distinct at = cc
 mark-is (r ∷ rows) zero row distinct at = grind (arith, nat_tests, unmarked r.0.id rows)
-mark-is (r ∷ rows) (suc p) row distinct at = grind (arith, nat_tests, has_id-at r.0.id (transfers_in rows) p row.0 (transfer-at rows p row at), mark-is rows p row)
+mark-is (r ∷ rows) (suc p) row distinct at =
+    grind (arith, nat_tests, has_id-at r.0.id (transfers_in rows) p row.0
+    (transfer-at rows p row at), mark-is rows p row)
 
 -- what is marked, where a test of the transfer tells the mark
-expired-by : (test : TransferRecord → Bool) (rows : Rows) → ((p : ℕ) (row : TransferRecord × Bool) → slice_get rows p ≡ Some row → test row.0 ≡ row.1) → expired_in rows ≡ map (λ (t : TransferRecord). t.id) (filter test (transfers_in rows))
+expired-by : (test : TransferRecord → Bool) (rows : Rows)
+    → ((p : ℕ) (row : TransferRecord × Bool) → slice_get rows p ≡ Some row → test row.0 ≡ row.1)
+    → expired_in rows ≡ map (λ (t : TransferRecord). t.id) (filter test (transfers_in rows))
 expired-by test [] same = refl
 expired-by test (r ∷ rows) same = grind (arith, same 0 r refl, expired-by test rows (λ p. same (suc p)))
 
-ordered : (rows : Rows) → IsLawful (facts_in rows) → expired_in rows ≡ map (λ (t : TransferRecord). t.id) (filter (λ t. is_expired (facts_in rows) t.id) (transfers_in rows))
-ordered rows lawful = expired-by (λ t. is_expired (facts_in rows) t.id) rows (λ p row. mark-is rows p row lawful.distinct)
+ordered : (rows : Rows) → IsLawful (facts_in rows)
+    → expired_in rows ≡ map (λ (t : TransferRecord). t.id)
+        (filter (λ t. is_expired (facts_in rows) t.id) (transfers_in rows))
+ordered rows lawful =
+    expired-by (λ t. is_expired (facts_in rows) t.id) rows (λ p row. mark-is rows p row lawful.distinct)
 
 -- ---- one more is marked
 
-transfers-set : (rows : Rows) (place : ℕ) (x : TransferRecord) (b : Bool) → slice_get (transfers_in rows) place ≡ Some x → transfers_in (set rows place (x, b)) ≡ transfers_in rows
+transfers-set : (rows : Rows) (place : ℕ) (x : TransferRecord) (b : Bool)
+    → slice_get (transfers_in rows) place ≡ Some x → transfers_in (set rows place (x, b)) ≡ transfers_in rows
 transfers-set [] place x b at = cc
 transfers-set (r ∷ rows) zero x b at = cc
 transfers-set (r ∷ rows) (suc place) x b at = ap (λ ts. r.0 ∷ ts) (transfers-set rows place x b at)
 
-expired-set : (test : TransferRecord → Bool) (rows : Rows) (place : ℕ) (x : TransferRecord) → slice_get (transfers_in rows) place ≡ Some x → ((p : ℕ) (row : TransferRecord × Bool) → slice_get rows p ≡ Some row → test row.0 ≡ (row.1 || (place == p))) →
+expired-set : (test : TransferRecord → Bool) (rows : Rows) (place : ℕ) (x : TransferRecord)
+    → slice_get (transfers_in rows) place ≡ Some x
+    → ((p : ℕ) (row : TransferRecord × Bool) → slice_get rows p ≡ Some row → test row.0 ≡ (row.1 || (place == p))) →
     expired_in (set rows place (x, true)) ≡ map (λ (t : TransferRecord). t.id) (filter test (transfers_in rows))
 expired-set test [] place x at same = cc
-expired-set test (r ∷ rows) zero x at same = grind (arith, nat_tests, same 0 r refl, expired-by test rows (λ p row at'. grind (arith, nat_tests, same (suc p) row at')))
-expired-set test (r ∷ rows) (suc place) x at same = grind (arith, nat_tests, same 0 r refl, expired-set test rows place x at (λ p row at'. grind (arith, nat_tests, same (suc p) row at')))
+expired-set test (r ∷ rows) zero x at same =
+    grind (arith, nat_tests, same 0 r refl, expired-by test rows
+    (λ p row at'. grind (arith, nat_tests, same (suc p) row at')))
+expired-set test (r ∷ rows) (suc place) x at same =
+    grind (arith, nat_tests, same 0 r refl, expired-set test rows place x at
+    (λ p row at'. grind (arith, nat_tests, same (suc p) row at')))
 
 -- those before a place have expired where they are due
 pub record AreMarked (clock : ℕ) (old now : Rows) (place : ℕ) : Type 0 where
   pub lawful : IsLawful (facts_in now)
   pub same : expire_due clock (facts_in now) ≡ expire_due clock (facts_in old)
   pub len : length now ≡ length old
-  pub done : (p : ℕ) (t : TransferRecord) → p < place → slice_get (transfers_in now) p ≡ Some t → (is_reserving (facts_in now) t && is_due clock t) ≡ false
+  pub done : (p : ℕ) (t : TransferRecord) → p < place → slice_get (transfers_in now) p ≡ Some t
+      → (is_reserving (facts_in now) t && is_due clock t) ≡ false
 
-module _ (clock : ℕ) (old now : Rows) (place : ℕ) (d : TransferRecord × Bool) (within : place < length old) (are : AreMarked clock old now place) where
+module _ (clock : ℕ) (old now : Rows) (place : ℕ) (d : TransferRecord × Bool) (within : place < length old)
+    (are : AreMarked clock old now place) where
   abbrev x : TransferRecord
   x = (get_or now place d).0
 
   at : slice_get (transfers_in now) place ≡ Some x
   at = transfer-at now place (get_or now place d) (slice_get-get_or now place d (omega (arith, within, are.len)))
 
-  pub marked : (is_reserving (facts_in now) x && is_due clock x) ≡ true → AreMarked clock old (set now place (x, true)) (place + 1)
+  pub marked : (is_reserving (facts_in now) x && is_due clock x) ≡ true
+      → AreMarked clock old (set now place (x, true)) (place + 1)
   marked due = record {
-    lawful = subst IsLawful (sym is) (lawful-after (facts_in now) x place at are.lawful reserving (ordered now are.lawful));
-    same = ap (expire_due clock) is ∙ due-after (facts_in now) x place at are.lawful reserving (ordered now are.lawful) clock (grind (arith, due)) ∙ are.same;
+    lawful = subst IsLawful (sym is) (lawful-after (facts_in now) x place at are.lawful reserving
+        (ordered now are.lawful));
+    same = ap (expire_due clock) is ∙ due-after (facts_in now) x place at are.lawful reserving
+        (ordered now are.lawful) clock (grind (arith, due)) ∙ are.same;
     len = length-set now place (x, true) ∙ are.len;
-    done = subst (λ (facts : Facts). (p : ℕ) (t : TransferRecord) → p < place + 1 → slice_get facts.transfers p ≡ Some t → (is_reserving facts t && is_due clock t) ≡ false) (sym is) done;
+    done = subst (λ (facts : Facts). (p : ℕ) (t : TransferRecord) → p < place + 1
+        → slice_get facts.transfers p ≡ Some t → (is_reserving facts t && is_due clock t) ≡ false) (sym is) done;
   }
     where
       reserving : is_reserving (facts_in now) x ≡ true
@@ -110,10 +153,12 @@ module _ (clock : ℕ) (old now : Rows) (place : ℕ) (d : TransferRecord × Boo
       is =
           let transfers = transfers-set now place x true at in
           let expired = expired-set (λ t. is_expired (facts_in now) t.id || (x.id == t.id)) now place x at
-          (λ p row at'. cc (mark-is now p row are.lawful.distinct at', one-place (transfers_in now) place p x row.0 are.lawful.distinct at (transfer-at now p row at'))) in
+          (λ p row at'. cc (mark-is now p row are.lawful.distinct at', one-place
+              (transfers_in now) place p x row.0 are.lawful.distinct at (transfer-at now p row at'))) in
           λ i. record (facts_in now) { transfers = transfers i; expired = expired i }
 
-      done : (p : ℕ) (t : TransferRecord) → p < place + 1 → slice_get (transfers_in now) p ≡ Some t → (is_reserving (expire_one x.id (facts_in now)) t && is_due clock t) ≡ false
+      done : (p : ℕ) (t : TransferRecord) → p < place + 1 → slice_get (transfers_in now) p ≡ Some t
+          → (is_reserving (expire_one x.id (facts_in now)) t && is_due clock t) ≡ false
       done p t below at' =
           let after = reserving-after (facts_in now) x place at are.lawful reserving (ordered now are.lawful) t in
           let here = one-place (transfers_in now) place p x t are.lawful.distinct at at' in
@@ -121,8 +166,13 @@ module _ (clock : ℕ) (old now : Rows) (place : ℕ) (d : TransferRecord × Boo
           grind (arith, nat_tests, after, here, was, at', below)
 
   pub passed : (is_reserving (facts_in now) x && is_due clock x) ≡ false → AreMarked clock old now (place + 1)
-  passed not_due = record { lawful = are.lawful; same = are.same; len = are.len; done = λ p t below at'. let was = are.done p t in grind (arith, nat_tests, not_due, was, at, at', below) }
+  passed not_due =
+      record { lawful = are.lawful; same = are.same; len = are.len;
+          done = λ p t below at'. let was = are.done p t in grind (arith, nat_tests, not_due, was, at, at', below) }
 
-pub all-marked : (clock : ℕ) (old now : Rows) (place : ℕ) → length old ≤ place → AreMarked clock old now place → facts_in now ≡ expire_due clock (facts_in old)
+pub all-marked : (clock : ℕ) (old now : Rows) (place : ℕ) → length old ≤ place → AreMarked clock old now place
+    → facts_in now ≡ expire_due clock (facts_in old)
 all-marked clock old now place past are =
-    sym (none-left clock (facts_in now) (ordered now are.lawful) (λ p t at. are.done p t (omega (arith, are.len, slice_get_within (transfers_in now) p t at, length-map now (λ (row : TransferRecord × Bool). row.0))) at)) ∙ are.same
+    sym (none-left clock (facts_in now) (ordered now are.lawful)
+        (λ p t at. are.done p t (omega (arith, are.len, slice_get_within (transfers_in now) p t at, length-map now
+        (λ (row : TransferRecord × Bool). row.0))) at)) ∙ are.same

@@ -8,7 +8,8 @@ use Rattle.tb_layout.specs.Events.{Events, Accounts, Transfers, Ids, accounts_of
 use Rattle.tb_work.specs.Job.{is_chunk_linked}
 
 -- of events that chunks hold, the last chunk tells
-is_last_linked-chunk : {Event : Type 0} (is_linked : Event → Bool) (f : List ℕ → Event) (chunks : List (List ℕ)) (chunk : List ℕ) → slice_get chunks (length chunks - 1) ≡ Some chunk →
+is_last_linked-chunk : {Event : Type 0} (is_linked : Event → Bool) (f : List ℕ → Event) (chunks : List (List ℕ))
+    (chunk : List ℕ) → slice_get chunks (length chunks - 1) ≡ Some chunk →
     is_last_linked is_linked (map f chunks) ≡ is_linked (f chunk)
 is_last_linked-chunk is_linked f [] chunk h = cc
 is_last_linked-chunk is_linked f (first ∷ []) chunk h = let same : first ≡ chunk = cc in ap (λ r. is_linked (f r)) same
@@ -23,8 +24,13 @@ chosen false true x y z p q e f g = f
 chosen false false x y z p q e f g = g
 
 -- the last chunk of a packet's data tells whether it is open
-pub is_open-chunk : (operation : ℕ) (bytes chunk : List ℕ) (chunks : List (List ℕ)) → chunks ≡ chunks_of 128 bytes → Some chunk ≡ slice_get chunks (length chunks - 1) → is_chunk_linked operation chunk ≡ is_open (events_of operation bytes)
+pub is_open-chunk : (operation : ℕ) (bytes chunk : List ℕ) (chunks : List (List ℕ)) → chunks ≡ chunks_of 128 bytes
+    → Some chunk ≡ slice_get chunks (length chunks - 1)
+    → is_chunk_linked operation chunk ≡ is_open (events_of operation bytes)
 is_open-chunk operation bytes chunk chunks is last =
-    let at : slice_get (chunks_of 128 bytes) (length (chunks_of 128 bytes) - 1) ≡ Some chunk = ap (λ (rs : List (List ℕ)). slice_get rs (length rs - 1)) (sym is) ∙ sym last in
-    chosen (operation == 129) (operation == 130) (Accounts (accounts_of bytes)) (Transfers (transfers_of bytes)) (Ids (ids_of bytes)) _ _
-    (sym (is_last_linked-chunk is_linked_account account_of (chunks_of 128 bytes) chunk at)) (sym (is_last_linked-chunk is_linked_transfer transfer_of (chunks_of 128 bytes) chunk at)) refl
+    let at : slice_get (chunks_of 128 bytes) (length (chunks_of 128 bytes) - 1)
+        ≡ Some chunk = ap (λ (rs : List (List ℕ)). slice_get rs (length rs - 1)) (sym is) ∙ sym last in
+    chosen (operation == 129) (operation == 130) (Accounts (accounts_of bytes)) (Transfers (transfers_of bytes))
+        (Ids (ids_of bytes)) _ _
+    (sym (is_last_linked-chunk is_linked_account account_of (chunks_of 128 bytes) chunk at))
+        (sym (is_last_linked-chunk is_linked_transfer transfer_of (chunks_of 128 bytes) chunk at)) refl

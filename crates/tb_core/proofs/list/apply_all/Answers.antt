@@ -3,7 +3,8 @@ use Rattle.tb_core.specs.declared.parcel.Parcel.{Parcel}
 use Rattle.tb_core.specs.Front.{all_passages_in, passages_in}
 use Rattle.tb_core.proofs.list.apply_all.Goals as goal
 
-first_out : (parcels rest : List Parcel) (parcel : Parcel) → Some parcel ≡ slice_get parcels 0 → rest ≡ remove parcels 0 → parcels ≡ parcel ∷ rest
+first_out : (parcels rest : List Parcel) (parcel : Parcel) → Some parcel ≡ slice_get parcels 0
+    → rest ≡ remove parcels 0 → parcels ≡ parcel ∷ rest
 first_out [] rest parcel is rest_is = grind arith
 first_out (first ∷ others) rest parcel is rest_is = grind arith
 
@@ -17,7 +18,8 @@ loop-parcel-init c = λ clock limit sent joined on. record { done = sent; parts 
 pub loop-parcel-preserved : goal.loop-parcel-preserved
 loop-parcel-preserved c = λ clock limit sent joined on.
     let rest = c.pop_at.new.self.items in
-    let have = rw (first_out c.loop-parcel.parcels.items rest c.in-Some.parcel c.in-Some.ensures.value c.in-Some.ensures.items) at (c.loop-parcel.invariant clock limit sent joined on) in
+    let have = rw (first_out c.loop-parcel.parcels.items rest c.in-Some.parcel c.in-Some.ensures.value
+        c.in-Some.ensures.items) at (c.loop-parcel.invariant clock limit sent joined on) in
     record {
       done = have.done ++ passages_in c.in-Some.parcel;
       parts = append_assoc have.done (passages_in c.in-Some.parcel) (all_passages_in rest) ∙ have.parts;
@@ -28,4 +30,5 @@ loop-parcel-preserved c = λ clock limit sent joined on.
 pub returns-clause-applied : goal.returns-clause-applied
 returns-clause-applied c = λ clock limit sent joined on.
     let have = c.loop-parcel.invariant clock limit sent joined on in
-    rw (sym have.parts ∙ ap (λ rest. have.done ++ all_passages_in rest) (none_left c.loop-parcel.parcels.items c.in_default.ensures.value) ∙ append-nil have.done) have.on
+    rw (sym have.parts ∙ ap (λ rest. have.done ++ all_passages_in rest)
+        (none_left c.loop-parcel.parcels.items c.in_default.ensures.value) ∙ append-nil have.done) have.on

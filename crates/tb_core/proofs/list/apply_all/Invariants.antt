@@ -7,7 +7,9 @@ use Rattle.tb_core.proofs.Listing.{AreApplied}
 use Rattle.tb_core.proofs.list.apply_all.Given as goal
 
 abbrev pub invariant-loop-parcel : goal.invariant-loop-parcel
-invariant-loop-parcel l = (clock limit : ℕ) (sent : List Passage) → AreJoinedParcels limit l.fn.parcels.items → GoesOn clock limit sent l.fn.ledger l.fn.replies.items →
+invariant-loop-parcel l =
+    (clock limit : ℕ) (sent : List Passage) → AreJoinedParcels limit l.fn.parcels.items
+    → GoesOn clock limit sent l.fn.ledger l.fn.replies.items →
     AreApplied clock limit (sent ++ all_passages_in l.fn.parcels.items) l.parcels.items l.ledger l.replies.items
 
 abbrev pub decreases-loop-parcel : goal.decreases-loop-parcel

@@ -8,7 +8,8 @@ use Rattle.tb_drive.proofs.driving.seat_all.Given as goal
 abbrev pub invariant-loop-submitter : goal.invariant-loop-submitter
 invariant-loop-submitter g l = record {
   own : map seated_origin l.all.items ≡ map origin_of l.yielded;
-  shares : map seated_share l.all.items ++ map g.D.Driver.share (into_iter_items l.drivers) ≡ map g.D.Driver.share l.fn.drivers.items;
+  shares : map seated_share l.all.items ++ map g.D.Driver.share (into_iter_items l.drivers)
+      ≡ map g.D.Driver.share l.fn.drivers.items;
   long : length (into_iter_items l.drivers) ≡ length l.submitter-iterator.rest.items;
   seen : HaveSeen g.D.Driver.has_seen (into_iter_items l.drivers) l.submitter-iterator.rest.items;
 }

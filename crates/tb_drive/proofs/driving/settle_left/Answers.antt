@@ -12,15 +12,18 @@ returns-clause-reported g c =
     let drivers = c.left.inside.drivers.items in
     let settled = c.settle.ensures in
     let own : map end_origin ends ≡ served.submitters = search rules in
-    let long : length ends ≡ served.intake.submitters = sym (length-map ends end_origin) ∙ ap length own ∙ c.requires.number in
+    let long : length ends ≡ served.intake.submitters = sym (length-map ends end_origin)
+        ∙ ap length own ∙ c.requires.number in
     record {
       queue = served.intake.taken;
       queued = queued_by ends c.args.control.end;
-      control = queued_by_control ends c.args.control.end served.intake.submitters served.submitters own c.requires.number;
+      control = queued_by_control ends c.args.control.end served.intake.submitters
+          served.submitters own c.requires.number;
       report = settled.report;
       grouping = settled.grouping;
       pulses = settled.pulses;
       number = settled.long;
       driven = c.left.invariant.0 ∙ long;
-      seen = once_settled g.D.Driver.has_seen drivers ends _ c.args.control.end (settled.long ∙ sym long) settled.read c.left.invariant.1;
+      seen = once_settled g.D.Driver.has_seen drivers ends _ c.args.control.end
+          (settled.long ∙ sym long) settled.read c.left.invariant.1;
     }

@@ -6,6 +6,8 @@ use Rattle.tb_list.proofs.planning.plan_all.Given as goal
 
 abbrev pub invariant-loop-item : goal.invariant-loop-item
 invariant-loop-item l = record {
-  queue : l.plan.queue ++ queue_of (plan_behind l.limit l.plan.queue (drain_items l.item-iterator)) ≡ queue_of (plan_behind l.limit [] l.fn.items.items);
-  lines : l.plan.lines ++ map line_of (plan_behind l.limit l.plan.queue (drain_items l.item-iterator)) ≡ map line_of (plan_behind l.limit [] l.fn.items.items);
+  queue : l.plan.queue ++ queue_of (plan_behind l.limit l.plan.queue (drain_items l.item-iterator))
+      ≡ queue_of (plan_behind l.limit [] l.fn.items.items);
+  lines : l.plan.lines ++ map line_of (plan_behind l.limit l.plan.queue (drain_items l.item-iterator))
+      ≡ map line_of (plan_behind l.limit [] l.fn.items.items);
 }

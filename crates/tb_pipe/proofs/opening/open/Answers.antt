@@ -4,10 +4,14 @@ use Rattle.tb_pipe.proofs.Origins.{length-origins, seat-origins}
 use Rattle.tb_pipe.proofs.opening.open.Goals as goal
 
 pub returns-clause-number : goal.returns-clause-number
-returns-clause-number c = length-origins (seat_at c.in_ok-ends.ends.intake) 0 c.in_ok-ends.ends.outlets.items ∙ c.in_ok-ends.ensures.outlets.0
+returns-clause-number c =
+    length-origins (seat_at c.in_ok-ends.ends.intake) 0 c.in_ok-ends.ends.outlets.items
+    ∙ c.in_ok-ends.ensures.outlets.0
 
 pub returns-clause-seats : goal.returns-clause-seats
-returns-clause-seats c = λ k d below. seat-origins (seat_at c.in_ok-ends.ends.intake) 0 c.in_ok-ends.ends.outlets.items k d (omega (arith, below, c.in_ok-ends.ensures.outlets.0)) ∙ ap (seat_at c.in_ok-ends.ends.intake) (omega arith)
+returns-clause-seats c =
+    λ k d below. seat-origins (seat_at c.in_ok-ends.ends.intake) 0 c.in_ok-ends.ends.outlets.items k d
+    (omega (arith, below, c.in_ok-ends.ensures.outlets.0)) ∙ ap (seat_at c.in_ok-ends.ends.intake) (omega arith)
 
 pub returns-clause-clock : goal.returns-clause-clock
 returns-clause-clock c = search rules

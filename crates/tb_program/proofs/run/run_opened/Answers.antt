@@ -44,11 +44,16 @@ returns-in_ok-text_of-in-Ok g c =
       stopped = ledger.stopped;
       replies = replies;
       told = told;
-      report = subst (λ n. LawfulReport opened.pipeline.clock n reported.queue reported.queued (works ledger) state ledger.stopped replies) (sym long) reported.report;
+      report = subst (λ n. LawfulReport opened.pipeline.clock n reported.queue reported.queued
+          (works ledger) state ledger.stopped replies) (sym long) reported.report;
       grouping = reported.grouping;
       control = ap reported.queued long ∙ reported.control ∙ ap (λ queued. queued ++ lines) c.requires.silent;
-      pulses = subst (λ queued. IsPrefixOf (moments_committed (works ledger)) (moments_queued (queued ++ lines))) c.requires.silent reported.pulses;
+      pulses = subst (λ queued. IsPrefixOf (moments_committed (works ledger)) (moments_queued (queued ++ lines)))
+          c.requires.silent reported.pulses;
       number = length-map drivers told_of ∙ sym (length-map drivers share_of) ∙ ap length shares;
-      handed = subst (λ all. AreHandedIn all told reported.queued) shares (all_handed_in reported c.in_ok-text_of-in-Ok.ensures.done);
-      printed = subst (λ refused. string_bytes c.in_ok-text_of-in-Ok.field-0 ≡ run_text told replies (works ledger) refused state) c.in-Ok.ensures.refused c.in_ok-text_of-in-Ok.ensures.text;
+      handed = subst (λ all. AreHandedIn all told reported.queued) shares
+          (all_handed_in reported c.in_ok-text_of-in-Ok.ensures.done);
+      printed = subst (λ refused. string_bytes c.in_ok-text_of-in-Ok.field-0
+          ≡ run_text told replies (works ledger) refused state) c.in-Ok.ensures.refused
+              c.in_ok-text_of-in-Ok.ensures.text;
     }

@@ -5,7 +5,9 @@ use Rattle.tb_script.proofs.event.behind_name.Goals as goal
 use Rattle.tb_script.proofs.event.behind_name.Goals.{else-end-line-via-then-end-line+then-line-end-eq61+else-eq, else-end-line-via-then-end-line+else-line-end-eq61, else-end-line-via-else-end-line}
 
 pub returns-then-eq : goal.returns-then-eq
-returns-then-eq c = behind_sign c.args.line.now c.args.name.now (record { long = search rules; sign = search rules; front = search (rules, bytes_eq-Decides) })
+returns-then-eq c =
+    behind_sign c.args.line.now c.args.name.now (record
+    { long = search rules; sign = search rules; front = search (rules, bytes_eq-Decides) })
 
 pub returns-else-end-line : goal.returns-else-end-line
 returns-else-end-line c = λ number e.

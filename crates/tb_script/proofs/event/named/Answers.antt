@@ -8,7 +8,9 @@ pub returns-in-Some-clause-both : goal.returns-in-Some-clause-both
 returns-in-Some-clause-both c =
     let first = first_row c.loop-table.table.now _ c.loop-table.invariant.bare c.in-len1-up.len_at_least in
     let begins = named_first c.args.line.now _ c.in-Some.from_number.now first.bare c.in-Some.ensures in
-    sym c.loop-table.invariant.same ∙ ap (named (first_word c.args.line.now)) first.rows ∙ found_here (first_word c.args.line.now) _ (first_word c.in-Some.from_number.now) _ _ first.bare begins.word
+    sym c.loop-table.invariant.same ∙ ap (named (first_word c.args.line.now)) first.rows
+        ∙ found_here (first_word c.args.line.now) _ (first_word c.in-Some.from_number.now) _
+            _ first.bare begins.word
 
 pub returns-in-Some-clause-rest : goal.returns-in-Some-clause-rest
 returns-in-Some-clause-rest c =
@@ -20,7 +22,9 @@ pub loop-table-preserved : goal.loop-table-preserved
 loop-table-preserved c =
     let first = first_row c.loop-table.table.now _ c.loop-table.invariant.bare c.in-len1-up.len_at_least in
     record {
-      same = sym (found_later (first_word c.args.line.now) _ _ _ (not_first c.args.line.now _ c.in_default-behind_name.ensures)) ∙ sym (ap (named (first_word c.args.line.now)) first.rows) ∙ c.loop-table.invariant.same;
+      same = sym (found_later (first_word c.args.line.now) _ _ _
+          (not_first c.args.line.now _ c.in_default-behind_name.ensures))
+          ∙ sym (ap (named (first_word c.args.line.now)) first.rows) ∙ c.loop-table.invariant.same;
       bare = first.others;
       fewer = search rules;
     }

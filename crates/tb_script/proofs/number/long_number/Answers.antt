@@ -9,4 +9,6 @@ pub returns-then-not-are_digits : goal.returns-then-not-are_digits
 returns-then-not-are_digits c = rw (no_digits c.args.word.now (search rules)) refl
 
 pub returns : goal.returns
-returns c = c.ok.ensures.value ∙ parsed c.args.word.now c.parse.result (rw c.text_of.ensures at c.parse.ensures.value.0) (search rules) (omega arith)
+returns c =
+    c.ok.ensures.value ∙ parsed c.args.word.now c.parse.result (rw c.text_of.ensures at c.parse.ensures.value.0)
+    (search rules) (omega arith)

@@ -13,8 +13,13 @@ invariant-loop-k l = record {
   long : length l.ends.items ≡ length l.fn.ends.items;
   outlets : length l.outlets.items ≡ length l.fn.outlets.items;
   rest : (j : ℕ) (d : EndedState) → l.k ≤ j → slice_index_or l.ends.items j d ≡ slice_index_or l.fn.ends.items j d;
-  ungiven : (j : ℕ) (d : Outlet Replied) → l.k ≤ j → slice_index_or l.outlets.items j d ≡ slice_index_or l.fn.outlets.items j d;
+  ungiven : (j : ℕ) (d : Outlet Replied) → l.k ≤ j
+      → slice_index_or l.outlets.items j d ≡ slice_index_or l.fn.outlets.items j d;
   read : (j : ℕ) (d : EndedState) → (slice_index_or l.ends.items j d).read ≡ (slice_index_or l.fn.ends.items j d).read;
-  filed : (j : ℕ) (d : EndedState) → j < l.k → IsFiled (slice_index_or l.fn.ends.items j d).origin.seat.limit (slice_index_or l.fn.ends.items j d).origin.seat.submitters (slice_index_or l.fn.ends.items j d).origin.seat.number (slice_index_or l.fn.ends.items j d).queued;
-  replies : (j : ℕ) (d : EndedState) (o : Outlet Replied) → j < l.k → (slice_index_or l.ends.items j d).read ++ (slice_index_or l.ends.items j d).lying ≡ given (slice_index_or l.fn.outlets.items j o);
+  filed : (j : ℕ) (d : EndedState) → j < l.k → IsFiled (slice_index_or l.fn.ends.items j d).origin.seat.limit
+      (slice_index_or l.fn.ends.items j d).origin.seat.submitters
+      (slice_index_or l.fn.ends.items j d).origin.seat.number (slice_index_or l.fn.ends.items j d).queued;
+  replies : (j : ℕ) (d : EndedState) (o : Outlet Replied) → j < l.k
+      → (slice_index_or l.ends.items j d).read ++ (slice_index_or l.ends.items j d).lying
+      ≡ given (slice_index_or l.fn.outlets.items j o);
 }

@@ -5,4 +5,6 @@ use Rattle.tb_text.specs.Output.{account_line}
 use Rattle.tb_text.proofs.output.put_accounts.Given as goal
 
 abbrev pub invariant-loop-place : goal.invariant-loop-place
-invariant-loop-place l = string_bytes l.out ≡ string_bytes l.fn.out ++ flat_map account_line (take l.place (balanced_accounts l.machine.facts))
+invariant-loop-place l =
+    string_bytes l.out ≡ string_bytes l.fn.out ++ flat_map account_line
+    (take l.place (balanced_accounts l.machine.facts))

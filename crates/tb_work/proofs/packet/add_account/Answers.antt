@@ -3,7 +3,8 @@ use Rattle.tb_layout.specs.Account.{account_of}
 use Rattle.tb_work.proofs.packet.add_account.Goals as goal
 
 pub returns-in_err-extend_from_slice-clause-read_back : goal.returns-in_err-extend_from_slice-clause-read_back
-returns-in_err-extend_from_slice-clause-read_back c = ap account_of (sym c.write_account.ensures.value) ∙ c.write_account.ensures.read_back
+returns-in_err-extend_from_slice-clause-read_back c =
+    ap account_of (sym c.write_account.ensures.value) ∙ c.write_account.ensures.read_back
 
 pub returns-clause-read_back : goal.returns-clause-read_back
 returns-clause-read_back c = ap account_of (sym c.write_account.ensures.value) ∙ c.write_account.ensures.read_back

@@ -9,7 +9,11 @@ loop-account-preserved c =
     let added = c.in_ok-add_account.ensures in
     let next = take_more c.args.accounts.now c.loop-account.account-index _ c.loop-account-test.true in
     record {
-      bytes = laid-bytes account_bytes account_of c.args.accounts.now c.loop-account.account-index _ next c.loop-account.bytes.items c.add_account.new.bytes.items added.bytes before.bytes;
-      length = laid-length account_bytes account_of c.args.accounts.now c.loop-account.account-index _ next c.loop-account.bytes.items c.add_account.new.bytes.items added.bytes before.length added.length;
-      events = laid-events account_bytes account_of c.args.accounts.now c.loop-account.account-index _ next c.loop-account.bytes.items c.add_account.new.bytes.items added.bytes before.length added.length added.read_back before.events;
+      bytes = laid-bytes account_bytes account_of c.args.accounts.now c.loop-account.account-index _ next
+          c.loop-account.bytes.items c.add_account.new.bytes.items added.bytes before.bytes;
+      length = laid-length account_bytes account_of c.args.accounts.now c.loop-account.account-index _ next
+          c.loop-account.bytes.items c.add_account.new.bytes.items added.bytes before.length added.length;
+      events = laid-events account_bytes account_of c.args.accounts.now c.loop-account.account-index _ next
+          c.loop-account.bytes.items c.add_account.new.bytes.items added.bytes before.length added.length
+          added.read_back before.events;
     }

@@ -9,7 +9,11 @@ loop-transfer-preserved c =
     let added = c.in_ok-add_transfer.ensures in
     let next = take_more c.args.transfers.now c.loop-transfer.transfer-index _ c.loop-transfer-test.true in
     record {
-      bytes = laid-bytes transfer_bytes transfer_of c.args.transfers.now c.loop-transfer.transfer-index _ next c.loop-transfer.bytes.items c.add_transfer.new.bytes.items added.bytes before.bytes;
-      length = laid-length transfer_bytes transfer_of c.args.transfers.now c.loop-transfer.transfer-index _ next c.loop-transfer.bytes.items c.add_transfer.new.bytes.items added.bytes before.length added.length;
-      events = laid-events transfer_bytes transfer_of c.args.transfers.now c.loop-transfer.transfer-index _ next c.loop-transfer.bytes.items c.add_transfer.new.bytes.items added.bytes before.length added.length added.read_back before.events;
+      bytes = laid-bytes transfer_bytes transfer_of c.args.transfers.now c.loop-transfer.transfer-index _ next
+          c.loop-transfer.bytes.items c.add_transfer.new.bytes.items added.bytes before.bytes;
+      length = laid-length transfer_bytes transfer_of c.args.transfers.now c.loop-transfer.transfer-index _ next
+          c.loop-transfer.bytes.items c.add_transfer.new.bytes.items added.bytes before.length added.length;
+      events = laid-events transfer_bytes transfer_of c.args.transfers.now c.loop-transfer.transfer-index _ next
+          c.loop-transfer.bytes.items c.add_transfer.new.bytes.items added.bytes before.length added.length
+          added.read_back before.events;
     }

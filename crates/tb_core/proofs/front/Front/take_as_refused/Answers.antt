@@ -3,8 +3,11 @@ use Rattle.tb_core.specs.Front.{take_result}
 use Rattle.tb_core.proofs.Accounting.{HasTaken, has_taken}
 use Rattle.tb_core.proofs.front.Front.take_as_refused.Goals as goal
 
-taken : (c : goal.After-step_refused) → HasTaken true c.args.self.now c.args.ticket (take_result c.step_refused.new.self c.step_refused.new.parcels.items)
-taken c = has_taken true c.args.self.now c.args.ticket _ c.step_refused.ensures.front c.requires c.step_refused.ensures.took
+taken : (c : goal.After-step_refused) → HasTaken true c.args.self.now c.args.ticket
+    (take_result c.step_refused.new.self c.step_refused.new.parcels.items)
+taken c =
+    has_taken true c.args.self.now c.args.ticket _ c.step_refused.ensures.front c.requires
+    c.step_refused.ensures.took
 
 pub returns-clause-passes : goal.returns-clause-passes
 returns-clause-passes c = (taken c).passes

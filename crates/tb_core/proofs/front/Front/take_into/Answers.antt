@@ -3,12 +3,17 @@ use Rattle.tb_core.specs.Front.{take_result}
 use Rattle.tb_core.proofs.Accounting.{HasTaken, has_taken}
 use Rattle.tb_core.proofs.front.Front.take_into.Goals as goal
 
-taken : (c : goal.Joined-ticket) → HasTaken false c.args.self.now c.args.ticket (take_result c.try_take.new.self c.try_take.new.parcels.items)
+taken : (c : goal.Joined-ticket) → HasTaken false c.args.self.now c.args.ticket
+    (take_result c.try_take.new.self c.try_take.new.parcels.items)
 taken c = has_taken false c.args.self.now c.args.ticket _ c.try_take.ensures.front c.requires.sender c.in-Ok.ensures.ok
 
 -- the ticket came back, with the front as it was
-taken_refused : (c : goal.After-step_refused) → HasTaken true c.args.self.now c.args.ticket (take_result c.step_refused.new.self c.step_refused.new.parcels.items)
-taken_refused c = has_taken true c.args.self.now c.args.ticket _ c.try_take.ensures.front c.requires.sender (cc (c.in-Err.ensures.err.0, c.in-Err.ensures.err.1, c.step_refused.ensures.took))
+taken_refused : (c : goal.After-step_refused)
+    → HasTaken true c.args.self.now c.args.ticket
+        (take_result c.step_refused.new.self c.step_refused.new.parcels.items)
+taken_refused c =
+    has_taken true c.args.self.now c.args.ticket _ c.try_take.ensures.front c.requires.sender
+    (cc (c.in-Err.ensures.err.0, c.in-Err.ensures.err.1, c.step_refused.ensures.took))
 
 pub returns-in-Ok-clause-accounted : goal.returns-in-Ok-clause-accounted
 returns-in-Ok-clause-accounted c = (taken c).accounted

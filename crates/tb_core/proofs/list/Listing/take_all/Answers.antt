@@ -5,7 +5,8 @@ use Rattle.tb_core.proofs.list.Listing.take_all.Goals as goal
 pub loop-item-init : goal.loop-item-init
 loop-item-init c = record {
   none = c.new-parcels.ensures;
-  runs = λ clock limit run. record { done = []; parts = sym c.into_iter-item-iterator.ensures.into_iter_gives.0; run = run };
+  runs = λ clock limit run. record { done = [];
+      parts = sym c.into_iter-item-iterator.ensures.into_iter_gives.0; run = run };
 }
 
 pub loop-item-preserved : goal.loop-item-preserved
@@ -15,7 +16,8 @@ loop-item-preserved c = record {
       let way = c.loop-item.invariant.runs clock limit run in
       record {
         done = way.done ++ c.in-Some.item ∷ [];
-        parts = way.parts ∙ ap (λ rest. way.done ++ rest) c.in-Some.ensures.steps.0 ∙ sym (append_assoc way.done (c.in-Some.item ∷ []) c.next.new.self.rest.items);
+        parts = way.parts ∙ ap (λ rest. way.done ++ rest) c.in-Some.ensures.steps.0
+            ∙ sym (append_assoc way.done (c.in-Some.item ∷ []) c.next.new.self.rest.items);
         run = c.in_ok-take.ensures.runs clock limit way.done way.run;
       };
 }

@@ -6,5 +6,7 @@ use Rattle.tb_core.proofs.list.Listing.take_all.Given as goal
 abbrev pub invariant-loop-item : goal.invariant-loop-item
 invariant-loop-item l = record {
   none : l.parcels.items ≡ [];
-  runs : (clock limit : ℕ) → IsRunning clock limit [] l.initial.self.front l.initial.self.ledger l.initial.self.replies.items → IsUnderWay clock limit l.fn.items.items l.item-iterator.rest.items l.self.front l.self.ledger l.self.replies.items;
+  runs : (clock limit : ℕ) → IsRunning clock limit [] l.initial.self.front l.initial.self.ledger
+      l.initial.self.replies.items → IsUnderWay clock limit l.fn.items.items l.item-iterator.rest.items l.self.front
+      l.self.ledger l.self.replies.items;
 }

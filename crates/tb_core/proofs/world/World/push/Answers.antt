@@ -11,7 +11,9 @@ invariant_of-self c =
     let among : c.args.ticket.sender ≤ most = omega (arith, is.all_senders) in
     record {
       counted = is.counted;
-      queued = subst (All (λ (ticket : Ticket). ticket.sender ≤ most)) (sym {A = List Ticket} c.in-Ok.ensures.items) (All-push (λ (ticket : Ticket). ticket.sender ≤ most) c.self.inside.queue.items c.args.ticket is.queued among);
+      queued = subst (All (λ (ticket : Ticket). ticket.sender ≤ most)) (sym {A = List Ticket} c.in-Ok.ensures.items)
+          (All-push (λ (ticket : Ticket). ticket.sender ≤ most) c.self.inside.queue.items
+          c.args.ticket is.queued among);
       all_senders = length-set c.self.inside.senders.items c.args.ticket.sender c.after-next.result ∙ is.all_senders;
     }
 

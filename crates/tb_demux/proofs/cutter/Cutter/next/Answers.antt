@@ -11,10 +11,14 @@ invariant_of-self-2 c =
     let job = c.in_ok-job.job in
     let rest = into_iter_items c.next.new.self in
     let known : (source : Source) → c.self.inside.source ≡ source → IsSourceOf source (job ∷ rest) =
-    λ source is. subst (λ s. IsSourceOf s (job ∷ rest)) is (subst (λ jobs. IsSourceOf c.self.inside.source jobs) c.in_ok-job.ensures.items c.self.invariant) in
+    λ source is. subst (λ s. IsSourceOf s (job ∷ rest)) is
+        (subst (λ jobs. IsSourceOf c.self.inside.source jobs) c.in_ok-job.ensures.items c.self.invariant) in
     elim c.match-self.branch [
-      | in-Failures w ↦ let left = w.reply.ensures in rw w.self-inside-is (next_left w.in-Failures.uncut w.reply.new.self job rest (known _ w.in-Failures.is) left.left left.taken left.offset left.place)
-      | in-Lookup w ↦ rw w.self-inside-is (none_left w.in-Lookup.outcome w.replace.new.dest job rest (known _ w.in-Lookup.is))
+      | in-Failures w ↦ let left =
+          w.reply.ensures in rw w.self-inside-is (next_left w.in-Failures.uncut w.reply.new.self job rest
+          (known _ w.in-Failures.is) left.left left.taken left.offset left.place)
+      | in-Lookup w ↦ rw w.self-inside-is (none_left w.in-Lookup.outcome w.replace.new.dest job rest
+          (known _ w.in-Lookup.is))
       | in-Shutdown w ↦ rw (w.self-inside-is, w.in-Shutdown.is) tt
       | in-Stopped w ↦ rw (w.self-inside-is, w.in-Stopped.is) tt
     ]
@@ -23,12 +27,22 @@ pub returns-clause-some : goal.returns-clause-some
 returns-clause-some c =
     let job = c.in_ok-job.job in
     let rest = into_iter_items c.next.new.self in
-    let started : (source : Source) → c.self.inside.source ≡ source → c.args.self.now ≡ replies_left source (job ∷ rest) =
-    λ source is. sym c.self.view_is ∙ ap (λ jobs. replies_left c.self.inside.source jobs) c.in_ok-job.ensures.items ∙ ap (λ s. replies_left s (job ∷ rest)) is in
+    let started : (source : Source) → c.self.inside.source ≡ source
+        → c.args.self.now ≡ replies_left source (job ∷ rest) =
+    λ source is. sym c.self.view_is ∙ ap (λ jobs. replies_left c.self.inside.source jobs) c.in_ok-job.ensures.items
+        ∙ ap (λ s. replies_left s (job ∷ rest)) is in
     elim c.match-self.branch [
-      | in-Failures w ↦ let left = w.reply.ensures in rw (w.self-inside-is, w.result-is, left.reply) (started _ w.in-Failures.is ∙ next_replies w.in-Failures.uncut w.reply.new.self job rest left.left left.offset left.place)
-      | in-Lookup w ↦ let fits = subst (λ s. IsSourceOf s (job ∷ rest)) w.in-Lookup.is (subst (λ jobs. IsSourceOf c.self.inside.source jobs) c.in_ok-job.ensures.items c.self.invariant) in
-          rw (w.self-inside-is, w.result-is, w.of.ensures, w.replace.ensures.value) (started _ w.in-Lookup.is ∙ none_left_replies w.in-Lookup.outcome w.replace.new.dest job rest fits)
-      | in-Shutdown w ↦ rw (w.self-inside-is, w.result-is, w.of-in-Shutdown.ensures, w.in-Shutdown.is) (started _ w.in-Shutdown.is)
-      | in-Stopped w ↦ rw (w.self-inside-is, w.result-is, w.of-in-Stopped.ensures, w.in-Stopped.is) (started _ w.in-Stopped.is)
+      | in-Failures w ↦ let left =
+          w.reply.ensures in rw (w.self-inside-is, w.result-is, left.reply)
+          (started _ w.in-Failures.is ∙ next_replies w.in-Failures.uncut w.reply.new.self job rest
+          left.left left.offset left.place)
+      | in-Lookup w ↦ let fits =
+          subst (λ s. IsSourceOf s (job ∷ rest)) w.in-Lookup.is
+          (subst (λ jobs. IsSourceOf c.self.inside.source jobs) c.in_ok-job.ensures.items c.self.invariant) in
+          rw (w.self-inside-is, w.result-is, w.of.ensures, w.replace.ensures.value)
+              (started _ w.in-Lookup.is ∙ none_left_replies w.in-Lookup.outcome w.replace.new.dest job rest fits)
+      | in-Shutdown w ↦ rw (w.self-inside-is, w.result-is, w.of-in-Shutdown.ensures, w.in-Shutdown.is)
+          (started _ w.in-Shutdown.is)
+      | in-Stopped w ↦ rw (w.self-inside-is, w.result-is, w.of-in-Stopped.ensures, w.in-Stopped.is)
+          (started _ w.in-Stopped.is)
     ]

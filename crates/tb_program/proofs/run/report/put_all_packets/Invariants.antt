@@ -16,5 +16,6 @@ invariant-loop-driver l =
       number : length ends ≡ length drivers;
       answered : AreAllAnswered drivers ends;
       done : AreAllDone drivers → AreAllDone l.fn.drivers.items;
-      text : string_bytes l.out ++ packets_text l.submitter (map told_of drivers) (replies_of ends) ≡ string_bytes l.fn.out ++ packets_text 0 (map told_of l.fn.drivers.items) (replies_of l.fn.ends.items);
+      text : string_bytes l.out ++ packets_text l.submitter (map told_of drivers) (replies_of ends)
+          ≡ string_bytes l.fn.out ++ packets_text 0 (map told_of l.fn.drivers.items) (replies_of l.fn.ends.items);
     }

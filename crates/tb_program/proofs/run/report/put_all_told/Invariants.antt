@@ -6,5 +6,6 @@ use Rattle.tb_program.proofs.run.report.put_all_told.Given as goal
 abbrev pub invariant-loop-told : goal.invariant-loop-told
 invariant-loop-told l = record {
   answered : IsAnswered (drop l.told-index l.told) l.replies;
-  text : string_bytes l.out ++ told_text l.submitter (drop l.told-index l.told) l.replies ≡ string_bytes l.fn.out ++ told_text l.submitter l.told l.fn.replies;
+  text : string_bytes l.out ++ told_text l.submitter (drop l.told-index l.told) l.replies
+      ≡ string_bytes l.fn.out ++ told_text l.submitter l.told l.fn.replies;
 }

@@ -9,5 +9,6 @@ invariant-loop-entry l =
     let rest = flat_map group_of (drop l.entry-index l.journal) in
     record {
       place : l.place + length rest ≡ length (flat_map group_of l.journal);
-      text : string_bytes l.out ++ pulses_text l.place rest ≡ string_bytes l.fn.out ++ pulses_text 0 (flat_map group_of l.journal);
+      text : string_bytes l.out ++ pulses_text l.place rest
+          ≡ string_bytes l.fn.out ++ pulses_text 0 (flat_map group_of l.journal);
     }

@@ -11,7 +11,8 @@ invariant_of-self g c =
     let queued = ap (λ (s : SenderState). s.queued) c.in-Ok.ensures.ok in (
       omega (arith, c.self.invariant.0, ap length queued, length-append before (Pulse c.new.result ∷ [])),
       subst ArePulses (sym queued) (pulses_more before c.new.result c.self.invariant.1),
-      ap (λ (s : SenderState). s.seat.number) c.in-Ok.ensures.ok ∙ c.self.invariant.2 ∙ sym (ap (λ (s : SenderState). s.seat.submitters) c.in-Ok.ensures.ok),
+      ap (λ (s : SenderState). s.seat.number) c.in-Ok.ensures.ok ∙ c.self.invariant.2
+          ∙ sym (ap (λ (s : SenderState). s.seat.submitters) c.in-Ok.ensures.ok),
     )
 
 pub returns-clause-ok : goal.returns-clause-ok

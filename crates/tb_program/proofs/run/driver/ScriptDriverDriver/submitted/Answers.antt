@@ -14,7 +14,8 @@ returns-in-Ok-clause-queued c = λ job queued read asked is complete.
     let rest = into_iter_items driver.packets in
     let told = c.tell.ensures.told complete in
     let before = asked told.0 in (
-      subst (λ all. IsHandedIn share rest all (queued ++ job ∷ [])) (sym told.1) (one_queued share rest job.packet (told_of driver) queued job refl before.0),
+      subst (λ all. IsHandedIn share rest all (queued ++ job ∷ [])) (sym told.1)
+          (one_queued share rest job.packet (told_of driver) queued job refl before.0),
       ap (λ (replies : Vec Replied Global). replies.items) c.tell.ensures.replies ∙ before.1,
     )
 
@@ -25,6 +26,7 @@ returns-in-Err-clause-refused c = λ packet queued read asked is complete.
     let rest = into_iter_items driver.packets in
     let told = c.tell-in-Err.ensures.told complete in
     let before = asked told.0 in (
-      subst (λ all. IsHandedIn share rest all queued) (sym told.1) (one_refused share rest packet (told_of driver) c.in-Err.refusal queued before.0),
+      subst (λ all. IsHandedIn share rest all queued) (sym told.1)
+          (one_refused share rest packet (told_of driver) c.in-Err.refusal queued before.0),
       ap (λ (replies : Vec Replied Global). replies.items) c.tell-in-Err.ensures.replies ∙ before.1,
     )

@@ -4,7 +4,9 @@ use Rattle.tb_program.proofs.Sharing.{dealt_past}
 use Rattle.tb_program.proofs.run.share.Shares.add.Goals as goal
 
 pub returns-in_ok-push-in-Pulse-clause-packets : goal.returns-in_ok-push-in-Pulse-clause-packets
-returns-in_ok-push-in-Pulse-clause-packets c = λ items dealt. dealt_past 0 _ items c.args.item (λ other least most. ap (packet_by other) c.in-Pulse.is) dealt
+returns-in_ok-push-in-Pulse-clause-packets c =
+    λ items dealt. dealt_past 0 _ items c.args.item (λ other least most. ap (packet_by other) c.in-Pulse.is) dealt
 
 pub returns-in-Shut-clause-packets : goal.returns-in-Shut-clause-packets
-returns-in-Shut-clause-packets c = λ items dealt. dealt_past 0 _ items c.args.item (λ other least most. ap (packet_by other) c.in-Shut.is) dealt
+returns-in-Shut-clause-packets c =
+    λ items dealt. dealt_past 0 _ items c.args.item (λ other least most. ap (packet_by other) c.in-Shut.is) dealt

@@ -8,5 +8,6 @@ loop-preserved c =
     let pushed : c.push.new.self.items ≡ c.loop.packets.items ++ c.new.result ∷ [] = search rules in
     record {
       number = search rules;
-      packets = subst (λ shares. AreDealt 0 shares []) (sym pushed) (one_more_submitter 0 c.loop.packets.items c.new.result c.new.ensures.items c.loop.invariant.packets);
+      packets = subst (λ shares. AreDealt 0 shares []) (sym pushed)
+          (one_more_submitter 0 c.loop.packets.items c.new.result c.new.ensures.items c.loop.invariant.packets);
     }

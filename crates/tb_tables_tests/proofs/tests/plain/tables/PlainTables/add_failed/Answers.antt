@@ -4,9 +4,11 @@ use Rattle.tb_tables_tests.proofs.tests.plain.tables.PlainTables.add_failed.Goal
 pub invariant_of-self-2 : goal.invariant_of-self-2
 invariant_of-self-2 c =
     let inside = c.self.inside in
-    rw (c.in_ok-push_failed.ensures.ok, c.note.ensures, c.reserve.ensures.items) (failed-added inside.changes.items inside.lists c.self.invariant c.args.id).0
+    rw (c.in_ok-push_failed.ensures.ok, c.note.ensures, c.reserve.ensures.items)
+        (failed-added inside.changes.items inside.lists c.self.invariant c.args.id).0
 
 pub returns-clause-ok : goal.returns-clause-ok
 returns-clause-ok c =
     let inside = c.self.inside in
-    rw (← c.self.view_is, c.in_ok-push_failed.ensures.ok, c.note.ensures, c.reserve.ensures.items) (failed-added inside.changes.items inside.lists c.self.invariant c.args.id).1
+    rw (← c.self.view_is, c.in_ok-push_failed.ensures.ok, c.note.ensures, c.reserve.ensures.items)
+        (failed-added inside.changes.items inside.lists c.self.invariant c.args.id).1

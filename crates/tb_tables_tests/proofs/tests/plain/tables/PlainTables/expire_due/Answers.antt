@@ -4,7 +4,9 @@ use Rattle.tb_tables_tests.proofs.Histories.{no-changes}
 use Rattle.tb_tables_tests.proofs.tests.plain.tables.PlainTables.expire_due.Goals as goal
 
 pub invariant_of-self : goal.invariant_of-self
-invariant_of-self c = rw (no-changes c.self.inside.changes.items c.self.inside.lists (rw (← c.self.view_is) at c.requires)) (record { now = c.expire_due.ensures.lawful; past = tt })
+invariant_of-self c =
+    rw (no-changes c.self.inside.changes.items c.self.inside.lists (rw (← c.self.view_is) at c.requires))
+    (record { now = c.expire_due.ensures.lawful; past = tt })
 
 pub returns : goal.returns
 returns c =
