@@ -20,6 +20,12 @@ is_last (parcel.Pulse moment) = false
 is_last (parcel.Return job cause) = false
 is_last parcel.Last = true
 
+abbrev pub is_batch : Parcel → Bool
+is_batch (parcel.Batch jobs) = true
+is_batch (parcel.Pulse moment) = false
+is_batch (parcel.Return job cause) = false
+is_batch parcel.Last = false
+
 abbrev pub has_last : List Parcel → Bool
 has_last parcels = list_any is_last parcels
 

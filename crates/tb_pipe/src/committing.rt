@@ -5,6 +5,7 @@ ghost use Rattle.tb_core.specs.declared.parcel.Parcel.{Parcel as ParcelValue};
 ghost use Rattle.tb_rings.specs.Ends.{given, taken, SameInlet, SameOutlet};
 ghost use Rattle.tb_pipe.specs.Carried.{is_last, given_on, IsCommitted, AllCommitted, CommittedTo};
 
+use crate::clearing::{Cleared, clear};
 use crate::gate::Gate;
 use crate::waiting::give_waiting;
 use crossbeam_utils::Backoff;
@@ -61,29 +62,18 @@ fn give_on<R: Wait>(rt: &R, outlet: &mut Outlet<Outcomes>, outcomes: Outcomes)
     }
 }
 
-/// Waits until the batch may be committed.
-fn wait_for<R: Wait, G: Gate>(rt: &R, gate: &G, batch: u64) {
-    let backoff = Backoff::new();
-    for _ in rt.forever() {
-        if gate.may_commit(batch) {
-            return;
-        }
-        backoff.snooze();
-    }
-    unreachable!()
-}
-
 /// One parcel through the ledger; true where it is the last.
 fn commit<R: Wait>(
     rt: &R,
     ledger: &mut Ledger,
     outlet: &mut Outlet<Outcomes>,
-    parcel: Parcel,
+    cleared: Cleared,
 ) -> bool
     ensures ring { SameOutlet outlet.old outlet.new }
     ensures committed { (clock : ℕ) (sent : List ParcelValue) → IsCommitted clock sent ledger.old (given outlet.old)
-        → CommittedTo result clock (sent ++ parcel ∷ []) ledger.new (given outlet.new) }
+        → CommittedTo result clock (sent ++ cleared ∷ []) ledger.new (given outlet.new) }
 {
+    let parcel = cleared.into_parcel();
     let last = is_last(&parcel);
     let outcomes = ledger.apply(parcel);
     give_on(rt, outlet, outcomes);
@@ -105,7 +95,7 @@ pub(crate) fn commit_all<R: Wait, G: Gate>(
     let mut inlet = inlet;
     let mut outlet = outlet;
     let mut ledger = ledger;
-    let mut batches = 0u64;
+    let mut batches = 0;
     let backoff = Backoff::new();
     for _ in rt.forever() {
         let Some(parcel) = inlet.take() else {
@@ -113,11 +103,8 @@ pub(crate) fn commit_all<R: Wait, G: Gate>(
             continue;
         };
         backoff.reset();
-        if matches!(parcel, Parcel::Batch(_)) {
-            wait_for(rt, gate, batches);
-            batches = batches.wrapping_add(1);
-        }
-        if commit(rt, &mut ledger, &mut outlet, parcel) {
+        let cleared = clear(rt, gate, parcel, &mut batches);
+        if commit(rt, &mut ledger, &mut outlet, cleared) {
             return Committed {
                 inlet,
                 outlet,

@@ -2,6 +2,7 @@
 #![tactic(auto)]
 
 mod batching;
+mod clearing;
 mod committing;
 mod gate;
 mod opening;

@@ -1,0 +1,72 @@
+//! What the committer may apply.
+
+ghost use Rattle.std.specs.Prelude.{◌≡◌, true};
+ghost use Rattle.tb_pipe.specs.Carried.{is_batch};
+
+use crate::gate::Gate;
+use crossbeam_utils::Backoff;
+use std::marker::Model;
+use std::sync::Wait;
+use tb_core::Parcel;
+
+/// A parcel that may be applied: where it is a batch, the gate has let it through. `clear` alone makes one.
+pub(crate) struct Cleared {
+    parcel: Parcel,
+}
+
+impl Model for Cleared {
+    ghost use Rattle.tb_core.specs.declared.parcel.Parcel.{Parcel};
+
+    ghost Value = { Parcel };
+
+    ghost view = { λ cleared. cleared.parcel };
+}
+
+impl Cleared {
+    pub(crate) fn into_parcel(self) -> Parcel
+        ensures { result ≡ self }
+    {
+        let Cleared { parcel } = self;
+        parcel
+    }
+}
+
+fn is_batch(parcel: &Parcel) -> bool
+    ensures { result ≡ is_batch parcel.now }
+{
+    match parcel {
+        Parcel::Batch(_) => true,
+        _ => false,
+    }
+}
+
+/// Waits until the gate lets the batch through.
+fn wait_for<R: Wait, G: Gate>(rt: &R, gate: &G, batch: u64)
+    ensures { G.lets_through gate.now batch }
+{
+    let backoff = Backoff::new();
+    for _ in rt.forever() {
+        if gate.may_commit(batch) {
+            return;
+        }
+        backoff.snooze();
+    }
+    unreachable!()
+}
+
+/// Waits until the parcel may be applied. A batch is asked for, by the number of those before it; nothing else is.
+pub(crate) fn clear<R: Wait, G: Gate>(
+    rt: &R,
+    gate: &G,
+    parcel: Parcel,
+    batches: &mut u64,
+) -> Cleared
+    ensures parcel { result ≡ parcel }
+    ensures through { is_batch parcel ≡ true → G.lets_through gate.now batches.old }
+{
+    if is_batch(&parcel) {
+        wait_for(rt, gate, *batches);
+        *batches = batches.wrapping_add(1);
+    }
+    Cleared { parcel }
+}
