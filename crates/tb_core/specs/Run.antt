@@ -71,8 +71,8 @@ pub record IsThrough (clock limit : ℕ) (items : List Item) (ledger : LedgerSta
   pub unstopped : ran.stopped ≡ false
   pub joined : AreJoined limit ledger.groups
 
--- Where a front and a ledger took a queue as its senders filled it, and each submitter got the replies that carry its number,
--- the report is lawful.
+-- Where a front and a ledger took a queue as its senders filled it, and each submitter got the replies that carry its
+-- number, the report is lawful.
 abbrev pub RunIsLawful : Type 0
 RunIsLawful =
     (clock submitters : ℕ) (queue : List Ticket) (queued : ℕ → List Item) (ledger : LedgerState) (answers : List Replied) (replies : ℕ → List Replied) →

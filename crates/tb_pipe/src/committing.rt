@@ -22,7 +22,8 @@ pub struct Committed {
     pub ledger: Ledger,
 }
 
-/// The ring ends that come back are those that were handed over, and all that was taken is committed.
+/// The promise that the ring ends that come back are those that were handed over, and that all that was taken is
+/// committed.
 #[derive(Drop)]
 pub struct Commitment {
     pub inlet: Snapshot<Inlet<Parcel>>,
@@ -38,6 +39,7 @@ impl Promise<Committed> for Commitment {
     ghost kept_by = { λ p r. SameInlet p.inlet.value r.inlet × SameOutlet p.outlet.value r.outlet × AllCommitted p.clock (taken r.inlet) r.ledger (given r.outlet) };
 }
 
+/// Whether a parcel is the last.
 fn is_last(parcel: &Parcel) -> bool
     ensures { result ≡ is_last parcel.now }
 {
@@ -72,7 +74,7 @@ fn wait_for<R: Wait, G: Gate>(rt: &R, gate: &G, batch: u64) {
     unreachable!()
 }
 
-/// One parcel through the ledger; true where it is the last.
+/// Passes one parcel through the ledger; whether it is the last.
 fn commit<R: Wait>(
     rt: &R,
     ledger: &mut Ledger,

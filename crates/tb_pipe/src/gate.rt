@@ -3,7 +3,7 @@ ghost use Rattle.std.specs.Prelude.{◌≡◌, true};
 /// Watches the batches of a run and may hold their commits back. Batches are counted from 0 in the order in
 /// which they are sealed, and pulses aren't counted.
 pub trait Gate: Sync {
-    /// The batch was handed to the committer. The batcher calls it once for each batch.
+    /// Notes that the batch was handed to the committer. The batcher calls it once for each batch.
     fn sealed(&self, batch: u64);
 
     /// Whether the batch may be committed now. The committer asks before each commit, again and again while

@@ -18,7 +18,8 @@ kept (packet ∷ packets) (Refused refusal ∷ told) = kept packets told
 abbrev pub packets_in : List Numbered → List Packet
 packets_in jobs = map (λ (job : Numbered). job.packet) jobs
 
--- the first packets of a share were handed in, of each was told what became of it, and just those are queued of which it was told
+-- the first packets of a share were handed in, of each was told what became of it, and just those are queued of which
+-- it was told
 pub record IsHandedIn (share rest : List Packet) (told : List Told) (queued : List Numbered) : Type 0 where
   pub handed : List Packet
   pub parts : share ≡ handed ++ rest

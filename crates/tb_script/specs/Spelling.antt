@@ -100,7 +100,7 @@ named_of_transfer transfer =
 abbrev pub field_word : NamedNumber → List ℕ
 field_word field = field.name ++ 61 ∷ decimal field.number
 
--- a line with fields behind its keyword
+-- a line with fields after its keyword
 abbrev pub fields_line : List ℕ → List NamedNumber → List ℕ
 fields_line keyword fields = line_of_words (keyword ∷ map field_word fields)
 

@@ -18,7 +18,7 @@ use Rattle.tb_tables.specs.declared.status.Status.TheVariants.{Pending, Posted, 
 abbrev pub new_row : Transfer → Row
 new_row transfer = record { transfer = transfer; status = if is_pending transfer then Some Pending else None }
 
--- a transfer that the facts allow, on its way in or out, and the rows that stand behind those of the others
+-- a transfer that the facts allow, on its way in or out, and the rows that stand after those of the others
 pub record Step (transfer : Transfer) (places : Places) : Type 0 where
   pub facts : Facts
   pub more : List (ℕ × Row)
