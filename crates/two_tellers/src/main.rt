@@ -50,8 +50,7 @@ fn new_teller(id: u128, debit_account_id: u128, credit_account_id: u128, amount:
     Teller { turns: 40, last }
 }
 
-/// What becomes of two accounts, queued ahead, and of the tellers' transfers; None where memory or a thread was
-/// wanting.
+/// What becomes of two accounts, queued ahead, and of the tellers' transfers. None for want of memory or a thread.
 fn run<R: Threads + Wait + Sync>(rt: &R, alloc: Global) -> Option<Finished<Teller>> {
     let first = Account {
         id: 1,
