@@ -24,7 +24,7 @@ items_to_queue driver = driver.control.queued ++ lines_of driver.lines.moments.i
 abbrev pub IsControlEnd : ControlDriver → Option ControlLeft → Type 0
 IsControlEnd driver left = IfSome left (λ l. (l.end ≡ with_items driver.control (lines_of driver.lines.moments.items driver.lines.shuts)) × (l.refused ≡ refused_of driver.lines.moments.items))
 
--- the same of what a thread promises
+-- the items that the control's thread promises to queue, and how many pulses it promises to refuse
 abbrev pub items_promised : EndOfControl → List Item
 items_promised promise = promise.control.value.queued ++ lines_of promise.moments.value.items promise.shuts
 

@@ -108,6 +108,7 @@ fn lone_of(opened: Opened) -> Lone
     }
 }
 
+/// A pipeline of one submitter, with clock 0 and limit 4, or why it isn't opened.
 fn opened_lone(alloc: Global, capacity: u32, credit: u32) -> Result<Lone, Refusal>
     ensures together { IfOk result (λ lone. AreTogether lone.pipeline (lone.submitter ∷ []) lone.control) }
     ensures as_asked { IfOk result (λ lone. IsOpenedAs 0 4 1 lone.pipeline) }

@@ -67,8 +67,8 @@ works_of groups = flat_map (λ group. group) groups
 abbrev pub run_text : List (List Told) → (ℕ → List Replied) → List Work → ℕ → State → List ℕ
 run_text told replies works refused_pulses state = packets_text 0 told replies ++ ledger_text works refused_pulses state
 
--- all of these shares were handed in: of each packet was told what became of it, and just those are queued of which it
--- was told
+-- all of these shares were handed in: of each packet it was told what became of it, and just those are queued of which
+-- that was told
 abbrev pub AreHandedIn : List (List packets.Packet) → List (List Told) → (ℕ → List Item) → Type 0
 AreHandedIn shares told queued = (k : ℕ) (share : List packets.Packet) (own : List Told) → slice_get shares k ≡ Some share → slice_get told k ≡ Some own → IsHandedIn share [] own (jobs_in (queued k))
 
@@ -100,6 +100,6 @@ IsTextOf said text =
     IsRunText (clock_of said.settings) (limit_of said.settings) (shares_of 0 (submitters_of said.settings) items) (lines_of (moments_in items) (shuts_in items))
     (refused_of (moments_in items)) text
 
--- of bytes that are a faultless script
+-- the same of the bytes of a script without a fault
 abbrev pub IsRunOf : List ℕ → List ℕ → Type 0
 IsRunOf bytes text = (said : Said) → script_of bytes ≡ Ok said → IsTextOf said text

@@ -16,7 +16,7 @@ use Rattle.tb_script.specs.Steps.{◌>>=◌, look_up}
 abbrev pub field : ℕ → ℕ → ℕ → Field
 field place offset size = record { place = place; offset = offset; size = size }
 
--- it lies in the event
+-- a field lies in the event
 pub record Lies (field : Field) : Type 0 where
   pub place : field.place < 13
   pub inside : field.offset + field.size ≤ 128

@@ -116,7 +116,7 @@ pub record CanBeSet (settings : Settings) : Type 0 where
   pub credit : IfSome settings.credit (λ n. (1 ≤ n) × (n ≤ capacity_max))
   pub submitters : IfSome settings.submitters (λ n. (1 ≤ n) × (n ≤ submitters_max))
 
--- and a packet of one of so many submitters
+-- a script can say a packet of one of so many submitters
 pub record CanBeSubmitted (submitters : ℕ) (packet : Submission) : Type 0 where
   pub submitter : packet.submitter < submitters
   pub operation : packet.operation < 256

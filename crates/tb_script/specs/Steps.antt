@@ -25,7 +25,7 @@ abbrev pub Makes : {X Y : Type 0} → Result X Fault → Y → Result Y Fault �
 Makes (Ok x) new told = told ≡ Ok new
 Makes (Err e) new told = told ≡ Err e
 
--- the same, unless memory ran out
+-- the fault that a function answered is what is told, unless memory ran out
 abbrev pub Fails : {Y : Type 0} → LineError → Result Y Fault → Type 0
 Fails errors.NoMemory told = Unit {0}
 Fails (errors.Fault fault) told = told ≡ Err fault

@@ -136,7 +136,8 @@ fn named<'a>(mut table: &[(&[u8], Field)], line: &'a [u8]) -> Result<NamedField<
     Err(Fault::BadField)
 }
 
-/// The same, looked for among the rows from a place on first: the fields of an event mostly come in the table's order.
+/// The field of a table that the first word of a line names, looked for among the rows from a place on first: the
+/// fields of an event mostly come in the table's order.
 #[inline(always)]
 fn named_from<'a>(
     table: &[(&[u8], Field)],

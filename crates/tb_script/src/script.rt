@@ -97,7 +97,7 @@ pub(crate) fn is_text(line: &[u8]) -> bool
 }
 
 impl Script {
-    /// A script of which no line was taken.
+    /// A script of which no line was taken. Takes no memory.
     pub fn new(alloc: Global) -> Script
         ensures { result ≡ nothing_said }
     {
@@ -361,7 +361,7 @@ impl Script {
         self.told_line(alloc, line, is_text(line))
     }
 
-    /// The settings and all items.
+    /// The settings, and all items. The packet to which lines still added is the last of them.
     pub fn finish(self) -> Result<(Settings, Vec<Item>), NoMemory>
         ensures all { IfOk result (λ both. (both.0 ≡ self.settings) × (both.1.items ≡ items_of self)) }
         ensures bounds { IfOk result (λ both. InBounds both.0) }

@@ -36,7 +36,7 @@ IsBefore step = AreOf step.facts step.facts step.more
 abbrev pub IsAfter : {transfer : Transfer} {places : Places} → Step transfer places → List (ℕ × Account) → List (ℕ × Row) → Type 0
 IsAfter {transfer} step = AreOf (add_transfer step.facts transfer) step.facts step.more
 
--- it is stored, with the balances and the status that it changes
+-- a transfer is stored, with the balances and the status that it changes
 pub record IsStored (facts : Facts) (transfer : Transfer) (places : Places) (account_entries : List (ℕ × Account)) (transfer_entries : List (ℕ × Row)) : Type 0 where
   pub allow : Allow facts transfer places
   pub hold : Hold (add_transfer facts transfer) account_entries transfer_entries
@@ -46,7 +46,7 @@ abbrev pub status_after : Bool → Status
 status_after true = Posted
 status_after false = Voided
 
--- whether it is that of a transfer that still reserves its amount
+-- whether a status is that of a transfer that still reserves its amount
 abbrev pub is_open_status : Option Status → Bool
 is_open_status (Some Pending) = true
 is_open_status (Some Posted) = false

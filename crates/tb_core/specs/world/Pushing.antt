@@ -14,7 +14,7 @@ may_push_item limit submitters number sender (Pulse moment) = number == submitte
 may_push_item limit submitters number sender End = nat_le number submitters
 may_push_item limit submitters number sender Close = number == submitters
 
--- and nothing once it ended
+-- no sender pushes anything once it has ended
 abbrev pub may_push : ℕ → ℕ → ℕ → Sender → Item → Bool
 may_push limit submitters number sender item = not sender.ended && may_push_item limit submitters number sender item
 
