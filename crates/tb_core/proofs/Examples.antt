@@ -39,7 +39,7 @@ first = job 0 0 (event 1)
 abbrev second : Numbered
 second = job 0 1 (event 2)
 
--- a packet, the close, and one behind it
+-- a packet, the Close, and one behind it
 abbrev shut : List Ticket
 shut = packet first ∷ of_control item.Close ∷ packet second ∷ []
 

@@ -189,7 +189,7 @@ impl World {
         &self.ledger
     }
 
-    /// Puts a ticket last in the queue, where its sender may push it. Where memory is refused it comes back.
+    /// Puts a ticket at the end of the queue, where its sender may push it. Where memory is refused it comes back.
     fn push(&mut self, ticket: Ticket) -> Result<bool, Ticket>
         ensures ok { IfOk result (λ moves. IsMove self.old (event.Push ticket) moves self.new) }
         ensures err { IfErr result (λ back. (is_some (moved self.old (event.Push ticket)) ≡ true) × (back ≡ ticket) × (self.new ≡ self.old)) }
@@ -250,7 +250,8 @@ impl World {
             || (self.front.finished() && !self.last_sent)
     }
 
-    /// Puts the first parcel that is left, else the group held, else once Last, last in the batch ring.
+    /// Puts one parcel into the batch ring: the first that is left, else the group held, else, once all have ended,
+    /// Last.
     fn batch_push(&mut self) -> Result<bool, NoMemory>
         ensures ok { IfOk result (λ moves. IsMove self.old event.BatchPush moves self.new) }
         ensures err { OnErr result ((is_some (moved self.old event.BatchPush) ≡ true) × (self.new ≡ self.old)) }
@@ -299,7 +300,7 @@ impl World {
         }
     }
 
-    /// Puts the outcome that is left last in the outcome ring.
+    /// Puts the outcome that is left into the outcome ring.
     fn outcome_push(&mut self) -> Result<bool, NoMemory>
         ensures ok { IfOk result (λ moves. IsMove self.old event.OutcomePush moves self.new) }
         ensures err { OnErr result ((is_some (moved self.old event.OutcomePush) ≡ true) × (self.new ≡ self.old)) }
