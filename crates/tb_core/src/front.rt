@@ -70,8 +70,8 @@ impl Front {
     ghost use Rattle.tb_core.specs.Passage.{Passage, Passes, passages_of_item};
     ghost use Rattle.tb_core.specs.Front.{FrontState, IsFront, opening_refusal, take_result, with_group, group_as_batch, all_ended, take_step, step_of_packet, step_of_pulse, step_of_end, step_of_close, all_passages_in, passages_in_batch, held_by, KnowsEnds, HaveAllEnded};
 
-    /// A front that took nothing. The limit is 1 to 8190 events (`BadLimit` else), and there are 1 to 16 submitters
-    /// (`BadSubmitters` else); the limit is looked at first. Takes no memory.
+    /// A front that took nothing. The limit is 1 to 8190 events, else it is refused as `BadLimit`, and then there are 1
+    /// to 16 submitters, else as `BadSubmitters`. Takes no memory.
     pub fn new(alloc: Global, limit: u32, submitters: u32) -> Result<Front, Refusal>
         ensures front { IfOk result (λ front. front ≡ record { limit = limit; submitters = submitters; held = []; closed = false; stopped = false; ended = replicate 17 false }) }
         ensures passes { IfOk result (λ front. Passes [] front.closed front.stopped (held_by front)) }

@@ -48,7 +48,8 @@ impl Control {
     }
 
     /// Queues a pulse with this moment in nanoseconds, at most 2^62: any other is refused as `MomentTooLarge`, and then
-    /// a full queue as `Full`. A refused pulse changes nothing. Fewer than 2^56 may be queued before. Takes no memory.
+    /// a full queue as `Full`. A refused pulse changes nothing. Fewer than 2^56 pulses were queued before. Takes no
+    /// memory.
     pub fn pulse<R: Wait>(&mut self, rt: &R, moment: u64) -> Result<(), Refusal>
         requires { length self.old.queued < 2 ^ 56 }
         ensures ok { OnOk result (self.new ≡ sender_with self.old (item.Pulse moment)) }
