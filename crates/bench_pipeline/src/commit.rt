@@ -19,7 +19,7 @@ fn before(number: u64, events: u64) -> u64 {
     number.wrapping_mul(events).wrapping_add(ACCOUNTS)
 }
 
-/// The data of a packet of a kind, behind so many events made before.
+/// The data of a packet of a kind, after so many events made before.
 fn body_of(alloc: Global, kind: Kind, before: u64, events: u64) -> Option<Vec<u8>> {
     let mut body = Vec::with_capacity(alloc, (events as usize).saturating_mul(128)).ok()?;
     for number in 0..events {

@@ -29,7 +29,7 @@ impl LoadDriver {
         }
     }
 
-    /// The packet of accounts, or behind it the next one of the load.
+    /// The packet of accounts, or after it the next one of the load.
     fn packet(&self, alloc: Global) -> Result<Packet, AllocError> {
         if self.sent == 0 {
             return accounts(alloc, self.number);

@@ -65,7 +65,7 @@ fn linked_transfer(made: u64) -> [u8; 128] {
     event
 }
 
-/// The bytes of the next event of a kind, behind so many made before.
+/// The bytes of the next event of a kind, after so many made before.
 pub fn event_of(kind: Kind, made: u64) -> [u8; 128] {
     match kind {
         Kind::Plain => transfer(made.wrapping_add(1), 1, made),
@@ -99,7 +99,7 @@ pub fn accounts(alloc: Global, submitter: u64) -> Result<Packet, AllocError> {
     Ok(packet_of(CREATE_ACCOUNTS, bytes))
 }
 
-/// So many plain transfers between the submitter's accounts, behind so many made before.
+/// So many plain transfers between the submitter's accounts, after so many made before.
 pub fn transfers(
     alloc: Global,
     submitter: u64,

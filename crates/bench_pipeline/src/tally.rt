@@ -12,7 +12,7 @@ pub struct Tally {
 }
 
 impl Tally {
-    /// That of no reply.
+    /// The tally of no reply.
     pub fn new() -> Tally {
         Tally {
             replies: 0,
@@ -21,7 +21,7 @@ impl Tally {
         }
     }
 
-    /// One reply more.
+    /// Counts one reply more.
     fn count(&mut self, failures: u64, place: u64) {
         self.replies = self.replies.wrapping_add(1);
         self.failures = self.failures.wrapping_add(failures);

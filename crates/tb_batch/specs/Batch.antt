@@ -11,7 +11,7 @@ use Rattle.tb_work.specs.Job.{Numbered, count_of_all, stub_of}
 use Rattle.tb_batch.specs.declared.parts.Parts.{Parts}
 use Rattle.tb_batch.specs.Grouping.{can_share, are_of}
 
--- the packets' data, one behind the other
+-- the packets' data, one after the other
 abbrev pub body_of : List Numbered → List ℕ
 body_of jobs = flat_map (λ job. job.packet.bytes) jobs
 

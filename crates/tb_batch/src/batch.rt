@@ -13,7 +13,7 @@ pub struct Batch {
 }
 
 impl Drop for Batch {
-    /// One call, so that no owner's proof goes through all that is held.
+    /// Lets all that is held go in one call, so that no owner's proof goes through it.
     fn drop(self) {
         let Batch { parts } = self;
         drop(parts);
@@ -50,7 +50,7 @@ impl Batch {
         self.parts.operation
     }
 
-    /// Its packets' data, one behind the other.
+    /// Its packets' data, one after the other.
     pub fn body(&self) -> &[u8]
         ensures { result.now ≡ body_of self.now }
     {

@@ -17,10 +17,9 @@ use tb_work::{Job, Refusal};
 /// Joins neighbouring packets to batches of at most so many events. It is seen as its limit and the
 /// jobs of the group that it holds.
 ///
-/// It also notes how large the batch was that was sealed last, or was to be: the next group that others may join begins with
-/// room for as much.
-/// So all room that it asks for stays linear in what is batched: a batch asks at most for what the one before came to
-/// and for twice what it comes to itself, and for a few jobs and failures.
+/// It also notes how large the batch sealed last was: the next group that others may join begins with room for as much.
+/// So all room that it asks for stays linear in what is batched: a batch asks at most for what
+/// the one before came to and for twice what it comes to itself, and for a few jobs and failures.
 pub struct Batcher {
     alloc: Global,
     limit: u32,
@@ -29,7 +28,7 @@ pub struct Batcher {
 }
 
 impl Drop for Batcher {
-    /// One call, so that no owner's proof goes through all that is held.
+    /// Lets all that is held go in one call, so that no owner's proof goes through it.
     fn drop(self) {
         let Batcher {
             alloc: _,
@@ -55,7 +54,8 @@ impl Batcher {
     ghost use Rattle.tb_batch.specs.Grouping.{is_taken, IsGroup};
     ghost use Rattle.tb_batch.specs.Offering.{Offers, with_group};
 
-    /// A batcher that holds nothing. The limit is 1 to 8190 events. Takes no memory.
+    /// A batcher that holds nothing. The limit is 1 to 8190 events, and any other is refused as `BadLimit`. Takes no
+    /// memory.
     pub fn new(alloc: Global, limit: u32) -> Result<Batcher, Refusal>
         ensures held { IfOk result (λ batcher. (batcher.limit ≡ limit) × (batcher.jobs ≡ [])) }
         ensures refused { IfErr result (λ refusal. refusal ≡ BadLimit) }
@@ -92,7 +92,7 @@ impl Batcher {
         }
     }
 
-    /// Joins a job that is taken.
+    /// Puts a job that is taken into the group held, or begins a group with it.
     fn join(&mut self, job: Job) -> Offered
         requires { is_taken self.old.limit self.old.jobs job ≡ true }
         ensures { Offers self.old job result self.new }
@@ -130,8 +130,8 @@ impl Batcher {
         }
     }
 
-    /// Takes a job behind those before it: it begins a group, joins the one held, or has that sealed
-    /// (batching of tb_client, of neighbours alone). All memory is taken before anything changes; the
+    /// Takes the next job: it joins the group held, or has that sealed and begins the next one (batching of tb_client,
+    /// of neighbours alone). All memory is taken before anything changes; where it is refused the job comes back. The
     /// cost is a copy of the packet's data.
     pub fn offer(&mut self, job: Job) -> Offered
         ensures offers { Offers self.old job result self.new }

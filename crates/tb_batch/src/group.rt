@@ -82,8 +82,8 @@ impl Group {
         self.events + job.stub().count <= limit
     }
 
-    /// Puts a job that joins the group behind its others. Where memory is refused, the job comes back
-    /// and the group is as before.
+    /// Puts a job that joins the group after its others. Where memory is refused, the job comes back and the group is
+    /// as before.
     pub(crate) fn join(&mut self, limit: u32, job: Job) -> Result<(), (Job, NoMemory)>
         requires limit { limit ≤ batch_max }
         requires joins { is_taken limit self.old job ≡ true }

@@ -1,4 +1,4 @@
-//! Batches: neighbouring packets of one operation, laid one behind the other.
+//! Batches: neighbouring packets of one operation, laid one after the other.
 //!
 //! A `Batcher` holds one group. A packet that it is offered joins the group, or the group is sealed
 //! and the packet begins the next one. All memory of a batch, room for its answer included, is taken

@@ -14,7 +14,7 @@ use tb_work::{Job, Stub};
 /// A group that others may join has room for so many jobs and failures at least.
 const FIRST_PACKETS: usize = 16;
 
-/// The parts of a batch: its packets' data one behind the other, its jobs with their stubs, and an
+/// The parts of a batch: its packets' data one after the other, its jobs with their stubs, and an
 /// empty answer with room for all of it: failures, or for a lookup accounts.
 #[derive(Drop)]
 pub struct Parts {
@@ -89,7 +89,7 @@ impl Parts {
         Ok(())
     }
 
-    /// Puts a job behind those that are there, for which there is room. This copies its data into the
+    /// Puts a job after those that are there, for which there is room. This copies its data into the
     /// body, the one copy on a packet's way.
     #[inline(always)]
     pub(crate) fn append(&mut self, job: Job)

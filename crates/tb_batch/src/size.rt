@@ -14,7 +14,7 @@ pub(crate) struct Size {
 }
 
 impl Size {
-    /// Of nothing.
+    /// The size of nothing.
     pub(crate) fn none() -> Size
         ensures { result ≡ record { packets = 0; events = 0; bytes = 0 } }
     {
@@ -25,7 +25,7 @@ impl Size {
         }
     }
 
-    /// Of one packet.
+    /// The size of a group of one packet.
     pub(crate) fn of(job: &Job) -> Size
         ensures { result ≡ record { packets = 1; events = count_of job.now.packet;
             bytes = length job.now.packet.bytes } }

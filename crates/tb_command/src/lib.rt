@@ -1,4 +1,5 @@
-//! The command line of the program: what its arguments ask for, why its work could not be done, and the exit status and the last line of each outcome.
+//! The command line of the program: what its arguments ask for, why its work could not be done, and the exit status and
+//! the last line of each outcome.
 #![tactic(auto)]
 
 mod ending;

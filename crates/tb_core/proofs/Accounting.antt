@@ -1,4 +1,5 @@
--- What a front makes of one ticket: what it hands out and then holds is what it held, followed by what the ticket comes to.
+-- What a front makes of one ticket: what it hands out and then holds is what it held, followed by what the ticket comes
+-- to.
 use Rattle.std.proofs.Common.{refl, sym, ap, subst, ◌∙◌, arith, ◌≡◌, ◌<◌, ◌≤◌, ℕ, Bool, true, false, List, [], ◌∷◌, ◌++◌, length, map, get_or, append-nil, append_assoc}
 use Rattle.std.specs.Prelude.{◌||◌, ◌==◌, filter, slice_set, if◌then◌else◌}
 use Rattle.std.specs.List.{list_any, AllByRecursion}
@@ -23,7 +24,7 @@ use Rattle.tb_core.specs.Front.{FrontState, Taken, IsFront, take_result, with_gr
 use Rattle.tb_core.specs.Grouping.{IsJoinedParcel, AreJoinedParcels}
 use Rattle.tb_core.proofs.Passing.{Goes, Stays, Stops, closed_after, passes_more}
 
--- behind a Close or a stop it holds nothing
+-- after a Close or a stop it holds nothing
 abbrev pub IsClear : FrontState → Type 0
 IsClear front = (front.closed || front.stopped) ≡ true → front.held ≡ []
 

@@ -79,7 +79,7 @@ packets_of-jobs operation size (job ∷ jobs) is one all =
     rw (cut, take-append_seam bytes (body_of jobs), drop-append_seam bytes
         (body_of jobs), packets_of-jobs operation size jobs is first.1 all.1, first.0) refl
 
--- the events of the body are those of its packets, laid one behind the other
+-- the events of the body are those of its packets, laid one after the other
 pub laid-chunks : {Event : Type 0} (f : List ℕ → Event) (operation : ℕ) (jobs : List Numbered)
     → event_size operation ≡ Some 128 → are_of operation jobs ≡ true → AreAdmitted jobs →
     map f (chunks 128 (body_of jobs)) ≡ events_in_turn

@@ -39,7 +39,7 @@ first = job 0 0 (event 1)
 abbrev second : Numbered
 second = job 0 1 (event 2)
 
--- a packet, the close, and one behind it
+-- a packet, the Close, and one behind it
 abbrev shut : List Ticket
 shut = packet first ∷ of_control item.Close ∷ packet second ∷ []
 
@@ -49,7 +49,7 @@ packet_behind_shut = refl
 packet_behind_shut-clock : (replay 0 (ahead (items shut))).clock ≡ 1
 packet_behind_shut-clock = refl
 
--- the second commit's growth is refused: neither the pulse nor the packet behind it is committed
+-- the second commit's growth is refused: neither the pulse nor the packet after it is committed
 abbrev pulsed : List Ticket
 pulsed = packet first ∷ of_control (item.Pulse 5) ∷ packet second ∷ of_control item.End ∷ []
 

@@ -12,7 +12,7 @@ use Rattle.tb_work.specs.declared.item.Item.TheVariants as item
 use Rattle.tb_core.specs.declared.parcel.Cause.TheVariants.{Shutdown}
 use Rattle.tb_core.specs.Passage.{Passage, Admitted, Pulsed, Returned, passages_of_item, Place, Ahead, Behind, is_behind, next_place, place_behind, passages_at, passages_from, passages_of, IsPacket, Passes}
 
--- ---- one item more, at the place behind the others
+-- ---- one item more, at the place after the others
 
 passages_from-push : (stop : Option ℕ) (place : Place) (items : List Item) (x : Item)
     → passages_from stop place (items ++ x ∷ []) ≡ passages_from stop place items
@@ -85,7 +85,7 @@ packet_last : (works : List Work) (job : Numbered) → IsPacket (slice_get (work
 packet_last [] job = tt
 packet_last (first ∷ works) job = packet_last works job
 
--- ---- a stop behind all items doesn't show
+-- ---- a stop after all items doesn't show
 
 passages_from-behind : (stop other : Option ℕ) (items : List Item)
     → passages_from stop Behind items ≡ passages_from other Behind items

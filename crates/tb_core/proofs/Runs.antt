@@ -53,7 +53,8 @@ from_stop clock place through k journal (item.End ∷ items) far h = from_stop c
 from_stop clock place through k journal (item.Close ∷ items) far h =
     behind_close clock place (Some through) journal items
 
--- what was let through, so many at most, is the first of what is ahead; and a journal that reaches no further answers what is due
+-- what was let through, so many at most, is the first of what is ahead; and a journal that reaches no further answers
+-- what is due
 let_through : (clock most through k : ℕ) (journal : List Work) (items : List Item)
     → length journal ≤ through → through ≡ k + most →
     (works_in (passages_from (Some through) (Ahead k) items) ≡ take most (ahead items))
@@ -200,7 +201,7 @@ pub record SoFar (clock : ℕ) (items : List Item) (stopped : Bool) (ledger : Le
   -- all of it is committed or on the way where neither stopped, and then nobody is told of a stop
   pub whole : stopped ≡ false → ledger.stopped ≡ false → works ledger ++ works_in way ≡ ahead items
   pub untold : stopped ≡ false → ledger.stopped ≡ false → tell_a_stop answers ≡ false
-  -- with nothing on the way, nothing is behind exactly where the ledger goes on and nobody is told of a stop
+  -- with nothing on the way, nothing is left exactly where the ledger goes on and nobody is told of a stop
   pub nothing_behind : way ≡ [] → ledger.stopped ≡ false → tell_a_stop answers ≡ false → behind ≡ []
   pub nothing_stopped : behind ≡ [] → (ledger.stopped ≡ false) × (tell_a_stop answers ≡ false)
 
@@ -234,7 +235,7 @@ so_far clock items closed stopped applied way ledger answers passes commits =
     most : ℕ
     most = most_of passes.stop items
 
-    -- the place behind what was applied
+    -- the place after what was applied
     here : ℕ
     here = 0 + length (works_in applied)
 

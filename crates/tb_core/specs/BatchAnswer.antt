@@ -16,7 +16,7 @@ use Rattle.tb_batch.specs.declared.parts.Parts.{Parts}
 abbrev pub answer_in : ℕ → List Failure → List Account → Answer
 answer_in operation failures accounts = if operation == lookup_accounts then Accounts accounts else Failures failures
 
--- they are those of a batch, with the answer to all of its events in a state
+-- the parts are those of a batch, with the answer to all of its events in a state
 pub record AreAnswered (state : State) (parts : Parts) : Type 0 where
   pub in_range : state.clock ≤ clock_max
   pub lawful : IsLawful parts.operation parts.jobs.items

@@ -45,7 +45,7 @@ all_due clock items works = all_due_from clock works (Ahead 0) items
 abbrev pub replies_to : List Replied → ℕ → List Replied
 replies_to replies submitter = filter (λ (reply : Replied). reply.submitter == submitter) replies
 
--- those to a submitter's packets
+-- the replies to a submitter's packets, in order
 abbrev pub due : ℕ → List Ticket → List Work → ℕ → List Replied
 due clock queue works submitter = replies_to (all_due clock (items_in queue) works) submitter
 

@@ -48,15 +48,15 @@ abbrev pub group_as_batch : List Numbered → List Parcel
 group_as_batch [] = []
 group_as_batch (job ∷ jobs) = Batch (job ∷ jobs) ∷ []
 
--- whether an End or Close of each sender was taken; the control is the sender behind the last submitter
+-- whether an End or Close of each sender was taken; the control is the sender after the last submitter
 abbrev pub all_ended : FrontState → Bool
 all_ended front = list_all (λ ended. ended) (take (front.submitters + 1) front.ended)
 
 abbrev pub with_end : FrontState → ℕ → FrontState
 with_end front sender = record front { ended = slice_set front.ended sender true }
 
--- a packet behind a Close or a stop comes back; one whose growth is refused stops the front; any other joins the group
--- held, or that is sealed and the packet begins the next one
+-- a packet behind a Close, or after a stop, comes back; one whose growth is refused stops the front; any other joins
+-- the group held, or that is sealed and the packet begins the next one
 abbrev pub step_of_packet : Bool → FrontState → Numbered → Taken
 step_of_packet refused front job =
     if front.closed then take_result front (Return job Shutdown ∷ [])
@@ -109,7 +109,7 @@ abbrev pub passages_in_batch : Option (List Numbered) → List Passage
 passages_in_batch None = []
 passages_in_batch (Some jobs) = map Admitted jobs
 
--- what is held is one group, and behind a Close or a stop nothing is held
+-- what is held is one group, and after a Close or a stop nothing is held
 pub record IsFront (front : FrontState) : Type 0 where
   pub few : front.submitters ≤ submitters_max
   pub places : length front.ended ≡ 17

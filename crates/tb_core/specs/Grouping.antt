@@ -1,4 +1,5 @@
--- Lawful groupings of packets and pulses (batching in the requests reference and in tb_client, here of neighbours alone).
+-- Lawful groupings of packets and pulses (batching in the requests reference and in tb_client, here of neighbours
+-- alone).
 use Rattle.std.specs.Prelude.{◌≡◌, ◌≤◌, ℕ, ◌+◌, ◌==◌, Bool, true, false, not, ◌&&◌, nat_le, List, [], ◌∷◌, ◌++◌}
 use Rattle.std.specs.List.{list_all, AllByRecursion, flat_map}
 use Rattle.tb_layout.specs.Operation.{create_accounts, create_transfers, lookup_accounts}

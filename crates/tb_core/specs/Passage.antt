@@ -36,7 +36,7 @@ abbrev pub is_behind : Place → Bool
 is_behind (Ahead k) = false
 is_behind Behind = true
 
--- the place behind an item
+-- the place after an item
 abbrev pub next_place : Place → Item → Place
 next_place Behind item = Behind
 next_place (Ahead k) (item.Packet job) = Ahead (k + 1)

@@ -26,8 +26,8 @@ pub record NothingStopped (submitters : ℕ) (stopped : Bool) (replies : ℕ →
   pub unmarked : stopped ≡ false
   pub untold : (submitter : ℕ) → submitter < submitters → tell_a_stop (replies submitter) ≡ false
 
--- From a clock on these packets and pulses were committed of a queue that its senders filled so; the machine has this state,
--- the ledger this mark, and each of so many submitters got these replies.
+-- From a clock on these packets and pulses were committed of a queue that its senders filled so; the machine has this
+-- state, the ledger this mark, and each of so many submitters got these replies.
 pub record LawfulReport (clock submitters : ℕ) (queue : List Ticket) (queued : ℕ → List Item) (works : List Work)
     (state : State) (stopped : Bool) (replies : ℕ → List Replied) : Type 0 where
   pub filled : IsQueueOf submitters queue queued

@@ -32,8 +32,8 @@ HasPackets (parcel.Pulse moment) = Unit {0}
 HasPackets (parcel.Return job cause) = Unit {0}
 HasPackets parcel.Last = Unit {0}
 
--- a ledger took these from its opening clock: it committed the first of them, and all of them exactly where it isn't
--- marked; and these are the replies
+-- a ledger took these passages from its opening clock: it committed the first of them, and all of them exactly where it
+-- isn't marked; and these are the replies
 pub record Commits (clock : ℕ) (passages : List Passage) (ledger : LedgerState) (replies : List Replied) : Type 0 where
   pub from : ledger.opening ≡ clock
   pub behind : List Work
@@ -50,7 +50,7 @@ pub record Ran (clock : ℕ) (items : List Item) (ledger : LedgerState) (replies
   pub passed : Passes items closed stopped passages
   pub commits : Commits clock passages ledger replies
 
--- a ledger that took these and goes on, its groups lawful under a limit
+-- a ledger that took these passages and goes on, its groups lawful under a limit
 pub record GoesOn (clock limit : ℕ) (passages : List Passage) (ledger : LedgerState)
     (replies : List Replied) : Type 0 where
   pub commits : Commits clock passages ledger replies
@@ -66,7 +66,7 @@ pub record IsRunning (clock limit : ℕ) (items : List Item) (front : FrontState
   pub goes_on : GoesOn clock limit sent ledger replies
   pub unstopped : front.stopped ≡ false
 
--- all of it was taken, and nothing is held any more
+-- a ledger took all that a front made of these items, and nothing is held any more
 pub record IsThrough (clock limit : ℕ) (items : List Item) (ledger : LedgerState)
     (replies : List Replied) : Type 0 where
   pub ran : Ran clock items ledger replies
@@ -74,8 +74,8 @@ pub record IsThrough (clock limit : ℕ) (items : List Item) (ledger : LedgerSta
   pub unstopped : ran.stopped ≡ false
   pub joined : AreJoined limit ledger.groups
 
--- Where a front and a ledger took a queue as its senders filled it, and each submitter got the replies that carry its number,
--- the report is lawful.
+-- Where a front and a ledger took a queue as its senders filled it, and each submitter got the replies that carry its
+-- number, the report is lawful.
 abbrev pub RunIsLawful : Type 0
 RunIsLawful =
     (clock submitters : ℕ) (queue : List Ticket) (queued : ℕ → List Item) (ledger : LedgerState)

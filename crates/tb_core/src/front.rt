@@ -22,7 +22,7 @@ pub struct Front {
 }
 
 impl Drop for Front {
-    /// One call, so that no owner's proof goes through all that is held.
+    /// Lets all that is held go in one call, so that no owner's proof goes through it.
     fn drop(self) {
         let Front {
             batcher,
@@ -70,8 +70,8 @@ impl Front {
     ghost use Rattle.tb_core.specs.Passage.{Passage, Passes, passages_of_item};
     ghost use Rattle.tb_core.specs.Front.{FrontState, IsFront, opening_refusal, take_result, with_group, group_as_batch, all_ended, take_step, step_of_packet, step_of_pulse, step_of_end, step_of_close, all_passages_in, passages_in_batch, held_by, KnowsEnds, HaveAllEnded};
 
-    /// A front that took nothing. The limit is 1 to 8190 events, and there are 1 to 16 submitters; the
-    /// limit is looked at first. Takes no memory.
+    /// A front that took nothing. The limit is 1 to 8190 events, else it is refused as `BadLimit`, and then there are 1
+    /// to 16 submitters, else as `BadSubmitters`. Takes no memory.
     pub fn new(alloc: Global, limit: u32, submitters: u32) -> Result<Front, Refusal>
         ensures front { IfOk result (λ front. front ≡ record { limit = limit; submitters = submitters; held = [];
             closed = false; stopped = false; ended = replicate 17 false }) }
@@ -136,6 +136,7 @@ impl Front {
         }
     }
 
+    /// Puts the group held into parcels, and then a parcel.
     fn seal_before(&mut self, parcels: &mut ArrayVec<Parcel, 2>, parcel: Parcel)
         requires { parcels.old.items ≡ [] }
         ensures left { self.new ≡ with_group self.old [] }
@@ -145,7 +146,7 @@ impl Front {
         parcels.push(parcel);
     }
 
-    /// A packet. Where its growth is refused, it comes back in place of an item, and nothing else has changed.
+    /// Takes a packet. Where its growth is refused, it comes back in place of an item, and nothing else has changed.
     fn offer(
         &mut self,
         parcels: &mut ArrayVec<Parcel, 2>,
@@ -178,7 +179,7 @@ impl Front {
         }
     }
 
-    /// A packet whose growth is refused.
+    /// Takes a packet whose growth is refused.
     fn refuse(&mut self, parcels: &mut ArrayVec<Parcel, 2>, job: Job)
         requires { parcels.old.items ≡ [] }
         ensures took { take_result self.new parcels.new.items ≡ step_of_packet true self.old job }
@@ -195,6 +196,7 @@ impl Front {
         parcels.push(Parcel::Return(job, Cause::Stopped));
     }
 
+    /// Takes a pulse, which seals the group held. After a Close or a stop it has no effect.
     fn pulse(&mut self, parcels: &mut ArrayVec<Parcel, 2>, moment: Moment)
         requires { parcels.old.items ≡ [] }
         ensures took { take_result self.new parcels.new.items ≡ step_of_pulse self.old moment }
@@ -205,6 +207,7 @@ impl Front {
         }
     }
 
+    /// Takes a sender's End. Once all have ended, the group held is sealed.
     fn end(&mut self, parcels: &mut ArrayVec<Parcel, 2>, sender: u32)
         requires sender { sender ≤ self.old.submitters }
         requires empty { parcels.old.items ≡ [] }
@@ -217,6 +220,7 @@ impl Front {
         }
     }
 
+    /// Takes the Close, which seals the group held and is its sender's end.
     fn close(&mut self, parcels: &mut ArrayVec<Parcel, 2>, sender: u32)
         requires sender { sender ≤ self.old.submitters }
         requires empty { parcels.old.items ≡ [] }
@@ -228,9 +232,9 @@ impl Front {
         self.closed = true;
     }
 
-    /// One ticket, where its growth isn't refused; what is handed on is put into the parcels. Otherwise the ticket
-    /// and all else are as before. The ticket is lent, since handing up what is as large for each of them would cost
-    /// more than the rest.
+    /// Takes one ticket where its growth isn't refused, and puts what is handed on into the parcels. Where it is
+    /// refused, the ticket and all else are as before. The ticket is lent: handing up what is as large, for each of
+    /// them, would cost more than the rest.
     pub(crate) fn try_take(
         &mut self,
         parcels: &mut ArrayVec<Parcel, 2>,
@@ -252,7 +256,7 @@ impl Front {
         }
     }
 
-    /// One ticket, whose growth is refused.
+    /// Takes one ticket whose growth is refused, and puts what is handed on into the parcels.
     pub(crate) fn step_refused(&mut self, parcels: &mut ArrayVec<Parcel, 2>, ticket: Ticket)
         requires sender { ticket.sender ≤ self.old.submitters }
         requires empty { parcels.old.items ≡ [] }
@@ -268,7 +272,7 @@ impl Front {
         }
     }
 
-    /// One ticket, as `take` takes it where its growth is refused. Takes no memory.
+    /// Takes one ticket as `take` does where its growth is refused. Takes no memory.
     pub fn take_as_refused(&mut self, ticket: Ticket) -> ArrayVec<Parcel, 2>
         requires { ticket.sender ≤ self.old.submitters }
         ensures took { take_result self.new result.items ≡ take_step true self.old ticket.sender ticket.item }
@@ -286,9 +290,11 @@ impl Front {
         parcels
     }
 
-    /// One ticket. A packet joins the group held, or has that sealed and begins the next one; a pulse, a
-    /// Close and the End that makes all ended seal it (batching of tb_client, of neighbours alone). A packet
-    /// behind a Close comes back; so does one whose growth is refused, and each after that.
+    /// Takes one ticket, of a submitter or of the control, whose number comes after theirs, and gives what is handed
+    /// on. A packet joins the group held, or has that sealed and begins the next one; a pulse, a Close and the End that
+    /// makes all ended seal it (batching of tb_client, of neighbours alone). A packet behind a Close comes back; so
+    /// does one whose growth is refused, and each after that. It takes memory for a packet alone, as `Batcher::offer`
+    /// does.
     pub fn take(&mut self, ticket: Ticket) -> ArrayVec<Parcel, 2>
         requires { ticket.sender ≤ self.old.submitters }
         ensures took { (refused : Bool) × (take_result self.new result.items
@@ -309,7 +315,7 @@ impl Front {
         parcels
     }
 
-    /// One ticket, as `take` takes it; what is handed on is put into the parcels, of which there are none yet. Where
+    /// Takes one ticket as `take` does, and puts what is handed on into the parcels, of which there are none yet. Where
     /// many tickets are taken this spares moving the parcels, which are large, for each of them.
     pub fn take_into(&mut self, parcels: &mut ArrayVec<Parcel, 2>, ticket: Ticket)
         requires sender { ticket.sender ≤ self.old.submitters }

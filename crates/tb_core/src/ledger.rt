@@ -25,6 +25,7 @@ use tb_layout::{Account, Failure, LOOKUP_ACCOUNTS, NoMemory};
 use tb_machine::{Machine, joining_is_invisible};
 use tb_work::{Accounts, Answer, Failures, Job, Moment, Outcome, Reply};
 
+/// How many packets and pulses can have a place.
 const MOST_PLACES: u64 = 1 << 63;
 
 /// Commits what the front hands on, and keeps a journal of it.
@@ -37,7 +38,7 @@ pub struct Ledger {
 }
 
 impl Drop for Ledger {
-    /// One call, so that no owner's proof goes through all that is held.
+    /// Lets all that is held go in one call, so that no owner's proof goes through it.
     fn drop(self) {
         let Ledger {
             opening: _,
@@ -151,7 +152,7 @@ impl Ledger {
     ghost use Rattle.tb_core.specs.Run.{Commits, HasPackets, replies_in};
     ghost use Rattle.tb_core.specs.Ledger.{LedgerState, Applied, works, apply_result, with_stop, with_entry, must_stop, step_of_batch, apply_step};
 
-    /// A ledger without entries, whose clock starts at a number. Takes no memory.
+    /// A ledger without entries, whose clock starts at a number of nanoseconds, 0 to `CLOCK_MAX`. Takes no memory.
     pub fn new(alloc: Global, clock: u64) -> Ledger
         requires { clock ≤ clock_max }
         ensures ledger { result ≡ record { opening = clock; groups = []; stopped = false } }
@@ -166,7 +167,7 @@ impl Ledger {
         }
     }
 
-    /// Where the clock started.
+    /// Where the clock started, in nanoseconds.
     pub fn opening(&self) -> u64
         ensures { result ≡ self.now.opening }
     {
@@ -187,14 +188,14 @@ impl Ledger {
         self.places
     }
 
-    /// The machine, as the journal gives it.
+    /// The machine, in the state that the journal gives.
     pub fn machine(&self) -> &Machine
         ensures { result.now ≡ replay self.now.opening (works self.now) }
     {
         &self.machine
     }
 
-    /// The entries, in order.
+    /// The entries of the journal, in order.
     pub fn journal(&self) -> &[Entry]
         ensures { map group_of result.now ≡ self.now.groups }
     {
@@ -208,7 +209,8 @@ impl Ledger {
         self.stopped || count as u64 > MOST_PLACES - self.places
     }
 
-    /// A batch. Where a growth is refused it comes back, and nothing has changed.
+    /// Commits a batch as one, or answers Stopped where the ledger stopped before or has no places left. Where a growth
+    /// is refused the batch comes back, and nothing has changed.
     fn commit(&mut self, batch: Batch) -> Result<Outcomes, Batch>
         ensures ok { IfOk result (λ outcomes. apply_result self.new outcomes
             ≡ apply_step false self.old (parcel.Batch batch)) }
@@ -234,7 +236,8 @@ impl Ledger {
         Ok(Outcomes::Cut(replies))
     }
 
-    /// A pulse. Where a growth is refused nothing has changed.
+    /// Commits a pulse, unless the ledger stopped before or has no place left. Where a growth is refused nothing has
+    /// changed.
     fn pulse(&mut self, moment: Moment) -> Result<(), NoMemory>
         ensures ok { OnOk result (apply_result self.new NothingComes
             ≡ apply_step false self.old (parcel.Pulse moment)) }
@@ -251,7 +254,7 @@ impl Ledger {
         Ok(())
     }
 
-    /// One parcel, where its growth isn't refused. Otherwise it comes back, and nothing has changed.
+    /// Applies one parcel where its growth isn't refused. Where it is, the parcel comes back, and nothing has changed.
     pub(crate) fn try_apply(&mut self, parcel: Parcel) -> Result<Outcomes, Parcel>
         ensures ok { IfOk result (λ outcomes. apply_result self.new outcomes ≡ apply_step false self.old parcel) }
         ensures err { IfErr result (λ back. (back ≡ parcel) × (self.new ≡ self.old)) }
@@ -271,7 +274,7 @@ impl Ledger {
         }
     }
 
-    /// One parcel, whose growth is refused.
+    /// Applies one parcel whose growth is refused.
     fn refuse(&mut self, parcel: Parcel) -> Outcomes
         ensures applied { apply_result self.new result ≡ apply_step true self.old parcel }
         ensures some { HasPackets parcel }
@@ -290,7 +293,7 @@ impl Ledger {
         }
     }
 
-    /// One parcel, as `apply` applies it where its growth is refused. Takes no memory.
+    /// Applies one parcel as `apply` does where its growth is refused. Takes no memory.
     pub fn apply_as_refused(&mut self, parcel: Parcel) -> Outcomes
         ensures applied { apply_result self.new result ≡ apply_step true self.old parcel }
         ensures commits { (clock : ℕ) (passages : List Passage) (replies : List Replied)
@@ -302,10 +305,10 @@ impl Ledger {
         self.refuse(parcel)
     }
 
-    /// One parcel. A batch is committed as one and each of its packets answered; a pulse is applied; a packet
-    /// that comes back is answered with its cause. Where a growth is refused, where it stopped before, or where
-    /// there are no places left, nothing is committed, the ledger stops, and each packet of a batch is answered
-    /// Stopped. It takes memory for the facts and for the journal.
+    /// Applies one parcel, and gives what it comes to. A batch is committed as one and each of its packets answered; a
+    /// pulse is applied; a packet that comes back is answered with its cause. Where a growth is refused, where the
+    /// ledger stopped before, or where there are no places left, nothing is committed, the ledger stops, and each
+    /// packet of a batch is answered Stopped. It takes memory for the facts and for the journal.
     pub fn apply(&mut self, parcel: Parcel) -> Outcomes
         ensures applied { (refused : Bool) × (apply_result self.new result ≡ apply_step refused self.old parcel) }
         ensures commits { (clock : ℕ) (passages : List Passage) (replies : List Replied)

@@ -1,7 +1,7 @@
 //! The core: what becomes of tickets between the queue and the replies, in one thread and without a lock.
 //!
-//! A packet goes one way: `Front` takes its ticket and joins it to its neighbours, `Ledger` commits the batch and notes it
-//! in the journal, and a `Cutter` (tb_demux) gives each packet its reply.
+//! A packet goes one way: `Front` takes its ticket and joins it to its neighbours, `Ledger` commits the batch and notes
+//! it in the journal, and a `Cutter` (tb_demux) gives each packet its reply.
 //!
 //! ```text
 //! for parcel in front.take(ticket) {          // what the ticket seals, or sends back
@@ -15,9 +15,9 @@
 //! ```
 //!
 //! (`way_of_a_packet` in tb_core_tests is this caller, proved.) `run_list` does so with a list of items. Whatever took
-//! the tickets, and whichever growth was refused, what comes of them is one report: `Front` and `Ledger` keep `passes` and
-//! `commits` from call to call, and `run_is_lawful` leads from there to `LawfulReport` (`specs/Report.antt`), in which no
-//! batch is mentioned.
+//! the tickets, and whichever growth was refused, what comes of them is one report: `Front` and `Ledger` keep `passes`
+//! and `commits` from call to call, and `run_is_lawful` leads from there to `LawfulReport` (`specs/Report.antt`), in
+//! which no batch is mentioned.
 #![tactic(auto)]
 
 mod front;

@@ -152,9 +152,10 @@ impl Listing {
     }
 }
 
-/// Commits a list of items in order. A packet behind a Close is answered Shutdown, a pulse there has no effect, and an
-/// End has none anywhere. The limit is 1 to 8190 events; a packet with more is a batch by itself. It takes
-/// memory for all packets at once; where that is refused nothing is handed out.
+/// Commits a list of items in order, from a clock in nanoseconds, 0 to `CLOCK_MAX`, on, and answers each packet. A
+/// packet behind a Close is answered Shutdown, a pulse there has no effect, and an End has none anywhere. The limit is
+/// 1 to 8190 events; a packet with more is a batch by itself. It takes memory for all packets at once; where that is
+/// refused nothing is handed out.
 pub fn run_list(alloc: Global, clock: u64, limit: u32, items: Vec<Item>) -> Result<Listed, NoMemory>
     requires clock { clock ≤ clock_max }
     requires least { 1 ≤ limit }

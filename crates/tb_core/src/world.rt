@@ -50,7 +50,7 @@ pub struct World {
 }
 
 impl Drop for World {
-    /// One call, so that no owner's proof goes through all that is held.
+    /// Lets all that is held go in one call, so that no owner's proof goes through it.
     fn drop(self) {
         let World {
             limit: _,
@@ -145,8 +145,8 @@ impl World {
     ghost use Rattle.tb_core.specs.world.World.{received_of, moved};
     ghost use Rattle.tb_core.specs.declared.world.event.Event.TheVariants as event;
 
-    /// A World in which nothing happened. The limit is 1 to 8190 events, and there are 1 to 16 submitters; the
-    /// limit is looked at first, and memory last.
+    /// A World in which nothing happened, whose clock starts at a number of nanoseconds, 0 to `CLOCK_MAX`. The limit is
+    /// 1 to 8190 events, and there are 1 to 16 submitters; the limit is looked at first, and memory last.
     pub fn new(alloc: Global, clock: u64, limit: u32, submitters: u32) -> Result<World, Refusal>
         requires { clock ≤ clock_max }
         ensures world { IfOk result (λ world. world ≡ new_world clock limit submitters) }
@@ -190,6 +190,7 @@ impl World {
         &self.ledger
     }
 
+    /// Puts a ticket at the end of the queue, where its sender may push it. Where memory is refused it comes back.
     fn push(&mut self, ticket: Ticket) -> Result<bool, Ticket>
         ensures ok { IfOk result (λ moves. IsMove self.old (event.Push ticket) moves self.new) }
         ensures err { IfErr result (λ back. (is_some (moved self.old (event.Push ticket)) ≡ true) × (back ≡ ticket)
@@ -215,6 +216,7 @@ impl World {
         }
     }
 
+    /// Takes the queue's first ticket through the front, where no parcel is left to push.
     fn pop(&mut self, refused: bool) -> Result<bool, NoMemory>
         ensures ok { IfOk result (λ moves. IsMove self.old (event.Pop refused) moves self.new) }
         ensures err { OnErr result ((is_some (moved self.old (event.Pop refused)) ≡ true) × (self.new ≡ self.old)) }
@@ -250,6 +252,8 @@ impl World {
             || (self.front.finished() && !self.last_sent)
     }
 
+    /// Puts one parcel into the batch ring: the first that is left, else the group held, else, once all have ended,
+    /// Last.
     fn batch_push(&mut self) -> Result<bool, NoMemory>
         ensures ok { IfOk result (λ moves. IsMove self.old event.BatchPush moves self.new) }
         ensures err { OnErr result ((is_some (moved self.old event.BatchPush) ≡ true) × (self.new ≡ self.old)) }
@@ -271,6 +275,7 @@ impl World {
         Ok(true)
     }
 
+    /// Applies the batch ring's first parcel to the ledger, where no outcome is left to push.
     fn batch_pop(&mut self, refused: bool) -> Result<bool, NoMemory>
         ensures ok { IfOk result (λ moves. IsMove self.old (event.BatchPop refused) moves self.new) }
         ensures err { OnErr result ((is_some (moved self.old (event.BatchPop refused)) ≡ true)
@@ -298,6 +303,7 @@ impl World {
         }
     }
 
+    /// Puts the outcome that is left into the outcome ring.
     fn outcome_push(&mut self) -> Result<bool, NoMemory>
         ensures ok { IfOk result (λ moves. IsMove self.old event.OutcomePush moves self.new) }
         ensures err { OnErr result ((is_some (moved self.old event.OutcomePush) ≡ true) × (self.new ≡ self.old)) }
@@ -312,6 +318,7 @@ impl World {
         Ok(true)
     }
 
+    /// Takes the outcome ring's first outcome apart into replies, where no reply is left to push.
     fn outcome_pop(&mut self) -> bool
         ensures { IsMove self.old event.OutcomePop result self.new }
     {
@@ -327,6 +334,7 @@ impl World {
         }
     }
 
+    /// Puts the next reply that is left into its submitter's ring.
     fn reply_push(&mut self) -> Result<bool, NoMemory>
         ensures ok { IfOk result (λ moves. IsMove self.old event.ReplyPush moves self.new) }
         ensures err { OnErr result ((is_some (moved self.old event.ReplyPush) ≡ true) × (self.new ≡ self.old)) }
@@ -334,6 +342,7 @@ impl World {
         self.left.give(&mut self.shelves)
     }
 
+    /// Lets a submitter receive the first reply of its ring.
     fn reply_pop(&mut self, sender: u32) -> Result<bool, NoMemory>
         ensures ok { IfOk result (λ moves. IsMove self.old (event.ReplyPop sender) moves self.new) }
         ensures err { OnErr result ((is_some (moved self.old (event.ReplyPop sender)) ≡ true) × (self.new ≡ self.old)) }
@@ -341,8 +350,8 @@ impl World {
         self.shelves.take(sender)
     }
 
-    /// One event. True where it may happen, and the World then moves as its table says; false changes nothing. Where
-    /// it may happen and a growth is really refused, the event comes back and nothing has changed.
+    /// Takes one event. Answers true where it may happen, and the World then moves as its table says; false changes
+    /// nothing. Where it may happen and a growth is really refused, the event comes back and nothing has changed.
     pub fn step(&mut self, event: Event) -> Result<bool, (Event, NoMemory)>
         ensures ok { IfOk result (λ moves. IsMove self.old event moves self.new) }
         ensures err { IfErr result (λ back. (is_some (moved self.old event) ≡ true) × (back.0 ≡ event)

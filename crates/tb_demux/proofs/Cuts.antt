@@ -66,7 +66,7 @@ skip : (a b : Bool) (failure : Failure) (failures : List Failure) → b ≡ fals
 skip true b failure failures h = ap (λ c. if c then failure ∷ failures else failures) h
 skip false b failure failures h = refl
 
--- behind the end of a range lies nothing of it
+-- after the end of a range lies nothing of it
 none_within : (offset count low high : ℕ) (failures : List Failure) → offset + count ≤ low
     → RiseWithin low high failures → filter (is_within offset count) failures ≡ []
 none_within offset count low high [] past rise = refl
@@ -101,7 +101,7 @@ pub cut_leading : (offset count high : ℕ) (failures : List Failure) → RiseWi
 cut_leading offset count high failures rise =
     ap (map (from_offset offset)) (own offset count offset high failures (omega arith) rise)
 
--- ---- the packets behind
+-- ---- the packets after the first
 
 skipped-if : (end offset count : ℕ) (failure : Failure) (failures : List Failure) (b : Bool)
     → nat_lt failure.index end ≡ b → end ≤ offset →
@@ -141,14 +141,14 @@ replies_empty place offset other (job ∷ jobs) =
     ap (λ replies. reply_at place offset [] job ∷ replies)
     (replies_empty (place + 1) (offset + count_of job.packet) (other + count_of job.packet) jobs)
 
--- ---- the cutter behind one reply
+-- ---- the cutter after one reply
 
 rise_left : (offset other high : ℕ) (failures : List Failure) (end : ℕ) → RiseWithin end high failures
     → high ≡ end + other → (offset ≡ end) ⊎ (failures ≡ []) → RiseWithin offset (offset + other) failures
 rise_left offset other high failures end rise is (inl same) = rw (same, sym is) rise
 rise_left offset other high failures end rise is (inr empty) = rw empty tt
 
--- what is left is that of the packets behind
+-- what is left is that of the packets after it
 pub next_left : (old new : Uncut) (job : Numbered) (jobs : List Numbered) → IsUncut old (job ∷ jobs)
     → failures_left new ≡ drop (count_below (old.offset + count_of job.packet) (failures_left old))
         (failures_left old) →
@@ -188,7 +188,7 @@ next_replies old new job jobs is offset place =
     ∙ replies_left (old.place + 1) new.offset end (failures_left new) jobs offset
     ∙ ap (λ p. replies_from p new.offset (failures_left new) jobs) (sym place))
 
--- behind a lookup nothing is left
+-- after a lookup nothing is left
 pub none_left : (outcome other : Outcome) (job : Numbered) (jobs : List Numbered)
     → IsForOne outcome (job ∷ jobs) → IsForOne other jobs
 none_left outcome other job [] h = record { one = omega arith; fits = λ one is. cc }

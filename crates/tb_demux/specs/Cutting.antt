@@ -16,7 +16,7 @@ abbrev pub reply_at : ℕ → ℕ → List Failure → Numbered → Replied
 reply_at place offset failures job =
     reply_with (Committed place (Failures (failures_within offset (count_of job.packet) failures))) job
 
--- packet after packet, each one place further and behind the events of those before it
+-- packet after packet, each one place further and after the events of those before it
 abbrev pub replies_from : ℕ → ℕ → List Failure → List Numbered → List Replied
 replies_from place offset failures [] = []
 replies_from place offset failures (job ∷ jobs) =

@@ -17,7 +17,7 @@ use Rattle.tb_demux.specs.Cutting.{replies_from}
 abbrev pub failures_left : Uncut → List Failure
 failures_left uncut = drop uncut.taken uncut.failures
 
--- they are those of the packets still to come
+-- the failures left are those of the packets still to come
 pub record IsUncut (uncut : Uncut) (jobs : List Numbered) : Type 0 where
   pub places : uncut.place + length jobs ≤ 2 ^ 63
   pub taken : uncut.taken ≤ length uncut.failures

@@ -17,7 +17,7 @@ pub struct Cutter {
 }
 
 impl Drop for Cutter {
-    /// One call, so that no owner's proof goes through all that is held.
+    /// Lets all that is held go in one call, so that no owner's proof goes through it.
     fn drop(self) {
         let Cutter { jobs, source } = self;
         drop(jobs);

@@ -44,7 +44,7 @@ fn offset_up_to(index: u32, end: u64) -> u32
     end as u32
 }
 
-/// The offset behind a packet's events. Where no failure is left it doesn't matter, and may be too
+/// The offset after a packet's events. Where no failure is left it doesn't matter, and may be too
 /// large to be told.
 fn offset_behind(failures_left: &[Failure], offset: u32, end: u64) -> u32
     requires { (high : ℕ) × RiseWithin end high failures_left.now }

@@ -1,4 +1,4 @@
--- The sender behind the submitters is the control.
+-- The sender after the submitters is the control.
 use Rattle.std.proofs.Common.{◌≡◌, ℕ, zero, suc, List, [], ◌∷◌, length, map, refl, ap, sym, ◌∙◌, arith}
 use Rattle.std.proofs.lemmas.List.{length-map}
 use Rattle.tb_submit.specs.Ends.{EndedState, Origin, SenderState, end_origin, queued_by}

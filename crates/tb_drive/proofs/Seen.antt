@@ -30,7 +30,7 @@ module _ {D : Type 0} (has_seen : D → List Numbered → List Replied → Type 
   one_more (d ∷ drivers) (e ∷ ends) last ended long have has (suc k) driver end driver_is end_is =
       one_more drivers ends last ended (omega (arith, long)) (λ k. have (suc k)) has k driver end driver_is end_is
 
-  -- what is so of each in two lists is so of the first two, and of each behind them
+  -- what is so of each in two lists is so of the first two, and of each after them
   pub first_has : {drivers others : List D} {submitters rest : List SubmitterState} {driver : D}
       {submitter : SubmitterState} → drivers ≡ driver ∷ others → submitters ≡ submitter ∷ rest
       → HaveSeen has_seen drivers submitters → HasSeen has_seen driver submitter

@@ -16,16 +16,16 @@ pulse_of moment = if is_refused moment then [] else item.Pulse moment ∷ []
 abbrev pub pulses_of : List ℕ → List Item
 pulses_of moments = flat_map pulse_of moments
 
--- how many of them are refused
+-- how many of these moments are refused
 abbrev pub refused_of : List ℕ → ℕ
 refused_of moments = count_by is_refused moments
 
--- what it ends by
+-- the item by which the control ends
 abbrev pub last_item : Bool → Item
 last_item true = item.Close
 last_item false = item.End
 
--- all of it
+-- all that the control queues
 abbrev pub lines_of : List ℕ → Bool → List Item
 lines_of moments shuts = pulses_of moments ++ last_item shuts ∷ []
 

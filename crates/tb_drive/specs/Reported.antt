@@ -20,8 +20,8 @@ AreTogether pipeline submitters control =
     (map origin_of submitters ≡ pipeline.submitters) × (control.seat ≡ control_seat pipeline.intake)
         × (length pipeline.submitters ≡ pipeline.intake.submitters)
 
--- Of a pipeline with this clock and this limit, whose control queued these items, the report is lawful of some queue that
--- its senders filled, and each driver has seen what its submitter queued and read.
+-- Of a pipeline with this clock and this limit, whose control queued these items, the report is lawful of some queue
+-- that its senders filled, and each driver has seen what its submitter queued and read.
 pub record HasReported {D : Type 0} (has_seen : D → List Numbered → List Replied → Type 0)
     (clock limit submitters : ℕ) (controlled : List Item)
     (drivers : List D) (ledger : LedgerState) (ends : List EndedState) : Type 0 where

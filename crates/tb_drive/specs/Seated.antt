@@ -30,6 +30,6 @@ nothing_left = record { ends = []; shares = [] }
 abbrev pub IsEnd : SubmitterState → Option EndedState → Type 0
 IsEnd submitter ended = IfSome ended (λ end. end_origin end ≡ origin_of submitter)
 
--- it is left by this submitter, with its driver
+-- what a thread leaves is of this submitter and its driver
 abbrev pub IsLeftBy : SeatedState → DrivenState → Type 0
 IsLeftBy seated driven = IsEnd seated.submitter driven.ended × (driven.share ≡ seated.share)

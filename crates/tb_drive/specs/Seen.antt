@@ -26,7 +26,7 @@ module _ {D : Type 0} (has_seen : D → List Numbered → List Replied → Type 
   abbrev pub HasSeenEnd : D → EndedState → Type 0
   HasSeenEnd driver ended = has_seen driver (jobs_in ended.queued) ended.read
 
-  -- each driver has seen it of the submitter of its index
+  -- each driver has seen what the submitter of its index queued and read
   abbrev pub HaveSeen : List D → List SubmitterState → Type 0
   HaveSeen drivers submitters =
       (k : ℕ) (driver : D) (submitter : SubmitterState) → slice_get drivers k ≡ Some driver
@@ -37,7 +37,7 @@ module _ {D : Type 0} (has_seen : D → List Numbered → List Replied → Type 
       (k : ℕ) (driver : D) (ended : EndedState) → slice_get drivers k ≡ Some driver → slice_get ends k ≡ Some ended
       → HasSeenEnd driver ended
 
--- a driver has seen it, and asked for a packet to be queued
+-- a driver has seen what its submitter queued and read, and asked for a packet to be queued
 abbrev pub HasAsked : {D : Type 0} → (D → packets.Packet → List Numbered → List Replied → Type 0) → D
     → packets.Packet → SubmitterState → Type 0
 HasAsked has_asked driver packet submitter = has_asked driver packet (jobs_in submitter.queued) submitter.read

@@ -19,13 +19,14 @@ started_from handle = handle.promise.seated.value
 abbrev pub items_to_queue : ControlDriver → List Item
 items_to_queue driver = driver.control.queued ++ lines_of driver.lines.moments.items driver.lines.shuts
 
--- what the control's thread leaves, if anything, is its own end, its lines queued, and how many of its pulses were refused
+-- what the control's thread leaves, if anything, is its own end, its lines queued, and how many of its pulses were
+-- refused
 abbrev pub IsControlEnd : ControlDriver → Option ControlLeft → Type 0
 IsControlEnd driver left =
     IfSome left (λ l. (l.end ≡ with_items driver.control (lines_of driver.lines.moments.items driver.lines.shuts))
     × (l.refused ≡ refused_of driver.lines.moments.items))
 
--- the same of what a thread promises
+-- the items that the control's thread promises to queue, and how many pulses it promises to refuse
 abbrev pub items_promised : EndOfControl → List Item
 items_promised promise = promise.control.value.queued ++ lines_of promise.moments.value.items promise.shuts
 

@@ -16,12 +16,12 @@ use std::thread::Promise;
 use tb_submit::{Control, ControlEnd};
 use tb_work::Refusal;
 
-/// What the control queues.
+/// What the control queues: pulses, and then its end or the Close.
 #[derive(Drop)]
 pub struct ControlLines {
     /// The moments of its pulses, in nanoseconds, in their order. A pulse above 2^62 is refused.
     pub moments: Vec<u64>,
-    /// Whether it ends by the Close, which stands behind all its pulses.
+    /// Whether it ends by the Close, which stands after all its pulses.
     pub shuts: bool,
 }
 
@@ -52,8 +52,8 @@ pub(crate) struct ControlLeft {
     pub(crate) refused: u64,
 }
 
-/// The end that comes back, unless the thread was told to stop, is that of the control that was handed over, and its lines
-/// are queued but for the pulses that were refused, which are counted.
+/// The promise that the end that comes back, unless the thread was told to stop, is that of the control that was handed
+/// over, and that its lines are queued but for the pulses that were refused, which are counted.
 #[derive(Drop)]
 pub(crate) struct EndOfControl {
     control: Snapshot<Control>,
@@ -68,7 +68,8 @@ impl Promise<Option<ControlLeft>> for EndOfControl {
     ghost kept_by = { λ p r. IfSome r (λ left. IsEndPromised p left) };
 }
 
-/// Queues a pulse once, as `Control::pulse` does. After 2^56 pulses the queue is full, whatever else there is to refuse.
+/// Queues a pulse once, as `Control::pulse` does. After 2^56 pulses the queue is full, whatever else there is to
+/// refuse.
 fn pulse_once<R: Wait>(rt: &R, control: &mut Control, moment: u64) -> Result<(), Refusal>
     ensures ok { OnOk result ((control.new ≡ with_items control.old (pulse_of moment)) × (is_refused moment ≡ false)) }
     ensures refused { IfErr result (λ why. (control.new ≡ control.old)

@@ -23,11 +23,11 @@ pub enum Action {
 /// Says what a submitter does, and takes what comes of it. A thread of the submitter's own calls it, one call after
 /// another. It needn't end anything itself, nor wait.
 ///
-/// What is to be known of a driver after a run is its implementor's to say, as two relations, and holds of anything unless they
-/// are given. `has_seen` is so of a driver behind the packets that it was told are queued and the replies that it was given,
-/// both in their order; `has_asked` besides of one that asked for a packet to be queued and wasn't told yet what became of it.
-/// `share` is what a driver was made to queue, as its implementor defines it; it stays as it is whatever the driver is asked and
-/// told, so that a caller knows its own drivers again.
+/// Its implementor says what is to be known of a driver after a run, by two relations, which hold of anything unless
+/// they are given. `has_seen` is between a driver, the packets that it was told are queued, and the replies that it was
+/// given, both in their order; `has_asked` is the same of a driver that besides asked for a packet to be queued and
+/// wasn't told yet what became of it. `share` is what a driver was made to queue, as its implementor defines it; it
+/// stays as it is whatever the driver is asked and told, so that a caller knows its own drivers again.
 pub trait Driver: Drop {
     ghost has_seen: { Self → List Numbered → List Replied → Type 0 } = { λ _ _ _. ⊤ };
 

@@ -87,7 +87,7 @@ type Started<D> = PromisedHandle<Driven<D>, EndOfSubmitter<D>>;
 type StartedControl = PromisedHandle<Option<ControlLeft>, EndOfControl>;
 
 impl<D: Driver> Left<D> {
-    /// Nothing yet, with room for what so many threads leave.
+    /// What no thread left yet, with room for what so many leave.
     fn new(alloc: Global, threads: usize) -> Result<Left<D>, DriveFault>
         ensures { IfOk result (λ left. left ≡ nothing_left) }
     {
@@ -97,7 +97,7 @@ impl<D: Driver> Left<D> {
         })
     }
 
-    /// This, and what the next thread left.
+    /// What was left so far, with what the next thread left.
     fn with(self, driven: Driven<D>) -> Result<Left<D>, DriveFault>
         ensures own { (origin : Origin) → IfSome driven.ended (λ end. end_origin end ≡ origin)
             → IfOk result (λ left. map end_origin left.ends ≡ map end_origin self.ends ++ origin ∷ []) }
@@ -117,7 +117,7 @@ impl<D: Driver> Left<D> {
     }
 }
 
-/// Each submitter with its driver.
+/// Each submitter seated with its driver.
 fn seat_all<D: Driver>(
     alloc: Global,
     submitters: Vec<Submitter>,
@@ -161,7 +161,7 @@ fn start_one<'s, E, D: Driver + Send + 's, R: Wait + Sync>(
     started.ok().ok_or(DriveFault::NoThread)
 }
 
-/// Starts a submitter's thread, and puts its handle behind the others.
+/// Starts a submitter's thread, and puts its handle after the others.
 fn start_next<'s, E, D: Driver + Send + 's, R: Wait + Sync>(
     scope: &Scope<'s, E>,
     rt: &'s R,
@@ -419,7 +419,8 @@ fn run_all<'s, E, D: Driver + Send + 's, R: Threads + Wait + Sync>(
     }
 }
 
-/// Runs a pipeline with a thread for each of its senders. Where one of them can't be started the others are told to stop.
+/// Runs a pipeline with a thread for each of its senders. Where one of them can't be started the others are told to
+/// stop.
 fn run_in_scope<D: Driver + Send, R: Threads + Wait + Sync>(
     rt: &R,
     alloc: Global,
@@ -461,8 +462,8 @@ fn run_in_scope<D: Driver + Send, R: Threads + Wait + Sync>(
 }
 
 /// Queues a packet of the submitter at an index, before any thread is started: what is queued so is ahead of all that
-/// drivers queue. It is `Submitter::submit` of that submitter, and no other end is touched; behind 2^56 packets the queue is
-/// full. A refused packet comes back, and nothing is changed.
+/// drivers queue. It is `Submitter::submit` of that submitter, and no other end is touched; after 2^56 packets the
+/// queue is full. A refused packet comes back, and nothing is changed.
 pub fn submit_ahead<R: Wait>(
     rt: &R,
     alloc: Global,
@@ -492,10 +493,10 @@ pub fn submit_ahead<R: Wait>(
     submit_once(rt, alloc, &mut opened.submitters[submitter], packet)
 }
 
-/// Runs a pipeline until all of its senders have ended. Each submitter has the driver of the same index and a thread of its
-/// own, the control has one that queues its lines, and the calling thread serves. The drivers come back in their order with
-/// the report, in which a submitter's end still gives the replies that its driver hasn't taken. Where a thread can't be
-/// started the others are told to stop, and what was queued is lost with the pipeline.
+/// Runs a pipeline until all of its senders have ended. Each submitter has the driver of the same index and a thread of
+/// its own, the control has one that queues its lines, and the calling thread serves. The drivers come back in their
+/// order with the report, in which a submitter's end still gives the replies that its driver hasn't taken. Where a
+/// thread can't be started the others are told to stop, and what was queued is lost with the pipeline.
 pub fn drive_all<D: Driver + Send, R: Threads + Wait + Sync>(
     rt: &R,
     alloc: Global,

@@ -1,7 +1,8 @@
 //! Threads that drive a pipeline: one for each submitter, one for the control, and the caller's own, which serves.
 //!
-//! An application writes a `Driver`: what its submitter does next, and what becomes of the replies. `drive_all` takes an
-//! opened pipeline with a driver for each submitter, runs it until all have ended, and gives its report and the drivers:
+//! An application writes a `Driver`: what its submitter does next, and what becomes of the replies. `drive_all` takes
+//! an opened pipeline with a driver for each submitter, runs it until all have ended, and gives its report and the
+//! drivers:
 //!
 //! ```
 //! let Ok(opened) = open(alloc, clock, limit, capacity, credit, 2) else { .. };
@@ -9,8 +10,9 @@
 //! let finished = drive_all(&rt, alloc, opened, drivers, ControlLines::none(alloc))?;
 //! ```
 //!
-//! Each thread ends its sender, whatever its driver does, since `serve` waits for each end. `drive_all` settles with the
-//! pipeline's own ends, so that what `settle` says of the report it says itself. The crate `two_tellers` is such an application.
+//! Each thread ends its sender, whatever its driver does, since `serve` waits for each end. `drive_all` settles with
+//! the pipeline's own ends, so that what `settle` says of the report it says itself. The crate `two_tellers` is such an
+//! application.
 #![tactic(auto)]
 
 mod controlling;

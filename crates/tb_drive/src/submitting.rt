@@ -43,8 +43,8 @@ impl<D: Driver> Model for Seated<D> {
     ghost invariant = { λ seated. HasSeen D.has_seen seated.driver seated.submitter };
 }
 
-/// What a submitter's thread leaves: the submitter's end, unless it was told to stop first, and the driver, which has seen
-/// what the end queued and read.
+/// What a submitter's thread leaves: the submitter's end, unless it was told to stop first, and the driver, which has
+/// seen what the end queued and read.
 #[derive(Drop)]
 pub(crate) struct Driven<D: Driver> {
     pub(crate) ended: Option<Ended>,
@@ -63,7 +63,8 @@ impl<D: Driver> Model for Driven<D> {
     ghost invariant = { λ driven. IfSome driven.ended (λ ended. HasSeenEnd D.has_seen driven.driver ended) };
 }
 
-/// The end that comes back is that of the submitter that was handed over, and the driver is the one that was.
+/// The promise that the end that comes back is that of the submitter that was handed over, and the driver the one that
+/// was.
 #[derive(Drop)]
 pub(crate) struct EndOfSubmitter<D: Driver> {
     pub(crate) seated: Snapshot<Seated<D>>,
@@ -75,8 +76,8 @@ impl<D: Driver> Promise<Driven<D>> for EndOfSubmitter<D> {
     ghost kept_by = { λ p r. IsLeftBy p.seated.value r };
 }
 
-/// Submits a packet once, as `Submitter::submit` does; where it is refused it comes back. Behind 2^56 packets the queue is
-/// full, whatever else there is to refuse.
+/// Submits a packet once, as `Submitter::submit` does; where it is refused it comes back. After 2^56 packets the queue
+/// is full, whatever else there is to refuse.
 pub(crate) fn submit_once<R: Wait>(
     rt: &R,
     alloc: Global,

@@ -88,7 +88,7 @@ impl Noter {
         let _ = self.saw.push(saw);
     }
 
-    /// The next step; None behind the last.
+    /// The next step; None after the last.
     fn step(&mut self) -> Option<Step> {
         let step = *self.steps.get(self.next)?;
         self.next = self.next.saturating_add(1);

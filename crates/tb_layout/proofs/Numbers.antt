@@ -99,7 +99,7 @@ bytes_of-little_endian (byte ∷ bytes) h =
     rw (first, others) (ap (λ more. byte ∷ more) (bytes_of-little_endian bytes
         (λ place d within. h (suc place) d (omega arith))))
 
--- ---- numbers that lie one behind the other
+-- ---- numbers that lie one after the other
 
 -- how many bytes they have
 abbrev pub size_of : List (ℕ × ℕ) → ℕ

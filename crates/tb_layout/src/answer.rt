@@ -7,7 +7,8 @@ use crate::failure::Failure;
 use smallvec::SmallVec;
 use std::marker::Model;
 
-/// Room for failures. Those of a small packet, of up to two events, lie in the value itself and need no memory of their own.
+/// Room for failures. Those of a small packet, of up to two events, lie in the value itself and need no memory of their
+/// own.
 pub type FailureRoom = SmallVec<Failure, 2>;
 
 /// The failed events of a packet, seen as their list.
@@ -16,7 +17,7 @@ pub struct Failures {
 }
 
 impl Drop for Failures {
-    /// One call, so that no owner's proof goes through all that is held.
+    /// Lets all that is held go in one call, so that no owner's proof goes through it.
     fn drop(self) {
         let Failures { failures } = self;
         drop(failures);

@@ -3,11 +3,11 @@
 ghost use Rattle.std.specs.Prelude.{◌≡◌};
 ghost use Rattle.tb_layout.specs.Flags as spec;
 
-/// Bits 0 to 3. An account and a transfer of the requests reference have further ones (imported, balancing
-/// and closing events); they are reserved here.
+/// The flags that stand for something, bits 0 to 3. An account and a transfer of the requests reference have further
+/// ones (imported, balancing and closing events); they are reserved here.
 const KNOWN_FLAGS: u16 = 0b1111;
 
-/// Whether a bit is set that stands for nothing.
+/// Whether a bit is set that stands for nothing, one of 4 to 15.
 pub fn has_reserved_flag(flags: u16) -> bool
     ensures { result ≡ spec.has_reserved_flag flags }
 {

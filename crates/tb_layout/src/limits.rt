@@ -15,8 +15,8 @@ pub const MOMENT_MAX: u64 = 1 << 62;
 /// The greatest clock, in nanoseconds. TigerBeetle keeps the topmost bit of a timestamp free.
 pub const CLOCK_MAX: u64 = 0x7fff_ffff_ffff_ffff;
 
-/// A timeout is in seconds, a timestamp in nanoseconds.
+/// The nanoseconds of a second: a timeout is in seconds, a timestamp in nanoseconds.
 pub const NANOSECONDS_PER_SECOND: u64 = 1_000_000_000;
 
-/// The most submitters of a front, which are numbered from 0.
+/// The most submitters of a queue or a front, numbered from 0.
 pub const SUBMITTERS_MAX: u32 = 16;

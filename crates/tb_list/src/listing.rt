@@ -25,6 +25,7 @@ struct Pending<'a> {
 }
 
 impl<'a> Pending<'a> {
+    /// Goes on to the next place, where there is one.
     fn go_on(&mut self)
         requires { IfSome self.old.place (λ place. place < 2 ^ 63) }
         ensures place { self.new.place ≡ one_further self.old.place }
@@ -35,7 +36,7 @@ impl<'a> Pending<'a> {
         }
     }
 
-    /// The next reply.
+    /// Adds the line of the next reply.
     fn put_packet(&mut self, out: &mut String) -> Result<(), AllocError>
         requires { IfSome self.old.place (λ place. place < 2 ^ 63) }
         ensures text { OnOk result (string_bytes out.new
@@ -51,6 +52,7 @@ impl<'a> Pending<'a> {
         Ok(())
     }
 
+    /// Adds the line of a pulse at the next place.
     fn put_pulse(&mut self, out: &mut String) -> Result<(), AllocError>
         requires { IfSome self.old.place (λ place. place < 2 ^ 63) }
         ensures text { OnOk result (string_bytes out.new
@@ -65,6 +67,7 @@ impl<'a> Pending<'a> {
         Ok(())
     }
 
+    /// Adds the line of an item.
     fn put_line(&mut self, out: &mut String, line: Line) -> Result<(), AllocError>
         requires { IfSome self.old.place (λ place. place < 2 ^ 63) }
         ensures text { OnOk result (string_bytes out.new
@@ -85,7 +88,7 @@ impl<'a> Pending<'a> {
     }
 }
 
-/// The lines of all items, in the order of the script.
+/// Adds the lines of all items, in the order of the script.
 #[tactic(auto, unfolding(crate::specs::Printing::text_from))]
 fn put_lines(out: &mut String, lines: &[Line], replies: &[Reply]) -> Result<(), AllocError>
     ensures { OnOk result (string_bytes out.new ≡ string_bytes out.old ++ text_from (Some 0) replies.now lines.now) }
@@ -100,7 +103,7 @@ fn put_lines(out: &mut String, lines: &[Line], replies: &[Reply]) -> Result<(), 
     Ok(())
 }
 
-/// All lines of a plan that was listed: those of its items, the clock after them and the accounts.
+/// Adds all lines of a plan that was listed: those of its items, the clock after them and the accounts.
 pub fn put_listing(out: &mut String, lines: &[Line], listed: &Listed) -> Result<(), AllocError>
     ensures { (clock : ℕ) (plan : List Planned) → lines.now ≡ map line_of plan
         → IsListed clock (queue_of plan) listed.now.ledger listed.now.replies.items

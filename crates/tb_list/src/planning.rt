@@ -63,7 +63,7 @@ impl Plan {
         Ok(())
     }
 
-    /// A packet behind the items so far.
+    /// Plans a packet after the items so far.
     fn add_packet(
         &mut self,
         alloc: Global,
@@ -87,7 +87,7 @@ impl Plan {
         }
     }
 
-    /// A pulse behind the items so far.
+    /// Plans a pulse after the items so far.
     fn add_pulse(&mut self, moment: u64) -> Result<(), NoMemory>
         ensures { OnOk result (self.new ≡ with_planned self.old (pulse_as moment)) }
     {
@@ -100,7 +100,7 @@ impl Plan {
         Ok(())
     }
 
-    /// The Close behind the items so far.
+    /// Plans the Close after the items so far.
     fn add_close(&mut self) -> Result<(), NoMemory>
         ensures { OnOk result (self.new ≡ with_planned self.old ClosePlanned) }
     {
@@ -109,7 +109,7 @@ impl Plan {
         Ok(())
     }
 
-    /// An item behind those so far.
+    /// Plans an item after those so far.
     fn add(&mut self, alloc: Global, limit: u32, item: Item) -> Result<(), NoMemory>
         requires { limit ≤ batch_max }
         ensures { OnOk result (self.new ≡ with_planned self.old (planned_as limit self.old.queue item)) }

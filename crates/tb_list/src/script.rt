@@ -77,7 +77,8 @@ pub fn run_script<R: Read, W: Write>(
     reader: &mut R,
     writer: &mut W,
 ) -> Result<bool, ProgramFault>
-    // Where the reader tells its bytes and the writer its own, the output for the bytes is written, and nothing else.
+    // Where it is known what the reader will read and what was written to the writer, just the output for these bytes
+    // is written.
     ensures written { IfOk result (λ faultless. IfSome (R.remaining reader.old) (λ bytes.
         Appends (W.contents writer.old) (W.contents writer.new) (out bytes) × (faultless ≡ is_faultless bytes))) }
     // Nothing is written where the reader failed or memory ran out.

@@ -96,7 +96,7 @@ clock_exhausted = refl
 bad_account_fields : failures_of (replay 0 []) (Accounts (record (account 1) { timestamp = 5 } ∷ record (account 2) { flags = 6 } ∷ record (account 3) { flags = 16 } ∷ [])) ≡ failure 0 3 ∷ failure 1 8 ∷ failure 2 5 ∷ []
 bad_account_fields = refl
 
--- ---- transfers, behind accounts 1 and 2
+-- ---- transfers, after accounts 1 and 2
 
 abbrev two_accounts : Work
 two_accounts = Packet 0 0 (Accounts (account 1 ∷ account 2 ∷ []))

@@ -15,7 +15,7 @@ abbrev pub clock_exhausted : ℕ
 clock_exhausted = 201
 
 -- what an operation makes of its events: which are linked, the number of the verdict on one at a timestamp, the
--- facts once it is stored, and the facts that its failing with a code leaves behind
+-- facts once it is stored, and the facts that its failing with a code leaves
 pub record Operation (Event : Type 0) : Type 0 where
   pub is_linked : Event → Bool
   pub verdict : Facts → ℕ → Event → ℕ
@@ -69,7 +69,7 @@ failed_results count (Some fault) =
     replicate fault.index linked_event_failed ++ fault.code
     ∷ replicate (count - fault.index - 1) linked_event_failed
 
--- what a failed chain leaves behind
+-- the facts that a failed chain leaves
 abbrev pub left_behind : {Event : Type 0} → Operation Event → Facts → Option (Fault Event) → Facts
 left_behind operation facts None = facts
 left_behind operation facts (Some fault) = operation.remembered facts fault.code fault.event

@@ -39,7 +39,7 @@ pub record GiveAsEach {Event : Type 0} (packet_of : List Event → Events) (stat
   pub state_after : after_packet state (packet_of (events_in_turn packets))
       ≡ fold after_packet state (map packet_of packets)
 
--- so does every group, in every state that a machine can have
+-- every group gives each packet what it gives by itself, in every state that a machine can have
 abbrev pub JoiningIsInvisible : {Event : Type 0} → (List Event → Events) → (Event → Bool) → Type 0
 JoiningIsInvisible {Event} packet_of is_linked =
     (state : State) (packets : List (List Event)) → state.clock ≤ clock_max → IsGroup is_linked packets

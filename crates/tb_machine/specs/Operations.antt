@@ -14,7 +14,7 @@ use Rattle.tb_machine.specs.AccountVerdict.{account_verdict}
 use Rattle.tb_machine.specs.TransferVerdict.{transfer_verdict, stored_transfer}
 use Rattle.tb_machine.specs.Chain.{Operation}
 
--- an account is stored with its timestamp, and a fault leaves nothing behind
+-- an account is stored with its timestamp, and a fault leaves nothing
 abbrev pub accounts_operation : Operation Account
 accounts_operation = record {
   is_linked = is_linked_account;
@@ -28,7 +28,7 @@ abbrev pub transient_codes : List TransferCode
 transient_codes =
     DebitAccountNotFound ∷ CreditAccountNotFound ∷ PendingTransferNotFound ∷ ExceedsCredits ∷ ExceedsDebits ∷ []
 
--- whether a transfer that failed with this code leaves its id behind
+-- whether a transfer that failed with this code leaves its id among the failed ones
 abbrev pub is_transient : ℕ → Bool
 is_transient code = list_any (λ transient. code == transfer_number transient) transient_codes
 
@@ -36,7 +36,7 @@ is_transient code = list_any (λ transient. code == transfer_number transient) t
 abbrev pub with_failed : Facts → ℕ → Facts
 with_failed facts id = if is_failed facts id then facts else add_failed facts id
 
--- a transfer is stored with its resolved fields, and some faults leave its id behind
+-- a transfer is stored with its resolved fields, and some faults leave its id among the failed ones
 abbrev pub transfers_operation : Operation Transfer
 transfers_operation = record {
   is_linked = is_linked_transfer;

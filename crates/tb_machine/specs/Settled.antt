@@ -3,7 +3,7 @@ use Rattle.std.specs.Prelude.{◌≡◌, ◌≤◌, ℕ, []}
 use Rattle.tb_tables.specs.History.{History}
 use Rattle.tb_layout.specs.Limits.{clock_max}
 
--- its clock can be told, and nothing is left to be taken back
+-- the clock is in range, and nothing is left to be taken back
 pub record IsSettled (clock : ℕ) (tables : History) : Type 0 where
   pub in_range : clock ≤ clock_max
   pub stands : tables.past ≡ []

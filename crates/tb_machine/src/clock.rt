@@ -6,7 +6,7 @@ ghost use Rattle.tb_machine.specs.Clock as spec;
 
 use tb_layout::{CLOCK_MAX, NANOSECONDS_PER_SECOND};
 
-/// The timestamp of the next event, if the clock can be raised for it.
+/// The timestamp of the next event, in nanoseconds: the clock raised by one, or None where it is `CLOCK_MAX`.
 pub fn next_timestamp(clock: u64) -> Option<u64>
     requires { clock ≤ clock_max }
     ensures { result ≡ spec.next_timestamp clock }
@@ -18,7 +18,7 @@ pub fn next_timestamp(clock: u64) -> Option<u64>
     }
 }
 
-/// The clock after so many events.
+/// The clock after so many events: raised by their number, to `CLOCK_MAX` at most.
 pub fn clock_after(clock: u64, count: usize) -> u64
     requires { clock ≤ clock_max }
     ensures value { result ≡ spec.clock_after clock count }
@@ -31,7 +31,7 @@ pub fn clock_after(clock: u64, count: usize) -> u64
     }
 }
 
-/// When a timeout, in seconds, is over that began at a timestamp.
+/// When a timeout, in seconds, is over that began at a timestamp, in nanoseconds.
 pub fn expires_at(timestamp: u64, timeout: u32) -> u128
     ensures { result ≡ timestamp + timeout * nanoseconds_per_second }
 {

@@ -82,7 +82,7 @@ fn with_event<E: Event>(fault: Option<Fault<&[u8; 128]>>) -> Option<Fault<E>>
     }
 }
 
-/// Takes a failed chain back, but for what its fault leaves behind.
+/// Takes a failed chain back, but for what its fault leaves.
 fn take_back<E: Event>(
     tables: &mut Tables,
     mark: Mark,
@@ -99,7 +99,7 @@ fn take_back<E: Event>(
     }
 }
 
-/// Takes an event that is a chain by itself: it succeeds, or it is reported with its own code and leaves behind what
+/// Takes an event that is a chain by itself: it succeeds, or it is reported with its own code and leaves what
 /// that does. There is nothing to take back.
 fn commit_event<E: Event>(
     clock: u64,

@@ -46,7 +46,7 @@ pub trait Event: Copy {
             (operation.stored tables.old.now timestamp self.old) }
         ensures same { result ≢ Ok 0 → tables.new ≡ tables.old };
 
-    /// Notes what the event's failing with this code leaves behind.
+    /// Notes what the event's failing with this code leaves.
     fn remember(&self, tables: &mut Tables, code: u32) -> Result<(), NoMemory>
         ensures facts { IfOk result (λ _. tables.new.now ≡ operation.remembered tables.old.now code self.now) }
         ensures extends { Extends tables.old tables.new };
@@ -223,8 +223,8 @@ fn store_resolved(
     tables.resolve_new_at(&transfer, place)
 }
 
-/// Stores a post or a void where its checks find nothing, and answers the number of its result. Its id is looked up where
-/// it is stored, as that of a plain or pending transfer.
+/// Stores a post or a void where its checks find nothing, and answers the number of its result. Its id is looked up
+/// where it is stored, as that of a plain or pending transfer.
 #[inline(never)]
 fn examine_resolving(
     tables: &mut Tables,

@@ -25,7 +25,7 @@ pub struct Machine {
 }
 
 impl Drop for Machine {
-    /// One call, so that no owner's proof goes through all that is held.
+    /// Lets all that is held go in one call, so that no owner's proof goes through it.
     fn drop(self) {
         let Machine { clock: _, tables } = self;
         drop(tables);

@@ -95,7 +95,7 @@ fn between(timestamp: u64, debit: &Account, credit: &Account, event: &Transfer) 
     TransferCode::Ok
 }
 
-/// The same, where one of the accounts may not be there.
+/// The first check that a plain or pending transfer fails, or Ok, where one of its accounts may not be there.
 #[inline(always)]
 fn between_found(tables: &Tables, sides: Sides, timestamp: u64, event: &Transfer) -> TransferCode
     requires { AreSides tables.now.now event.now sides }

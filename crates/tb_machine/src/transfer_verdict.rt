@@ -12,7 +12,7 @@ use crate::resolving_verdict::resolving_verdict;
 use tb_layout::{Transfer, TransferCode};
 use tb_tables::Tables;
 
-/// An event, with its fields resolved, whose id is that of a stored transfer.
+/// How an event, with its fields resolved, differs from the stored transfer that has its id, or that it doesn't.
 fn against_stored(stored: &Transfer, event: &Transfer) -> TransferCode
     ensures { result ≡ spec.against_stored stored.now event.now }
 {
@@ -52,7 +52,7 @@ fn against_stored(stored: &Transfer, event: &Transfer) -> TransferCode
     TransferCode::Exists
 }
 
-/// An event whose id is that of the transfer at a place.
+/// How an event differs from the transfer at a place, which has its id, or that it doesn't.
 #[inline(never)]
 fn against_place(tables: &Tables, place: usize, event: &Transfer) -> TransferCode
     requires { IsPlaceOfTransfer tables.now.now event.now.id (Some place) }

@@ -32,7 +32,7 @@ pub all_first : {A : Type 0} (P : A → Type 0) (xs ys : List A) → AllByRecurs
 all_first P [] ys all = tt
 all_first P (x ∷ xs) ys all = (all.0, all_first P xs ys all.1)
 
--- ---- behind the last value, which alone is marked, nothing follows
+-- ---- after the last value, which alone is marked, nothing follows
 
 nothing_left : {A : Type 0} (xs ys : List A) → xs ++ ys ≡ [] → ys ≡ []
 nothing_left [] ys none = none

@@ -59,7 +59,7 @@ pub record IsBatched (limit submitters : ℕ) (queue : List Ticket) (front : Fro
   pub unended : has_last given ≡ false
   pub knows : KnowsEnds queue front
 
--- all of a queue was given on, each sender's end is in it, and behind all that stands the last parcel
+-- all of a queue was given on, each sender's end is in it, and after all that stands the last parcel
 pub record AllBatched (limit submitters : ℕ) (queue : List Ticket) (given : List Parcel) : Type 0 where
   pub closed : Bool
   pub stopped : Bool
@@ -77,7 +77,7 @@ pub record IsCommitted (clock : ℕ) (taken : List Parcel) (ledger : LedgerState
   pub unended : has_last taken ≡ false
   pub unfinished : has_final given ≡ false
 
--- the last parcel was taken too, and the last outcome was given on behind all others
+-- the last parcel was taken too, and the last outcome was given on after all others
 pub record AllCommitted (clock : ℕ) (taken : List Parcel) (ledger : LedgerState) (given : List Outcomes) : Type 0 where
   pub before : List Outcomes
   pub parts : given ≡ before ++ outcomes.Last ∷ []

@@ -24,7 +24,7 @@ AllMore answers old new =
     (k : ℕ) (d : Outlet Replied) → k < length old
     → given (slice_index_or new k d) ≡ given (slice_index_or old k d) ++ replies_to answers k
 
--- the same once the last ones of them, which are left, are given too
+-- each ring will have been given, besides, those that go to its submitter once the replies that are left are given too
 abbrev pub AllLeft : List Replied → List (Outlet Replied) → List Replied → List (Outlet Replied) → Type 0
 AllLeft answers old left new =
     (k : ℕ) (d : Outlet Replied) → k < length old

@@ -16,7 +16,7 @@ use tb_rings::Outlet;
 use tb_submit::Intake;
 use tb_work::Ticket;
 
-/// Gives a parcel on, and tells the gate where it is a batch. It gives the number of batches so far.
+/// Gives a parcel on, and tells the gate where it is a batch. Answers how many batches there are so far.
 fn give<R: Wait, G: Gate>(
     rt: &R,
     gate: &G,
@@ -36,7 +36,7 @@ fn give<R: Wait, G: Gate>(
     sealed
 }
 
-/// Gives parcels on in order, and leaves none.
+/// Gives parcels on in order, and leaves none. Answers how many batches there are so far.
 fn give_all<R: Wait, G: Gate>(
     rt: &R,
     gate: &G,
@@ -58,7 +58,7 @@ fn give_all<R: Wait, G: Gate>(
     sealed
 }
 
-/// One ticket through the front, with room for its parcels.
+/// Passes one ticket through the front, with room for its parcels. Answers how many batches there are so far.
 fn pass_ticket<R: Wait, G: Gate>(
     rt: &R,
     gate: &G,
@@ -80,7 +80,7 @@ fn pass_ticket<R: Wait, G: Gate>(
     give_all(rt, gate, batches, parcels, sealed)
 }
 
-/// The group held, where there is one: it is sealed, since nothing waits to join it.
+/// Gives the group held on, where there is one: nothing waits to join it. Answers how many batches there are so far.
 fn pass_group<R: Wait, G: Gate>(
     rt: &R,
     gate: &G,

@@ -23,7 +23,8 @@ pub struct Committed {
     pub ledger: Ledger,
 }
 
-/// The ring ends that come back are those that were handed over, and all that was taken is committed.
+/// The promise that the ring ends that come back are those that were handed over, and that all that was taken is
+/// committed.
 #[derive(Drop)]
 pub struct Commitment {
     pub inlet: Snapshot<Inlet<Parcel>>,
@@ -40,6 +41,7 @@ impl Promise<Committed> for Commitment {
         × AllCommitted p.clock (taken r.inlet) r.ledger (given r.outlet) };
 }
 
+/// Whether a parcel is the last.
 fn is_last(parcel: &Parcel) -> bool
     ensures { result ≡ is_last parcel.now }
 {
@@ -62,7 +64,7 @@ fn give_on<R: Wait>(rt: &R, outlet: &mut Outlet<Outcomes>, outcomes: Outcomes)
     }
 }
 
-/// One parcel through the ledger; true where it is the last.
+/// Passes one parcel through the ledger; whether it is the last.
 fn commit<R: Wait>(
     rt: &R,
     ledger: &mut Ledger,

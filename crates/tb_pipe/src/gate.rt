@@ -6,7 +6,7 @@ ghost use Rattle.std.specs.Prelude.{◌≡◌, ℕ, IsTrue, true, ⊤};
 pub trait Gate: Sync {
     ghost lets_through: { Self → ℕ → Type 0 } = { λ _ _. ⊤ };
 
-    /// The batch was handed to the committer. The batcher calls it once for each batch.
+    /// Notes that the batch was handed to the committer. The batcher calls it once for each batch.
     fn sealed(&self, batch: u64);
 
     /// Whether the batch may be committed now. The committer asks before each commit, again and again while

@@ -14,6 +14,7 @@ use tb_rings::{Inlet, Outlet, ring};
 use tb_submit::{Control, Ends, Submitter, open_queue};
 use tb_work::Refusal;
 
+/// How many parcels or outcomes a ring between two stages holds.
 const STAGE_SLOTS: usize = 8;
 
 /// A pipeline with its ends: the submitter of number i is that at index i.
@@ -55,12 +56,11 @@ fn open_rings(alloc: Global) -> Option<Rings>
     })
 }
 
-/// A pipeline whose clock starts at a number of nanoseconds. The limit is the most events of a batch, the
-/// capacity the places of the submission queue, and the credit how many packets each submitter may have queued
-/// with their replies unread; each submitter's reply ring has as many slots. It is refused for the limit
-/// (1 to 8190), then the capacity or the credit (1 to 65,536), then the number of submitters (1 to 16), then
-/// want of memory. All rings and the queue are made here; packets, batches and the state machine take their
-/// memory later. It waits for nobody.
+/// A pipeline whose clock starts at a number of nanoseconds, 0 to `CLOCK_MAX`. The limit is the most events of a batch,
+/// the capacity the places of the submission queue, and the credit how many packets each submitter may have queued with
+/// their replies unread; each submitter's reply ring has as many slots. It is refused for the limit (1 to 8190), then
+/// the capacity or the credit (1 to 65,536), then the number of submitters (1 to 16), then want of memory. All rings
+/// and the queue are made here; packets, batches and the state machine take their memory later. It waits for nobody.
 pub fn open(
     alloc: Global,
     clock: u64,

@@ -22,7 +22,8 @@ pub struct Routed {
     pub outlets: Vec<Outlet<Reply>>,
 }
 
-/// The ring ends that come back are those that were handed over, and all that was taken is handed out.
+/// The promise that the ring ends that come back are those that were handed over, and that all that was taken is handed
+/// out.
 #[derive(Drop)]
 pub struct Routing {
     pub inlet: Snapshot<Inlet<Outcomes>>,
@@ -37,9 +38,8 @@ impl Promise<Routed> for Routing {
         × AllRouted (taken r.inlet) r.outlets.items };
 }
 
-/// A reply into its submitter's ring. There is room: the ring has as many slots as its submitter may have
-/// packets in flight, so no stage waits for a submitter. Were it full all the same, this would wait until the
-/// submitter reads.
+/// Puts a reply into its submitter's ring. There is room: the ring has as many slots as its submitter may have packets
+/// in flight, so no stage waits for a submitter. Were it full all the same, this would wait until the submitter reads.
 fn route<R: Wait>(rt: &R, outlets: &mut Vec<Outlet<Reply>>, reply: Reply)
     ensures same { SameOutlets outlets.old.items outlets.new.items }
     ensures more { AllMore (reply ∷ []) outlets.old.items outlets.new.items }
@@ -51,7 +51,7 @@ fn route<R: Wait>(rt: &R, outlets: &mut Vec<Outlet<Reply>>, reply: Reply)
     }
 }
 
-/// The replies of an outcome; true where it is the last.
+/// Puts the replies of an outcome into their rings; whether the outcome is the last.
 fn route_all<R: Wait>(rt: &R, outlets: &mut Vec<Outlet<Reply>>, outcomes: Outcomes) -> bool
     ensures same { SameOutlets outlets.old.items outlets.new.items }
     ensures more { AllMore (replies_in outcomes) outlets.old.items outlets.new.items }

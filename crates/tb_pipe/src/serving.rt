@@ -18,7 +18,7 @@ pub struct Pipeline {
 }
 
 impl Drop for Pipeline {
-    /// The stages go in one call, so that a caller's proof needn't go through all that they hold.
+    /// Lets the stages go in one call, so that a caller's proof needn't go through all that they hold.
     fn drop(self) {
         let Pipeline { stages } = self;
         drop(stages);
@@ -41,7 +41,7 @@ pub struct Served {
 }
 
 impl Drop for Served {
-    /// The remains go in one call, as a pipeline's stages do.
+    /// Lets the remains go in one call, as a pipeline's stages.
     fn drop(self) {
         let Served { remains } = self;
         drop(remains);
@@ -59,7 +59,7 @@ impl Model for Served {
 }
 
 impl Served {
-    /// What the stages left.
+    /// What the stages left, taken out.
     pub(crate) fn into_remains(self) -> Remains
         ensures served { IsServed result }
         ensures same { self ≡ served_of result }
@@ -70,10 +70,11 @@ impl Served {
 }
 
 impl Pipeline {
-    /// Commits what is queued and hands the replies out, until each submitter and the control have ended. The
-    /// calling thread is the batcher; it starts the committer and then the demultiplexer, and joins both. Where
-    /// one of them can't be started the intake comes back, to take what is queued, and the pipeline is spent.
-    /// It comes back only once every sender has ended, so each driver ends its sender, whatever fails in it.
+    /// Commits what is queued and hands the replies out, until each submitter and the control have ended; so each
+    /// driver ends its sender, whatever fails in it. The calling thread is the batcher; it starts the committer and
+    /// then the demultiplexer, and joins both. Where one of them can't be started (`NoThread`) nothing was taken: the
+    /// intake comes back, to take what is queued, and the pipeline is spent. Where memory is refused the pipeline
+    /// stops, and answers.
     pub fn serve<R: Threads + Wait + Sync, G: Gate>(
         self,
         rt: &R,

@@ -22,6 +22,7 @@ pub struct Report {
     pub ends: Vec<Ended>,
 }
 
+/// The report on what the stages left, as `settle` gives it.
 fn settle_remains(remains: Remains, ends: Vec<Ended>, control: ControlEnd) -> Report
     requires served { IsServed remains }
     requires ends { map end_origin ends.items ≡ origins remains.intake remains.routed.outlets.items }
@@ -52,8 +53,8 @@ fn settle_remains(remains: Remains, ends: Vec<Ended>, control: ControlEnd) -> Re
     }
 }
 
-/// The report on a run. The ends are those of the submitters that were opened with the pipeline, by rising number,
-/// and the control's is its control's. Takes no memory, and waits for nobody. After it `reply` on an end gives all
+/// The report on a run. The ends are those of the submitters that were opened with the pipeline, by rising number, and
+/// the control's is its control's. Takes no memory, and waits for nobody. Once it is there, `reply` on an end gives all
 /// replies that are left, and None only after them.
 pub fn settle(served: Served, ends: Vec<Ended>, control: ControlEnd) -> Report
     requires ends { map end_origin ends.items ≡ served.submitters }

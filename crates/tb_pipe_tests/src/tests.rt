@@ -1,8 +1,8 @@
 //! What no clause tells: worked examples by name, the gate's calls, threads, and memory that is refused.
 //!
 //! The helpers give up where something fails that isn't looked at, in place of handing it up: at each way out of a
-//! function all that it owns is let go, and a proof goes through its parts. So a report is dropped by name too. Only what
-//! is tried with refused memory hands that up.
+//! function all that it owns is let go, and a proof goes through its parts. So a report is dropped by name too. Only
+//! what is tried with refused memory hands that up.
 
 ghost use Rattle.std.specs.Prelude.{◌≡◌, ◌++◌, ◌∷◌, [], IfOk, length, map};
 ghost use Rattle.tb_submit.specs.Ends.{origin_of, end_origin, control_seat};
@@ -109,6 +109,7 @@ fn lone_of(opened: Opened) -> Lone
     }
 }
 
+/// A pipeline of one submitter, with clock 0 and limit 4, or why it isn't opened.
 fn opened_lone(alloc: Global, capacity: u32, credit: u32) -> Result<Lone, Refusal>
     ensures together { IfOk result (λ lone. AreTogether lone.pipeline (lone.submitter ∷ []) lone.control) }
     ensures as_asked { IfOk result (λ lone. IsOpenedAs 0 4 1 lone.pipeline) }
@@ -192,7 +193,7 @@ fn room_for_ends(alloc: Global) -> Result<Vec<Ended>, AllocError>
     }
 }
 
-/// Ends a submitter, and puts its end behind the others, for which there is room.
+/// Ends a submitter, and puts its end after the others, for which there is room.
 fn end_one<R: Wait + Abort>(rt: &R, ends: &mut Vec<Ended>, submitter: Submitter)
     ensures { map end_origin ends.new.items ≡ map end_origin ends.old.items ++ origin_of submitter ∷ [] }
 {
@@ -253,7 +254,7 @@ fn finish<R: Threads + Wait + Sync, G: Gate>(
     }
 }
 
-/// Ends the control, queues accounts behind it, ends the submitter, serves what is queued, and settles.
+/// Ends the control, queues accounts after that, ends the submitter, serves what is queued, and settles.
 fn finish_lone<R: Threads + Wait + Sync + Abort, G: Gate>(
     rt: &R,
     alloc: Global,

@@ -9,7 +9,7 @@ use Rattle.tb_work.specs.declared.stub.Stub.{Stub}
 use Rattle.tb_text.specs.Output.{pulse_line}
 use Rattle.tb_program.specs.RunText.{pulses_text}
 
--- those of some packets and pulses, and of others behind them
+-- those of some packets and pulses, and of others after them
 pub pulses_behind : (place : ℕ) (works others : List Work)
     → pulses_text place (works ++ others) ≡ pulses_text place works ++ pulses_text (place + length works) others
 pulses_behind place [] others = ap (λ p. pulses_text p others) (omega arith)
@@ -22,7 +22,7 @@ pulses_behind place (Pulse moment ∷ works) others =
     ∙ sym (append_assoc (pulse_line place) (pulses_text (suc place) works)
             (pulses_text (place + suc (length works)) others))
 
--- those of an entry, and of the others behind it
+-- those of an entry, and of the others after it
 pub first_pulses : (before after : List ℕ) (place behind : ℕ) (entry : Entry) (others all : List Entry)
     → all ≡ entry ∷ others → behind ≡ place + length (group_of entry)
     → after ≡ before ++ pulses_text place (group_of entry)

@@ -8,13 +8,13 @@ use Rattle.tb_program.specs.declared.run.driver.ScriptDriver.{ScriptDriver}
 use Rattle.tb_program.specs.declared.run.notes.Told.{Told}
 use Rattle.tb_program.specs.declared.run.notes.Told.TheVariants.{Queued, Refused}
 
--- of how many packets was told that they are queued
+-- of how many packets a driver was told that they are queued
 abbrev pub queued_among : List Told → ℕ
 queued_among [] = 0
 queued_among (Queued ∷ told) = suc (queued_among told)
 queued_among (Refused refusal ∷ told) = queued_among told
 
--- there is a reply to each of them, and no other
+-- there are as many replies as such packets
 abbrev pub IsAnswered : List Told → List Replied → Type 0
 IsAnswered told replies = queued_among told ≡ length replies
 

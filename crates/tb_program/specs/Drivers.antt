@@ -15,16 +15,16 @@ share_of driver = driver.share.value.items
 abbrev pub told_of : ScriptDriver → List Told
 told_of driver = driver.notes.told.items
 
--- of the packets that it still has
+-- a driver has noted what its submitter queued and read; the packets that it still has are left of its share
 abbrev pub HasSeenOf : ScriptDriver → List Numbered → List Replied → Type 0
 HasSeenOf driver queued read = HasNoted (share_of driver) (into_iter_items driver.packets) driver.notes queued read
 
--- and of one that it has handed out besides
+-- the same, where it handed out one more packet and wasn't told of that
 abbrev pub HasAskedOf : ScriptDriver → Packet → List Numbered → List Replied → Type 0
 HasAskedOf driver packet queued read =
     HasNoted (share_of driver) (packet ∷ into_iter_items driver.packets) driver.notes queued read
 
--- it noted all that it was to note, and has no packet left
+-- a driver noted all that it was to note, and has no packet left
 abbrev pub IsDone : ScriptDriver → Type 0
 IsDone driver = (driver.notes.complete ≡ true) × (into_iter_items driver.packets ≡ [])
 

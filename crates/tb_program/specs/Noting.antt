@@ -8,7 +8,7 @@ use Rattle.tb_program.specs.declared.run.notes.Notes.{Notes}
 use Rattle.tb_program.specs.declared.run.notes.Told.{Told}
 use Rattle.tb_program.specs.declared.run.notes.Told.TheVariants.{Queued, Refused}
 
--- those of these packets of which was told that they are queued
+-- the packets of which a driver was told that they are queued
 abbrev pub kept : List Packet → List Told → List Packet
 kept [] told = []
 kept (packet ∷ packets) [] = []
@@ -18,14 +18,15 @@ kept (packet ∷ packets) (Refused refusal ∷ told) = kept packets told
 abbrev pub packets_in : List Numbered → List Packet
 packets_in jobs = map (λ (job : Numbered). job.packet) jobs
 
--- the first packets of a share were handed in, of each was told what became of it, and just those are queued of which it was told
+-- the first packets of a share were handed in, a driver was told what became of each, and just those are queued of
+-- which it was told so
 pub record IsHandedIn (share rest : List Packet) (told : List Told) (queued : List Numbered) : Type 0 where
   pub handed : List Packet
   pub parts : share ≡ handed ++ rest
   pub number : length told ≡ length handed
   pub told_so : packets_in queued ≡ kept handed told
 
--- notes that found room have all of it, and the replies that were read
+-- notes that found room have all of this, and the replies that were read
 abbrev pub HasNoted : List Packet → List Packet → Notes → List Numbered → List Replied → Type 0
 HasNoted share rest notes queued read =
     notes.complete ≡ true → IsHandedIn share rest notes.told.items queued × (notes.replies.items ≡ read)

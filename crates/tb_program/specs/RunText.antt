@@ -27,7 +27,7 @@ told_line submitter Queued [] = []
 told_line submitter Queued (reply ∷ replies) = reply_line reply
 told_line submitter (Refused refusal) replies = refused_line submitter refusal
 
--- the replies that are left behind it
+-- the replies that are left after it
 abbrev pub behind_told : Told → List Replied → List Replied
 behind_told Queued [] = []
 behind_told Queued (reply ∷ replies) = replies
@@ -69,15 +69,17 @@ works_of groups = flat_map (λ group. group) groups
 abbrev pub run_text : List (List Told) → (ℕ → List Replied) → List Work → ℕ → State → List ℕ
 run_text told replies works refused_pulses state = packets_text 0 told replies ++ ledger_text works refused_pulses state
 
--- all of these shares were handed in: of each packet was told what became of it, and just those are queued of which it was told
+-- all of these shares were handed in: of each packet it was told what became of it, and just those are queued of which
+-- that was told
 abbrev pub AreHandedIn : List (List packets.Packet) → List (List Told) → (ℕ → List Item) → Type 0
 AreHandedIn shares told queued =
     (k : ℕ) (share : List packets.Packet) (own : List Told) → slice_get shares k ≡ Some share
     → slice_get told k ≡ Some own → IsHandedIn share [] own (jobs_in (queued k))
 
--- Of a run from this clock on under this limit, with a submitter for each of these shares and a control that queued these items:
--- the text is that of a lawful report of some queue, in which each submitter queued its share but for what it was refused, and whose
--- committed pulses are the first of the control's. Which packets are refused, and why, is left open.
+-- Of a run from this clock on under this limit, with a submitter for each of these shares and a control that queued
+-- these items: the text is that of a lawful report of some queue, in which each submitter queued its share but for what
+-- it was refused, and whose committed pulses are the first of the control's. Which packets are refused, and why, is
+-- left open.
 pub record IsRunText (clock limit : ℕ) (shares : List (List packets.Packet)) (controlled : List Item)
     (refused_pulses : ℕ) (text : List ℕ) : Type 0 where
   pub queue : List Ticket
@@ -95,7 +97,8 @@ pub record IsRunText (clock limit : ℕ) (shares : List (List packets.Packet)) (
   pub handed : AreHandedIn shares told queued
   pub printed : text ≡ run_text told replies (works_of groups) refused_pulses state
 
--- of what a script says: each submitter's share is its packets, and the control queues the pulses and the Close, or its end
+-- of what a script says: each submitter's share is its packets, and the control queues the pulses and the Close, or its
+-- end
 abbrev pub IsTextOf : Said → List ℕ → Type 0
 IsTextOf said text =
     let items = items_of said in
@@ -103,6 +106,6 @@ IsTextOf said text =
         (lines_of (moments_in items) (shuts_in items))
     (refused_of (moments_in items)) text
 
--- of bytes that are a faultless script
+-- the same of the bytes of a script without a fault
 abbrev pub IsRunOf : List ℕ → List ℕ → Type 0
 IsRunOf bytes text = (said : Said) → script_of bytes ≡ Ok said → IsTextOf said text

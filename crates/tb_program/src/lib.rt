@@ -1,5 +1,5 @@
-//! Scripts of packets, run and printed: `run_script` takes one through the stages in one thread, `run_threads` through the
-//! pipeline, with a thread for each sender.
+//! Scripts of packets, run and printed: `run_script` takes one through the stages in one thread, `run_threads` through
+//! the pipeline, with a thread for each sender.
 #![tactic(auto)]
 
 mod run;

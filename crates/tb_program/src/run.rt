@@ -134,9 +134,9 @@ fn output_of<T: Threads + Wait + Sync, R: Read>(
 
 /// Reads a script to its end and runs it through the pipeline: each submitter's packets are queued by a thread of its
 /// own, in the order of the script, the control's lines by one more, and the calling thread serves. It prints what
-/// became of each packet, the packets of submitter 0 first, then the pulses, the clock and the accounts. Answers whether
-/// the script has no fault; a fault is printed alone, and no thread is started for it. All output is made before its
-/// first byte is written.
+/// became of each packet, the packets of submitter 0 first, then the pulses, the clock and the accounts. Answers
+/// whether the script has no fault; a fault is printed alone, and no thread is started for it. All output is made
+/// before its first byte is written.
 pub fn run_threads<T: Threads + Wait + Sync, R: Read, W: Write>(
     rt: &T,
     alloc: Global,

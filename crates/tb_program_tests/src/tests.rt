@@ -62,7 +62,7 @@ fn assert_both<R: Abort + Threads + Wait + Sync + Alloc<A = Global>>(
     assert_run(rt, script, output);
 }
 
-/// The line of a packet's bytes, each of which has these two digits, behind other lines.
+/// The line of a packet's bytes, each of which has these two digits, after other lines.
 fn bytes_behind(
     rt: &(impl Abort + Alloc<A = Global>),
     lines: &str,

@@ -15,7 +15,7 @@ pub struct Outlet<T> {
 }
 
 impl<T: Drop> Drop for Outlet<T> {
-    /// One call, so that no owner's proof goes through all that is held.
+    /// Lets all that is held go in one call, so that no owner's proof goes through it.
     fn drop(self) {
         let Outlet { producer } = self;
         drop(producer);
@@ -28,14 +28,15 @@ pub struct Inlet<T> {
 }
 
 impl<T: Drop> Drop for Inlet<T> {
-    /// One call, so that no owner's proof goes through all that is held.
+    /// Lets all that is held go in one call, so that no owner's proof goes through it.
     fn drop(self) {
         let Inlet { consumer } = self;
         drop(consumer);
     }
 }
 
-/// Both ends of a new ring of so many slots, in which nothing lies. With no slot it is always full.
+/// Both ends of a new ring of so many slots, in which nothing lies. With no slot it is always full. Its slots take
+/// memory here, and no call takes any later.
 pub fn ring<T: Drop>(alloc: Global, capacity: usize) -> Result<(Outlet<T>, Inlet<T>), NoMemory>
     ensures pair { IfOk result (λ ends. IsRing ends.0 ends.1) }
     ensures slots { IfOk result (λ ends. slots ends.0 ≡ capacity) }
@@ -64,8 +65,8 @@ impl<T: Drop> Outlet<T> {
 }
 
 impl<T: Drop> Inlet<T> {
-    /// The value that lies in the ring for longest; None where none is seen, and so never while some
-    /// are known to lie there.
+    /// Takes the value that lies in the ring for longest; None where none is seen, and so never while some are known to
+    /// lie there.
     pub fn take(&mut self) -> Option<T>
         ensures ring { SameInlet self.old self.new }
         ensures some { IfSome result (λ value. taken self.new ≡ taken self.old ++ value ∷ []) }

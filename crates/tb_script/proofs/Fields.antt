@@ -163,7 +163,7 @@ field_is_word name number good small =
     rw (lt-ltb 0 (length (name ++ 61 ∷ decimal number)) some)
         (list_all-append is_word_byte name (61 ∷ decimal number) ∙ rw (front, back) refl)
 
--- the words of fields, behind a word
+-- the words of fields, after a word
 record AreGoodWords (keyword : List ℕ) (fields : List NamedNumber) : Type 0 where
   words : list_all is_word (map field_word fields) ≡ true
   short : length (line_of_words (keyword ∷ map field_word fields)) ≤ length keyword + 65 * length fields

@@ -52,7 +52,7 @@ up_to_space (byte ∷ name) others h =
     let parts = and_parts (not (byte == 32)) (list_all (λ byte. not (byte == 32)) name) h in
     rw (parts.0, up_to_space name others parts.1) (omega arith)
 
--- the first word of such a line, and what stands behind it
+-- the first word of such a line, and what stands after it
 pub record NamedFirst (line name others : List ℕ) : Type 0 where
   pub word : first_word line ≡ name ++ 61 ∷ first_word others
   pub rest : behind_first_word line ≡ behind_first_word others

@@ -73,7 +73,7 @@ one_more word place within short digits digit =
 no_space : (byte : ℕ) → is_ascii_digit byte ≡ true → (byte == 32) ≡ false
 no_space byte digit = grind (arith, common_steps, digit)
 
--- where digits stand at the front, and a space or the end behind them, the first word ends there
+-- where digits stand at the front, and a space or the end after them, the first word ends there
 digits_end : (line : List ℕ) (count : ℕ) → count ≤ length line → list_all is_ascii_digit (take count line) ≡ true →
     (count < length line → get_or line count 0 ≡ 32) → position_or_len (λ byte. byte == 32) line ≡ count
 digits_end line count within digits ends =

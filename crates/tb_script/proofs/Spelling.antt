@@ -393,7 +393,7 @@ says_packet said packet few h =
         (is_text-line_of_words (packet_words packet) words) (says_packet_line said packet few h)
     (says_bytes said.settings said.shut (items_of said) (record packet { bytes = [] }) packet.bytes h.bytes)
 
--- one item behind those that were said
+-- one item after those that were said
 abbrev with_item : Said → Item → Said
 with_item said (Packet packet) = adding said.settings said.shut (items_of said) packet
 with_item said (Pulse moment) = with_pulse said moment
@@ -420,7 +420,7 @@ item_is_last said (Packet packet) = refl
 item_is_last said (Pulse moment) = append-nil (items_of said ++ Pulse moment ∷ [])
 item_is_last said Shut = append-nil (items_of said ++ Shut ∷ [])
 
--- the items behind those that were said
+-- the items after those that were said
 record SaysItems (said : Said) (items : List Item) : Type 0 where
   next : Said
   says : Says said (flat_map item_lines items) next

@@ -97,12 +97,12 @@ begins : (space : Bool) (b n : ℕ) (bs : List ℕ) → space ≡ (b == 32)
 begins true b n bs e h = let one : 1 + n ≡ suc n = omega arith in rw one h
 begins false b n bs e h = inr (rw (sym e) (omega arith))
 
--- behind the spaces there is nothing, or a word
+-- after the spaces there is nothing, or a word
 pub trimmed_begins : (bs : List ℕ) → (length (drop (spaces bs) bs) ≡ 0) ⊎ (0 < word_end (drop (spaces bs) bs))
 trimmed_begins [] = inl refl
 trimmed_begins (b ∷ bs) = begins (b == 32) b (spaces bs) bs refl (trimmed_begins bs)
 
--- a line behind its spaces begins with a word, unless it has no byte
+-- a line after its spaces begins with a word, unless it has no byte
 pub some_word : (line : List ℕ) → (length line ≡ 0) ⊎ (0 < word_end line) → 0 < length line → 0 < word_end line
 some_word line (inl none) some = absurd (omega (arith, none))
 some_word line (inr word) some = word

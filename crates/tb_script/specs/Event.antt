@@ -16,7 +16,7 @@ use Rattle.tb_script.specs.Steps.{◌>>=◌, look_up}
 abbrev pub field : ℕ → ℕ → ℕ → Field
 field place offset size = record { place = place; offset = offset; size = size }
 
--- it lies in the event
+-- a field lies in the event
 pub record Lies (field : Field) : Type 0 where
   pub place : field.place < 13
   pub inside : field.offset + field.size ≤ 128
@@ -84,7 +84,7 @@ with_number draft field number = record {
 abbrev pub greatest : ℕ → ℕ
 greatest size = 256 ^ size - 1
 
--- the name before the first `=`, and the number behind it
+-- the name before the first `=`, and the number after it
 abbrev pub sides_of : List ℕ → Result (List ℕ × List ℕ) Fault
 sides_of word =
     if nat_lt (position_or_len (λ byte. byte == 61) word) (length word)
@@ -99,7 +99,7 @@ abbrev pub found : {Value : Type 0} → Option Value → Result Value Fault
 found None = Err BadField
 found (Some value) = Ok value
 
--- the field of a table that a word names, and what stands behind the `=`
+-- the field of a table that a word names, and what stands after the `=`
 abbrev pub named : List ℕ → List (List ℕ × Field) → Result (Field × List ℕ) Fault
 named word rows = do
   sides ← sides_of word

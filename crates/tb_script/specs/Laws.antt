@@ -11,14 +11,15 @@ use Rattle.tb_script.specs.declared.item.Item.{Item}
 use Rattle.tb_script.specs.Script.{Said, after_line, after_lines, items_of, script_of, submitters_of, with_bytes}
 use Rattle.tb_script.specs.Spelling.{spelling_of, CanBeSet, CanAllBeSaid, IsOfItsSize, named_of_account, named_of_transfer, fields_line, id_line}
 
--- where some lines have no fault and the next has one, that fault decides, whatever follows, with the number of its line
+-- where some lines have no fault and the next has one, that fault decides, whatever follows, with the number of its
+-- line
 abbrev pub FirstFaultDecides : Type 0
 FirstFaultDecides =
     (number : ℕ) (said next : Said) (lines others : List (List ℕ)) (line : List ℕ) (fault : Fault) →
     after_lines number said lines ≡ Ok next → after_line next line ≡ Err fault →
     after_lines number said (lines ++ line ∷ others) ≡ Err (number + length lines, fault)
 
--- each line that stands behind lines without fault has none
+-- each line that stands after lines without fault has none
 abbrev pub NoLineIsFaulty : ℕ → Said → List (List ℕ) → Type 0
 NoLineIsFaulty number said lines =
     (front back : List (List ℕ)) (line : List ℕ) (next : Said) →
@@ -41,7 +42,7 @@ SpelledScriptsAreRead =
     (settings : Settings) (items : List Item) → CanBeSet settings → CanAllBeSaid (submitters_of settings) false items →
     IsReadAsSpelled settings items
 
--- behind a packet's line, this line adds these bytes to the packet
+-- after a packet's line, this line adds these bytes to the packet
 abbrev pub Adds : List ℕ → List ℕ → Type 0
 Adds line bytes = (said : Said) → is_some said.packet ≡ true → after_line said line ≡ Ok (with_bytes said bytes)
 

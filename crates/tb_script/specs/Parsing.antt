@@ -9,7 +9,7 @@ abbrev pub FailsAt : ScriptError → Result Said (ℕ × Fault) → Type 0
 FailsAt NoMemory told = Unit {0}
 FailsAt (Faulty number fault) told = told ≡ Err (number, fault)
 
--- what is told, unless memory ran out
+-- what was answered is what is told, unless memory ran out
 abbrev pub Parses : Result Said ScriptError → Result Said (ℕ × Fault) → Type 0
 Parses (Ok said) told = told ≡ Ok said
 Parses (Err e) told = FailsAt e told

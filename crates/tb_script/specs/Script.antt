@@ -116,7 +116,7 @@ packet_numbers most words = do
   operation ← number_within 0 255 texts.1
   Ok (submitter, operation)
 
--- a line in its place, with the words behind its first
+-- a line in its place, with the words after its first
 unfoldable pub with_line : Said → Keyword → List (List ℕ) → Result Said Fault
 with_line said word.Clock words = do
   text ← one_word words
@@ -176,7 +176,7 @@ with_words said (word ∷ words) = if slice_index word 0 == 35 then Ok said else
 abbrev pub is_text : List ℕ → Bool
 is_text line = list_all (λ byte. nat_le 32 byte && nat_le byte 126) line
 
--- a line behind what the lines before it say: what they say together, or the first fault that applies
+-- a line after what the lines before it say: what they say together, or the first fault that applies
 unfoldable pub after_line : Said → List ℕ → Result Said Fault
 after_line said line =
     if nat_lt 65536 (length line) then Err LineTooLong

@@ -102,7 +102,7 @@ named_of_transfer transfer =
 abbrev pub field_word : NamedNumber → List ℕ
 field_word field = field.name ++ 61 ∷ decimal field.number
 
--- a line with fields behind its keyword
+-- a line with fields after its keyword
 abbrev pub fields_line : List ℕ → List NamedNumber → List ℕ
 fields_line keyword fields = line_of_words (keyword ∷ map field_word fields)
 
@@ -118,7 +118,7 @@ pub record CanBeSet (settings : Settings) : Type 0 where
   pub credit : IfSome settings.credit (λ n. (1 ≤ n) × (n ≤ capacity_max))
   pub submitters : IfSome settings.submitters (λ n. (1 ≤ n) × (n ≤ submitters_max))
 
--- and a packet of one of so many submitters
+-- a script can say a packet of one of so many submitters
 pub record CanBeSubmitted (submitters : ℕ) (packet : Submission) : Type 0 where
   pub submitter : packet.submitter < submitters
   pub operation : packet.operation < 256

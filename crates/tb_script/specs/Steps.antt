@@ -20,12 +20,12 @@ abbrev pub Tells : {X Y E : Type 0} → (X → Y) → Result X E → Result Y E 
 Tells view (Ok x) told = told ≡ Ok (view x)
 Tells view (Err e) told = told ≡ Err e
 
--- what a call left behind is what is told
+-- what a call left is what is told
 abbrev pub Makes : {X Y : Type 0} → Result X Fault → Y → Result Y Fault → Type 0
 Makes (Ok x) new told = told ≡ Ok new
 Makes (Err e) new told = told ≡ Err e
 
--- the same, unless memory ran out
+-- the fault that a function answered is what is told, unless memory ran out
 abbrev pub Fails : {Y : Type 0} → LineError → Result Y Fault → Type 0
 Fails errors.NoMemory told = Unit {0}
 Fails (errors.Fault fault) told = told ≡ Err fault
@@ -34,7 +34,7 @@ abbrev pub Gives : {X Y : Type 0} → (X → Y) → Result X LineError → Resul
 Gives view (Ok x) told = told ≡ Ok (view x)
 Gives view (Err e) told = Fails e told
 
--- what a call left behind is what is told, unless memory ran out
+-- what a call left is what is told, unless memory ran out
 abbrev pub Leaves : {X Y : Type 0} → Result X LineError → Y → Result Y Fault → Type 0
 Leaves (Ok x) new told = told ≡ Ok new
 Leaves (Err e) new told = Fails e told

@@ -15,6 +15,6 @@ words_of line = filter (λ word. nat_lt 0 (length word)) (slice_split (λ byte. 
 abbrev pub first_word : List ℕ → List ℕ
 first_word line = before_first (λ byte. byte == 32) line
 
--- what stands behind it
+-- what stands after it
 abbrev pub behind_first_word : List ℕ → List ℕ
 behind_first_word line = drop (position_or_len (λ byte. byte == 32) line) line

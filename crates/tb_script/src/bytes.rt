@@ -28,7 +28,7 @@ impl Bytes {
         })
     }
 
-    /// Puts bytes behind those that are there.
+    /// Puts bytes after those that are there.
     pub fn extend_from_slice(&mut self, more: &[u8]) -> Result<(), NoMemory>
         ensures { OnOk result (self.new ≡ self.old ++ more.now) }
     {

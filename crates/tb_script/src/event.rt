@@ -93,7 +93,7 @@ const TRANSFER_FIELDS: [(&[u8], Field); 13] = [
     (b"timestamp", lying_at!(12, 120, 8)),
 ];
 
-/// The field that the first word of a line names, how many rows of the table stand behind its own, and the line from its
+/// The field that the first word of a line names, how many rows of the table stand after its own, and the line from its
 /// number on.
 #[derive(Clone, Copy)]
 struct NamedField<'a> {
@@ -102,7 +102,7 @@ struct NamedField<'a> {
     from_number: &'a [u8],
 }
 
-/// What stands behind a name and its `=`, where the line begins with these.
+/// What stands after a name and its `=`, where the line begins with these.
 fn behind_name<'a>(line: &'a [u8], name: &[u8]) -> Option<&'a [u8]>
     ensures { MatchOption result ((others : List ℕ) → line.now ≡ name.now ++ 61 ∷ others
         → ⊥) (λ others. line.now ≡ name.now ++ 61 ∷ others.now) }
@@ -138,7 +138,8 @@ fn named<'a>(mut table: &[(&[u8], Field)], line: &'a [u8]) -> Result<NamedField<
     Err(Fault::BadField)
 }
 
-/// The same, looked for among the rows from a place on first: the fields of an event mostly come in the table's order.
+/// The field of a table that the first word of a line names, looked for among the rows from a place on first: the
+/// fields of an event mostly come in the table's order.
 #[inline(always)]
 fn named_from<'a>(
     table: &[(&[u8], Field)],
@@ -191,7 +192,7 @@ fn greatest(size: usize) -> u128
     }
 }
 
-/// A field that wasn't given before.
+/// The field, where it wasn't given before.
 fn new_field(draft: &Draft, f: Field) -> Result<Field, Fault>
     requires { Lies f }
     ensures field { result ≡ new_field draft.now (Some f) }
@@ -217,7 +218,7 @@ fn bytes_of(n: u128) -> [u8; 16]
     bytes
 }
 
-/// The number put into the field's bytes.
+/// Puts a number into a field's bytes.
 fn write(draft: &mut Draft, f: Field, n: u128)
     requires { Lies f }
     ensures { draft.new ≡ with_number draft.old f n }
@@ -233,7 +234,7 @@ fn write(draft: &mut Draft, f: Field, n: u128)
     draft.given[f.place] = true;
 }
 
-/// A number put into the field's bytes, if it is there and fits.
+/// Puts a number into a field's bytes, if it is there and fits.
 #[inline(always)]
 fn put(draft: &mut Draft, f: Field, n: Option<u128>) -> Result<(), Fault>
     requires { Lies f }
@@ -244,7 +245,7 @@ fn put(draft: &mut Draft, f: Field, n: Option<u128>) -> Result<(), Fault>
     Ok(())
 }
 
-/// The number of a line's first word put into the field's bytes, and what is left behind the word.
+/// Puts the number of a line's first word into a field's bytes, and gives what is left of the line after the word.
 #[inline(always)]
 fn put_first<'a>(draft: &mut Draft, f: Field, line: &'a [u8]) -> Result<&'a [u8], Fault>
     requires { Lies f }
@@ -260,8 +261,8 @@ fn put_first<'a>(draft: &mut Draft, f: Field, line: &'a [u8]) -> Result<&'a [u8]
     Ok(rest)
 }
 
-/// The first word of a line, NAME=N, and what is left behind it. `place` is where its field's row probably stands; the
-/// place behind that row is told too.
+/// Takes the first word of a line, NAME=N, and gives what is left after it. `place` is where its field's row probably
+/// stands; the place after that row is told too.
 #[tactic(auto, using(crate::proofs::Named::after_word_named))]
 fn assign<'a>(
     layout: Layout,
@@ -280,7 +281,7 @@ fn assign<'a>(
     Ok((13 - first.behind, rest))
 }
 
-/// All words of a line.
+/// Takes all words of a line, each a field with its number.
 #[tactic(auto, unfolding(crate::specs::Event::after_words))]
 pub fn assign_all(layout: Layout, draft: &mut Draft, words: Words) -> Result<(), Fault>
     ensures { Makes result draft.new (after_words layout draft.old (words_of words.entry.rest.now)) }
@@ -295,7 +296,7 @@ pub fn assign_all(layout: Layout, draft: &mut Draft, words: Words) -> Result<(),
     Ok(())
 }
 
-/// The bytes that hexadecimal digits give.
+/// The bytes that hexadecimal digits give, as many pairs of which there must be.
 #[tactic(auto, unfolding(crate::specs::Event::hex_bytes))]
 pub fn hex_bytes(alloc: Global, word: &[u8]) -> Result<Vec<u8>, LineError>
     ensures { Gives (λ v. v.items) result (hex_bytes word.now) }

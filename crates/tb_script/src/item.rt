@@ -18,7 +18,7 @@ pub struct Settings {
 }
 
 impl Settings {
-    /// What the clock starts at: 0 where the script doesn't say.
+    /// What the clock starts at, in nanoseconds: 0 where the script doesn't say.
     pub fn clock(&self) -> u64
         ensures { result ≡ clock_of self.now }
     {

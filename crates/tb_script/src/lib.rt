@@ -1,9 +1,9 @@
 //! Scripts of packets: what their lines say.
 //!
 //! `parse` reads the text of a script into its settings and its items: packets with their bytes, pulses, and the Close.
-//! It promises that these are what `specs/Script.antt` defines for the text, any text, or the number and the fault of the
-//! first faulty line. `laws` says what that definition comes to: a script spelled from settings and items is read as
-//! these, and an event spelled from its fields is the bytes that `tb_layout` lays out.
+//! It promises that these are what `specs/Script.antt` defines for the text, any text, or the number and the fault of
+//! the first faulty line. `laws` says what that definition comes to: a script spelled from settings and items is read
+//! as these, and an event spelled from its fields is the bytes that `tb_layout` lays out.
 #![tactic(auto)]
 
 mod bytes;

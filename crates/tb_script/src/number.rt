@@ -9,6 +9,7 @@ ghost use Rattle.tb_script.specs.Number.{number_of, fitting, within, number_with
 use crate::fault::Fault;
 use crate::text::{split_word, trim_spaces};
 
+/// Whether a word has digits alone.
 fn are_digits(word: &[u8]) -> bool
     ensures { result ≡ list_all is_ascii_digit word.now }
 {
@@ -26,6 +27,7 @@ pub fn in_bounds(n: Option<u128>, low: u128, high: u128) -> Result<u128, Fault>
     }
 }
 
+/// The text of a word that is digits alone.
 fn text_of(word: &[u8]) -> &str
     requires { list_all is_ascii_digit word.now ≡ true }
     ensures { result.now ≡ word.now }
@@ -39,8 +41,8 @@ fn text_of(word: &[u8]) -> &str
 /// The most digits that always leave a number in 64 bits.
 const SHORT: usize = 19;
 
-/// The number that the first word of a line spells in 1 to 19 digits, and what stands behind the word. Where the word ends
-/// is seen while its digits are read.
+/// The number that the first word of a line spells in 1 to 19 digits, and what stands after the word. Where the word
+/// ends is seen while its digits are read.
 #[inline(always)]
 pub fn leading_number(line: &[u8]) -> Option<(u64, &[u8])>
     ensures number { IfSome result (λ both. number_of (first_word line.now) ≡ Some both.0) }
@@ -59,8 +61,8 @@ pub fn leading_number(line: &[u8]) -> Option<(u64, &[u8])>
     Some((number, &line[digits..]))
 }
 
-/// The numbers that the words of a line spell, where these are two, of 1 to 19 digits each. Where a word ends is seen while
-/// its digits are read.
+/// The numbers that the words of a line spell, where these are two, of 1 to 19 digits each. Where a word ends is seen
+/// while its digits are read.
 #[inline(always)]
 pub fn two_short_numbers(line: &[u8]) -> Option<(u64, u64)>
     ensures { IfSome result (λ both. map number_of (words_of line.now) ≡ Some both.0 ∷ Some both.1 ∷ []) }
@@ -108,7 +110,7 @@ pub fn number_within(word: &[u8], low: u128, high: u128) -> Result<u128, Fault>
     in_bounds(fitting_number(word), low, high)
 }
 
-/// The number that the first word of a line spells, if it fits, of any length, and what stands behind the word.
+/// The number that the first word of a line spells, if it fits, of any length, and what stands after the word.
 #[inline(never)]
 pub fn long_first(line: &[u8]) -> (Option<u128>, &[u8])
     ensures number { result.0 ≡ fitting (number_of (first_word line.now)) }

@@ -61,6 +61,7 @@ fn one_word(words: Words) -> Result<&[u8], Fault>
     }
 }
 
+/// The words of a line that has two.
 fn two_words(words: Words) -> Result<(&[u8], &[u8]), Fault>
     ensures { Tells (λ both. (both.0.now, both.1.now)) result (two_words (words_of words.entry.rest.now)) }
 {
@@ -88,7 +89,7 @@ fn packet_numbers(words: Words, most: u32) -> Result<(u32, u8), Fault>
     Ok((submitter as u32, operation as u8))
 }
 
-/// Whether a line is text.
+/// Whether a line has bytes 32 to 126 alone.
 pub(crate) fn is_text(line: &[u8]) -> bool
     ensures { result ≡ is_text_line line.now }
 {
@@ -97,7 +98,7 @@ pub(crate) fn is_text(line: &[u8]) -> bool
 }
 
 impl Script {
-    /// A script of which no line was taken.
+    /// A script of which no line was taken. Takes no memory.
     pub fn new(alloc: Global) -> Script
         ensures { result ≡ nothing_said }
     {
@@ -116,12 +117,14 @@ impl Script {
         }
     }
 
+    /// Whether there was a packet, a pulse or a Close.
     fn has_begun(&self) -> bool
         ensures { result ≡ has_begun self.now }
     {
         !self.items.is_empty() || self.packet.is_some()
     }
 
+    /// Whether a line with a keyword may stand after those so far.
     fn is_in_place(&self, keyword: Keyword) -> bool
         ensures { result ≡ is_in_place self.now keyword }
     {
@@ -139,7 +142,7 @@ impl Script {
         }
     }
 
-    /// Puts the packet to which lines still add behind the items.
+    /// Puts the packet to which lines still add at the end of the items.
     fn end_packet(&mut self) -> Result<(), NoMemory>
         ensures { OnOk result (self.new ≡ record self.old { items = items_of self.old; packet = None }) }
     {
@@ -169,6 +172,7 @@ impl Script {
         Ok(())
     }
 
+    /// Puts a pulse at the end of the items.
     fn add_pulse(&mut self, moment: u64) -> Result<(), NoMemory>
         ensures { OnOk result (self.new ≡ with_pulse self.old moment) }
     {
@@ -296,7 +300,7 @@ impl Script {
         Ok(())
     }
 
-    /// A line in its place, with the words behind its first.
+    /// Takes a line in its place, with the words after its first.
     #[tactic(auto, unfolding(crate::specs::Script::with_line))]
     fn take_line(&mut self, alloc: Global, keyword: Keyword, words: Words) -> Result<(), LineError>
         ensures { Leaves result self.new (with_line self.old keyword (words_of words.entry.rest.now)) }
@@ -317,7 +321,8 @@ impl Script {
         }
     }
 
-    /// A line behind those so far, of which it is told whether it is text. After an error the script isn't to be used.
+    /// Takes a line after those so far, of which it is told whether it is text. After an error the script isn't to be
+    /// used.
     #[tactic(auto, unfolding(crate::specs::Script::after_line))]
     pub(crate) fn told_line(
         &mut self,
@@ -350,14 +355,14 @@ impl Script {
         self.take_line(alloc, keyword, words)
     }
 
-    /// A line behind those so far. After an error the script isn't to be used.
+    /// Takes a line after those so far. After an error the script isn't to be used.
     pub fn line(&mut self, alloc: Global, line: &[u8]) -> Result<(), LineError>
         ensures { Leaves result self.new (after_line self.old line.now) }
     {
         self.told_line(alloc, line, is_text(line))
     }
 
-    /// The settings and all items.
+    /// The settings, and all items. The packet to which lines still added is the last of them.
     pub fn finish(self) -> Result<(Settings, Vec<Item>), NoMemory>
         ensures all { IfOk result (λ both. (both.0 ≡ self.settings) × (both.1.items ≡ items_of self)) }
         ensures bounds { IfOk result (λ both. InBounds both.0) }

@@ -55,7 +55,7 @@ fn leading_spaces(bytes: &[u8]) -> usize
     }
 }
 
-/// What stands behind the spaces at the front.
+/// What stands after the spaces at the front.
 pub fn trim_spaces(line: &[u8]) -> &[u8]
     ensures same { words_of result.now ≡ words_of line.now }
     ensures begins { (length result.now ≡ 0) ⊎ (0 < position_or_len (λ b. b == 32) result.now) }
@@ -65,7 +65,7 @@ pub fn trim_spaces(line: &[u8]) -> &[u8]
     trimmed
 }
 
-/// The first word of a line that begins with one, and what stands behind it.
+/// The first word of a line that begins with one, and what stands after it.
 pub fn split_word(line: &[u8]) -> (&[u8], &[u8])
     ensures word { result.0.now ≡ first_word line.now }
     ensures rest { result.1.now ≡ behind_first_word line.now }

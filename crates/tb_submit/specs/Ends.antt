@@ -8,7 +8,7 @@ use Rattle.tb_work.specs.declared.item.Item.{Item}
 use Rattle.tb_work.specs.declared.item.Ticket.{Ticket}
 
 -- A sender's seat: its queue, how many submitters that has, the most events of a packet, and the sender's number (the
--- control's is the one behind the last submitter). A sender that was settled has left its queue.
+-- control's is the one after the last submitter). A sender that was settled has left its queue.
 pub record Seat : Type 0 where
   pub queue : Option TableId
   pub submitters : ℕ
@@ -104,7 +104,7 @@ ended_with submitter item =
 
 -- ---- all that have ended, by rising number
 
--- what each sender queued; the control is the one behind the submitters
+-- what each sender queued; the control is the one after the submitters
 abbrev pub queued_by : List EndedState → SenderState → ℕ → List Item
 queued_by [] control sender = control.queued
 queued_by (ended ∷ others) control zero = ended.queued

@@ -30,8 +30,8 @@ abbrev pub count_of : Option Mark → ℕ
 count_of None = 0
 count_of (Some mark) = mark.count
 
--- the pass with the mark: its queue and how many places that has, the entries that were gathered, what was taken, and how
--- many numbers were given out
+-- the pass with the mark: its queue and how many places that has, the entries that were gathered, what was taken, and
+-- how many numbers were given out
 pub record ReaderState : Type 0 where
   pub queue : TableId
   pub capacity : ℕ

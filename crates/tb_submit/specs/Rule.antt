@@ -102,7 +102,7 @@ pub record Kept (items : List Ticket) (views : List View) : Type 0 where
 
 -- ---- what the intake's pass learns of what is queued
 
--- of each number that stands in it, taken and queued together are what was pushed
+-- of each number that stands in the pass, taken and queued together are what was pushed
 abbrev pub IsWhole : List Entry → List Ticket → ℕ → List Ticket → Type 0
 IsWhole entries taken count items =
     AllByRecursion (λ (e : Entry). part e.number (taken ++ items) ≡ e.pushed) entries

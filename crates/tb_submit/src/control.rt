@@ -48,7 +48,9 @@ impl Control {
         self.queued
     }
 
-    /// Queues a pulse with this moment in nanoseconds, at most 2^62. A refused pulse changes nothing.
+    /// Queues a pulse with this moment in nanoseconds, at most 2^62: any other is refused as `MomentTooLarge`, and then
+    /// a full queue as `Full`. A refused pulse changes nothing. Fewer than 2^56 pulses were queued before. Takes no
+    /// memory.
     pub fn pulse<R: Wait>(&mut self, rt: &R, moment: u64) -> Result<(), Refusal>
         requires { length self.old.queued < 2 ^ 56 }
         ensures ok { OnOk result (self.new ≡ sender_with self.old (item.Pulse moment)) }
@@ -68,7 +70,8 @@ impl Control {
         }
     }
 
-    /// Queues its end: all that is queued is committed. Where the queue was full the control comes back.
+    /// Queues its end, so that all that is queued is committed unless the pipeline stops. Where the queue was full
+    /// (`Full`) the control comes back. Takes no memory.
     pub fn end<R: Wait>(self, rt: &R) -> Result<ControlEnd, (Control, Refusal)>
         ensures ok { IfOk result (λ end. end ≡ sender_with self item.End) }
         ensures full { IfErr result (λ refused. (refused.0 ≡ self) × (refused.1 ≡ refusal.Full)) }
@@ -80,8 +83,8 @@ impl Control {
         }
     }
 
-    /// Queues the Close: packets behind it are answered Shutdown. Where the queue was full the control
-    /// comes back.
+    /// Queues the Close: packets behind it are answered Shutdown. Where the queue was full (`Full`) the control comes
+    /// back. Takes no memory.
     pub fn shut<R: Wait>(self, rt: &R) -> Result<ControlEnd, (Control, Refusal)>
         ensures ok { IfOk result (λ end. end ≡ sender_with self item.Close) }
         ensures full { IfErr result (λ refused. (refused.0 ≡ self) × (refused.1 ≡ refusal.Full)) }

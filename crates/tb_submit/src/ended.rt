@@ -34,8 +34,8 @@ impl Model for Ended {
 }
 
 impl Ended {
-    /// The next reply; None where none is seen, and once its pipeline was settled only when all were
-    /// read. It waits for nobody.
+    /// The next reply; None where none is seen, and once its pipeline was settled only when all were read. It takes no
+    /// memory and waits for nobody.
     pub fn reply(&mut self) -> Option<Reply>
         ensures some { IfSome result (λ reply. self.new
             ≡ record self.old { read = self.old.read ++ reply ∷ []; lying = self.new.lying }) }
@@ -46,7 +46,7 @@ impl Ended {
         self.inlet.take()
     }
 
-    /// What it queued goes to the reader, and it sees all replies that lie in its ring.
+    /// Tells the reader what was queued, and sees all replies that lie in its ring.
     pub(crate) fn settle(&mut self, reader: &mut Reader, outlet: &mut Outlet<Reply>)
         requires queue { self.old.origin.seat.queue ≡ Some reader.old.queue }
         requires ring { self.old.origin.ring ≡ outlet_ring outlet.old }

@@ -48,7 +48,7 @@ impl Intake {
         }
     }
 
-    /// The front of the queue; None only where the queue was empty at some moment of the call.
+    /// Takes the front of the queue; None only where the queue was empty at some moment of the call. Takes no memory.
     pub fn take<R: Wait>(&mut self, rt: &R) -> Option<Ticket>
         ensures some { IfSome result (λ ticket. self.new ≡ with_taken self.old ticket) }
         ensures none { IfNone result (self.new ≡ self.old) }

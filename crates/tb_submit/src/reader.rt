@@ -20,7 +20,7 @@ pub(crate) struct Reader {
 }
 
 impl Drop for Reader {
-    /// One call, so that no owner's proof goes through all that is held.
+    /// Lets all that is held go in one call, so that no owner's proof goes through it.
     fn drop(self) {
         let Reader { queue, place } = self;
         drop(queue);
@@ -51,7 +51,7 @@ impl Model for Reader {
 }
 
 impl Reader {
-    /// The reader of a new queue of so many places.
+    /// The pass that takes from a new queue of so many places.
     pub(crate) fn new(alloc: Global, capacity: usize) -> Result<Reader, AllocError>
         requires { 0 < capacity }
         ensures fresh { IfOk result (λ reader. (reader.entries ≡ []) × (reader.taken ≡ []) × (reader.count ≡ 0)) }
@@ -87,7 +87,7 @@ impl Reader {
         })
     }
 
-    /// The front of the queue; None only where it was empty at some moment of the call.
+    /// Takes the front of the queue; None only where it was empty at some moment of the call.
     pub(crate) fn take<R: Wait>(&mut self, rt: &R) -> Option<Ticket>
         ensures some { IfSome result (λ ticket. self.new ≡ record self.old { taken = self.old.taken ++ ticket ∷ [] }) }
         ensures none { IfNone result (self.new ≡ self.old) }
@@ -96,7 +96,7 @@ impl Reader {
         self.queue.pop_as::<Taken, R>(rt, &mut self.place)
     }
 
-    /// What an ended sender pushed is known here from now on.
+    /// Takes in what an ended sender pushed, so that it is known here from now on.
     pub(crate) fn gather(&mut self, ended: &mut EndedSender)
         requires { ended.old.seat.queue ≡ Some self.old.queue }
         ensures entries { self.new ≡ record self.old { entries = self.old.entries
@@ -109,7 +109,7 @@ impl Reader {
         self.queue.absorb::<Gathers>(&mut self.place, place);
     }
 
-    /// What is queued of each sender that was gathered.
+    /// Learns that what was taken and what is queued is, of each sender that was gathered, all that it pushed.
     pub(crate) fn learn(&mut self)
         ensures same { self.new ≡ self.old }
         ensures whole { (items : List Ticket) × IsWhole self.new.entries self.new.taken self.new.count items }

@@ -24,6 +24,7 @@ pub struct View {
     pub mark: Option<Mark>,
 }
 
+/// The rule, in the form in which the kit's queue asks for it.
 pub struct PerSender;
 
 impl Protocol<Ticket, View> for PerSender {
@@ -56,6 +57,7 @@ impl Join<View> for Gathers {
     ghost spent = { empty_view };
 }
 
+/// A push puts its ticket at the end of what its own pass pushed.
 pub struct Pushed;
 
 impl Outcome<Ticket, View> for Pushed {
@@ -71,6 +73,7 @@ impl Lesson<Ticket, View> for Pushed {
     ghost fact = { λ view items. ⊤ };
 }
 
+/// A pop puts its ticket at the end of what was taken; its sender's number was given out before.
 pub struct Taken;
 
 impl Outcome<Ticket, View> for Taken {
@@ -95,6 +98,8 @@ impl Lesson<Ticket, View> for Queued {
     ghost fact = { Tells };
 }
 
+/// The queue of tickets, under the rule.
 pub type Queue = RuledArrayQueue<Ticket, View, PerSender>;
 
+/// A sender's or the intake's pass.
 pub type Place = Pass<Ticket, View>;

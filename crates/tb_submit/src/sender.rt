@@ -20,7 +20,7 @@ pub(crate) struct Sender {
 }
 
 impl Drop for Sender {
-    /// One call, so that no owner's proof goes through all that is held.
+    /// Lets all that is held go in one call, so that no owner's proof goes through it.
     fn drop(self) {
         let Sender {
             queue,
@@ -65,7 +65,7 @@ impl Sender {
         self.limit
     }
 
-    /// The item comes back where the queue was full.
+    /// Pushes an item. Where the queue was full it comes back.
     pub(crate) fn push<R: Wait>(&mut self, rt: &R, item: Item) -> Result<(), Item>
         ensures ok { OnOk result (self.new ≡ sender_with self.old item) }
         ensures full { IfErr result (λ back. (back ≡ item) × (self.new ≡ self.old)) }
@@ -80,7 +80,7 @@ impl Sender {
         }
     }
 
-    /// Pushes its last item. The sender comes back where the queue was full.
+    /// Pushes its last item. Where the queue was full the sender comes back.
     pub(crate) fn end<R: Wait>(mut self, rt: &R, last: Item) -> Result<EndedSender, Sender>
         requires { IsFiled self.seat.limit self.seat.submitters self.seat.number (self.queued ++ last ∷ []) }
         ensures ok { IfOk result (λ ended. ended ≡ sender_with self last) }
@@ -120,7 +120,7 @@ pub(crate) struct EndedSender {
 }
 
 impl Drop for EndedSender {
-    /// One call, so that no owner's proof goes through all that is held.
+    /// Lets all that is held go in one call, so that no owner's proof goes through it.
     fn drop(self) {
         let EndedSender {
             place,

@@ -17,7 +17,7 @@ use crate::reader::Reader;
 use tb_rings::Outlet;
 use tb_work::Reply;
 
-/// What each of them queued goes to the reader, and each sees what lies in its ring.
+/// Tells the reader what each of them queued; each sees what lies in its ring.
 fn settle_all(reader: &mut Reader, ends: Vec<Ended>, outlets: Vec<Outlet<Reply>>) -> Vec<Ended>
     requires { (intake : IntakeState) × (intake.queue ≡ reader.old.queue)
         × (map end_origin ends.items ≡ origins intake outlets.items) }

@@ -110,12 +110,12 @@ impl Submitter {
         None
     }
 
-    /// Queues a packet; its number is the count of this submitter's packets before it. A refused packet
-    /// comes back as it was, and no number is used. It is refused 7 or 8 once a reply that was read said
-    /// Shutdown or Stopped (whichever came first), then by what `admit` says of it, then InFlight where
-    /// as many packets as the credit are queued and their replies unread, then NoMemory, then Full.
-    /// Room for its failures is made here, and not before the credit allows it: for a packet of more than
-    /// two events it takes an allocation.
+    /// Queues a packet; its number is the count of this submitter's packets before it, of which there are fewer than
+    /// 2^56. A refused packet comes back as it was, and no number is used. It is refused 7 or 8 once a reply that was
+    /// read said Shutdown or Stopped (whichever came first), then by what `admit` says of it, then InFlight where as
+    /// many packets as the credit are queued and their replies unread, then NoMemory, then Full. Room for its failures
+    /// is made here, and not before the credit allows it: for a packet of more than two events it takes an allocation,
+    /// and for a lookup none.
     pub fn submit<R: Wait>(
         &mut self,
         rt: &R,
@@ -151,7 +151,7 @@ impl Submitter {
         }
     }
 
-    /// The next reply; None where none is seen. It waits for nobody.
+    /// The next reply; None where none is seen. It takes no memory and waits for nobody.
     pub fn reply(&mut self) -> Option<Reply>
         ensures some { IfSome result (λ reply. self.new
             ≡ record self.old { read = self.old.read ++ reply ∷ []; lying = self.new.lying }) }
@@ -167,7 +167,7 @@ impl Submitter {
         Some(reply)
     }
 
-    /// Queues its end. Where the queue was full the submitter comes back.
+    /// Queues its end. Where the queue was full (`Full`) the submitter comes back. Takes no memory.
     pub fn end<R: Wait>(self, rt: &R) -> Result<Ended, (Submitter, Refusal)>
         ensures ok { IfOk result (λ ended. ended ≡ ended_with self item.End) }
         ensures full { IfErr result (λ refused. (refused.0 ≡ self) × (refused.1 ≡ refusal.Full)) }

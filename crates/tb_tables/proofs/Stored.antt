@@ -42,7 +42,7 @@ pub lookup-rows : {X V : Type 0} (key : X → ℕ) (made : X → V) (id : ℕ) (
 lookup-rows key made id [] = refl
 lookup-rows key made id (x ∷ xs) = grind (arith, ==_swap id (key x), lookup-rows key made id xs)
 
--- ---- a write at a place, where the others stay what they are; what stands behind stays too
+-- ---- a write at a place, where the others stay what they are; what stands after it stays too
 
 module _ {X V : Type 0} (key : X → ℕ) (old new : X → V) (more : List (ℕ × V)) where
   -- a key that stands further back differs from the first

@@ -26,8 +26,8 @@ pub record MayAdd (facts : Facts) (transfer : Transfer) : Type 0 where
   pub credits_fit : credits facts transfer.credit_account_id + transfer.amount < 2 ^ 128
   pub expiry_fits : is_pending transfer ≡ true → expires_at transfer < 2 ^ 64
 
--- a post or a void may resolve the transfer that it names, if its id is new: that one is pending still, between the same
--- accounts, and its amount is at most the reserved one
+-- a post or a void may resolve the transfer that it names, if its id is new: that one is pending still, between the
+-- same accounts, and its amount is at most the reserved one
 pub record MayResolve (facts : Facts) (transfer : Transfer) : Type 0 where
   pub post_or_void : is_void transfer ≡ not (is_post transfer)
   pub not_pending : is_pending transfer ≡ false

@@ -81,7 +81,7 @@ is_pair_of moment (Some transfer) = is_timed transfer && (expires_at transfer ==
 abbrev pub is_pair : Facts → ℕ → ℕ → Bool
 is_pair facts moment place = is_pair_of moment (slice_get facts.transfers place)
 
--- whether it is that of a transfer that reserves its amount, or reserves nothing
+-- whether a pair is that of a transfer that reserves its amount, or of one that reserves nothing
 abbrev pub reserves_at : Facts → Option TransferRecord → Bool
 reserves_at facts None = false
 reserves_at facts (Some transfer) = is_reserving facts transfer

@@ -18,7 +18,7 @@ use Rattle.tb_tables.specs.declared.status.Status.TheVariants.{Pending, Posted, 
 abbrev pub new_row : Transfer → Row
 new_row transfer = record { transfer = transfer; status = if is_pending transfer then Some Pending else None }
 
--- a transfer that the facts allow, on its way in or out, and the rows that stand behind those of the others
+-- a transfer that the facts allow, on its way in or out, and the rows that stand after those of the others
 pub record Step (transfer : Transfer) (places : Places) : Type 0 where
   pub facts : Facts
   pub more : List (ℕ × Row)
@@ -39,7 +39,7 @@ abbrev pub IsAfter : {transfer : Transfer} {places : Places} → Step transfer p
     → List (ℕ × Row) → Type 0
 IsAfter {transfer} step = AreOf (add_transfer step.facts transfer) step.facts step.more
 
--- it is stored, with the balances and the status that it changes
+-- a transfer is stored, with the balances and the status that it changes
 pub record IsStored (facts : Facts) (transfer : Transfer) (places : Places) (account_entries : List (ℕ × Account))
     (transfer_entries : List (ℕ × Row)) : Type 0 where
   pub allow : Allow facts transfer places
@@ -50,7 +50,7 @@ abbrev pub status_after : Bool → Status
 status_after true = Posted
 status_after false = Voided
 
--- whether it is that of a transfer that still reserves its amount
+-- whether a status is that of a transfer that still reserves its amount
 abbrev pub is_open_status : Option Status → Bool
 is_open_status (Some Pending) = true
 is_open_status (Some Posted) = false

@@ -11,7 +11,7 @@ use Rattle.tb_tables.specs.declared.balance.Balance.{Balance}
 use Rattle.tb_tables.specs.declared.places.Places.{Places}
 use Rattle.tb_tables.specs.declared.balance.Balance.TheVariants.{DebitsPending, DebitsPosted, CreditsPending, CreditsPosted}
 
--- each of the four, by the id of the account
+-- each of the four balances, by the id of the account
 pub record Sums : Type 0 where
   pub debits_pending : ℕ → ℕ
   pub debits_posted : ℕ → ℕ

@@ -32,7 +32,7 @@ impl Model for Halves {
 }
 
 impl Halves {
-    /// Cuts a number.
+    /// The number, cut in two halves.
     pub fn of(number: u128) -> Halves
         ensures { result ≡ number }
     {

@@ -29,7 +29,7 @@ fn is_timed(transfer: &Transfer) -> bool
     transfer.is_pending() && transfer.timeout != 0
 }
 
-/// When it expires.
+/// When a timed transfer expires, in nanoseconds.
 fn expires_at(transfer: &Transfer) -> u64
     requires { expires_at_of transfer.now < 2 ^ 64 }
     ensures { result ≡ expires_at_of transfer.now }
@@ -55,7 +55,7 @@ pub fn expect(
     Ok(())
 }
 
-/// Takes it out again.
+/// Takes the pair of a transfer at a place out of the index again.
 pub fn forget(expiries: &mut BTreeSet<(u64, usize)>, transfer: &Transfer, place: usize)
     requires { is_pending transfer.now ≡ true → expires_at_of transfer.now < 2 ^ 64 }
     ensures { (m p : ℕ) → is_indexed expiries.new m p

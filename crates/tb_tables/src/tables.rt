@@ -20,7 +20,7 @@ pub struct Tables {
 }
 
 impl Drop for Tables {
-    /// One call, so that no owner's proof goes through all that is held.
+    /// Lets all that is held go in one call, so that no owner's proof goes through it.
     fn drop(self) {
         let Tables { maps, changes } = self;
         drop(maps);
@@ -59,7 +59,8 @@ impl Tables {
         }
     }
 
-    /// Adds an account after those that are there, with its timestamp and no balances of its own.
+    /// Adds an account after those that are there, with its timestamp and no balances of its own. On want of memory
+    /// nothing has changed.
     pub fn add_account(&mut self, account: Account) -> Result<(), NoMemory>
         requires new { account_with self.old.now account.id ≡ None }
         requires no_balances { HasNoBalances account }
@@ -71,7 +72,7 @@ impl Tables {
     }
 
     /// Adds an account after those that are there, with its timestamp and no balances of its own, unless one with its
-    /// id is there; whether it was added. The id is looked up once.
+    /// id is there; whether it was added. The id is looked up once. On want of memory nothing has changed.
     pub fn add_new_account(&mut self, account: &Account) -> Result<bool, NoMemory>
         requires { HasNoBalances account.now }
         ensures new { IfOk result (λ added. added ≡ not (is_some (account_with self.old.now account.now.id))) }
@@ -86,7 +87,7 @@ impl Tables {
         Ok(true)
     }
 
-    /// Adds an id to those that failed.
+    /// Adds an id to those that failed, among which it isn't yet. On want of memory nothing has changed.
     pub fn add_failed(&mut self, id: u128) -> Result<(), NoMemory>
         requires { is_failed self.old.now id ≡ false }
         ensures ok { OnOk result (self.new ≡ with_change self.old (with_failed self.old.now id)) }
@@ -117,7 +118,7 @@ impl Tables {
         Ok(true)
     }
 
-    /// Adds a plain or pending transfer after those that are there.
+    /// Adds a plain or pending transfer after those that are there. On want of memory nothing has changed.
     pub fn add_transfer(&mut self, transfer: Transfer) -> Result<(), NoMemory>
         requires { MayAdd self.old.now transfer }
         ensures ok { OnOk result (self.new ≡ with_change self.old (with_transfer self.old.now transfer)) }
@@ -128,8 +129,8 @@ impl Tables {
         Ok(())
     }
 
-    /// Adds a plain or pending transfer after those that are there, between the accounts at two places, unless one
-    /// with its id is there; whether it was added. The id is looked up once.
+    /// Adds a plain or pending transfer after those that are there, between the accounts at two places, unless one with
+    /// its id is there; whether it was added. The id is looked up once. On want of memory nothing has changed.
     pub fn add_new_between(
         &mut self,
         transfer: &Transfer,
@@ -154,7 +155,8 @@ impl Tables {
         )
     }
 
-    /// Adds a post or a void, with its resolved fields. The transfer that it names is pending no more.
+    /// Adds a post or a void, with its resolved fields. The transfer that it names is pending no more. On want of
+    /// memory nothing has changed.
     pub fn resolve(&mut self, transfer: Transfer) -> Result<(), NoMemory>
         requires new { transfer_with self.old.now transfer.id ≡ None }
         requires may { MayResolve self.old.now transfer }
@@ -168,9 +170,9 @@ impl Tables {
         Ok(())
     }
 
-    /// Adds a post or a void, with its resolved fields, unless a transfer with its id is there; whether it was added. The
-    /// transfer that it names stands at this place, and is pending no more where it was. The id is looked up once, and what
-    /// it names isn't looked up again.
+    /// Adds a post or a void, with its resolved fields, unless a transfer with its id is there; whether it was added.
+    /// The transfer that it names stands at this place, and is pending no more where it was. The id is looked up once,
+    /// and what it names isn't looked up again. On want of memory nothing has changed.
     pub fn resolve_new_at(&mut self, transfer: &Transfer, pending: usize) -> Result<bool, NoMemory>
         requires pending { IsPlaceOfTransfer self.old.now transfer.now.pending_id (Some pending) }
         requires may { MayResolve self.old.now transfer.now }
@@ -252,7 +254,7 @@ impl Tables {
         self.maps.failed(id)
     }
 
-    /// How far `undo_to` can come back to. It is spent by `keep` and by going back past it.
+    /// A mark at the changes so far, to which `undo_to` can come back. It is spent by `keep` and by going back past it.
     pub fn mark(&self) -> Mark
         ensures { result ≡ mark_of self.now }
     {

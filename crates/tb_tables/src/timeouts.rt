@@ -32,7 +32,8 @@ fn expire(accounts: &mut ById<Account>, transfers: &mut ById<Row>, place: usize)
     take_amount(accounts, places, Phase::Pending, transfer.amount);
 }
 
-/// Lets each transfer expire that still reserves its amount and whose pair is due at a clock. Costs as much as what expires.
+/// Lets each transfer expire that still reserves its amount and whose pair is due at a clock. Costs as much as what
+/// expires.
 pub fn expire_all(
     accounts: &mut ById<Account>,
     transfers: &mut ById<Row>,

@@ -44,7 +44,7 @@ number_in submitter items = count_by (is_of submitter) items
 abbrev pub packet_of : Submission → packets.Packet
 packet_of submission = record { operation = submission.operation; bytes = submission.bytes; user = 0 }
 
--- a packet behind what is queued
+-- a packet after what is queued
 abbrev pub packet_as : List work.Item → Submission → Result ℕ Refusal → Planned
 packet_as items submission (Ok count) =
     Packet (numbered_packet submission.submitter (number_in submission.submitter items) (packet_of submission))
@@ -60,7 +60,7 @@ planned_as limit items (script.Packet submission) =
 planned_as limit items (script.Pulse moment) = pulse_as moment
 planned_as limit items script.Shut = Close
 
--- what a script's items come to behind what is queued, packets being of so many events at most
+-- what a script's items come to after what is queued, packets being of so many events at most
 unfoldable pub plan_behind : ℕ → List work.Item → List Item → List Planned
 plan_behind limit items [] = []
 plan_behind limit items (item ∷ others) =

@@ -16,7 +16,7 @@ abbrev pub IsTold : Source → Result Said (ℕ × Fault) → Type 0
 IsTold (Script said) told = (script_text told ≡ listing said) × (is_ok_script told ≡ true) × (told ≡ Ok said)
 IsTold (Faulty line) told = (string_bytes line ≡ script_text told) × (is_ok_script told ≡ false)
 
--- and of bytes, however many they are
+-- what is told of bytes, however many they are
 abbrev pub IsSource : Source → List ℕ → Type 0
 IsSource (Script said) bytes = (out bytes ≡ listing said) × (is_faultless bytes ≡ true) × (script_of bytes ≡ Ok said)
 IsSource (Faulty line) bytes = (string_bytes line ≡ out bytes) × (is_faultless bytes ≡ false)

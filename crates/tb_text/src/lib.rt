@@ -1,6 +1,7 @@
 //! The text that the program reads and the lines that it prints.
 //!
-//! `specs/Output.antt` defines the output of `list` for the bytes of a script, whatever these are, and `specs/Plan.antt` what each item of a script comes to.
+//! `specs/Output.antt` defines the output of `list` for the bytes of a script, whatever these are, and
+//! `specs/Plan.antt` what each item of a script comes to.
 #![tactic(auto)]
 
 mod output;

@@ -15,7 +15,7 @@ use tb_layout::{Account, Failure};
 use tb_machine::Machine;
 use tb_work::{Answer, Outcome, Refusal, Reply};
 
-/// A number in decimal. This takes fewer instructions than `write!`.
+/// Adds a number in decimal. This takes fewer instructions than `write!`.
 fn put_number<I: Integer>(out: &mut String, number: I) -> Result<(), AllocError>
     ensures { OnOk result (string_bytes out.new ≡ string_bytes out.old ++ I.text number) }
 {
@@ -23,7 +23,7 @@ fn put_number<I: Integer>(out: &mut String, number: I) -> Result<(), AllocError>
     out.push_str(buffer.format(number))
 }
 
-/// A text and a number behind it.
+/// Adds a text and a number after it.
 #[inline(always)]
 fn put_field<I: Integer>(out: &mut String, text: &str, number: I) -> Result<(), AllocError>
     ensures { OnOk result (string_bytes out.new ≡ string_bytes out.old ++ text.now ++ I.text number) }
@@ -32,14 +32,14 @@ fn put_field<I: Integer>(out: &mut String, text: &str, number: I) -> Result<(), 
     put_number(out, number)
 }
 
-/// The line of a fault.
+/// Adds the line of a fault, which has the number of the script's line, or 0.
 pub fn put_fault(out: &mut String, line: usize, text: &str) -> Result<(), AllocError>
     ensures { OnOk result (string_bytes out.new ≡ string_bytes out.old ++ fault_line line text.now) }
 {
     write!(out, "fault {line} {text}\n")
 }
 
-/// The line of a packet that was not admitted.
+/// Adds the line of a packet that was not admitted.
 #[tactic(auto, unfolding(crate::specs::Output::refused_line))]
 pub fn put_refused(out: &mut String, submitter: u32, refusal: Refusal) -> Result<(), AllocError>
     ensures { OnOk result (string_bytes out.new ≡ string_bytes out.old ++ refused_line submitter refusal) }
@@ -116,7 +116,7 @@ fn put_packet_front(out: &mut String, submitter: u32, number: u64) -> Result<(),
     put_field(out, " ", number)
 }
 
-/// The line of a packet that was queued.
+/// Adds the line of a packet that was queued.
 pub fn put_reply(out: &mut String, reply: &Reply) -> Result<(), AllocError>
     ensures { OnOk result (string_bytes out.new ≡ string_bytes out.old ++ reply_line reply.now) }
 {
@@ -125,7 +125,7 @@ pub fn put_reply(out: &mut String, reply: &Reply) -> Result<(), AllocError>
     out.push_str("\n")
 }
 
-/// The line of a pulse.
+/// Adds the line of a pulse at a place.
 #[tactic(auto, unfolding(crate::specs::Output::pulse_line))]
 pub fn put_pulse(out: &mut String, place: u64) -> Result<(), AllocError>
     ensures { OnOk result (string_bytes out.new ≡ string_bytes out.old ++ pulse_line place) }
@@ -134,21 +134,21 @@ pub fn put_pulse(out: &mut String, place: u64) -> Result<(), AllocError>
     out.push_str("\n")
 }
 
-/// The line of a pulse whose moment is too large.
+/// Adds the line of a pulse whose moment is too large.
 pub fn put_refused_pulse(out: &mut String) -> Result<(), AllocError>
     ensures { OnOk result (string_bytes out.new ≡ string_bytes out.old ++ refused_pulse_line) }
 {
     out.push_str("pulse refused 12 MomentTooLarge\n")
 }
 
-/// The line of the Close.
+/// Adds the line of the Close.
 pub fn put_close(out: &mut String) -> Result<(), AllocError>
     ensures { OnOk result (string_bytes out.new ≡ string_bytes out.old ++ codes "shut\n") }
 {
     out.push_str("shut\n")
 }
 
-/// The line of the clock.
+/// Adds the line of the clock.
 fn put_clock(out: &mut String, clock: u64) -> Result<(), AllocError>
     ensures { OnOk result (string_bytes out.new ≡ string_bytes out.old ++ clock_line clock) }
 {
@@ -175,7 +175,7 @@ fn put_balances(out: &mut String, account: &Account) -> Result<(), AllocError>
     out.push_str("\n")
 }
 
-/// The line of an account, with its balances.
+/// Adds the line of an account, with its balances.
 fn put_account(out: &mut String, account: &Account) -> Result<(), AllocError>
     ensures { OnOk result (string_bytes out.new ≡ string_bytes out.old ++ account_line account.now) }
 {
@@ -194,7 +194,7 @@ fn put_accounts(out: &mut String, machine: &Machine) -> Result<(), AllocError>
     Ok(())
 }
 
-/// The lines of the clock and of the accounts, in the order of their making.
+/// Adds the line of the clock, and those of the accounts in the order of their making.
 pub fn put_state(out: &mut String, machine: &Machine) -> Result<(), AllocError>
     ensures { OnOk result (string_bytes out.new ≡ string_bytes out.old ++ state_text machine.now) }
 {
@@ -202,7 +202,7 @@ pub fn put_state(out: &mut String, machine: &Machine) -> Result<(), AllocError>
     put_accounts(out, machine)
 }
 
-/// All of a text, once it is made.
+/// Writes all of a text, once it is made.
 pub fn write_out<W: Write>(writer: &mut W, text: &str) -> Result<(), ProgramFault>
     ensures written { OnOk result (Appends (W.contents writer.old) (W.contents writer.new) text.now) }
     ensures refused { IfErr result (λ fault. fault ≡ WriteFault) }

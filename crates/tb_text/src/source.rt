@@ -20,6 +20,7 @@ pub enum Source {
     Faulty(String),
 }
 
+/// The line that is printed of a fault.
 fn source_of_fault(alloc: Global, line: usize, text: &str) -> Result<Source, NoMemory>
     ensures { IfOk result (λ source. IsFaultAt line text.now source) }
 {

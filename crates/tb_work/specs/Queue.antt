@@ -46,7 +46,8 @@ pub record IsEnded (items : List Item) : Type 0 where
 abbrev pub items_in : List Ticket → List Item
 items_in queue = map (λ (ticket : Ticket). ticket.item) queue
 
--- a sender's own item: a packet is that of its submitter, one of so many; a pulse and a Close are the control's, which is the sender behind them
+-- a sender's own item: a packet is that of its submitter, one of so many; a pulse and a Close are the control's, which
+-- is the sender after them
 abbrev pub IsSubmitted : ℕ → ℕ → Item → Type 0
 IsSubmitted submitters sender (Packet job) = (job.submitter ≡ sender) × (sender < submitters)
 IsSubmitted submitters sender (Pulse moment) = sender ≡ submitters
@@ -66,8 +67,9 @@ AreNumbered sender number (Pulse moment ∷ items) = AreNumbered sender number i
 AreNumbered sender number (End ∷ items) = AreNumbered sender number items
 AreNumbered sender number (Close ∷ items) = AreNumbered sender number items
 
--- A queue as its senders filled it: senders 0 to `submitters` (the last is the control) put in it just what each of them
--- queued, in order and with its end last; each packet is its submitter's own, and numbered from 0; pulses and a Close are the control's; nobody else is in it.
+-- A queue as its senders filled it: senders 0 to `submitters` (the last is the control) put in it just what each of
+-- them queued, in order and with its end last; each packet is its submitter's own, and numbered from 0; pulses and a
+-- Close are the control's; nobody else is in it.
 pub record IsQueueOf (submitters : ℕ) (queue : List Ticket) (queued : ℕ → List Item) : Type 0 where
   pub parts : (sender : ℕ) → sender ≤ submitters → part sender queue ≡ queued sender
   pub strangers : (sender : ℕ) → submitters < sender → part sender queue ≡ []

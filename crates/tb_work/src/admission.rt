@@ -11,6 +11,7 @@ const EVENT_SIZE: usize = 128;
 
 const ID_SIZE: usize = 16;
 
+/// How many bytes an event of an operation has. None where there is no such operation.
 fn event_size(operation: u8) -> Option<usize>
     ensures { result ≡ spec.event_size operation }
 {

@@ -25,7 +25,7 @@ pub struct Job {
 }
 
 impl Drop for Job {
-    /// One call, so that no owner's proof goes through all that is held.
+    /// Lets all that is held go in one call, so that no owner's proof goes through it.
     fn drop(self) {
         let Job {
             number: _,
@@ -77,9 +77,9 @@ impl Job {
     ghost use Rattle.tb_work.specs.Admission.{count_of};
     ghost use Rattle.tb_work.specs.Job.{stub_of, is_lookup, is_open, numbered_packet};
 
-    /// The packet as this submitter's packet of this number, with room for as many failures as it has
-    /// events. Where it is not admitted or memory is refused, it comes back as it was. It
-    /// costs that room, which for up to two events lies in the job itself.
+    /// The packet as this submitter's packet of this number, with room for as many failures as it has events. Where it
+    /// isn't admitted under the limit, at most 8190 events, or memory is refused, it comes back as it was. It costs
+    /// that room, which for up to two events lies in the job itself, and which a lookup hasn't.
     pub fn new(
         alloc: Global,
         submitter: u32,
@@ -132,7 +132,7 @@ impl Job {
         &self.packet
     }
 
-    /// The packet as it was handed in. Its room is freed.
+    /// The packet as it was handed in. The room for its failures is freed.
     pub fn into_packet(self) -> Packet
         ensures { result ≡ self.packet }
     {

@@ -22,7 +22,7 @@ impl Model for Moment {
 }
 
 impl Moment {
-    /// The moment of this number of nanoseconds.
+    /// The moment of this number of nanoseconds, at most `MOMENT_MAX`.
     pub fn new(nanoseconds: u64) -> Moment
         requires { nanoseconds ≤ moment_max }
         ensures { result ≡ nanoseconds }

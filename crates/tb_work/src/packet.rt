@@ -25,7 +25,7 @@ pub struct Packet {
     pub user: u64,
 }
 
-/// Puts an account behind what is there.
+/// Puts an account after what is there.
 fn add_account(bytes: &mut Vec<u8>, account: &Account) -> Result<(), NoMemory>
     ensures bytes { OnOk result (bytes.new.items ≡ bytes.old.items ++ account_bytes account.now) }
     ensures length { length (account_bytes account.now) ≡ 128 }
@@ -35,7 +35,7 @@ fn add_account(bytes: &mut Vec<u8>, account: &Account) -> Result<(), NoMemory>
     Ok(())
 }
 
-/// Puts a transfer behind what is there.
+/// Puts a transfer after what is there.
 fn add_transfer(bytes: &mut Vec<u8>, transfer: &Transfer) -> Result<(), NoMemory>
     ensures bytes { OnOk result (bytes.new.items ≡ bytes.old.items ++ transfer_bytes transfer.now) }
     ensures length { length (transfer_bytes transfer.now) ≡ 128 }

@@ -36,7 +36,7 @@ impl Model for Reply {
     ghost invariant = { λ reply. IsOutcomeOf reply.packet reply.outcome };
 }
 
-/// Puts failures behind those that are there, with indices counted from an offset.
+/// Puts failures after those that are there, with indices counted from an offset.
 fn rebase_into(room: &mut FailureRoom, failures: &[Failure], offset: u32, count: u32)
     requires empty { room.old.items ≡ [] }
     requires rise { RiseWithin offset (offset + count) failures.now }

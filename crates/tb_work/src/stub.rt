@@ -1,4 +1,5 @@
-/// A packet's place in a batch: its submitter, its number there, and how many events it has.
+/// What is kept of a packet beside a batch's data: its submitter, its number among that submitter's packets, and how
+/// many events it has.
 #[derive(Clone, Copy, Debug, PartialEq, Eq)]
 pub struct Stub {
     pub number: u64,

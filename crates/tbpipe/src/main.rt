@@ -1,7 +1,8 @@
 //! `tbpipe`: runs a script of packets and prints what becomes of each.
 //!
-//! `list` takes the script through the stages in one thread, `run` through the pipeline with a thread for each sender. What the arguments ask for, the exit status of each
-//! outcome and the lines that the program prints itself are functions of `tb_command`; the rest is `tb_program`.
+//! `list` takes the script through the stages in one thread, `run` through the pipeline with a thread for each sender.
+//! What the arguments ask for, the exit status of each outcome and the lines that the program prints itself are
+//! functions of `tb_command`; the rest is `tb_program`.
 #![tactic(auto)]
 
 use std::alloc::Global;

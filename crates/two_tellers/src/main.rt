@@ -1,5 +1,5 @@
-//! Two tellers post transfers through one pipeline, each from a thread of its own, and read the replies; then all end, and
-//! the balances are printed. So an application uses the pipeline: `open`, a driver for each submitter, `drive_all`.
+//! Two tellers post transfers through one pipeline, each from a thread of its own, and read the replies; then all end,
+//! and the balances are printed. So an application uses the pipeline: `open`, a driver for each submitter, `drive_all`.
 #![tactic(auto)]
 
 use std::alloc::Global;
@@ -11,7 +11,7 @@ use tb_layout::{Account, Transfer};
 use tb_pipe::open;
 use tb_work::{Packet, Refusal, Reply};
 
-/// Posts a transfer in every other turn, each under the id behind the last one's, and waits for its reply in the next.
+/// Posts a transfer in every other turn, each under the id after the last one's, and waits for its reply in the next.
 #[derive(Drop)]
 struct Teller {
     turns: u8,
@@ -36,7 +36,7 @@ impl Driver for Teller {
     fn receive(&mut self, _reply: Reply) {}
 }
 
-/// A teller that is to post twenty transfers in ledger 1, with the ids behind one.
+/// A teller that is to post twenty transfers in ledger 1, with the ids after this one.
 fn new_teller(id: u128, debit_account_id: u128, credit_account_id: u128, amount: u128) -> Teller {
     let last = Transfer {
         id,
@@ -50,7 +50,7 @@ fn new_teller(id: u128, debit_account_id: u128, credit_account_id: u128, amount:
     Teller { turns: 40, last }
 }
 
-/// What becomes of two accounts, queued ahead, and of the tellers' transfers; None where memory or a thread was wanting.
+/// What becomes of two accounts, queued ahead, and of the tellers' transfers. None for want of memory or a thread.
 fn run<R: Threads + Wait + Sync>(rt: &R, alloc: Global) -> Option<Finished<Teller>> {
     let first = Account {
         id: 1,

@@ -5,8 +5,8 @@ use Rattle.tb_work.specs.declared.item.Item.{Item}
 use Rattle.tb_work.specs.declared.item.Item.TheVariants.{Packet, Pulse, End, Close}
 use Rattle.tb_core.specs.declared.world.sender.Sender.{Sender}
 
--- a submitter pushes its own packets, by their numbers and within the limit, and its End; the control, which is the sender
--- behind the last submitter, pushes pulses, and its End or Close
+-- a submitter pushes its own packets, by their numbers and within the limit, and its End; the control, which is the
+-- sender after the last submitter, pushes pulses, and its End or Close
 abbrev pub may_push_item : ℕ → ℕ → ℕ → Sender → Item → Bool
 may_push_item limit submitters number sender (Packet job) =
     nat_lt number submitters && ((job.submitter == number)
@@ -15,7 +15,7 @@ may_push_item limit submitters number sender (Pulse moment) = number == submitte
 may_push_item limit submitters number sender End = nat_le number submitters
 may_push_item limit submitters number sender Close = number == submitters
 
--- and nothing once it ended
+-- no sender pushes anything once it has ended
 abbrev pub may_push : ℕ → ℕ → ℕ → Sender → Item → Bool
 may_push limit submitters number sender item = not sender.ended && may_push_item limit submitters number sender item
 

@@ -10,7 +10,7 @@ use crate::world::event::Event;
 use std::alloc::Global;
 use tb_layout::NoMemory;
 
-/// One event more.
+/// Takes one event more.
 fn go_on(world: &mut World, event: Event) -> Result<(), NoMemory>
     ensures { OnOk result (world.new ≡ after_event world.old event) }
 {
@@ -20,7 +20,7 @@ fn go_on(world: &mut World, event: Event) -> Result<(), NoMemory>
     }
 }
 
-/// Events in order.
+/// Takes events in order.
 fn go_through(world: &mut World, events: Vec<Event>) -> Result<(), NoMemory>
     ensures { OnOk result (world.new ≡ run world.old events.items) }
 {
@@ -30,9 +30,9 @@ fn go_through(world: &mut World, events: Vec<Event>) -> Result<(), NoMemory>
     Ok(())
 }
 
-/// A new World, and events in order; one that answers false is passed over. The limit is 1 to 8190 events, and
-/// there are 1 to 16 submitters. It takes memory for the World and in its steps; where that is really refused
-/// nothing is handed out.
+/// A World, from a clock in nanoseconds, 0 to `CLOCK_MAX`, on, after events in order; one that answers false is passed
+/// over. The limit is 1 to 8190 events, and there are 1 to 16 submitters. It takes memory for the World and in its
+/// steps; where that is really refused nothing is handed out.
 pub fn run_world(
     alloc: Global,
     clock: u64,

@@ -112,7 +112,7 @@ fn packet_behind_shut(rt: HostRuntime) {
     drop(front);
 }
 
-/// Shuts a front behind a packet, and ends its submitter behind another.
+/// Shuts a front after a packet, and ends its submitter after another.
 fn assert_shut(rt: &(impl Abort + Alloc<A = Global>), front: &mut Front)
     requires { front.old.submitters ≡ 1 }
 {
@@ -134,7 +134,7 @@ fn refused_growth(rt: HostRuntime) {
     drop(front);
 }
 
-/// Refuses the growth for a second packet, behind which each packet is stopped.
+/// Refuses the growth for a second packet, after which each packet is stopped.
 fn assert_stopped(rt: &(impl Abort + Alloc<A = Global>), front: &mut Front) {
     let stopped = Handed::Return(Cause::Stopped);
     assert_taken(rt, front, 0, FIRST, &[]);

@@ -1,4 +1,4 @@
-//! The ledger behind the front, and the ledger alone.
+//! The ledger fed by the front, and the ledger alone.
 
 ghost use Rattle.std.specs.Prelude.{◌≡◌, ◌≤◌};
 
@@ -13,12 +13,12 @@ use tb_demux::Cutter;
 use tb_layout::Account;
 use tb_work::{Answer, Job, Moment, Outcome, Reply, Ticket};
 
-/// Puts what a reply says behind what is told.
+/// Adds what a reply says to what is told.
 fn tell_reply(rt: &impl Abort, reply: &Reply, told: &mut Vec<Told>) {
     told.push(told_by(reply)).expect(rt, "memory");
 }
 
-/// Puts what at most four replies say behind what is told.
+/// Adds what at most four replies say to what is told.
 fn tell_cut(rt: &impl Abort, cutter: &mut Cutter, told: &mut Vec<Told>) {
     for _ in 0..4 {
         if let Some(reply) = cutter.next() {
@@ -27,7 +27,7 @@ fn tell_cut(rt: &impl Abort, cutter: &mut Cutter, told: &mut Vec<Told>) {
     }
 }
 
-/// Puts what a parcel comes to behind what is told.
+/// Adds to what is told what a parcel comes to.
 fn tell(rt: &impl Abort, outcomes: Outcomes, told: &mut Vec<Told>) {
     match outcomes {
         Outcomes::Cut(mut cutter) => tell_cut(rt, &mut cutter, told),
@@ -71,7 +71,7 @@ fn feed_packets(
     }
 }
 
-/// Applies the group that is held, behind which nothing is.
+/// Applies the group that is held, after which nothing is.
 fn feed_group(rt: &impl Abort, front: &mut Front, ledger: &mut Ledger, told: &mut Vec<Told>) {
     let batch = front.idle().expect(rt, "a group is held");
     tell(rt, ledger.apply(Parcel::Batch(batch)), told);
@@ -208,7 +208,7 @@ fn assert_nothing_committed(rt: &impl Abort, ledger: &Ledger) {
     assert!(rt; ledger.machine().clock() == 0);
 }
 
-/// A batch whose growth is refused, and what comes behind it.
+/// A batch whose growth is refused, and what comes after it.
 fn refuse_commit(rt: &(impl Abort + Alloc<A = Global>), ledger: &mut Ledger, told: &mut Vec<Told>) {
     tell(rt, ledger.apply_as_refused(batch_of(rt, 1)), told);
     assert!(rt; ledger.stopped());

@@ -4,7 +4,7 @@ use super::{Noter, SUBMIT, Saw, Seen, Step, run, run_one, seen_in};
 use std::alloc::{AllocError, Global};
 use std::test::Fail;
 
-/// Waits before there is a packet, for the one that is queued, for two of two, and behind the last reply.
+/// Waits before there is a packet, for the one that is queued, for two of two, and after the last reply.
 const WAITS: [Step; 8] = [
     Step::Receive,
     SUBMIT,

@@ -54,8 +54,8 @@ const FOUR_SEEN: [Saw; 12] = [
     Saw::Asked,
 ];
 
-/// No driver is told of a credit that is used up, nor of a queue that is full: its packet is tried again. The last reply is
-/// read only where the queue was full as the submitter ended.
+/// No driver is told of a credit that is used up, nor of a queue that is full: its packet is tried again. The last
+/// reply is read only where the queue was full as the submitter ended.
 #[test]
 fn not_told_of_a_used_up_credit(rt: HostRuntime) -> Result<(), Fail> {
     let seen = run_one(&rt, rt.alloc(), 1, 1, &FOUR)?;

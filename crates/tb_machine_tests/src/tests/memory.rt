@@ -159,7 +159,7 @@ fn id_already_failed_refused_memory(rt: HostRuntime) {
     drop(machine);
 }
 
-/// A void that names nothing leaves its id behind, and so is refused for that when it comes again.
+/// A void that names nothing leaves its id among the failed ones, and so is refused for that when it comes again.
 fn void_twice(rt: &(impl Abort + Alloc<A = Global>), machine: &mut Machine) -> bool {
     let void = [resolving(1, 8, 0, 8)];
     commits_transfers(rt, machine, &void, &[(0, PendingTransferNotFound)])

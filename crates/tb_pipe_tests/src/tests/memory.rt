@@ -201,7 +201,7 @@ fn each_growth_refused_memory(rt: HostRuntime) -> Result<(), Refusal> {
     Ok(())
 }
 
-/// The tickets of the seven items and of both ends, in order, and nothing behind them.
+/// The tickets of the seven items and of both ends, in order, and nothing after them.
 const ALL_TICKETS: [Option<(u32, Said)>; 10] = [
     Some((0, Said::Packet(0))),
     Some((0, Said::Packet(1))),

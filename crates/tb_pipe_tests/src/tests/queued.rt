@@ -25,6 +25,7 @@ pub(super) enum Step {
     Pulse(u64),
 }
 
+/// Queues packets by the submitter and pulses by the control, step by step.
 fn queue_steps<R: Wait + Abort>(
     rt: &R,
     alloc: Global,
@@ -43,7 +44,8 @@ fn queue_steps<R: Wait + Abort>(
     }
 }
 
-/// Some steps, the control's end or its Close, and some accounts, each in its packet.
+/// A run in which steps are queued, then the control's end or its Close, and then accounts, each in a packet of its
+/// own.
 pub(super) fn run_queued<R: Threads + Wait + Sync + Abort, G: Gate>(
     rt: &R,
     alloc: Global,

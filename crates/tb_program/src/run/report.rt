@@ -55,7 +55,7 @@ impl Replies {
         }
     }
 
-    /// The line of a packet: its reply, or why it was refused.
+    /// Adds the line of a packet: its reply, or why it was refused.
     fn put_told(&mut self, out: &mut String, submitter: u32, told: Told) -> Result<(), AllocError>
         requires { told ≡ Queued → 0 < length self.old }
         ensures text { OnOk result (string_bytes out.new ≡ string_bytes out.old ++ told_line submitter told self.old) }
@@ -71,7 +71,7 @@ impl Replies {
     }
 }
 
-/// The lines of packets of which was told what became of them.
+/// Adds the lines of packets of which was told what became of them.
 #[tactic(auto, unfolding(crate::specs::RunText::told_text))]
 fn put_all_told(
     out: &mut String,
@@ -88,7 +88,7 @@ fn put_all_told(
     Ok(())
 }
 
-/// The lines of a submitter's packets.
+/// Adds the lines of a submitter's packets.
 fn put_packets(
     out: &mut String,
     submitter: u32,
@@ -113,7 +113,7 @@ fn put_packets(
     Ok(put?)
 }
 
-/// The lines of all packets, by rising number of their submitters.
+/// Adds the lines of all packets, by rising number of their submitters.
 #[tactic(auto, unfolding(crate::specs::RunText::packets_text))]
 fn put_all_packets(
     out: &mut String,
@@ -139,7 +139,7 @@ fn put_all_packets(
     Ok(())
 }
 
-/// The line of an entry that is a pulse, whose place is given; none of a batch. Answers the place behind the entry.
+/// Adds the line of an entry that is a pulse, whose place is given; none of a batch. Answers the place after the entry.
 fn put_entry(out: &mut String, place: u64, entry: &Entry) -> Result<u64, AllocError>
     requires { place + length (group_of entry.now) < 2 ^ 64 }
     ensures behind { IfOk result (λ behind. behind ≡ place + length (group_of entry.now)) }
@@ -154,7 +154,7 @@ fn put_entry(out: &mut String, place: u64, entry: &Entry) -> Result<u64, AllocEr
     }
 }
 
-/// The lines of the committed pulses. A pulse has its place among all that was committed.
+/// Adds the lines of the committed pulses. A pulse has its place among all that was committed.
 fn put_pulses(out: &mut String, journal: &[Entry]) -> Result<(), AllocError>
     requires { length (flat_map group_of journal.now) < 2 ^ 64 }
     ensures { OnOk result (string_bytes out.new ≡ string_bytes out.old
@@ -176,7 +176,7 @@ fn put_refused_pulses(out: &mut String, count: u64) -> Result<(), AllocError>
     Ok(())
 }
 
-/// The lines of what was committed: the pulses, those that were refused, the clock and the accounts.
+/// Adds the lines of what was committed: the pulses, those that were refused, the clock and the accounts.
 fn put_ledger(out: &mut String, ledger: &Ledger, refused_pulses: u64) -> Result<(), NoMemory>
     requires { length (works ledger.now) < 2 ^ 64 }
     ensures { OnOk result (string_bytes out.new ≡ string_bytes out.old
@@ -188,7 +188,7 @@ fn put_ledger(out: &mut String, ledger: &Ledger, refused_pulses: u64) -> Result<
     Ok(())
 }
 
-/// All lines of a run.
+/// Adds all lines of a run.
 fn put_run(
     out: &mut String,
     ledger: &Ledger,
@@ -217,7 +217,7 @@ fn text_with_room(alloc: Global, ledger: &Ledger) -> Result<String, AllocError>
     String::with_capacity(alloc, probable)
 }
 
-/// A text with all lines of a run behind it.
+/// A text with all lines of a run added to it.
 fn with_run(text: String, finished: Finished<ScriptDriver>) -> Result<String, NoMemory>
     requires few { length finished.drivers.items ≤ submitters_max }
     requires number { length finished.report.ends.items ≡ length finished.drivers.items }

@@ -20,6 +20,7 @@ pub struct Shares {
 }
 
 impl Shares {
+    /// No items yet, for so many submitters.
     fn new(alloc: Global, submitters: u32) -> Result<Shares, NoMemory>
         ensures number { IfOk result (λ shares. length shares.packets.items ≡ submitters) }
         ensures packets { IfOk result (λ shares. AreDealt 0 shares.packets.items []) }
@@ -35,7 +36,7 @@ impl Shares {
         })
     }
 
-    /// The script's line was faulty had its submitter not been there.
+    /// Adds a packet to its submitter's. That is there: else the script's line was faulty.
     fn add_packet(&mut self, submission: Submission) -> Result<(), NoMemory>
         ensures number { length self.new.packets.items ≡ length self.old.packets.items }
         ensures packets { (items : List ItemValue) → AreDealt 0 self.old.packets.items items
@@ -49,6 +50,7 @@ impl Shares {
         Ok(())
     }
 
+    /// Adds an item to those of the thread that queues it.
     fn add(&mut self, item: Item) -> Result<(), NoMemory>
         ensures number { length self.new.packets.items ≡ length self.old.packets.items }
         ensures packets { (items : List ItemValue) → AreDealt 0 self.old.packets.items items

@@ -1,10 +1,10 @@
-//! Each code of the table of transfers, by itself and together with the one behind it in the table.
+//! Each code of the table of transfers, by itself and together with the one after it in the table.
 
 use super::listed;
 use std::alloc::Global;
 use std::process::Abort;
 
-/// A script in which each row is a packet of its own behind a setup.
+/// A script in which each row is a packet of its own after a setup.
 fn script_of(rt: &(impl Abort + Alloc<A = Global>), setup: &str, rows: &str) -> String {
     let mut script = String::from_str(rt.alloc(), setup).expect(rt, "memory");
     for row in rows.lines() {
@@ -14,7 +14,7 @@ fn script_of(rt: &(impl Abort + Alloc<A = Global>), setup: &str, rows: &str) -> 
     script
 }
 
-/// The lines that answer each row its code, behind a setup of so many packets and pulses.
+/// The lines that answer each row its code, after a setup of so many packets and pulses.
 fn answers_of(
     rt: &(impl Abort + Alloc<A = Global>),
     packets: usize,
@@ -31,7 +31,7 @@ fn answers_of(
     answers
 }
 
-/// Asserts that each row is answered its code behind a setup of so many packets and pulses.
+/// Asserts that each row is answered its code after a setup of so many packets and pulses.
 fn assert_codes(
     rt: &(impl Abort + Alloc<A = Global>),
     setup: &str,
@@ -82,7 +82,7 @@ packet 0 130
 transfer id=50 debit_account_id=1 credit_account_id=99 amount=1 ledger=1 code=1
 ";
 
-/// Transfers behind `LEDGER`, one after another: the code that each is answered, and its fields.
+/// Transfers that follow `LEDGER`, one after another: the code that each is answered, and its fields.
 const CODES: &str = "3 id=60 timestamp=1
 3 id=60 timestamp=1 flags=16
 4 id=60 flags=16
@@ -211,7 +211,7 @@ transfer id=1 debit_account_id=1 credit_account_id=8 amount=1 ledger=1 code=1
 transfer id=2 debit_account_id=1 credit_account_id=8 amount=1 ledger=1 code=1 flags=2
 ";
 
-/// Transfers behind `LATE_LEDGER`: the code that each is answered, and its fields.
+/// Transfers that follow `LATE_LEDGER`: the code that each is answered, and its fields.
 const LATE_CODES: &str =
     "52 id=60 debit_account_id=9 credit_account_id=8 amount=340282366920938463463374607431768211454 timeout=4294967295 ledger=1 code=1 flags=2
 53 id=60 debit_account_id=1 credit_account_id=2 amount=1 timeout=4294967295 ledger=1 code=1 flags=2

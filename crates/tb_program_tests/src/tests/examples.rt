@@ -132,13 +132,13 @@ fn hostile_bytes(rt: HostRuntime) {
     );
 }
 
-/// The packet of an account that has ledger and code 1, flags and user data, and the packet that begins behind it.
+/// The packet of an account that has ledger and code 1, flags and user data, and the packet that begins after it.
 const ONE_ACCOUNT: &str = "packet 0 129
 account id=1 ledger=1 code=1 flags=2 user_data_128=3 user_data_64=4 user_data_32=5
 packet 0 129
 ";
 
-/// Accounts behind `ONE_ACCOUNT`, each with the code in front that tells that its field stood in its place.
+/// Accounts after `ONE_ACCOUNT`, each with the code in front that tells that its field stood in its place.
 const ACCOUNT_CODES: &str = "3 timestamp=1 reserved=1
 4 reserved=1 flags=16
 5 flags=16
@@ -160,7 +160,7 @@ const ACCOUNT_CODES: &str = "3 timestamp=1 reserved=1
 14 id=2 ledger=1
 ";
 
-/// Asserts the code that an account behind `ONE_ACCOUNT` is answered.
+/// Asserts the code that an account after `ONE_ACCOUNT` is answered.
 fn assert_answer(rt: &(impl Abort + Alloc<A = Global>), event: &str, code: &str) {
     let script = format!(in rt.alloc(); "{ONE_ACCOUNT}account {event}\n").expect(rt, "memory");
     let output = format!(in rt.alloc();

@@ -2,7 +2,7 @@ use super::assert_list;
 use std::alloc::Global;
 use std::process::Abort;
 
-/// Scripts, each behind the line and the kind of its first fault. A `|` stands for the end of a line.
+/// Scripts, each after the line and the kind of its first fault. A `|` stands for the end of a line.
 const FIRST_FAULTS: &str = "2 bad field: packet 0 129|account id=1 id=1|
 1 bad number: limit 0|
 2 bad hex: packet 0 129|hex 0|
@@ -81,7 +81,7 @@ fn submitter_out_of_bounds(rt: HostRuntime) {
     assert_list(&rt, "submitters 1\npacket 1 129\n", "fault 2 bad number\n");
 }
 
-/// A setting doesn't stand twice, nor behind a packet.
+/// A setting doesn't stand twice, nor after a packet.
 const MISPLACED_SETTINGS: &str = "2 out of place: clock 1|clock 1|
 2 out of place: limit 1|limit 1|
 2 out of place: capacity 1|capacity 1|
@@ -99,8 +99,8 @@ fn settings_once_and_first(rt: HostRuntime) {
     assert_faults(&rt, MISPLACED_SETTINGS);
 }
 
-/// Each setting with the number above the greatest, and with the greatest, where the fault is that of the line behind it;
-/// and those that can't be 0.
+/// Each setting with the number above the greatest, and with the greatest, where the fault is that of the line after
+/// it; and those that can't be 0.
 const BOUNDS: &str = "1 bad number: clock 9223372036854775808|
 1 bad number: limit 8191|
 1 bad number: capacity 65537|

@@ -1,4 +1,5 @@
-//! What `run` prints of several submitters, of a Close, and of many packets: all of it that the schedule doesn't decide.
+//! What `run` prints of several submitters, of a Close, and of many packets: all of it that the schedule doesn't
+//! decide.
 
 use super::{assert_run, ran};
 use std::alloc::Global;
@@ -8,7 +9,8 @@ use std::str::Lines;
 /// How often a script is run whose schedule decides much.
 const TURNS: u32 = 10;
 
-/// The number that stands in a line where the wanted one has a `*`, or None where the wanted one has no `*` and is the line.
+/// The number that stands in a line where the wanted one has a `*`, or None where the wanted one has no `*` and is the
+/// line.
 fn number_in(rt: &impl Abort, line: &str, wanted: &str) -> Option<u64> {
     let Some((front, behind)) = wanted.split_once('*') else {
         assert!(rt; line == wanted, "{line} in place of {wanted}");
@@ -139,8 +141,8 @@ account 1 * 0 0 0 0
 /// How many events of each of submitter 1's packets raise the clock.
 const EVENTS: [u64; 4] = [1, 2, 0, 2];
 
-/// The timestamp of account 1, which is submitter 0's first event: those of submitter 1 that came ahead of it raised the
-/// clock before.
+/// The timestamp of account 1, which is submitter 0's first event: those of submitter 1 that came ahead of it raised
+/// the clock before.
 fn timestamp_at(place: u64, others: &[u64]) -> u64 {
     let mut timestamp = 1u64;
     for (other, events) in others.iter().zip(EVENTS.iter()) {
@@ -163,8 +165,8 @@ fn each_submitter_its_own_answers(rt: HostRuntime) {
     }
 }
 
-/// Four packets of each of two submitters, with a Close amid them. Queue and credit have room for all of them, so that no
-/// submitter reads a reply, and is told of the shutdown, before it has queued its last packet.
+/// Four packets of each of two submitters, with a Close amid them. Queue and credit have room for all of them, so that
+/// no submitter reads a reply, and is told of the shutdown, before it has queued its last packet.
 const CLOSED: &str = "packet 0 129
 account id=0
 packet 1 129
@@ -201,7 +203,7 @@ fn place_in(
     }
 }
 
-/// The places of a submitter's committed packets, by the lines of its four; behind one that is shut down none is
+/// The places of a submitter's committed packets, by the lines of its four; after one that is shut down none is
 /// committed.
 fn places_in(
     rt: &(impl Abort + Alloc<A = Global>),

@@ -8,13 +8,13 @@ use std::thread::Threads;
 const TWO_ACCOUNTS: &str =
     "packet 0 129\naccount id=1 ledger=1 code=1\naccount id=2 ledger=1 code=1\n";
 
-/// As `assert_list`, for a script behind the packet of accounts 1 and 2.
+/// As `assert_list`, for a script after the packet of accounts 1 and 2.
 fn assert_list_behind(rt: &(impl Abort + Alloc<A = Global>), script: &str, output: &str) {
     let text = format!(in rt.alloc(); "{TWO_ACCOUNTS}{script}").expect(rt, "memory");
     assert_list(rt, text.as_str(), output);
 }
 
-/// As `assert_both`, for a script behind the packet of accounts 1 and 2.
+/// As `assert_both`, for a script after the packet of accounts 1 and 2.
 fn assert_both_behind<R: Abort + Threads + Wait + Sync + Alloc<A = Global>>(
     rt: &R,
     script: &str,

@@ -65,7 +65,7 @@ fn refusals_in_order(rt: HostRuntime) {
     submit_to_new(&rt, 1, 1, packets.as_slice());
 }
 
-/// Submits a packet of each kind of fault, and one without, behind a reply that told of the end.
+/// Submits a packet of each kind of fault, and one without, after a reply that told of the end.
 fn submit_behind(
     rt: &(impl Abort + Wait + Alloc<A = Global>),
     submitter: &mut Submitter,

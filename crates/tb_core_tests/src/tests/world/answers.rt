@@ -15,7 +15,7 @@ const PUSHES: [(Step, bool); 15] = [
     (Step::Push(3, Made::End), false),
     // A packet by the control.
     (Step::Push(2, Made::Packet { number: 0, id: 1 }), false),
-    // A number out of order, before the first packet and behind it.
+    // A number out of order, before the first packet and after it.
     (Step::Push(0, Made::Packet { number: 1, id: 1 }), false),
     (Step::Push(0, Made::Packet { number: 0, id: 1 }), true),
     (Step::Push(0, Made::Packet { number: 0, id: 1 }), false),

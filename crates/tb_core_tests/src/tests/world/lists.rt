@@ -148,7 +148,7 @@ fn ahead(rt: &(impl Abort + Alloc<A = Global>), pushed: &[Pushed]) -> Vec<Pushed
     ahead
 }
 
-/// Puts the packets of an entry behind the others.
+/// Puts the packets of an entry after the others.
 fn add_stubs(rt: &impl Abort, stubs: &[Stub], committed: &mut Vec<Pushed>) {
     for stub in stubs {
         let packet = Pushed::Packet {

@@ -9,7 +9,7 @@ use tb_core::{Event, World, run_world};
 use tb_layout::{Account, Failure, Transfer};
 use tb_work::{Item, Job, Refusal, Ticket};
 
-/// Puts an event behind the others.
+/// Puts an event after the others.
 fn add(events: &mut Vec<Event>, event: Event) -> Result<(), Refusal> {
     match events.push(event) {
         Ok(()) => Ok(()),
@@ -17,7 +17,7 @@ fn add(events: &mut Vec<Event>, event: Event) -> Result<(), Refusal> {
     }
 }
 
-/// Puts the events of steps behind the others.
+/// Puts the events of steps after the others.
 fn add_all(alloc: Global, events: &mut Vec<Event>, steps: &[Step]) -> Result<(), Refusal> {
     for step in steps {
         add(events, event(alloc, *step)?)?;
@@ -145,7 +145,7 @@ fn chain() -> [Transfer; 3] {
     ]
 }
 
-/// Puts the push of a packet by submitter 0 behind the others, where the packet was admitted.
+/// Puts the push of a packet by submitter 0 after the others, where the packet was admitted.
 fn add_push(events: &mut Vec<Event>, job: Result<Job, Refusal>) -> Result<(), Refusal> {
     let item = Item::Packet(job?);
     add(events, Event::Push(Ticket { sender: 0, item }))

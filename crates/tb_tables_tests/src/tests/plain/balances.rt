@@ -18,6 +18,7 @@ fn is_posting(transfer: &Transfer) -> bool
     !transfer.is_pending() && !transfer.is_void()
 }
 
+/// The pending debits of an account, as a sum over the transfers.
 fn debits_pending(rows: &[(Transfer, bool)], id: u128) -> u128
     requires { debits_pending_of (facts_in rows.now) id < 2 ^ 128 }
     ensures { result ≡ debits_pending_of (facts_in rows.now) id }
@@ -29,6 +30,7 @@ fn debits_pending(rows: &[(Transfer, bool)], id: u128) -> u128
         .sum()
 }
 
+/// The posted debits of an account, as a sum over the transfers.
 fn debits_posted(rows: &[(Transfer, bool)], id: u128) -> u128
     requires { debits_posted_of (facts_in rows.now) id < 2 ^ 128 }
     ensures { result ≡ debits_posted_of (facts_in rows.now) id }
@@ -40,6 +42,7 @@ fn debits_posted(rows: &[(Transfer, bool)], id: u128) -> u128
         .sum()
 }
 
+/// The pending credits of an account, as a sum over the transfers.
 fn credits_pending(rows: &[(Transfer, bool)], id: u128) -> u128
     requires { credits_pending_of (facts_in rows.now) id < 2 ^ 128 }
     ensures { result ≡ credits_pending_of (facts_in rows.now) id }
@@ -51,6 +54,7 @@ fn credits_pending(rows: &[(Transfer, bool)], id: u128) -> u128
         .sum()
 }
 
+/// The posted credits of an account, as a sum over the transfers.
 fn credits_posted(rows: &[(Transfer, bool)], id: u128) -> u128
     requires { credits_posted_of (facts_in rows.now) id < 2 ^ 128 }
     ensures { result ≡ credits_posted_of (facts_in rows.now) id }
