@@ -1,0 +1,5 @@
+use Rattle.std.proofs.Common.{rules}
+use Rattle.tb_pipe.proofs.clearing.clear.Goals as goal
+
+pub returns-clause-through : goal.returns-clause-through
+returns-clause-through g c = search rules
