@@ -34,7 +34,7 @@ are_of-other operation other (job ∷ next ∷ jobs) some h =
     let parts = and_parts (job.packet.operation == operation) (are_of operation (next ∷ jobs)) h in
     let same = eqb-true job.packet.operation operation parts.0 in
     rw (same, are_of-other operation other (next ∷ jobs) (omega arith) parts.1)
-        (elim (operation == other) as (λ b. (b && b) ≡ b) [ true ↦ refl | false ↦ refl ])
+    (elim (operation == other) as (λ b. (b && b) ≡ b) [ true ↦ refl | false ↦ refl ])
 
 taken_is_joins : (limit : ℕ) (jobs : List Numbered) (job : Numbered) → 0 < length jobs
     → is_taken limit jobs job ≡ joins limit jobs job
@@ -44,13 +44,16 @@ taken_is_joins limit (first ∷ jobs) job some = refl
 -- what a group knows tells whether a packet joins it
 pub taken_by : (parts : Parts) (shares : Bool) (events limit : ℕ) (job : Numbered) → IsGroupOf parts shares events →
     is_taken limit parts.jobs.items job ≡ (shares
-        && (can_share job && ((parts.operation == job.packet.operation)
-        && nat_le (events + count_of job.packet) limit)))
+    && (can_share job && ((parts.operation == job.packet.operation)
+    && nat_le (events + count_of job.packet) limit)))
 taken_by parts shares events limit job h =
     let jobs = parts.jobs.items in
     taken_is_joins limit jobs job h.whole.lawful.some
-    ∙ rw (are_of-other parts.operation job.packet.operation jobs h.whole.lawful.some h.whole.lawful.one_operation,
-            h.sharing, h.counted) refl
+    ∙ rw (
+      are_of-other parts.operation job.packet.operation jobs h.whole.lawful.some h.whole.lawful.one_operation,
+      h.sharing,
+      h.counted,
+    ) refl
 
 -- ---- the group
 
@@ -63,9 +66,9 @@ joined_behind : (limit : ℕ) (group jobs : List Numbered) (job : Numbered) → 
 joined_behind limit group [] job h j = ap (λ b. b && true) (ap (λ l. joins limit l job) (sym (append-nil group)) ∙ j)
 joined_behind limit group (next ∷ jobs) job h j =
     and_more (joins limit group next) (join_in_turn limit (group ++ next ∷ []) jobs)
-        (join_in_turn limit (group ++ next ∷ []) (jobs ++ job ∷ [])) h
+    (join_in_turn limit (group ++ next ∷ []) (jobs ++ job ∷ [])) h
     (λ rest. joined_behind limit (group ++ next ∷ []) jobs job rest
-        (ap (λ l. joins limit l job) (append_assoc group (next ∷ []) jobs) ∙ j))
+    (ap (λ l. joins limit l job) (append_assoc group (next ∷ []) jobs) ∙ j))
 
 pub group_more : (limit : ℕ) (jobs : List Numbered) (job : Numbered) → IsGroup limit jobs
     → is_taken limit jobs job ≡ true → IsGroup limit (jobs ++ job ∷ [])
@@ -84,8 +87,11 @@ pub still_held : {E : Type 0} (result : Result (Unit {0}) E) (limit : ℕ) (old 
     → IsHeld limit old → is_taken limit old job ≡ true →
     OnOk result (new ≡ old ++ job ∷ []) → OnErr result (new ≡ old) → IsHeld limit new
 still_held (Ok done) limit old new job h taken joined same =
-    record { limit_low = h.limit_low; limit_high = h.limit_high;
-        group = rw joined (group_more limit old job h.group taken) }
+    record {
+      limit_low = h.limit_low;
+      limit_high = h.limit_high;
+      group = rw joined (group_more limit old job h.group taken);
+    }
 still_held (Err refused) limit old new job h taken joined same = rw same h
 
 -- ---- the batch
@@ -117,20 +123,20 @@ admitted-push (first ∷ jobs) job all ok = (all.0, admitted-push jobs job all.1
 pub batch_more : (old new : Parts) (shares : Bool) (events limit : ℕ) (job : Numbered) → IsGroupOf old shares events
     → limit ≤ 8190 → is_taken limit old.jobs.items job ≡ true →
     IsOk (admission_of 8190 job.packet) → new.operation ≡ old.operation
-        → new.jobs.items ≡ old.jobs.items ++ job ∷ [] → new.stubs.items ≡ old.stubs.items ++ stub_of job ∷ []
-        → new.body.items ≡ old.body.items ++ job.packet.bytes →
+    → new.jobs.items ≡ old.jobs.items ++ job ∷ [] → new.stubs.items ≡ old.stubs.items ++ stub_of job ∷ []
+    → new.body.items ≡ old.body.items ++ job.packet.bytes →
     HasRoom old.operation (events + count_of job.packet) new.failures new.accounts
-        → IsGroupOf new shares (events + count_of job.packet)
+    → IsGroupOf new shares (events + count_of job.packet)
 batch_more old new shares events limit job h few taken ok operation jobs stubs body room =
     let known = both_true shares (can_share job) (old.operation == job.packet.operation)
-        (nat_le (events + count_of job.packet) limit) (sym (taken_by old shares events limit job h) ∙ taken) in
+    (nat_le (events + count_of job.packet) limit) (sym (taken_by old shares events limit job h) ∙ taken) in
     let lawful = h.whole.lawful in
     let count : count_of_all new.jobs.items ≡ events + count_of job.packet = ap count_of_all jobs
-        ∙ count_of_all-push old.jobs.items job ∙ ap (λ n. n + count_of job.packet) (sym h.counted) in
+    ∙ count_of_all-push old.jobs.items job ∙ ap (λ n. n + count_of job.packet) (sym h.counted) in
     let same = eqb-true old.operation job.packet.operation known.2 in
     let all_share : list_all can_share new.jobs.items ≡ true =
     ap (list_all can_share) jobs ∙ list_all-append can_share old.jobs.items (job ∷ [])
-        ∙ rw (sym h.sharing ∙ known.0, known.1) refl in
+    ∙ rw (sym h.sharing ∙ known.0, known.1) refl in
     let one_operation : (are_of new.operation old.jobs.items && are_of new.operation (job ∷ [])) ≡ true =
     rw (operation, lawful.one_operation, sym same) (ap (λ b. b && true) (equal_numbers old.operation)) in
     record {
@@ -140,7 +146,7 @@ batch_more old new shares events limit job h few taken ok operation jobs stubs b
           all_admitted = subst AreAdmitted (sym jobs) (admitted-push old.jobs.items job lawful.all_admitted ok);
           one_operation = ap (are_of new.operation) jobs
               ∙ list_all-append (λ (j : Numbered). j.packet.operation == new.operation) old.jobs.items
-                  (job ∷ []) ∙ one_operation;
+              (job ∷ []) ∙ one_operation;
           few = omega (arith, count, le_true (events + count_of job.packet) limit known.3);
           alone = λ _. all_share;
         };

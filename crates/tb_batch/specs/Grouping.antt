@@ -15,7 +15,7 @@ are_of operation jobs = list_all (λ job. job.packet.operation == operation) job
 abbrev pub joins : ℕ → List Numbered → Numbered → Bool
 joins limit group job =
     list_all can_share group && (can_share job && (are_of job.packet.operation group
-        && nat_le (count_of_all group + count_of job.packet) limit))
+    && nat_le (count_of_all group + count_of job.packet) limit))
 
 -- whether a packet stands in one batch with those held; where none is, it begins one
 abbrev pub is_taken : ℕ → List Numbered → Numbered → Bool

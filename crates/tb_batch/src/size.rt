@@ -27,8 +27,11 @@ impl Size {
 
     /// The size of a group of one packet.
     pub(crate) fn of(job: &Job) -> Size
-        ensures { result ≡ record { packets = 1; events = count_of job.now.packet;
-            bytes = length job.now.packet.bytes } }
+        ensures { result ≡ record {
+          packets = 1;
+          events = count_of job.now.packet;
+          bytes = length job.now.packet.bytes;
+        } }
     {
         Size {
             packets: 1,
@@ -39,8 +42,11 @@ impl Size {
 
     /// The greater number of each.
     pub(crate) fn max(self, other: Size) -> Size
-        ensures { result ≡ record { packets = max self.packets other.packets; events = max self.events other.events;
-            bytes = max self.bytes other.bytes } }
+        ensures { result ≡ record {
+          packets = max self.packets other.packets;
+          events = max self.events other.events;
+          bytes = max self.bytes other.bytes;
+        } }
     {
         Size {
             packets: self.packets.max(other.packets),

@@ -35,8 +35,14 @@ IsAccounted front item taken =
 
 abbrev front_of : ℕ → ℕ → List Numbered → Bool → Bool → List Bool → FrontState
 front_of limit submitters held closed stopped ended =
-    record { limit = limit; submitters = submitters; held = held; closed = closed;
-        stopped = stopped; ended = ended }
+    record {
+      limit = limit;
+      submitters = submitters;
+      held = held;
+      closed = closed;
+      stopped = stopped;
+      ended = ended;
+    }
 
 -- the front after a ticket, and what it hands out, of which each parcel is so
 pub record IsStep (P : Parcel → Type 0) (refused : Bool) (front : FrontState) (sender : ℕ) (x : Item)
@@ -79,56 +85,106 @@ module _ (P : Parcel → Type 0) (pulses : (moment : ℕ) → P (Pulse moment))
       (ended : List Bool) (sender : ℕ) (job : Numbered) → IsSealed held → ((closed || stopped) ≡ true → held ≡ [])
       → is_taken limit held job ≡ joins →
       IsStep P refused (front_of limit submitters held closed stopped ended) sender (item.Packet job)
-          (step_of_packet refused (front_of limit submitters held closed stopped ended) job)
+      (step_of_packet refused (front_of limit submitters held closed stopped ended) job)
   packet refused joins limit submitters held true stopped ended sender job one clear is =
-      record { accounted = none_held held (Returned job Shutdown) (clear refl); next = refl; goes = Stays refl;
-          clear = clear; parcels = (returns job Shutdown, tt) }
+      record {
+        accounted = none_held held (Returned job Shutdown) (clear refl);
+        next = refl;
+        goes = Stays refl;
+        clear = clear;
+        parcels = (returns job Shutdown, tt);
+      }
   packet refused joins limit submitters held false true ended sender job one clear is =
-      record { accounted = none_held held (Returned job Stopped) (clear refl); next = refl; goes = Stays refl;
-          clear = clear; parcels = (returns job Stopped, tt) }
+      record {
+        accounted = none_held held (Returned job Stopped) (clear refl);
+        next = refl;
+        goes = Stays refl;
+        clear = clear;
+        parcels = (returns job Stopped, tt);
+      }
   packet true joins limit submitters held false false ended sender job one clear is =
-      record { accounted = sealed_before held (Return job Stopped); next = refl;
-          goes = Stops refl refl refl refl job refl; clear = λ e. refl; parcels =
-          sealed_with held (Return job Stopped ∷ []) one (returns job Stopped, tt) }
+      record {
+        accounted = sealed_before held (Return job Stopped);
+        next = refl;
+        goes = Stops refl refl refl refl job refl;
+        clear = λ e. refl;
+        parcels =
+            sealed_with held (Return job Stopped ∷ []) one (returns job Stopped, tt);
+      }
   packet false true limit submitters held false false ended sender job one clear is =
-      rw is (record { accounted = map-append Admitted held (job ∷ []); next = refl; goes = Stays refl;
-          clear = λ e. cc; parcels = tt })
+      rw is (record {
+        accounted = map-append Admitted held (job ∷ []);
+        next = refl;
+        goes = Stays refl;
+        clear = λ e. cc;
+        parcels = tt;
+      })
   packet false false limit submitters held false false ended sender job one clear is =
-      rw is (record { accounted = ap (λ passages. passages ++ Admitted job ∷ []) (sealed held); next = refl;
-          goes = Stays refl; clear = λ e. cc; parcels = alone held one })
+      rw is (record {
+        accounted = ap (λ passages. passages ++ Admitted job ∷ []) (sealed held);
+        next = refl;
+        goes = Stays refl;
+        clear = λ e. cc;
+        parcels = alone held one;
+      })
 
   pulse : (refused b : Bool) (front : FrontState) (sender moment : ℕ) → IsSealed front.held → IsClear front
       → (front.closed || front.stopped) ≡ b → IsStep P refused front sender (item.Pulse moment)
-          (step_of_pulse front moment)
+      (step_of_pulse front moment)
   pulse refused true front sender moment one clear is =
-      rw is (record { accounted = rw is (sym (append-nil (held_by front))); next = refl; goes = Stays refl;
-          clear = clear; parcels = tt })
+      rw is (record {
+        accounted = rw is (sym (append-nil (held_by front)));
+        next = refl;
+        goes = Stays refl;
+        clear = clear;
+        parcels = tt;
+      })
   pulse refused false front sender moment one clear is =
-      rw is (record { accounted = rw is (sealed_before front.held (Pulse moment)); next = refl; goes = Stays refl;
-          clear = λ e. refl; parcels = sealed_with front.held (Pulse moment ∷ []) one (pulses moment, tt) })
+      rw is (record {
+        accounted = rw is (sealed_before front.held (Pulse moment));
+        next = refl;
+        goes = Stays refl;
+        clear = λ e. refl;
+        parcels = sealed_with front.held (Pulse moment ∷ []) one (pulses moment, tt);
+      })
 
   end : (refused all : Bool) (front : FrontState) (sender : ℕ) → IsSealed front.held → IsClear front →
       IsStep P refused front sender item.End (let next = with_end front sender in if all
-          then take_result (with_group next []) (group_as_batch front.held) else take_result next [])
+      then take_result (with_group next []) (group_as_batch front.held) else take_result next [])
   end refused true front sender one clear =
-      record { accounted = ap (λ passages. passages ++ []) (sealed front.held); next = refl; goes = Stays refl;
-          clear = λ e. refl; parcels = alone front.held one }
+      record {
+        accounted = ap (λ passages. passages ++ []) (sealed front.held);
+        next = refl;
+        goes = Stays refl;
+        clear = λ e. refl;
+        parcels = alone front.held one;
+      }
   end refused false front sender one clear =
-      record { accounted = sym (append-nil (held_by front)); next = refl; goes = Stays refl;
-          clear = clear; parcels = tt }
+      record {
+        accounted = sym (append-nil (held_by front));
+        next = refl;
+        goes = Stays refl;
+        clear = clear;
+        parcels = tt;
+      }
 
   pub is_step : (refused : Bool) (front : FrontState) (sender : ℕ) (x : Item) → IsSealed front.held → IsClear front
       → IsStep P refused front sender x (take_step refused front sender x)
   is_step refused front sender (item.Packet job) one clear =
       packet refused (is_taken front.limit front.held job) front.limit front.submitters front.held front.closed
-          front.stopped front.ended sender job one clear refl
+      front.stopped front.ended sender job one clear refl
   is_step refused front sender (item.Pulse moment) one clear =
       pulse refused (front.closed || front.stopped) front sender moment one clear refl
   is_step refused front sender item.End one clear =
       end refused (all_ended (with_end front sender)) front sender one clear
   is_step refused front sender item.Close one clear =
-      record { accounted = ap (λ passages. passages ++ []) (sealed front.held); next = refl; goes = Stays refl;
-          clear = λ e. refl; parcels = alone front.held one }
+      record {
+        accounted = ap (λ passages. passages ++ []) (sealed front.held);
+        next = refl;
+        goes = Stays refl;
+        clear = λ e. refl;
+        parcels = alone front.held one;
+      }
 
 module _ (P : Parcel → Type 0) (refused : Bool) (front : FrontState) (sender : ℕ) (x : Item) (taken : Taken)
     (step : IsStep P refused front sender x taken) where
@@ -136,13 +192,13 @@ module _ (P : Parcel → Type 0) (refused : Bool) (front : FrontState) (sender :
   pub passes_then : (items : List Item) (sent : List Passage)
       → Passes items front.closed front.stopped (sent ++ held_by front) →
       Passes (items ++ x ∷ []) taken.front.closed taken.front.stopped
-          ((sent ++ all_passages_in taken.parcels) ++ held_by taken.front)
+      ((sent ++ all_passages_in taken.parcels) ++ held_by taken.front)
   passes_then items sent passes =
       passes_more refused items front.closed front.stopped
-          (sent ++ held_by front) passes x taken.front.closed taken.front.stopped _
-          (ap (λ (f : FrontState). f.closed) step.next)
+      (sent ++ held_by front) passes x taken.front.closed taken.front.stopped _
+      (ap (λ (f : FrontState). f.closed) step.next)
       (append_assoc sent (all_passages_in taken.parcels) (held_by taken.front)
-          ∙ ap (λ passages. sent ++ passages) step.accounted ∙ sym (append_assoc sent (held_by front) _)) step.goes
+      ∙ ap (λ passages. sent ++ passages) step.accounted ∙ sym (append_assoc sent (held_by front) _)) step.goes
 
   -- a front whose growth isn't refused goes on
   pub goes_on : refused ≡ false → front.stopped ≡ false → taken.front.stopped ≡ false
@@ -159,8 +215,8 @@ pub part_push : (sender : ℕ) (queue : List Ticket) (ticket : Ticket)
     ++ (if ticket.sender == sender then ticket.item ∷ [] else [])
 part_push sender queue ticket =
     ap (map item_in) (filter-append is_its queue (ticket ∷ []))
-        ∙ map-append item_in (filter is_its queue) (filter is_its (ticket ∷ []))
-        ∙ ap (λ items. part sender queue ++ items) (one (ticket.sender == sender))
+    ∙ map-append item_in (filter is_its queue) (filter is_its (ticket ∷ []))
+    ∙ ap (λ items. part sender queue ++ items) (one (ticket.sender == sender))
   where
     item_in : Ticket → Item
     item_in ticket = ticket.item
@@ -176,15 +232,15 @@ part_push sender queue ticket =
 ends_more : (ended : List Bool) (queue : List Ticket) (ticket : Ticket) (sender : ℕ) → ticket.sender < length ended
     → get_or ended sender false ≡ list_any is_end (part sender queue) →
     get_or (ends_after ended ticket.sender ticket.item) sender false
-        ≡ list_any is_end (part sender (queue ++ ticket ∷ []))
+    ≡ list_any is_end (part sender (queue ++ ticket ∷ []))
 ends_more ended queue ticket sender within known =
     by (is_end ticket.item) (ticket.sender == sender) refl refl
-        ∙ sym (ap (list_any is_end) (part_push sender queue ticket)
-        ∙ list_any-append is_end (part sender queue) (if ticket.sender == sender then ticket.item ∷ [] else []))
+    ∙ sym (ap (list_any is_end) (part_push sender queue ticket)
+    ∙ list_any-append is_end (part sender queue) (if ticket.sender == sender then ticket.item ∷ [] else []))
   where
     by : (end its : Bool) → is_end ticket.item ≡ end → (ticket.sender == sender) ≡ its →
         get_or (if end then slice_set ended ticket.sender true else ended) sender false
-            ≡ (list_any is_end (part sender queue) || list_any is_end (if its then ticket.item ∷ [] else []))
+        ≡ (list_any is_end (part sender queue) || list_any is_end (if its then ticket.item ∷ [] else []))
     by false false e i = known ∙ sym (or-false _)
     by false true e i = rw e (known ∙ sym (or-false _))
     by true false e i =
@@ -193,7 +249,7 @@ ends_more ended queue ticket sender within known =
     by true true e i =
         let same = eqb-true ticket.sender sender i in
         rw e (ap (λ n. get_or (slice_set ended ticket.sender true) n false) (sym same)
-            ∙ get_or-set_same ended ticket.sender true false within ∙ sym (or-true _))
+        ∙ get_or-set_same ended ticket.sender true false within ∙ sym (or-true _))
 
 -- all that holds of a front that took a ticket
 pub record HasTaken (refused : Bool) (front : FrontState) (ticket : Ticket) (taken : Taken) : Type 0 where
@@ -201,7 +257,7 @@ pub record HasTaken (refused : Bool) (front : FrontState) (ticket : Ticket) (tak
   pub passes : (items : List Item) (sent : List Passage)
       → Passes items front.closed front.stopped (sent ++ held_by front) →
       Passes (items ++ ticket.item ∷ []) taken.front.closed taken.front.stopped
-          ((sent ++ all_passages_in taken.parcels) ++ held_by taken.front)
+      ((sent ++ all_passages_in taken.parcels) ++ held_by taken.front)
   pub lawful : AreJoinedParcels front.limit taken.parcels
   pub ends : (queue : List Ticket) → KnowsEnds queue front → KnowsEnds (queue ++ ticket ∷ []) taken.front
   pub same : (taken.front.limit ≡ front.limit) × (taken.front.submitters ≡ front.submitters)
@@ -217,7 +273,7 @@ has_taken refused front ticket taken is among took_is = subst (HasTaken refused 
   ends = λ queue knows other below.
       ap (λ (f : FrontState). get_or f.ended other false) step.next
       ∙ ends_more front.ended queue ticket other (omega (arith, among, is.few, is.places))
-              (knows other (subst (λ (f : FrontState). other ≤ f.submitters) step.next below));
+      (knows other (subst (λ (f : FrontState). other ≤ f.submitters) step.next below));
   same = (ap (λ (f : FrontState). f.limit) step.next, ap (λ (f : FrontState). f.submitters) step.next);
   goes_on = goes_on Joined refused front sender x after step;
 })

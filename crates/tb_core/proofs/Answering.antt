@@ -10,4 +10,4 @@ abbrev pub answers_from : ℕ → State → List Numbered → List Replied
 answers_from place state [] = []
 answers_from place state (job ∷ jobs) =
     reply_with (Committed place (answer_of state (events_in job.packet))) job
-        ∷ answers_from (place + 1) (after_packet state (events_in job.packet)) jobs
+    ∷ answers_from (place + 1) (after_packet state (events_in job.packet)) jobs

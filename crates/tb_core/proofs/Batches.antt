@@ -42,7 +42,7 @@ kind_of operation bytes ok = by (operation == 129) (operation == 130) (operation
 
     by : (a b c : Bool) → (operation == 129) ≡ a → (operation == 130) ≡ b → (operation == 131) ≡ c →
         IsOk (admission_of_size 8190 bytes (if a then Some 128 else if b then Some 128 else if c then Some 16
-            else None)) → Kind operation
+        else None)) → Kind operation
     by true b c is_a is_b is_c ok = kind 129 OfAccounts is_a
     by false true c is_a is_b is_c ok = kind 130 OfTransfers is_b
     by false false true is_a is_b is_c ok = kind 131 OfIds is_c
@@ -64,7 +64,7 @@ body_size operation size (job ∷ jobs) is one all =
     let own = ap event_size first.0 ∙ is in
     let bytes = job.packet.bytes in
     let count : count_of job.packet * size ≡ length bytes = ap (λ s. count_of_size bytes s * size) own
-        ∙ whole_events job.packet size own all.0 in
+    ∙ whole_events job.packet size own all.0 in
     let rest = body_size operation size jobs is first.1 all.1 in
     length-append bytes (body_of jobs) ∙ sym (grind (arith, count, rest))
 
@@ -90,18 +90,24 @@ may_commit operation jobs lawful not_lookup =
 
     by : (op : ℕ) → Kind op → are_of op jobs ≡ true → (op == 131) ≡ false → MayCommit op jobs
     by op OfAccounts one other = let sizes =
-        sized (body_size 129 128 jobs refl one lawful.all_admitted) in record { kind = refl;
-            whole = sizes.0; count = sizes.1 }
+        sized (body_size 129 128 jobs refl one lawful.all_admitted) in record {
+          kind = refl;
+          whole = sizes.0;
+          count = sizes.1;
+        }
     by op OfTransfers one other = let sizes =
-        sized (body_size 130 128 jobs refl one lawful.all_admitted) in record { kind = refl;
-            whole = sizes.0; count = sizes.1 }
+        sized (body_size 130 128 jobs refl one lawful.all_admitted) in record {
+          kind = refl;
+          whole = sizes.0;
+          count = sizes.1;
+        }
     by op OfIds one other = cc
 
 pub may_look_up : (operation : ℕ) (jobs : List Numbered) → IsLawful operation jobs
     → (operation == 131) ≡ true → MayLookUp jobs
 may_look_up operation jobs lawful lookup =
     let size = body_size operation 16 jobs (ap event_size (eqb-true operation 131 lookup))
-        lawful.one_operation lawful.all_admitted in
+    lawful.one_operation lawful.all_admitted in
     record { whole = omega (arith, size); count = omega (arith, size) }
 
 -- ---- what it gives
@@ -120,10 +126,10 @@ gives_each law place operation state jobs in_range lawful not_lookup =
     by : (op : ℕ) → Kind op → are_of op jobs ≡ true → (op == 131) ≡ false → GivesEach place op state jobs
     by op OfAccounts one other =
         gives is_linked_account 129 account_of Accounts law.accounts refl (λ bytes. refl) (λ state events. refl)
-            (λ events. refl) place state jobs in_range one lawful.all_admitted lawful.alone
+        (λ events. refl) place state jobs in_range one lawful.all_admitted lawful.alone
     by op OfTransfers one other =
         gives is_linked_transfer 130 transfer_of Transfers law.transfers refl (λ bytes. refl) (λ state events. refl)
-            (λ events. refl) place state jobs in_range one lawful.all_admitted lawful.alone
+        (λ events. refl) place state jobs in_range one lawful.all_admitted lawful.alone
     by op OfIds one other = cc
 
 -- of a lookup, which is one packet
@@ -156,7 +162,7 @@ gives_one place operation state (job ∷ []) lawful lookup =
     let events : events_in job.packet ≡ Ids (ids_of bytes) = ap (λ op. events_of op bytes) number in
     let count : count_of job.packet ≡ length bytes / 16 = ap (λ op. count_of_size bytes (event_size op)) number in
     let ids : length (ids_of bytes) ≡ length bytes / 16 = length-map (chunks 16 bytes) little_endian
-        ∙ length-chunks 16 (length bytes / 16) bytes in
+    ∙ length-chunks 16 (length bytes / 16) bytes in
     let found = length-found (balanced_account state.facts) (ids_of bytes) in
     let same : ids_of (bytes ++ []) ≡ ids_of bytes = ap ids_of (append-nil bytes) in
     record {

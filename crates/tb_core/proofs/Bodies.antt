@@ -28,16 +28,21 @@ chunks-append size (suc k) m xs ys h =
     let fits : size ≤ length xs = grind (arith, h) in
     let rest : length (drop size xs) ≡ k * size = omega (arith, length-drop size xs, h) in
     let count : suc k + m ≡ suc (k + m) = omega arith in
-    rw (count, take-append-le size xs ys fits, drop-append-le size xs ys fits, chunks-append size k m
-        (drop size xs) ys rest) refl
+    rw (
+      count,
+      take-append-le size xs ys fits,
+      drop-append-le size xs ys fits,
+      chunks-append size k m
+          (drop size xs) ys rest,
+    ) refl
 
 chunks-append_128 : (xs ys : List ℕ) → length xs / 128 * 128 ≡ length xs
     → chunks 128 (xs ++ ys) ≡ chunks 128 xs ++ chunks 128 ys
 chunks-append_128 xs ys whole =
     let count : length (xs ++ ys) / 128 ≡ length xs / 128 + length ys / 128 = omega
-        (arith, whole, length-append xs ys) in
+    (arith, whole, length-append xs ys) in
     ap (λ n. first_chunks 128 n (xs ++ ys)) count
-        ∙ chunks-append 128 (length xs / 128) (length ys / 128) xs ys (sym whole)
+    ∙ chunks-append 128 (length xs / 128) (length ys / 128) xs ys (sym whole)
 
 -- ---- packets that were admitted
 
@@ -52,8 +57,8 @@ pub whole_events : (packet : Packet) (size : ℕ) → event_size packet.operatio
 whole_events packet size is ok =
     let count = length packet.bytes in
     let whole : count % size ≡ 0 = eqb-true (count % size) 0
-        (not_refused (count % size == 0) InvalidDataSize _
-        (subst (λ s. IsOk (admission_of_size 8190 packet.bytes s)) is ok)) in
+    (not_refused (count % size == 0) InvalidDataSize _
+    (subst (λ s. IsOk (admission_of_size 8190 packet.bytes s)) is ok)) in
     omega (arith, whole, div-add-mod' count size)
 
 -- its operation, of a batch's first packet
@@ -73,21 +78,27 @@ packets_of-jobs operation size (job ∷ jobs) is one all =
     let own : event_size job.packet.operation ≡ Some size = ap event_size first.0 ∙ is in
     let bytes = job.packet.bytes in
     let cut : count_of job.packet * size_of operation
-        ≡ length bytes =
-        ap (λ s. count_of_size bytes s * size_of operation) own ∙ ap (λ s. length bytes / size * unwrap_or s 0) is
-        ∙ whole_events job.packet size own all.0 in
-    rw (cut, take-append_seam bytes (body_of jobs), drop-append_seam bytes
-        (body_of jobs), packets_of-jobs operation size jobs is first.1 all.1, first.0) refl
+    ≡ length bytes =
+    ap (λ s. count_of_size bytes s * size_of operation) own ∙ ap (λ s. length bytes / size * unwrap_or s 0) is
+    ∙ whole_events job.packet size own all.0 in
+    rw (
+      cut,
+      take-append_seam bytes (body_of jobs),
+      drop-append_seam bytes
+          (body_of jobs),
+      packets_of-jobs operation size jobs is first.1 all.1,
+      first.0,
+    ) refl
 
 -- the events of the body are those of its packets, laid one after the other
 pub laid-chunks : {Event : Type 0} (f : List ℕ → Event) (operation : ℕ) (jobs : List Numbered)
     → event_size operation ≡ Some 128 → are_of operation jobs ≡ true → AreAdmitted jobs →
     map f (chunks 128 (body_of jobs)) ≡ events_in_turn
-        (map (λ (job : Numbered). map f (chunks 128 job.packet.bytes)) jobs)
+    (map (λ (job : Numbered). map f (chunks 128 job.packet.bytes)) jobs)
 laid-chunks f operation [] is one all = refl
 laid-chunks f operation (job ∷ jobs) is one all =
     let first = first_is operation job jobs one in
     let whole = whole_events job.packet 128 (ap event_size first.0 ∙ is) all.0 in
     ap (map f) (chunks-append_128 job.packet.bytes (body_of jobs) whole)
-        ∙ map-append f (chunks 128 job.packet.bytes) (chunks 128 (body_of jobs))
+    ∙ map-append f (chunks 128 job.packet.bytes) (chunks 128 (body_of jobs))
     ∙ ap (λ events. map f (chunks 128 job.packet.bytes) ++ events) (laid-chunks f operation jobs is first.1 all.1)

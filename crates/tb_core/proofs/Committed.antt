@@ -55,7 +55,7 @@ outcome_past clock place journal h = rw (slice_get_past journal place h) refl
 pub outcome_here : (clock place : ℕ) (state : State) (before : List Work) (job : Numbered) (rest : List Work)
     → place ≡ length before → state ≡ replay clock before →
     outcome_at clock (before ++ work_of job ∷ rest) (Ahead place)
-        ≡ outcome.Committed place (answer_of state (events_in job.packet))
+    ≡ outcome.Committed place (answer_of state (events_in job.packet))
 outcome_here clock place state before job rest place_is state_is =
     rw (state_is, place_is, take-append_seam before (work_of job ∷ rest), at_seam before (work_of job) rest) refl
 
@@ -73,15 +73,15 @@ works_in-admitted (job ∷ jobs) = ap (λ ws. work_of job ∷ ws) (works_in-admi
 
 pub replies_from-append : (clock : ℕ) (journal : List Work) (place : ℕ) (xs ys : List Passage) →
     replies_from clock journal place (xs ++ ys) ≡ replies_from clock journal place xs
-        ++ replies_from clock journal (place + length (works_in xs)) ys
+    ++ replies_from clock journal (place + length (works_in xs)) ys
 replies_from-append clock journal place [] ys = ap (λ n. replies_from clock journal n ys) (omega arith)
 replies_from-append clock journal place (Admitted job ∷ xs) ys =
     ap (λ rs. reply_with (outcome_at clock journal (Ahead place)) job ∷ rs)
     (replies_from-append clock journal (place + 1) xs ys
-        ∙ ap (λ n. replies_from clock journal (place + 1) xs ++ replies_from clock journal n ys) (omega arith))
+    ∙ ap (λ n. replies_from clock journal (place + 1) xs ++ replies_from clock journal n ys) (omega arith))
 replies_from-append clock journal place (Pulsed moment ∷ xs) ys =
     replies_from-append clock journal (place + 1) xs ys
-        ∙ ap (λ n. replies_from clock journal (place + 1) xs ++ replies_from clock journal n ys) (omega arith)
+    ∙ ap (λ n. replies_from clock journal (place + 1) xs ++ replies_from clock journal n ys) (omega arith)
 replies_from-append clock journal place (Returned job cause ∷ xs) ys =
     ap (λ rs. reply_with (outcome_of cause) job ∷ rs) (replies_from-append clock journal place xs ys)
 
@@ -92,9 +92,9 @@ pub replies_from-longer : (clock : ℕ) (journal others : List Work) (place : �
 replies_from-longer clock journal others place [] h = refl
 replies_from-longer clock journal others place (Admitted job ∷ xs) h =
     ap (λ o. reply_with o job ∷ replies_from clock (journal ++ others) (place + 1) xs)
-        (outcome_within clock place journal others (omega (arith, h)))
+    (outcome_within clock place journal others (omega (arith, h)))
     ∙ ap (λ rs. reply_with (outcome_at clock journal (Ahead place)) job ∷ rs)
-            (replies_from-longer clock journal others (place + 1) xs (omega (arith, h)))
+    (replies_from-longer clock journal others (place + 1) xs (omega (arith, h)))
 replies_from-longer clock journal others place (Pulsed moment ∷ xs) h =
     replies_from-longer clock journal others (place + 1) xs (omega (arith, h))
 replies_from-longer clock journal others place (Returned job cause ∷ xs) h =
@@ -106,9 +106,9 @@ replies_from-stopped : (clock : ℕ) (journal : List Work) (place : ℕ) (jobs :
 replies_from-stopped clock journal place [] h = refl
 replies_from-stopped clock journal place (job ∷ jobs) h =
     ap (λ o. reply_with o job ∷ replies_from clock journal (place + 1) (map Admitted jobs))
-        (outcome_past clock place journal h)
+    (outcome_past clock place journal h)
     ∙ ap (λ rs. reply_with outcome.Stopped job ∷ rs)
-            (replies_from-stopped clock journal (place + 1) jobs (omega (arith, h)))
+    (replies_from-stopped clock journal (place + 1) jobs (omega (arith, h)))
 
 -- packets that were just committed are answered by the machine, each in the state that those before it left
 pub replies_from-answers : (clock place : ℕ) (state : State) (journal before : List Work) (jobs : List Numbered)
@@ -119,22 +119,22 @@ replies_from-answers clock place state journal before (job ∷ jobs) all place_i
     let one = work_of job ∷ [] in
     let later = after_packet state (events_in job.packet) in
     ap (λ o. reply_with o job ∷ answers_from (place + 1) later jobs)
-        (sym (outcome_here clock place state before job (map work_of jobs) place_is state_is))
+    (sym (outcome_here clock place state before job (map work_of jobs) place_is state_is))
     ∙ ap (λ ws. reply_with (outcome_at clock ws (Ahead place)) job ∷ answers_from (place + 1) later jobs) (sym all)
     ∙ ap (λ rs. reply_with (outcome_at clock journal (Ahead place)) job ∷ rs)
     (replies_from-answers clock (place + 1) later journal (before ++ one) jobs
-        (all ∙ sym (append_assoc before one (map work_of jobs))) (omega (arith, place_is, length-append before one))
+    (all ∙ sym (append_assoc before one (map work_of jobs))) (omega (arith, place_is, length-append before one))
     (ap (λ s. after_packet s (events_in job.packet)) state_is
-        ∙ sym (fold-append after_work (opening clock) before one)))
+    ∙ sym (fold-append after_work (opening clock) before one)))
 
 -- a batch that the machine took, and the journal has as one entry, is applied
 pub batch_applied : (ledger : LedgerState) (state : State) (places : ℕ) (groups : List (List Work))
     (jobs batch : List Numbered) (replies : List Replied) → IsLedger ledger state places →
     groups ≡ ledger.groups ++ map work_of jobs ∷ [] → jobs ≡ batch
-        → replies ≡ replies_from ledger.opening (works ledger ++ map work_of jobs) places (map Admitted jobs)
-        → must_stop false ledger (length batch) ≡ false →
+    → replies ≡ replies_from ledger.opening (works ledger ++ map work_of jobs) places (map Admitted jobs)
+    → must_stop false ledger (length batch) ≡ false →
     apply_result (record { opening = ledger.opening; groups = groups; stopped = ledger.stopped }) (Cut replies)
-        ≡ apply_step false ledger (parcel.Batch batch)
+    ≡ apply_step false ledger (parcel.Batch batch)
 batch_applied ledger state places groups jobs batch replies is groups_is same replies_is goes =
     rw (goes, groups_is, replies_is, is.counted, same, works-more ledger.groups (map work_of batch)) refl
 
@@ -163,14 +163,14 @@ module _ (clock : ℕ) (sent : List Passage) (ledger : LedgerState) (replies : L
   entered : (group : List Work) (passages : List Passage) (answers : List Replied) → ledger.stopped ≡ false
       → works_in passages ≡ group →
       answers ≡ replies_from clock (works (with_entry ledger group)) (length journal) passages
-          → ThenCommits passages (with_entry ledger group) answers
+      → ThenCommits passages (with_entry ledger group) answers
   entered group passages answers goes group_is answers_are =
       let longer : works (with_entry ledger group) ≡ journal ++ group = works-more ledger.groups group in
       let all : journal ≡ works_in sent = sym (append-nil journal)
-          ∙ ap (λ ws. journal ++ ws) (sym (is.whole goes)) ∙ is.committed in
+      ∙ ap (λ ws. journal ++ ws) (sym (is.whole goes)) ∙ is.committed in
       let count : 0 + length (works_in sent) ≡ length journal = omega (arith, ap length all) in
       let before : replies ≡ replies_from clock (journal ++ group) 0 sent = is.replied
-          ∙ sym (replies_from-longer clock journal group 0 sent (omega (arith, count))) in
+      ∙ sym (replies_from-longer clock journal group 0 sent (omega (arith, count))) in
       record {
         from = is.from;
         behind = [];
@@ -178,8 +178,13 @@ module _ (clock : ℕ) (sent : List Passage) (ledger : LedgerState) (replies : L
             ∙ ap (λ ws. works_in sent ++ ws) (sym group_is) ∙ sym (works_in-append sent passages);
         whole = λ any. refl;
         unstopped = λ any. goes;
-        replied = rw (replies_from-append clock (works (with_entry ledger group)) 0 sent passages, count,
-            answers_are, longer, before) refl;
+        replied = rw (
+          replies_from-append clock (works (with_entry ledger group)) 0 sent passages,
+          count,
+          answers_are,
+          longer,
+          before,
+        ) refl;
       }
 
   -- the journal stays, and what was to be committed stands after it
@@ -187,10 +192,10 @@ module _ (clock : ℕ) (sent : List Passage) (ledger : LedgerState) (replies : L
       → (stopped ≡ false → (ledger.stopped ≡ false) × (works_in passages ≡ []))
       → (is.behind ++ works_in passages ≡ [] → stopped ≡ false) →
       ((place : ℕ) → length journal ≤ place → answers ≡ replies_from clock journal place passages)
-          → ThenCommits passages (record ledger { stopped = stopped }) answers
+      → ThenCommits passages (record ledger { stopped = stopped }) answers
   kept passages stopped answers goes stays answers_are =
       let after = answers_are (0 + length (works_in sent))
-          (omega (arith, ap length is.committed, length-append journal is.behind)) in
+      (omega (arith, ap length is.committed, length-append journal is.behind)) in
       record {
         from = is.from;
         behind = is.behind ++ works_in passages;
@@ -207,8 +212,8 @@ module _ (clock : ℕ) (sent : List Passage) (ledger : LedgerState) (replies : L
       → ((place : ℕ) → answers ≡ replies_from clock journal place passages) → ThenCommits passages ledger answers
   aside passages answers none answers_are =
       kept passages ledger.stopped answers (λ on. (on, none))
-          (λ e. is.unstopped (sym (append-nil is.behind) ∙ ap (λ ws. is.behind ++ ws) (sym none) ∙ e))
-          (λ place far. answers_are place)
+      (λ e. is.unstopped (sym (append-nil is.behind) ∙ ap (λ ws. is.behind ++ ws) (sym none) ∙ e))
+      (λ place far. answers_are place)
 
   -- the ledger is marked
   halted : (first : Work) (others : List Work) (passages : List Passage) (answers : List Replied)
@@ -231,13 +236,13 @@ module _ (clock : ℕ) (sent : List Passage) (ledger : LedgerState) (replies : L
       let next = step_of_batch ledger (job ∷ jobs) in
       cond_both (must_stop refused ledger (length (job ∷ jobs))) _ _ (Then passages)
       (λ stops. halted (work_of job) (map work_of jobs) passages _ group
-          (λ place far. sym (replies_from-stopped clock journal place (job ∷ jobs) far)))
+      (λ place far. sym (replies_from-stopped clock journal place (job ∷ jobs) far)))
       (λ goes. entered (map work_of (job ∷ jobs)) passages _ (or_parts ledger.stopped _ goes).0 group
-          (ap (λ start. replies_from start (works next.ledger) (length journal) passages) is.from))
+      (ap (λ start. replies_from start (works next.ledger) (length journal) passages) is.from))
   commits_more refused (parcel.Pulse moment) some =
       let passages = Pulsed moment ∷ [] in
       cond_both (must_stop refused ledger 1) _ _ (Then passages)
-          (λ stops. halted (work.Pulse moment) [] passages [] refl (λ place far. refl))
+      (λ stops. halted (work.Pulse moment) [] passages [] refl (λ place far. refl))
       (λ goes. entered (work.Pulse moment ∷ []) passages [] (or_parts ledger.stopped _ goes).0 refl refl)
   commits_more refused (parcel.Return job cause) some = aside (Returned job cause ∷ []) _ refl (λ place. refl)
   commits_more refused parcel.Last some = aside [] [] refl (λ place. refl)

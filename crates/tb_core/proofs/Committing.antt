@@ -45,9 +45,9 @@ length-chunks size (suc k) xs = ap suc (length-chunks size k (drop size xs))
 module _ {Event : Type 0} (is_linked : Event → Bool) (number : ℕ) (f : List ℕ → Event)
     (packet_of : List Event → Events) (law : JoiningIsInvisible packet_of is_linked)
     (size : event_size number ≡ Some 128) (events_is : (bytes : List ℕ)
-        → events_of number bytes ≡ packet_of (map f (chunks 128 bytes)))
+    → events_of number bytes ≡ packet_of (map f (chunks 128 bytes)))
     (answers : (state : State) (events : List Event)
-        → answer_of state (packet_of events) ≡ Failures (failures_of state (packet_of events)))
+    → answer_of state (packet_of events) ≡ Failures (failures_of state (packet_of events)))
     (opens : (events : List Event) → is_open (packet_of events) ≡ is_last_linked is_linked events) where
   abbrev own : Numbered → List Event
   own job = map f (chunks 128 job.packet.bytes)
@@ -59,7 +59,7 @@ module _ {Event : Type 0} (is_linked : Event → Bool) (number : ℕ) (f : List 
   count_is job is =
       ap (count_of_size job.packet.bytes) (ap event_size is ∙ size)
       ∙ sym (length-map (chunks 128 job.packet.bytes) f
-          ∙ length-chunks 128 (length job.packet.bytes / 128) job.packet.bytes)
+      ∙ length-chunks 128 (length job.packet.bytes / 128) job.packet.bytes)
 
   body_is : (jobs : List Numbered) → are_of number jobs ≡ true → AreAdmitted jobs
       → events_of number (body_of jobs) ≡ packet_of (events_in_turn (map own jobs))
@@ -70,8 +70,13 @@ module _ {Event : Type 0} (is_linked : Event → Bool) (number : ℕ) (f : List 
   count_all [] one = refl
   count_all (job ∷ jobs) one =
       let first = first_is number job jobs one in
-      omega (arith, length-append (own job) (events_in_turn (map own jobs)), count_is job
-          first.0, count_all jobs first.1)
+      omega (
+        arith,
+        length-append (own job) (events_in_turn (map own jobs)),
+        count_is job
+            first.0,
+        count_all jobs first.1,
+      )
 
   -- cut by the packets' counts, or by their events
   replies_cut : (place offset : ℕ) (failures : List Failure) (jobs : List Numbered) → are_of number jobs ≡ true
@@ -79,16 +84,19 @@ module _ {Event : Type 0} (is_linked : Event → Bool) (number : ℕ) (f : List 
   replies_cut place offset failures [] one = refl
   replies_cut place offset failures (job ∷ jobs) one =
       let first = first_is number job jobs one in rw
-          (count_is job first.0, replies_cut (place + 1) (offset + length (own job)) failures jobs first.1) refl
+      (count_is job first.0, replies_cut (place + 1) (offset + length (own job)) failures jobs first.1) refl
 
   -- each by itself
   replies_each : (place : ℕ) (state : State) (jobs : List Numbered) → are_of number jobs ≡ true
       → answers_from place state jobs ≡ replied place jobs (failures_each state (map packet_of (map own jobs)))
   replies_each place state [] one = refl
   replies_each place state (job ∷ jobs) one =
-      let first = first_is number job jobs one in rw
-          (own_is job first.0, answers state (own job), replies_each (place + 1)
-          (after_packet state (packet_of (own job))) jobs first.1) refl
+      let first = first_is number job jobs one in rw (
+        own_is job first.0,
+        answers state (own job),
+        replies_each (place + 1)
+            (after_packet state (packet_of (own job))) jobs first.1,
+      ) refl
 
   states_each : (state : State) (jobs : List Numbered) → are_of number jobs ≡ true
       → fold after_packet state (map packet_of (map own jobs))
@@ -96,7 +104,7 @@ module _ {Event : Type 0} (is_linked : Event → Bool) (number : ℕ) (f : List 
   states_each state [] one = refl
   states_each state (job ∷ jobs) one =
       let first = first_is number job jobs one in rw (own_is job first.0)
-          (states_each (after_packet state (packet_of (own job))) jobs first.1)
+      (states_each (after_packet state (packet_of (own job))) jobs first.1)
 
   -- ---- packets of one batch
 
@@ -115,7 +123,7 @@ module _ {Event : Type 0} (is_linked : Event → Bool) (number : ℕ) (f : List 
       → GivesEach place number state jobs
   gives place state jobs in_range one all share =
       let joined = law state (map own jobs) in_range
-          (λ more. closed_all jobs one (share (omega (arith, more, length-map jobs own)))) in
+      (λ more. closed_all jobs one (share (omega (arith, more, length-map jobs own)))) in
       let body = body_is jobs one all in
       record {
         replies = ap (λ events. replies_from place 0 (failures_of state events) jobs) body

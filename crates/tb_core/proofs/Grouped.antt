@@ -37,15 +37,27 @@ record AreSeen (operation : ℕ) (bytes : List ℕ) : Type 0 where
 
 seen_of : (operation : ℕ) (bytes : List ℕ) → Kind operation → AreSeen operation bytes
 seen_of operation bytes OfAccounts =
-    record { number = refl; count = length-map (chunks 128 bytes) account_of
-    ∙ length-chunks 128 _ bytes; joinable = λ share. (and_parts _ _ share).0 }
+    record {
+      number = refl;
+      count = length-map (chunks 128 bytes) account_of
+          ∙ length-chunks 128 _ bytes;
+      joinable = λ share. (and_parts _ _ share).0;
+    }
 seen_of operation bytes OfTransfers =
-    record { number = refl; count = length-map (chunks 128 bytes) transfer_of
-    ∙ length-chunks 128 _ bytes; joinable = λ share. (and_parts _ _ share).0 }
+    record {
+      number = refl;
+      count = length-map (chunks 128 bytes) transfer_of
+          ∙ length-chunks 128 _ bytes;
+      joinable = λ share. (and_parts _ _ share).0;
+    }
 seen_of operation bytes OfIds =
-    record { number = refl; count = length-map (chunks 16 bytes) little_endian
-    ∙ length-chunks 16 _ bytes; joinable =
-    λ share. (let e = (and_parts (not (is_open (events_of 131 bytes))) (not (131 == 131)) share).1 in cc) }
+    record {
+      number = refl;
+      count = length-map (chunks 16 bytes) little_endian
+          ∙ length-chunks 16 _ bytes;
+      joinable =
+          λ share. (let e = (and_parts (not (is_open (events_of 131 bytes))) (not (131 == 131)) share).1 in cc);
+    }
 
 seen : (job : Numbered) → IsOk (admission_of 8190 job.packet) → AreSeen job.packet.operation job.packet.bytes
 seen job ok = seen_of job.packet.operation job.packet.bytes (kind_of job.packet.operation job.packet.bytes ok)
@@ -65,11 +77,11 @@ stand_all job (first ∷ group) ok all share one =
     let ones = and_parts (first.packet.operation == job.packet.operation) (are_of job.packet.operation group) one in
     let same : (operation_of (events_in first.packet) == operation_of (events_in job.packet)) ≡ true =
     ap (λ n. n == operation_of (events_in job.packet)) (seen first all.0).number
-        ∙ ap (λ n. first.packet.operation == n) (seen job ok).number ∙ ones.0 in
+    ∙ ap (λ n. first.packet.operation == n) (seen job ok).number ∙ ones.0 in
     and_from (can_join (events_in first.packet) && (operation_of (events_in first.packet) == operation_of
-        (events_in job.packet))) (list_all (can_stand_with (events_in job.packet)) (map work_of group))
+    (events_in job.packet))) (list_all (can_stand_with (events_in job.packet)) (map work_of group))
     (and_from (can_join (events_in first.packet)) _ ((seen first all.0).joinable shares.0) same)
-        (stand_all job group ok all.1 shares.1 ones.1)
+    (stand_all job group ok all.1 shares.1 ones.1)
 
 joins_seen : (limit : ℕ) (group : List Numbered) (job : Numbered) → AreAdmitted group
     → IsOk (admission_of 8190 job.packet) → joins limit group job ≡ true
@@ -80,10 +92,10 @@ joins_seen limit group job all ok is =
     let third = and_parts (are_of job.packet.operation group) _ second.1 in
     let few : nat_le (events_together (map work_of group) + count_of_events (events_in job.packet)) limit ≡ true =
     ap (λ n. nat_le (n + count_of_events (events_in job.packet)) limit) (count_all group all)
-        ∙ ap (λ n. nat_le (count_of_all group + n) limit) (seen job ok).count ∙ third.1 in
+    ∙ ap (λ n. nat_le (count_of_all group + n) limit) (seen job ok).count ∙ third.1 in
     and_from (list_all (can_stand_with (events_in job.packet)) (map work_of group)) _
-        (stand_all job group ok all first.0 third.0) (and_from (can_join (events_in job.packet)) _
-        ((seen job ok).joinable second.0) few)
+    (stand_all job group ok all first.0 third.0) (and_from (can_join (events_in job.packet)) _
+    ((seen job ok).joinable second.0) few)
 
 join_seen : (limit : ℕ) (group jobs : List Numbered) → AreAdmitted group → AreAdmitted jobs
     → join_in_turn limit group jobs ≡ true → join_one_by_one limit (map work_of group) (map work_of jobs) ≡ true
@@ -92,8 +104,8 @@ join_seen limit group (job ∷ jobs) all more is =
     let parts = and_parts (joins limit group job) (join_in_turn limit (group ++ job ∷ []) jobs) is in
     and_from (joins_group limit (map work_of group) (work_of job)) _ (joins_seen limit group job all more.0 parts.0)
     (ap (λ ws. join_one_by_one limit ws (map work_of jobs)) (sym (map-append work_of group (job ∷ [])))
-        ∙ join_seen limit (group ++ job ∷ []) jobs (all-push
-            (λ (j : Numbered). IsOk (admission_of 8190 j.packet)) group job all more.0) more.1 parts.1)
+    ∙ join_seen limit (group ++ job ∷ []) jobs (all-push
+    (λ (j : Numbered). IsOk (admission_of 8190 j.packet)) group job all more.0) more.1 parts.1)
 
 group_joined : (limit : ℕ) (jobs : List Numbered) → HasPackets (parcel.Batch jobs) → IsGroup limit jobs
     → IsJoined limit (map work_of jobs)
@@ -107,11 +119,11 @@ joined_more : (refused : Bool) (ledger : LedgerState) (handed : Parcel) (limit :
     → AreJoined limit (apply_step refused ledger handed).ledger.groups
 joined_more refused ledger (parcel.Batch jobs) limit some joined all =
     cond_both (must_stop refused ledger (length jobs)) _ _ (λ (a : Applied). AreJoined limit a.ledger.groups)
-        (λ stops. all) (λ goes. all-push (IsJoined limit) ledger.groups (map work_of jobs) all
-        (group_joined limit jobs some joined))
+    (λ stops. all) (λ goes. all-push (IsJoined limit) ledger.groups (map work_of jobs) all
+    (group_joined limit jobs some joined))
 joined_more refused ledger (parcel.Pulse moment) limit some joined all =
     cond_both (must_stop refused ledger 1) _ _ (λ (a : Applied). AreJoined limit a.ledger.groups) (λ stops. all)
-        (λ goes. all-push (IsJoined limit) ledger.groups (Pulse moment ∷ []) all refl)
+    (λ goes. all-push (IsJoined limit) ledger.groups (Pulse moment ∷ []) all refl)
 joined_more refused ledger p limit some joined all = all
 
 has_jobs : (p : Parcel) → HasPackets p → HasJobs p
@@ -122,7 +134,7 @@ has_jobs p some = tt
 pub record HasApplied (ledger : LedgerState) (handed : Parcel) (next : Applied) : Type 0 where
   pub commits : (clock : ℕ) (passages : List Passage) (replies : List Replied)
       → Commits clock passages ledger replies → Commits clock (passages ++ passages_in handed) next.ledger
-          (replies ++ replies_in next.outcomes)
+      (replies ++ replies_in next.outcomes)
   pub joined : (limit : ℕ) → IsJoinedParcel limit handed → AreJoined limit ledger.groups
       → AreJoined limit next.ledger.groups
 

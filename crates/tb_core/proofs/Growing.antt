@@ -36,10 +36,10 @@ jobs_after state (job ∷ jobs) = jobs_after (after_packet state (events_in job.
 -- the state after a batch
 batch_state : (law : JoinInvisibly) (state : State) (parts : Parts) → AreAnswered state parts →
     after_packet state (events_of parts.operation parts.body.items)
-        ≡ fold after_work state (map work_of parts.jobs.items)
+    ≡ fold after_work state (map work_of parts.jobs.items)
 batch_state law state parts answered =
     ap (λ body. after_packet state (events_of parts.operation body)) answered.body
-        ∙ by (parts.operation == 131) refl ∙ jobs_after state parts.jobs.items
+    ∙ by (parts.operation == 131) refl ∙ jobs_after state parts.jobs.items
   where
     by : (b : Bool) → (parts.operation == 131) ≡ b
         → after_packet state (events_of parts.operation (body_of parts.jobs.items))
@@ -53,20 +53,27 @@ pub batch_entered : (law : JoinInvisibly) (ledger : LedgerState) (state next : S
     (groups : List (List Work)) (parts : Parts) (count : ℕ) → IsLedger ledger state places
     → AreAnswered state parts →
     next ≡ after_packet state (events_of parts.operation parts.body.items)
-        → groups ≡ ledger.groups ++ map work_of parts.jobs.items ∷ [] → count ≡ length parts.jobs.items
-        → must_stop false ledger count ≡ false →
+    → groups ≡ ledger.groups ++ map work_of parts.jobs.items ∷ [] → count ≡ length parts.jobs.items
+    → must_stop false ledger count ≡ false →
     IsLedger (record ledger { groups = groups }) next (places + count)
 batch_entered law ledger state next places groups parts count is answered next_is groups_is count_is goes =
     let group = map work_of parts.jobs.items in
     let all : flat_map (λ g. g) groups ≡ works ledger ++ group = ap (flat_map (λ g. g)) groups_is
-        ∙ works-more ledger.groups group in
+    ∙ works-more ledger.groups group in
     let room = ltb-false (2 ^ 63) (length (works ledger) + count) (or_parts ledger.stopped _ goes).1 in
     record {
       machine = next_is ∙ batch_state law state parts answered ∙ ap (λ s. fold after_work s group) is.machine
           ∙ sym (fold-append after_work (opening ledger.opening) (works ledger) group)
           ∙ ap (fold after_work (opening ledger.opening)) (sym all);
-      counted = omega (arith, is.counted, count_is, ap length all, length-append
-          (works ledger) group, length-map parts.jobs.items work_of);
+      counted = omega (
+        arith,
+        is.counted,
+        count_is,
+        ap length all,
+        length-append
+            (works ledger) group,
+        length-map parts.jobs.items work_of,
+      );
       few = omega (arith, is.counted, room);
       opening = is.opening;
     }

@@ -30,8 +30,13 @@ pub through : (clock limit : ℕ) (items : List Item) (front : FrontState) (ledg
     → (run : IsRunning clock limit items front ledger replies) →
     GoesOn clock limit (run.sent ++ held_by front) now given → IsThrough clock limit items now given
 through clock limit items front ledger replies now given run on = record {
-  ran = record { closed = front.closed; stopped = front.stopped; passages = run.sent ++ held_by front;
-      passed = run.passed; commits = on.commits };
+  ran = record {
+    closed = front.closed;
+    stopped = front.stopped;
+    passages = run.sent ++ held_by front;
+    passed = run.passed;
+    commits = on.commits;
+  };
   unmarked = on.unmarked;
   unstopped = run.unstopped;
   joined = on.joined;

@@ -143,13 +143,13 @@ module _ (refused : Bool) (items : List Item) (closed stopped : Bool) (passages 
       let spot : place ≡ Ahead (0 + length (ahead items)) = (open_at 0 items x (ap is_behind (sym is))).0 in
       let here : k ≡ 0 + length (ahead items) = cc in
       ap (λ b. passages_of_item false b x) (sym (le-leb through k
-          (omega (arith, here, packet_within (ahead items) through at_packet))))
+      (omega (arith, here, packet_within (ahead items) through at_packet))))
 
   pub passes_more : Goes refused closed stopped x next → Passes (items ++ x ∷ []) shut next now
   passes_more (Stays same) =
       passed passes.stop passes.all (ap (λ b. passages_of_item b next x) passes.shut
-          ∙ ap (λ b. passages_of_item (is_behind place) b x) (same ∙ passes.stops)
-          ∙ shown passes.stop place refl passes.at_packet) (same ∙ passes.stops)
+      ∙ ap (λ b. passages_of_item (is_behind place) b x) (same ∙ passes.stops)
+      ∙ shown passes.stop place refl passes.at_packet) (same ∙ passes.stops)
       (more passes.stop passes.at_packet)
     where
       more : (stop : Option ℕ) → IfSome stop (λ k. IsPacket (slice_get (ahead items) k))
@@ -171,8 +171,8 @@ module _ (refused : Bool) (items : List Item) (closed stopped : Bool) (passages 
       by None all is =
           passed (Some k) (all ∙ never_stops 0 k items (omega arith))
           (ap (λ b. passages_of_item b next x) ahead_is
-              ∙ ap (λ b. passages_of_item false b x) (stops ∙ sym (le-leb k (0 + k) (omega arith)))
-              ∙ ap (λ at. passages_at (Some k) at x) (sym spot.0)) stops
+          ∙ ap (λ b. passages_of_item false b x) (stops ∙ sym (le-leb k (0 + k) (omega arith)))
+          ∙ ap (λ at. passages_at (Some k) at x) (sym spot.0)) stops
           (subst (λ ws. IsPacket (slice_get ws k)) (sym (spot.1 ∙ ap (λ y. ahead items ++ ahead (y ∷ [])) packet))
-              (packet_last (ahead items) job))
+          (packet_last (ahead items) job))
       by (Some through) all is = cc

@@ -41,18 +41,32 @@ recorded law place state parts few answered = by (parts.operation == 131) refl
         let gives = gives_one place parts.operation state parts.jobs.items answered.lawful is in
         let accounts = answered.accounts is ∙ ap (λ body. accounts_found state.facts (ids_of body)) answered.body in
         record {
-          fits = rw is (few, (gives.job, gives.only, gives.lookup, subst
-              (λ found. length found ≤ count_of gives.job.packet) (sym accounts) gives.few));
+          fits = rw is (
+            few,
+            (
+              gives.job,
+              gives.only,
+              gives.lookup,
+              subst
+                  (λ found. length found ≤ count_of gives.job.packet) (sym accounts) gives.few,
+            ),
+          );
           replies = rw is (ap (λ found. map (reply_with (Committed place (Accounts found))) parts.jobs.items)
               accounts ∙ gives.replies);
         }
     by false is =
         let gives = gives_each law place parts.operation state parts.jobs.items answered.in_range answered.lawful is in
         let failures = answered.failures is ∙ ap (λ body.
-            failures_of state (events_of parts.operation body)) answered.body in
+        failures_of state (events_of parts.operation body)) answered.body in
         record {
-          fits = rw is (few, (subst (RiseWithin 0 (count_of_all parts.jobs.items))
-              (sym failures) gives.rises, no_lookups parts.operation parts.jobs.items is
-              answered.lawful.one_operation));
+          fits = rw is (
+            few,
+            (
+              subst (RiseWithin 0 (count_of_all parts.jobs.items))
+                  (sym failures) gives.rises,
+              no_lookups parts.operation parts.jobs.items is
+                  answered.lawful.one_operation,
+            ),
+          );
           replies = rw is (ap (λ found. replies_from place 0 found parts.jobs.items) failures ∙ gives.replies);
         }

@@ -28,25 +28,28 @@ use Rattle.tb_core.proofs.Passing.{never_stops}
 -- after the Close each packet comes back
 behind_close : (clock place : ℕ) (stop : Option ℕ) (journal : List Work) (items : List Item) →
     (works_in (passages_from stop Behind items) ≡ [])
-        × (replies_from clock journal place (passages_from stop Behind items)
-        ≡ all_due_from clock journal Behind items)
+    × (replies_from clock journal place (passages_from stop Behind items)
+    ≡ all_due_from clock journal Behind items)
 behind_close clock place stop journal [] = (refl, refl)
 behind_close clock place stop journal (item.Packet job ∷ items) =
     let others = behind_close clock place stop journal
-        items in (others.0, ap (λ rs. reply_with outcome.Shutdown job ∷ rs) others.1)
+    items in (others.0, ap (λ rs. reply_with outcome.Shutdown job ∷ rs) others.1)
 behind_close clock place stop journal (x ∷ items) = behind_close clock place stop journal items
 
 -- from the stop on each packet comes back, as one that the journal doesn't reach
 from_stop : (clock place through k : ℕ) (journal : List Work) (items : List Item)
     → length journal ≤ through → through ≤ k →
     (works_in (passages_from (Some through) (Ahead k) items) ≡ [])
-        × (replies_from clock journal place (passages_from (Some through) (Ahead k) items)
-        ≡ all_due_from clock journal (Ahead k) items)
+    × (replies_from clock journal place (passages_from (Some through) (Ahead k) items)
+    ≡ all_due_from clock journal (Ahead k) items)
 from_stop clock place through k journal [] far h = (refl, refl)
 from_stop clock place through k journal (item.Packet job ∷ items) far h =
     let others = from_stop clock place through (k + 1) journal items far (omega (arith, h)) in
-    rw (le-leb through k h) (others.0, rw (outcome_past clock k journal (omega (arith, far, h)))
-        (ap (λ rs. reply_with outcome.Stopped job ∷ rs) others.1))
+    rw (le-leb through k h) (
+      others.0,
+      rw (outcome_past clock k journal (omega (arith, far, h)))
+          (ap (λ rs. reply_with outcome.Stopped job ∷ rs) others.1),
+    )
 from_stop clock place through k journal (item.Pulse moment ∷ items) far h =
     rw (le-leb through k h) (from_stop clock place through (k + 1) journal items far (omega (arith, h)))
 from_stop clock place through k journal (item.End ∷ items) far h = from_stop clock place through k journal items far h
@@ -58,17 +61,20 @@ from_stop clock place through k journal (item.Close ∷ items) far h =
 let_through : (clock most through k : ℕ) (journal : List Work) (items : List Item)
     → length journal ≤ through → through ≡ k + most →
     (works_in (passages_from (Some through) (Ahead k) items) ≡ take most (ahead items))
-        × (replies_from clock journal k (passages_from (Some through) (Ahead k) items)
-        ≡ all_due_from clock journal (Ahead k) items)
+    × (replies_from clock journal k (passages_from (Some through) (Ahead k) items)
+    ≡ all_due_from clock journal (Ahead k) items)
 let_through clock zero through k journal items far h = from_stop clock k through k journal items far (omega (arith, h))
 let_through clock (suc most) through k journal [] far h = (refl, refl)
 let_through clock (suc most) through k journal (item.Packet job ∷ items) far h =
     let others = let_through clock most through (k + 1) journal items far (omega (arith, h)) in
-    rw (lt-leb through k (omega (arith, h))) (ap (λ ws. work_of job ∷ ws) others.0, ap
-        (λ rs. reply_with (outcome_at clock journal (Ahead k)) job ∷ rs) others.1)
+    rw (lt-leb through k (omega (arith, h))) (
+      ap (λ ws. work_of job ∷ ws) others.0,
+      ap
+          (λ rs. reply_with (outcome_at clock journal (Ahead k)) job ∷ rs) others.1,
+    )
 let_through clock (suc most) through k journal (item.Pulse moment ∷ items) far h =
     let others = let_through clock most through (k + 1) journal items far (omega (arith, h)) in rw
-        (lt-leb through k (omega (arith, h))) (ap (λ ws. work.Pulse moment ∷ ws) others.0, others.1)
+    (lt-leb through k (omega (arith, h))) (ap (λ ws. work.Pulse moment ∷ ws) others.0, others.1)
 let_through clock (suc most) through k journal (item.End ∷ items) far h =
     let_through clock (suc most) through k journal items far h
 let_through clock (suc most) through k journal (item.Close ∷ items) far h =
@@ -82,7 +88,7 @@ most_of (Some through) items = through
 passed_through : (clock : ℕ) (stop : Option ℕ) (journal : List Work) (items : List Item)
     → length journal ≤ most_of stop items →
     (works_in (passages_of stop items) ≡ take (most_of stop items) (ahead items))
-        × (replies_from clock journal 0 (passages_of stop items) ≡ all_due clock items journal)
+    × (replies_from clock journal 0 (passages_of stop items) ≡ all_due clock items journal)
 passed_through clock None journal items far = let most =
     length (ahead items) in rw (never_stops 0 most items (omega arith))
     (let_through clock most most 0 journal items far (omega arith))
@@ -104,13 +110,13 @@ none_told clock k journal before [] all k_is = refl
 none_told clock k journal before (item.Packet job ∷ items) all k_is =
     let one = work_of job ∷ [] in
     let here = ap (λ ws. outcome_at clock ws (Ahead k)) all
-        ∙ outcome_here clock k (replay clock before) before job (ahead items) k_is refl in
+    ∙ outcome_here clock k (replay clock before) before job (ahead items) k_is refl in
     rw here (none_told clock (k + 1) journal (before ++ one) items
-        (all ∙ sym (append_assoc before one (ahead items))) (omega (arith, k_is, length-append before one)))
+    (all ∙ sym (append_assoc before one (ahead items))) (omega (arith, k_is, length-append before one)))
 none_told clock k journal before (item.Pulse moment ∷ items) all k_is =
     let one = work.Pulse moment ∷ [] in
     none_told clock (k + 1) journal (before ++ one) items (all ∙ sym (append_assoc before one (ahead items)))
-        (omega (arith, k_is, length-append before one))
+    (omega (arith, k_is, length-append before one))
 none_told clock k journal before (item.End ∷ items) all k_is = none_told clock k journal before items all k_is
 none_told clock k journal before (item.Close ∷ items) all k_is = none_behind clock journal items
 
@@ -144,7 +150,7 @@ none_among q (reply ∷ replies) none =
     let parts = or_parts (is_stopped reply.outcome) (tell_a_stop replies) none in
     let others = none_among q replies parts.1 in
     cond_both (q reply) _ _ (λ rs. tell_a_stop rs ≡ false)
-        (λ taken. or_from (is_stopped reply.outcome) _ parts.0 others) (λ left. others)
+    (λ taken. or_from (is_stopped reply.outcome) _ parts.0 others) (λ left. others)
 
 abbrev AreAmong : ℕ → List Replied → Type 0
 AreAmong submitters replies = AllByRecursion (λ (reply : Replied). reply.submitter < submitters) replies
@@ -159,7 +165,7 @@ due_among clock submitters journal place (ticket ∷ queue) all =
     one : (x : Item) → IsSubmitted submitters ticket.sender x
         → AreAmong submitters (all_due_from clock journal (next_place place x) (items_in queue)) →
         AreAmong submitters (reply_due (outcome_at clock journal place) x
-            ++ all_due_from clock journal (next_place place x) (items_in queue))
+        ++ all_due_from clock journal (next_place place x) (items_in queue))
     one (item.Packet job) is others = (subst (λ n. n < submitters) (sym is.0) is.1, others)
     one x is others = others
 
@@ -170,8 +176,8 @@ none_at_all : (submitters : ℕ) (replies : List Replied) → AreAmong submitter
 none_at_all submitters [] all none = refl
 none_at_all submitters (reply ∷ replies) all none =
     or_from (is_stopped reply.outcome) (tell_a_stop replies) (own (none reply.submitter all.0))
-        (none_at_all submitters replies all.1 (λ submitter below.
-        others submitter (reply.submitter == submitter) (none submitter below)))
+    (none_at_all submitters replies all.1 (λ submitter below.
+    others submitter (reply.submitter == submitter) (none submitter below)))
   where
     own : tell_a_stop (replies_to (reply ∷ replies) reply.submitter) ≡ false → is_stopped reply.outcome ≡ false
     own h =
@@ -259,8 +265,14 @@ so_far clock items closed stopped applied way ledger answers passes commits =
         ∙ (passed_through clock passes.stop now items short).1
 
     short : length journal ≤ most
-    short = omega (arith, ap length longer, length-append journal
-        (commits.behind ++ works_in way), ap length through, length-take most (ahead items))
+    short = omega (
+      arith,
+      ap length longer,
+      length-append journal
+          (commits.behind ++ works_in way),
+      ap length through,
+      length-take most (ahead items),
+    )
 
     due : answers ++ replies_from clock journal here way ≡ all_due clock items journal
     due = ap (λ rs. rs ++ replies_from clock journal here way) commits.replied ∙ replies_are journal short
@@ -278,8 +290,8 @@ so_far clock items closed stopped applied way ledger answers passes commits =
     left None is packet none untold = rest_is None is refl
     left (Some k) is packet none untold =
         absurd (both_ways (tell_a_stop answers) untold
-            (ap tell_a_stop (replied none) ∙ one_told clock 0 k journal items
-            (omega (arith, short, ap (λ stop. most_of stop items) is)) packet))
+        (ap tell_a_stop (replied none) ∙ one_told clock 0 k journal items
+        (omega (arith, short, ap (λ stop. most_of stop items) is)) packet))
 
     journal_is : commits.behind ≡ [] → journal ≡ works_in applied
     journal_is none = sym (append-nil journal) ∙ ap (λ ws. journal ++ ws) (sym none) ∙ commits.committed
@@ -294,13 +306,16 @@ so_far clock items closed stopped applied way ledger answers passes commits =
     told is all_is =
         let now = journal ++ works_in way in
         let same : answers ≡ replies_from clock now 0 applied = commits.replied
-            ∙ sym (replies_from-longer clock journal (works_in way) 0 applied (omega (arith, ap length is))) in
-        let within : length now ≤ most = omega (arith, ap length
-            (ap (λ ws. ws ++ works_in way) is ∙ sym (works_in-append applied way) ∙ through),
-            length-take most (ahead items)) in
+        ∙ sym (replies_from-longer clock journal (works_in way) 0 applied (omega (arith, ap length is))) in
+        let within : length now ≤ most = omega (
+          arith,
+          ap length
+              (ap (λ ws. ws ++ works_in way) is ∙ sym (works_in-append applied way) ∙ through),
+          length-take most (ahead items),
+        ) in
         none_of_first answers (replies_from clock now here way) (all_due clock items now)
-            (ap (λ rs. rs ++ replies_from clock now here way) same ∙ replies_are now within)
-            (none_told clock 0 now [] items all_is refl)
+        (ap (λ rs. rs ++ replies_from clock now here way) same ∙ replies_are now within)
+        (none_told clock 0 now [] items all_is refl)
 
 run_so_far : (clock : ℕ) (items : List Item) (ledger : LedgerState) (answers : List Replied)
     (run : Ran clock items ledger answers) → SoFar clock items run.stopped ledger answers []
@@ -312,7 +327,7 @@ pub run_is_lawful : RunIsLawful
 run_is_lawful clock submitters queue queued ledger answers replies filled run theirs =
     let far = run_so_far clock (items_in queue) ledger answers run in
     let among = subst (AreAmong submitters) (sym (far.replied refl))
-        (due_among clock submitters (works ledger) (Ahead 0) queue filled.submitted) in
+    (due_among clock submitters (works ledger) (Ahead 0) queue filled.submitted) in
     record {
       filled = filled;
       behind = far.behind;
@@ -336,5 +351,10 @@ pub run_is_listed : (clock : ℕ) (items : List Item) (ledger : LedgerState) (an
 run_is_listed clock items ledger answers run goes on =
     let far = run_so_far clock items ledger answers run in
     let all = sym (append-nil (works ledger)) ∙ far.whole on goes in
-    record { from = run.commits.from; goes_on = goes; committed = all; replied = far.replied refl
-        ∙ ap (all_due clock items) all }
+    record {
+      from = run.commits.from;
+      goes_on = goes;
+      committed = all;
+      replied = far.replied refl
+          ∙ ap (all_due clock items) all;
+    }

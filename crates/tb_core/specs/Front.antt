@@ -62,7 +62,7 @@ step_of_packet refused front job =
     if front.closed then take_result front (Return job Shutdown ∷ [])
     else if front.stopped then take_result front (Return job Stopped ∷ [])
     else if refused then take_result (record front { held = []; stopped = true })
-        (group_as_batch front.held ++ Return job Stopped ∷ [])
+    (group_as_batch front.held ++ Return job Stopped ∷ [])
     else if is_taken front.limit front.held job then take_result (with_group front (front.held ++ job ∷ [])) []
     else take_result (with_group front (job ∷ [])) (group_as_batch front.held)
 

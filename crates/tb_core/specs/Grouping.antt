@@ -34,7 +34,7 @@ events_together (Pulse moment ∷ works) = events_together works
 abbrev pub joins_group : ℕ → List Work → Work → Bool
 joins_group limit group (Packet submitter number events) =
     list_all (can_stand_with events) group && (can_join events
-        && nat_le (events_together group + count_of events) limit)
+    && nat_le (events_together group + count_of events) limit)
 joins_group limit group (Pulse moment) = false
 
 -- each joins those before it

@@ -32,7 +32,7 @@ packets_of operation body [] = []
 packets_of operation body (stub ∷ stubs) =
     let size = stub.count * size_of operation in
     Packet stub.submitter stub.number (events_of operation (take size body))
-        ∷ packets_of operation (drop size body) stubs
+    ∷ packets_of operation (drop size body) stubs
 
 abbrev pub group_of : Entry → List Work
 group_of (entry.Batch operation body stubs) = packets_of operation body.items stubs.items
@@ -85,7 +85,7 @@ step_of_batch ledger jobs =
 abbrev pub apply_step : Bool → LedgerState → Parcel → Applied
 apply_step refused ledger (parcel.Batch jobs) =
     if must_stop refused ledger (length jobs) then apply_result (with_stop ledger)
-        (Cut (map (reply_with outcome.Stopped) jobs))
+    (Cut (map (reply_with outcome.Stopped) jobs))
     else step_of_batch ledger jobs
 apply_step refused ledger (parcel.Pulse moment) =
     if must_stop refused ledger 1 then apply_result (with_stop ledger) Nothing

@@ -79,8 +79,8 @@ pub record IsThrough (clock limit : ℕ) (items : List Item) (ledger : LedgerSta
 abbrev pub RunIsLawful : Type 0
 RunIsLawful =
     (clock submitters : ℕ) (queue : List Ticket) (queued : ℕ → List Item) (ledger : LedgerState)
-        (answers : List Replied) (replies : ℕ → List Replied) →
+    (answers : List Replied) (replies : ℕ → List Replied) →
     IsQueueOf submitters queue queued → Ran clock (items_in queue) ledger answers
-        → ((submitter : ℕ) → submitter < submitters → replies submitter ≡ replies_to answers submitter) →
+    → ((submitter : ℕ) → submitter < submitters → replies submitter ≡ replies_to answers submitter) →
     LawfulReport clock submitters queue queued (works ledger)
-        (replay ledger.opening (works ledger)) ledger.stopped replies
+    (replay ledger.opening (works ledger)) ledger.stopped replies

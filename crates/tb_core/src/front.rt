@@ -73,8 +73,14 @@ impl Front {
     /// A front that took nothing. The limit is 1 to 8190 events, else it is refused as `BadLimit`, and then there are 1
     /// to 16 submitters, else as `BadSubmitters`. Takes no memory.
     pub fn new(alloc: Global, limit: u32, submitters: u32) -> Result<Front, Refusal>
-        ensures front { IfOk result (λ front. front ≡ record { limit = limit; submitters = submitters; held = [];
-            closed = false; stopped = false; ended = replicate 17 false }) }
+        ensures front { IfOk result (λ front. front ≡ record {
+          limit = limit;
+          submitters = submitters;
+          held = [];
+          closed = false;
+          stopped = false;
+          ended = replicate 17 false;
+        }) }
         ensures passes { IfOk result (λ front. Passes [] front.closed front.stopped (held_by front)) }
         ensures ends { IfOk result (λ front. KnowsEnds [] front) }
         ensures opens { OnOk result (opening_refusal limit submitters ≡ None) }
@@ -279,7 +285,7 @@ impl Front {
         ensures passes { (items : List ItemValue) (sent : List Passage)
             → Passes items self.old.closed self.old.stopped (sent ++ held_by self.old)
             → Passes (items ++ ticket.item ∷ []) self.new.closed self.new.stopped
-                ((sent ++ all_passages_in result.items) ++ held_by self.new) }
+            ((sent ++ all_passages_in result.items) ++ held_by self.new) }
         ensures lawful { AreJoinedParcels self.old.limit result.items }
         ensures ends { (queue : List TicketValue) → KnowsEnds queue self.old
             → KnowsEnds (queue ++ ticket ∷ []) self.new }
@@ -304,7 +310,7 @@ impl Front {
         ensures passes { (items : List ItemValue) (sent : List Passage)
             → Passes items self.old.closed self.old.stopped (sent ++ held_by self.old)
             → Passes (items ++ ticket.item ∷ []) self.new.closed self.new.stopped
-                ((sent ++ all_passages_in result.items) ++ held_by self.new) }
+            ((sent ++ all_passages_in result.items) ++ held_by self.new) }
         ensures lawful { AreJoinedParcels self.old.limit result.items }
         ensures ends { (queue : List TicketValue) → KnowsEnds queue self.old
             → KnowsEnds (queue ++ ticket ∷ []) self.new }
@@ -327,7 +333,7 @@ impl Front {
         ensures passes { (items : List ItemValue) (sent : List Passage)
             → Passes items self.old.closed self.old.stopped (sent ++ held_by self.old)
             → Passes (items ++ ticket.item ∷ []) self.new.closed self.new.stopped
-                ((sent ++ all_passages_in parcels.new.items) ++ held_by self.new) }
+            ((sent ++ all_passages_in parcels.new.items) ++ held_by self.new) }
         ensures lawful { AreJoinedParcels self.old.limit parcels.new.items }
         ensures ends { (queue : List TicketValue) → KnowsEnds queue self.old
             → KnowsEnds (queue ++ ticket ∷ []) self.new }

@@ -58,11 +58,17 @@ impl Model for Ledger {
 
     ghost Value = { LedgerState };
 
-    ghost view = { λ ledger. record { opening = ledger.opening; groups = map group_of ledger.entries.items;
-        stopped = ledger.stopped } };
+    ghost view = { λ ledger. record {
+      opening = ledger.opening;
+      groups = map group_of ledger.entries.items;
+      stopped = ledger.stopped;
+    } };
 
-    ghost invariant = { λ ledger. IsLedger (record { opening = ledger.opening;
-        groups = map group_of ledger.entries.items; stopped = ledger.stopped }) ledger.machine ledger.places };
+    ghost invariant = { λ ledger. IsLedger (record {
+      opening = ledger.opening;
+      groups = map group_of ledger.entries.items;
+      stopped = ledger.stopped;
+    }) ledger.machine ledger.places };
 }
 
 /// Lets the machine take a batch. Where memory is refused, it and the parts are as before.

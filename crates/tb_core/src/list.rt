@@ -107,7 +107,7 @@ impl Listing {
         ensures runs { (clock : ℕ) (limit : ℕ) (items : List ItemValue)
             → IsRunning clock limit items self.old.front self.old.ledger self.old.replies.items
             → OnOk result (IsRunning clock limit (items ++ item ∷ []) self.new.front self.new.ledger
-                self.new.replies.items) }
+            self.new.replies.items) }
     {
         let mut ticket = Ticket { sender: 0, item };
         let taken = self.front.try_take(parcels, &mut ticket);

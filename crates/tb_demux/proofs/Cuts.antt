@@ -36,7 +36,7 @@ not_at_least a b h = grind (arith, nat_tests)
 rise_own-if : (low high end : ℕ) (failure : Failure) (failures : List Failure) (b : Bool)
     → nat_lt failure.index end ≡ b → RiseWithin low high (failure ∷ failures) →
     RiseWithin (failure.index + 1) end (take (count_below end failures) failures)
-        → RiseWithin low end (take (if b then suc (count_below end failures) else 0) (failure ∷ failures))
+    → RiseWithin low end (take (if b then suc (count_below end failures) else 0) (failure ∷ failures))
 rise_own-if low high end failure failures true is rise own = (rise.0, below failure.index end is, own)
 rise_own-if low high end failure failures false is rise own = tt
 
@@ -45,12 +45,12 @@ pub rise_own : (low high end : ℕ) (failures : List Failure) → RiseWithin low
 rise_own low high end [] rise = tt
 rise_own low high end (failure ∷ failures) rise =
     rise_own-if low high end failure failures (nat_lt failure.index end) refl rise
-        (rise_own (failure.index + 1) high end failures rise.2)
+    (rise_own (failure.index + 1) high end failures rise.2)
 
 rise_behind-if : (low high end : ℕ) (failure : Failure) (failures : List Failure) (b : Bool)
     → nat_lt failure.index end ≡ b → RiseWithin low high (failure ∷ failures) →
     RiseWithin end high (drop (count_below end failures) failures)
-        → RiseWithin end high (drop (if b then suc (count_below end failures) else 0) (failure ∷ failures))
+    → RiseWithin end high (drop (if b then suc (count_below end failures) else 0) (failure ∷ failures))
 rise_behind-if low high end failure failures true is rise behind = behind
 rise_behind-if low high end failure failures false is rise behind = (not_below failure.index end is, rise.1, rise.2)
 
@@ -59,7 +59,7 @@ pub rise_behind : (low high end : ℕ) (failures : List Failure) → RiseWithin 
 rise_behind low high end [] rise = tt
 rise_behind low high end (failure ∷ failures) rise =
     rise_behind-if low high end failure failures (nat_lt failure.index end) refl rise
-        (rise_behind (failure.index + 1) high end failures rise.2)
+    (rise_behind (failure.index + 1) high end failures rise.2)
 
 skip : (a b : Bool) (failure : Failure) (failures : List Failure) → b ≡ false
     → (if a && b then failure ∷ failures else failures) ≡ failures
@@ -73,31 +73,31 @@ none_within offset count low high [] past rise = refl
 none_within offset count low high (failure ∷ failures) past rise =
     let out : nat_lt failure.index (offset + count) ≡ false = grind (arith, nat_tests, rise.0) in
     skip (nat_le offset failure.index) (nat_lt failure.index (offset + count)) failure
-        (filter (is_within offset count) failures) out
-        ∙ none_within offset count (failure.index + 1) high failures (omega (arith, rise.0)) rise.2
+    (filter (is_within offset count) failures) out
+    ∙ none_within offset count (failure.index + 1) high failures (omega (arith, rise.0)) rise.2
 
 own-if : (offset count low high : ℕ) (failure : Failure) (failures : List Failure) (b : Bool)
     → nat_lt failure.index (offset + count) ≡ b → offset ≤ low → RiseWithin low high (failure ∷ failures) →
     filter (is_within offset count) failures ≡ take (count_below (offset + count) failures) failures →
     filter (is_within offset count) (failure ∷ failures)
-        ≡ take (if b then suc (count_below (offset + count) failures) else 0) (failure ∷ failures)
+    ≡ take (if b then suc (count_below (offset + count) failures) else 0) (failure ∷ failures)
 own-if offset count low high failure failures true is from rise own =
     rw (at_least offset failure.index (omega (arith, rise.0)), is) (ap (λ fs. failure ∷ fs) own)
 own-if offset count low high failure failures false is from rise own =
     none_within offset count failure.index high (failure ∷ failures) (not_below failure.index (offset + count) is)
-        (omega arith, rise.1, rise.2)
+    (omega arith, rise.1, rise.2)
 
 own : (offset count low high : ℕ) (failures : List Failure) → offset ≤ low → RiseWithin low high failures
     → filter (is_within offset count) failures ≡ take (count_below (offset + count) failures) failures
 own offset count low high [] from rise = refl
 own offset count low high (failure ∷ failures) from rise =
     own-if offset count low high failure failures (nat_lt failure.index (offset + count)) refl from rise
-        (own offset count (failure.index + 1) high failures (omega (arith, rise.0)) rise.2)
+    (own offset count (failure.index + 1) high failures (omega (arith, rise.0)) rise.2)
 
 -- a packet's own failures are the leading ones
 pub cut_leading : (offset count high : ℕ) (failures : List Failure) → RiseWithin offset high failures
     → failures_within offset count failures ≡ map (from_offset offset)
-        (take (count_below (offset + count) failures) failures)
+    (take (count_below (offset + count) failures) failures)
 cut_leading offset count high failures rise =
     ap (map (from_offset offset)) (own offset count offset high failures (omega arith) rise)
 
@@ -106,17 +106,17 @@ cut_leading offset count high failures rise =
 skipped-if : (end offset count : ℕ) (failure : Failure) (failures : List Failure) (b : Bool)
     → nat_lt failure.index end ≡ b → end ≤ offset →
     filter (is_within offset count) failures ≡ filter (is_within offset count)
-        (drop (count_below end failures) failures) →
+    (drop (count_below end failures) failures) →
     filter (is_within offset count) (failure ∷ failures)
-        ≡ filter (is_within offset count) (drop (if b then suc (count_below end failures)
-        else 0) (failure ∷ failures))
+    ≡ filter (is_within offset count) (drop (if b then suc (count_below end failures)
+    else 0) (failure ∷ failures))
 skipped-if end offset count failure failures true is past same =
     rw (not_at_least offset failure.index (omega (arith, below failure.index end is))) same
 skipped-if end offset count failure failures false is past same = refl
 
 skipped : (end offset count : ℕ) (failures : List Failure) → end ≤ offset
     → filter (is_within offset count) failures ≡ filter (is_within offset count)
-        (drop (count_below end failures) failures)
+    (drop (count_below end failures) failures)
 skipped end offset count [] past = refl
 skipped end offset count (failure ∷ failures) past =
     skipped-if end offset count failure failures (nat_lt failure.index end) refl past
@@ -124,14 +124,14 @@ skipped end offset count (failure ∷ failures) past =
 
 replies_behind : (end place offset : ℕ) (failures : List Failure) (jobs : List Numbered) → end ≤ offset
     → replies_from place offset failures jobs ≡ replies_from place offset
-        (drop (count_below end failures) failures) jobs
+    (drop (count_below end failures) failures) jobs
 replies_behind end place offset failures [] past = refl
 replies_behind end place offset failures (job ∷ jobs) past =
     ap (λ fs. reply_with (Committed place (Failures (map (from_offset offset) fs))) job
-        ∷ replies_from (place + 1) (offset + count_of job.packet) failures jobs)
-        (skipped end offset (count_of job.packet) failures past)
+    ∷ replies_from (place + 1) (offset + count_of job.packet) failures jobs)
+    (skipped end offset (count_of job.packet) failures past)
     ∙ ap (λ replies. reply_at place offset (drop (count_below end failures) failures) job ∷ replies)
-            (replies_behind end (place + 1) (offset + count_of job.packet) failures jobs (omega (arith, past)))
+    (replies_behind end (place + 1) (offset + count_of job.packet) failures jobs (omega (arith, past)))
 
 -- where no failures are left the offset doesn't matter
 replies_empty : (place offset other : ℕ) (jobs : List Numbered)
@@ -151,14 +151,14 @@ rise_left offset other high failures end rise is (inr empty) = rw empty tt
 -- what is left is that of the packets after it
 pub next_left : (old new : Uncut) (job : Numbered) (jobs : List Numbered) → IsUncut old (job ∷ jobs)
     → failures_left new ≡ drop (count_below (old.offset + count_of job.packet) (failures_left old))
-        (failures_left old) →
+    (failures_left old) →
     new.taken ≤ length new.failures → (new.offset ≡ old.offset + count_of job.packet) ⊎ (failures_left new ≡ [])
-        → new.place ≡ old.place + 1 → IsUncut new jobs
+    → new.place ≡ old.place + 1 → IsUncut new jobs
 next_left old new job jobs h is taken offset place =
     let end = old.offset + count_of job.packet in
     let high = old.offset + (count_of job.packet + count_of_all jobs) in
     let behind : RiseWithin end high (failures_left new) = rw is
-        (rise_behind old.offset high end (failures_left old) h.rise) in
+    (rise_behind old.offset high end (failures_left old) h.rise) in
     record {
       places = omega (arith, h.places, place);
       taken = taken;
@@ -175,11 +175,11 @@ replies_left place offset end failures jobs (inr empty) = rw empty (replies_empt
 
 pub next_replies : (old new : Uncut) (job : Numbered) (jobs : List Numbered)
     → failures_left new ≡ drop (count_below (old.offset + count_of job.packet) (failures_left old))
-        (failures_left old) →
+    (failures_left old) →
     (new.offset ≡ old.offset + count_of job.packet) ⊎ (failures_left new ≡ []) → new.place ≡ old.place + 1 →
     replies_from old.place old.offset (failures_left old) (job ∷ jobs)
-        ≡ reply_at old.place old.offset (failures_left old) job
-            ∷ replies_from new.place new.offset (failures_left new) jobs
+    ≡ reply_at old.place old.offset (failures_left old) job
+    ∷ replies_from new.place new.offset (failures_left new) jobs
 next_replies old new job jobs is offset place =
     let end = old.offset + count_of job.packet in
     ap (λ replies. reply_at old.place old.offset (failures_left old) job ∷ replies)

@@ -43,22 +43,22 @@ module _ {D : Type 0} (has_seen : D → List Numbered → List Replied → Type 
       → HaveSeen has_seen drivers submitters → HaveSeen has_seen others rest
   others_have drivers_are submitters_are have k driver submitter driver_is submitter_is =
       have (suc k) driver submitter (ap (λ ds. slice_get ds (suc k)) drivers_are ∙ driver_is)
-          (ap (λ ss. slice_get ss (suc k)) submitters_are ∙ submitter_is)
+      (ap (λ ss. slice_get ss (suc k)) submitters_are ∙ submitter_is)
 
   -- settling leaves what each end has read
   pub once_settled : (drivers : List D) (ends settled : List EndedState) (control : SenderState)
       → length settled ≡ length ends
       → ((k : ℕ) (d : EndedState) → (slice_index_or settled k d).read ≡ (slice_index_or ends k d).read)
-          → HaveSeenEnds has_seen drivers ends
+      → HaveSeenEnds has_seen drivers ends
       → (k : ℕ) (driver : D) (ended : EndedState) → slice_get drivers k ≡ Some driver
-          → slice_get settled k ≡ Some ended → has_seen driver (jobs_in (queued_by ends control k)) ended.read
+      → slice_get settled k ≡ Some ended → has_seen driver (jobs_in (queued_by ends control k)) ended.read
   once_settled drivers ends settled control long same have k driver ended driver_is ended_is =
       let within : k < length ends = omega (arith, slice_get_within settled k ended ended_is, long) in
       let before = get_or ends k ended in
       let before_is : slice_get ends k ≡ Some before = slice_get-get_or ends k ended within in
       let read : before.read ≡ ended.read = sym (same k ended)
-          ∙ ap (λ (e : EndedState). e.read) (get_or_from_slice_get settled k ended ended ended_is) in
+      ∙ ap (λ (e : EndedState). e.read) (get_or_from_slice_get settled k ended ended ended_is) in
       let seen : has_seen driver (jobs_in before.queued) before.read = have k driver before driver_is before_is in
       subst (λ items. has_seen driver (jobs_in items) ended.read)
-          (sym (queued_by_end ends control k before before_is))
-          (subst (λ r. has_seen driver (jobs_in before.queued) r) read seen)
+      (sym (queued_by_end ends control k before before_is))
+      (subst (λ r. has_seen driver (jobs_in before.queued) r) read seen)

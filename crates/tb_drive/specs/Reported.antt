@@ -18,7 +18,7 @@ use Rattle.tb_pipe.specs.Run.{PipelineState}
 abbrev pub AreTogether : PipelineState → List SubmitterState → SenderState → Type 0
 AreTogether pipeline submitters control =
     (map origin_of submitters ≡ pipeline.submitters) × (control.seat ≡ control_seat pipeline.intake)
-        × (length pipeline.submitters ≡ pipeline.intake.submitters)
+    × (length pipeline.submitters ≡ pipeline.intake.submitters)
 
 -- Of a pipeline with this clock and this limit, whose control queued these items, the report is lawful of some queue
 -- that its senders filled, and each driver has seen what its submitter queued and read.
@@ -42,4 +42,4 @@ abbrev pub HasFinished : {D : Type 0} → (D → List Numbered → List Replied 
     → List Item → Finished D → Type 0
 HasFinished has_seen clock intake controlled finished =
     HasReported has_seen clock intake.limit intake.submitters controlled finished.drivers.items
-        finished.report.ledger finished.report.ends.items
+    finished.report.ledger finished.report.ends.items

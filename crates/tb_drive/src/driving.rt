@@ -475,7 +475,7 @@ pub fn submit_ahead<R: Wait>(
     ensures ok { (before : SubmitterState) → slice_get opened.old.submitters.items submitter ≡ Some before
         → IfOk result (λ number. (number ≡ length before.queued)
         × (opened.new.submitters.items ≡ set opened.old.submitters.items submitter
-            (with_packet before number packet))) }
+        (with_packet before number packet))) }
     ensures admitted { (before : SubmitterState) → slice_get opened.old.submitters.items submitter ≡ Some before
         → OnOk result (submit_refusal before packet ≡ None) }
     ensures back { IfErr result (λ refused. (refused.0 ≡ packet)

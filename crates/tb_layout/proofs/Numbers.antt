@@ -36,16 +36,16 @@ pub written : (offset size count number : ℕ) (xs part : List ℕ) → offset +
     take (offset + size) (put_mid offset count xs part) ≡ take offset xs ++ bytes_of size number
 written offset size count number xs part h count_is is =
     let low : bytes_low_first 0 size number ≡ bytes_of size number = bytes_low_first-bytes_of 0 size number
-        ∙ ap (bytes_of size) (div-one number) in
+    ∙ ap (bytes_of size) (div-one number) in
     let none : drop size (take count (drop offset xs))
-        ≡ [] =
-        drop_all size (take count (drop offset xs)) (omega
-        (arith, length-take-le count (drop offset xs) (omega (arith, length-drop offset xs)))) in
+    ≡ [] =
+    drop_all size (take count (drop offset xs)) (omega
+    (arith, length-take-le count (drop offset xs) (omega (arith, length-drop offset xs)))) in
     let exact : part ≡ bytes_of size number =
     is ∙ ap (λ bytes. bytes_low_first 0 size number ++ bytes) none ∙ append-nil (bytes_low_first 0 size number) ∙ low in
     take-put_mid offset count xs part (offset + size)
-        (sym (ap (λ bytes. offset + length bytes) exact ∙ ap (λ n. offset + n) (length-bytes_of size number)))
-        (omega arith) ∙ ap (λ bytes. take offset xs ++ bytes) exact
+    (sym (ap (λ bytes. offset + length bytes) exact ∙ ap (λ n. offset + n) (length-bytes_of size number)))
+    (omega arith) ∙ ap (λ bytes. take offset xs ++ bytes) exact
 
 -- a number in two parts, the lower of them first
 pub bytes_of-append : (size more low high : ℕ) → low < 256 ^ size
@@ -69,13 +69,13 @@ bytes_of-append (suc size) more low high h =
 pub halves : (offset number : ℕ) (old between new : List ℕ)
     → take (offset + 8) between ≡ take offset old ++ bytes_of 8 (number % 18446744073709551616) →
     take (offset + 8 + 8) new ≡ take (offset + 8) between ++ bytes_of 8 (number / 18446744073709551616)
-        → take (offset + 16) new ≡ take offset old ++ bytes_of 16 number
+    → take (offset + 16) new ≡ take offset old ++ bytes_of 16 number
 halves offset number old between new low high =
     let small : number % 18446744073709551616 < 256 ^ 8 = omega arith in
     let whole : number % 18446744073709551616 + 256 ^ 8 * (number / 18446744073709551616) ≡ number = omega arith in
     let end : offset + 16 ≡ offset + 8 + 8 = omega arith in
     let parts = bytes_of-append 8 8 (number % 18446744073709551616) (number / 18446744073709551616) small
-        ∙ ap (bytes_of 16) whole in
+    ∙ ap (bytes_of 16) whole in
     ap (λ n. take n new) end ∙ high ∙ ap (λ bytes. bytes ++ bytes_of 8 (number / 18446744073709551616)) low
     ∙ append_assoc (take offset old) _ _ ∙ ap (λ bytes. take offset old ++ bytes) parts
 
@@ -97,7 +97,7 @@ bytes_of-little_endian (byte ∷ bytes) h =
     let first : whole % 256 ≡ byte = omega arith in
     let others : whole / 256 ≡ little_endian bytes = omega arith in
     rw (first, others) (ap (λ more. byte ∷ more) (bytes_of-little_endian bytes
-        (λ place d within. h (suc place) d (omega arith))))
+    (λ place d within. h (suc place) d (omega arith))))
 
 -- ---- numbers that lie one after the other
 
@@ -110,7 +110,7 @@ drop-laid : (front back : List (ℕ × ℕ)) → drop (size_of front) (bytes_in_
 drop-laid [] back = refl
 drop-laid ((size, number) ∷ front) back =
     ap (λ n. drop (n + size_of front) (bytes_of size number ++ bytes_in_turn (front ++ back)))
-        (sym (length-bytes_of size number))
+    (sym (length-bytes_of size number))
     ∙ drop-append-add (bytes_of size number) (bytes_in_turn (front ++ back)) (size_of front) ∙ drop-laid front back
 
 -- a number is found where it lies
@@ -150,8 +150,8 @@ laid-fields_from (size ∷ sizes) offset bytes h small =
     ap (λ n. bytes_of size (little_endian (take n (drop offset bytes)))) count
     ∙ ap (λ n. bytes_of n (little_endian part)) (sym long)
     ∙ bytes_of-little_endian part (All-take (λ byte. byte < 256) size (drop offset bytes)
-            (All-drop (λ byte. byte < 256) offset bytes small)) in
+    (All-drop (λ byte. byte < 256) offset bytes small)) in
     ap (λ front. front ++ bytes_in_turn (fields_from sizes (offset + size) bytes)) first
     ∙ ap (λ back. part ++ back) (laid-fields_from sizes (offset + size) bytes h small
-        ∙ sym (drop-drop size offset bytes))
+    ∙ sym (drop-drop size offset bytes))
     ∙ take-append-drop size (drop offset bytes)

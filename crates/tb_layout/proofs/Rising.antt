@@ -17,10 +17,13 @@ rise_rebased : (offset low count : ℕ) (failures : List Failure)
     → RiseWithin (offset + low) (offset + count) failures → RiseWithin low count (map (from_offset offset) failures)
 rise_rebased offset low count [] rise = tt
 rise_rebased offset low count (failure ∷ failures) rise =
-    let next : failure.index + 1 ≡ offset + (failure.index - offset + 1) = omega (arith, rise.0) in
-    (omega (arith, rise.0), omega (arith, rise.0, rise.1), rise_rebased offset
-        (failure.index - offset + 1) count failures (subst
-        (λ (n : ℕ). RiseWithin n (offset + count) failures) next rise.2))
+    let next : failure.index + 1 ≡ offset + (failure.index - offset + 1) = omega (arith, rise.0) in (
+      omega (arith, rise.0),
+      omega (arith, rise.0, rise.1),
+      rise_rebased offset
+          (failure.index - offset + 1) count failures (subst
+          (λ (n : ℕ). RiseWithin n (offset + count) failures) next rise.2),
+    )
 
 -- counted from where they begin, they rise from 0
 pub rise_from_0 : (offset count : ℕ) (failures : List Failure) → RiseWithin offset (offset + count) failures

@@ -21,13 +21,13 @@ use Rattle.tb_list.specs.Printing.{as_place, text_from}
 
 pub admitted_is_queued : (items : List work.Item) (submission : Submission) (r : Result ℕ Refusal) → IsOk r →
     packet_as items submission r ≡ Packet (numbered_packet submission.submitter
-        (number_in submission.submitter items) (packet_of submission))
+    (number_in submission.submitter items) (packet_of submission))
 admitted_is_queued items submission (Ok count) is = refl
 admitted_is_queued items submission (Err refusal) is = cc
 
 texts_agree : (clock : ℕ) (committed : List Work) (place : Option ℕ) (plan : List Planned) →
     text_from place (all_due_from clock committed (as_place place) (queue_of plan)) (map line_of plan)
-        ≡ lines_from clock committed (as_place place) plan
+    ≡ lines_from clock committed (as_place place) plan
 unfolding text_from lines_from
 texts_agree clock committed place [] = refl
 texts_agree clock committed None (Packet job ∷ plan) =
@@ -56,16 +56,16 @@ on_ok (Err e) f holds = tt
 pub whole : (clock : ℕ) (plan : List Planned) (lines : List Line) (ledger : LedgerState) (replies : List Replied)
     (state : State) (out with_lines with_state : List ℕ) →
     lines ≡ map line_of plan → IsListed clock (queue_of plan) ledger replies
-        → state ≡ replay ledger.opening (works ledger) →
+    → state ≡ replay ledger.opening (works ledger) →
     with_lines ≡ out ++ text_from (Some 0) replies lines → with_state ≡ with_lines ++ state_text state
-        → with_state ≡ out ++ plan_text clock plan
+    → with_state ≡ out ++ plan_text clock plan
 whole clock plan lines ledger replies state out with_lines with_state lines_are is state_is first second =
     let committed = ahead (queue_of plan) in
     let after : state ≡ replay clock committed = state_is ∙ ap (λ start. replay start (works ledger)) is.from
-        ∙ ap (replay clock) is.committed in
+    ∙ ap (replay clock) is.committed in
     let text : text_from (Some 0) replies lines ≡ lines_from clock committed (Ahead 0) plan =
     ap (text_from (Some 0) replies) lines_are ∙ ap (λ rs. text_from (Some 0) rs (map line_of plan)) is.replied
-        ∙ texts_agree clock committed (Some 0) plan in
+    ∙ texts_agree clock committed (Some 0) plan in
     second ∙ ap (λ t. t ++ state_text state) (first ∙ ap (λ t. out ++ t) text)
     ∙ ap (λ (s : State). (out ++ lines_from clock committed (Ahead 0) plan) ++ state_text s) after
     ∙ append_assoc out (lines_from clock committed (Ahead 0) plan) (state_text (replay clock committed))

@@ -59,7 +59,7 @@ first_fault operation index clock facts [] = None
 first_fault operation index clock facts (event ∷ events) =
     let code = verdict_at operation facts (next_timestamp clock) event in
     if code == 0 then first_fault operation (index + 1) (clock_after clock 1)
-        (facts_with operation facts (next_timestamp clock) event) events
+    (facts_with operation facts (next_timestamp clock) event) events
     else Some (record { index = index; event = event; code = code })
 
 -- the results of so many events that fail together: the first fault has its own code
@@ -89,8 +89,10 @@ closed_outcome operation clock facts chain (Some fault) =
 -- an open chain fails, and its last event is not examined
 abbrev pub open_outcome : {Event : Type 0} → Operation Event → Facts → List Event → Option (Fault Event) → Outcome
 open_outcome operation facts front fault =
-    record { results = failed_results (length front) fault ++ linked_event_chain_open ∷ [];
-        facts = left_behind operation facts fault }
+    record {
+      results = failed_results (length front) fault ++ linked_event_chain_open ∷ [];
+      facts = left_behind operation facts fault;
+    }
 
 abbrev pub chain_outcome : {Event : Type 0} → Operation Event → ℕ → Facts → List Event → Outcome
 chain_outcome operation clock facts chain =

@@ -43,7 +43,7 @@ pub record GiveAsEach {Event : Type 0} (packet_of : List Event → Events) (stat
 abbrev pub JoiningIsInvisible : {Event : Type 0} → (List Event → Events) → (Event → Bool) → Type 0
 JoiningIsInvisible {Event} packet_of is_linked =
     (state : State) (packets : List (List Event)) → state.clock ≤ clock_max → IsGroup is_linked packets
-        → GiveAsEach packet_of state packets
+    → GiveAsEach packet_of state packets
 
 -- a lookup is a group by itself: its accounts, whole, are its answer, and the state stays as it is
 pub record GivesAsAlone (state : State) (ids : List ℕ) : Type 0 where

@@ -115,7 +115,14 @@ resolving_verdict facts timestamp event =
 
 -- ---- a plain or pending transfer
 
--- between two accounts, which have their balances; sums have no bound
+-- what an account's debits, and its credits, come to with an amount more; sums have no bound
+abbrev pub debits_with : Account → ℕ → ℕ
+debits_with account amount = account.debits_pending + account.debits_posted + amount
+
+abbrev pub credits_with : Account → ℕ → ℕ
+credits_with account amount = account.credits_pending + account.credits_posted + amount
+
+-- between two accounts, which have their balances
 abbrev pub balance_checks : ℕ → Account → Account → Transfer → List (Bool × TransferCode)
 balance_checks timestamp debit credit event =
     (not (debit.ledger == credit.ledger), AccountsMustHaveTheSameLedger) ∷
@@ -124,14 +131,11 @@ balance_checks timestamp debit credit event =
     (is_pending event && nat_lt u128_max (credit.credits_pending + event.amount), OverflowsCreditsPending) ∷
     (nat_lt u128_max (debit.debits_posted + event.amount), OverflowsDebitsPosted) ∷
     (nat_lt u128_max (credit.credits_posted + event.amount), OverflowsCreditsPosted) ∷
-    (nat_lt u128_max (debit.debits_pending + debit.debits_posted + event.amount), OverflowsDebits) ∷
-    (nat_lt u128_max (credit.credits_pending + credit.credits_posted + event.amount), OverflowsCredits) ∷
-    (not (event.timeout == 0) && nat_lt clock_max
-        (expires_at (record event { timestamp = timestamp })), OverflowsTimeout) ∷
-    (debits_must_not_exceed_credits debit && nat_lt debit.credits_posted
-        (debit.debits_pending + debit.debits_posted + event.amount), ExceedsCredits) ∷
-    (credits_must_not_exceed_debits credit && nat_lt credit.debits_posted
-        (credit.credits_pending + credit.credits_posted + event.amount), ExceedsDebits) ∷
+    (nat_lt u128_max (debits_with debit event.amount), OverflowsDebits) ∷
+    (nat_lt u128_max (credits_with credit event.amount), OverflowsCredits) ∷
+    (not (event.timeout == 0) && nat_lt clock_max (expires_at (record event { timestamp = timestamp })), OverflowsTimeout) ∷
+    (debits_must_not_exceed_credits debit && nat_lt debit.credits_posted (debits_with debit event.amount), ExceedsCredits) ∷
+    (credits_must_not_exceed_debits credit && nat_lt credit.debits_posted (credits_with credit event.amount), ExceedsDebits) ∷
     []
 
 abbrev pub between : ℕ → Account → Account → Transfer → TransferCode
@@ -159,7 +163,7 @@ abbrev pub moving_verdict : Facts → ℕ → Transfer → TransferCode
 moving_verdict facts timestamp event =
     first_row (moving_checks event)
     (between_found timestamp (balanced_account facts event.debit_account_id)
-        (balanced_account facts event.credit_account_id) event)
+    (balanced_account facts event.credit_account_id) event)
 
 -- ---- any event
 

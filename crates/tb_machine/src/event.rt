@@ -156,7 +156,7 @@ fn store_new(
     ensures new { IfOk result (λ added. added ≡ not (is_some (transfer_with tables.old.now event.old.id))) }
     ensures added { result ≡ Ok true → tables.new
         ≡ with_change tables.old (add_transfer tables.old.now
-            (stored_transfer tables.old.now timestamp event.old)) }
+        (stored_transfer tables.old.now timestamp event.old)) }
     ensures same { result ≢ Ok true → tables.new ≡ tables.old }
     ensures event { OnOk result (event.new ≡ event.old) }
 {
@@ -209,7 +209,7 @@ fn store_resolved(
     ensures new { IfOk result (λ added. added ≡ not (is_some (transfer_with tables.old.now event.now.id))) }
     ensures added { result ≡ Ok true → tables.new
         ≡ with_change tables.old (add_transfer tables.old.now
-            (stored_transfer tables.old.now timestamp event.now)) }
+        (stored_transfer tables.old.now timestamp event.now)) }
     ensures same { result ≢ Ok true → tables.new ≡ tables.old }
 {
     let Some(place) = pending else { unreachable!() };

@@ -101,10 +101,10 @@ impl Machine {
         ensures in_range { self.old.clock ≤ clock_max }
         ensures state { let events = map E.event_of (chunks 128 body.now) in
             OnOk result (self.new ≡ after_events self.old (length events)
-                (events_outcome E.operation self.old.clock self.old.facts events).facts) }
+            (events_outcome E.operation self.old.clock self.old.facts events).facts) }
         ensures failures { let events = map E.event_of (chunks 128 body.now) in
             OnOk result (out.new.items ≡ failures_from 0 (events_outcome E.operation self.old.clock
-                self.old.facts events).results) }
+            self.old.facts events).results) }
         ensures unchanged { OnErr result (self.new ≡ self.old) }
         ensures none { OnErr result (out.new.items ≡ []) }
         ensures capacity { vec_capacity out.new ≡ vec_capacity out.old }

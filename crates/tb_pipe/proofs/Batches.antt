@@ -31,11 +31,11 @@ no_last refused front sender (item.Packet job) =
     either_same view front.closed _ _ false refl
     (either_same view front.stopped _ _ false refl
     (either_same view refused _ _ false (none_more is_last (group_as_batch front.held) _
-        (none_sealed front.held) refl) (either_same view (is_taken front.limit front.held job) _ _ false refl
-        (none_sealed front.held))))
+    (none_sealed front.held) refl) (either_same view (is_taken front.limit front.held job) _ _ false refl
+    (none_sealed front.held))))
 no_last refused front sender (item.Pulse moment) =
     either_same (λ (taken : Taken). has_last taken.parcels) (front.closed || front.stopped) _ _ false refl
-        (none_more is_last (group_as_batch front.held) _ (none_sealed front.held) refl)
+    (none_more is_last (group_as_batch front.held) _ (none_sealed front.held) refl)
 no_last refused front sender item.End =
     either_same (λ (taken : Taken). has_last taken.parcels) (all_ended (with_end front sender)) _ _ false
     (none_sealed front.held) refl
@@ -47,13 +47,13 @@ pub ticket_more : (limit submitters : ℕ) (queue : List Ticket) (ticket : Ticke
     (given parcels : List Parcel) → (refused : Bool)
     × (take_result next parcels ≡ take_step refused front ticket.sender ticket.item) →
     ((items : List Item) (sent : List Passage) → Passes items front.closed front.stopped (sent ++ held_by front)
-        → Passes (items ++ ticket.item ∷ []) next.closed next.stopped
-            ((sent ++ all_passages_in parcels) ++ held_by next)) →
+    → Passes (items ++ ticket.item ∷ []) next.closed next.stopped
+    ((sent ++ all_passages_in parcels) ++ held_by next)) →
     AreJoinedParcels front.limit parcels → ((queue : List Ticket) → KnowsEnds queue front
-        → KnowsEnds (queue ++ ticket ∷ []) next) → (next.limit ≡ front.limit)
-        × (next.submitters ≡ front.submitters) →
+    → KnowsEnds (queue ++ ticket ∷ []) next) → (next.limit ≡ front.limit)
+    × (next.submitters ≡ front.submitters) →
     IsBatched limit submitters queue front given → IsBatched limit submitters
-        (queue ++ ticket ∷ []) next (given ++ parcels)
+    (queue ++ ticket ∷ []) next (given ++ parcels)
 ticket_more limit submitters queue ticket front next given parcels step passes lawful ends same is = record {
   under = same.0 ∙ is.under;
   among = same.1 ∙ is.among;
@@ -61,8 +61,8 @@ ticket_more limit submitters queue ticket front next given parcels step passes l
       (all_passages_in (given ++ parcels) ++ held_by next))
       (sym (map-append (λ (ticket : Ticket). ticket.item) queue (ticket ∷ [])))
       (subst (λ ps. Passes (items_in queue ++ ticket.item ∷ []) next.closed next.stopped (ps ++ held_by next))
-          (sym (flat_map-append passages_in given parcels))
-          (passes (items_in queue) (all_passages_in given) is.passes));
+      (sym (flat_map-append passages_in given parcels))
+      (passes (items_in queue) (all_passages_in given) is.passes));
   joined = all_more (IsJoinedParcel limit) given parcels is.joined
       (subst (λ n. AreJoinedParcels n parcels) is.under lawful);
   unended = none_more is_last given parcels is.unended
@@ -76,7 +76,7 @@ knows_held queue front knows = knows
 pub group_more : (limit submitters : ℕ) (queue : List Ticket) (front next : FrontState) (given : List Parcel)
     (batch : List Numbered) → next ≡ with_group front [] → batch ≡ front.held → IsGroup front.limit front.held →
     IsBatched limit submitters queue front given → IsBatched limit submitters queue next
-        (given ++ parcel.Batch batch ∷ [])
+    (given ++ parcel.Batch batch ∷ [])
 group_more limit submitters queue front next given batch left some lawful is =
     subst (λ n. IsBatched limit submitters queue n (given ++ parcel.Batch batch ∷ [])) (sym left)
     (record {
@@ -84,9 +84,9 @@ group_more limit submitters queue front next given batch left some lawful is =
       among = is.among;
       passes = subst (Passes (items_in queue) front.closed front.stopped)
           (sym (append-nil (all_passages_in (given ++ parcel.Batch batch ∷ []))
-              ∙ flat_map-append passages_in given (parcel.Batch batch ∷ [])
-              ∙ ap (λ ps. all_passages_in given ++ ps) (append-nil (map Admitted batch))
-              ∙ ap (λ jobs. all_passages_in given ++ map Admitted jobs) some)) is.passes;
+          ∙ flat_map-append passages_in given (parcel.Batch batch ∷ [])
+          ∙ ap (λ ps. all_passages_in given ++ ps) (append-nil (map Admitted batch))
+          ∙ ap (λ jobs. all_passages_in given ++ map Admitted jobs) some)) is.passes;
       joined = all_more (IsJoinedParcel limit) given (parcel.Batch batch ∷ []) is.joined
           (subst (IsGroup limit) (sym some) (subst (λ n. IsGroup n front.held) is.under lawful), tt);
       unended = none_more is_last given (parcel.Batch batch ∷ []) is.unended refl;
@@ -132,7 +132,7 @@ pub intake_more : (first now next : IntakeState) (ticket : Ticket) → now ≡ r
     → next ≡ with_taken now ticket → next ≡ record first { taken = next.taken }
 intake_more first now next ticket same took =
     took ∙ ap (λ (i : IntakeState). record i { taken = now.taken ++ ticket ∷ [] }) same
-        ∙ ap (λ (i : IntakeState). record first { taken = i.taken }) (sym took)
+    ∙ ap (λ (i : IntakeState). record first { taken = i.taken }) (sym took)
 
 pub intake_same : (first now next : IntakeState) → now ≡ record first { taken = now.taken } → next ≡ now
     → next ≡ record first { taken = next.taken }

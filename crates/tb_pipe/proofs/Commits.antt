@@ -21,10 +21,10 @@ final_is : (refused : Bool) (ledger next : LedgerState) (handed : Parcel) (given
     → apply_result next given ≡ apply_step refused ledger handed → is_final given ≡ is_last handed
 final_is refused ledger next (parcel.Batch jobs) given is =
     let view : Applied → Bool = λ step. is_final step.outcomes in ap view is
-        ∙ either_same view (must_stop refused ledger (length jobs)) _ _ false refl refl
+    ∙ either_same view (must_stop refused ledger (length jobs)) _ _ false refl refl
 final_is refused ledger next (parcel.Pulse moment) given is =
     let view : Applied → Bool = λ step. is_final step.outcomes in ap view is
-        ∙ either_same view (must_stop refused ledger 1) _ _ false refl refl
+    ∙ either_same view (must_stop refused ledger 1) _ _ false refl refl
 final_is refused ledger next (parcel.Return job cause) given is = ap (λ (step : Applied). is_final step.outcomes) is
 final_is refused ledger next parcel.Last given is = ap (λ (step : Applied). is_final step.outcomes) is
 
@@ -55,9 +55,9 @@ pub parcel_more : (clock : ℕ) (sent : List Parcel) (handed : Parcel) (last : B
     (before : List Outcomes) (given : Outcomes) → last ≡ is_last handed →
     (refused : Bool) × (apply_result next given ≡ apply_step refused ledger handed) →
     ((clock : ℕ) (sent : List Passage) (replies : List Replied) → Commits clock sent ledger replies
-        → Commits clock (sent ++ passages_in handed) next (replies ++ replies_in given)) →
+    → Commits clock (sent ++ passages_in handed) next (replies ++ replies_in given)) →
     ((limit : ℕ) → IsJoinedParcel limit handed → AreJoined limit ledger.groups → AreJoined limit next.groups)
-        → IsCommitted clock sent ledger before →
+    → IsCommitted clock sent ledger before →
     CommittedTo last clock (sent ++ handed ∷ []) next (before ++ given_on given)
 parcel_more clock sent handed last ledger next before given last_is step more joined_more is = by last last_is
   where

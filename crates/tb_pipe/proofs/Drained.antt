@@ -42,25 +42,25 @@ pub drained : (clock limit submitters : ℕ) (queue : List Ticket)
     (given_parcels taken_parcels left_parcels : List Parcel) (ledger : LedgerState)
     (given_outcomes taken_outcomes left_outcomes : List Outcomes) →
     AllBatched limit submitters queue given_parcels → AllCommitted clock taken_parcels ledger given_outcomes
-        → taken_parcels ++ left_parcels ≡ given_parcels → taken_outcomes ++ left_outcomes ≡ given_outcomes
-        → has_final taken_outcomes ≡ true →
+    → taken_parcels ++ left_parcels ≡ given_parcels → taken_outcomes ++ left_outcomes ≡ given_outcomes
+    → has_final taken_outcomes ≡ true →
     HasRun clock limit queue ledger (answers_in taken_outcomes)
 drained clock limit submitters queue given_parcels taken_parcels left_parcels ledger given_outcomes taken_outcomes
     left_outcomes batched committed parcels_are outcomes_are final =
     let all_parcels : taken_parcels ≡ batched.before
-        ++ parcel.Last ∷ [] =
-        all_taken is_last batched.before parcel.Last taken_parcels left_parcels batched.unended
-        (parcels_are ∙ batched.parts) committed.ended in
+    ++ parcel.Last ∷ [] =
+    all_taken is_last batched.before parcel.Last taken_parcels left_parcels batched.unended
+    (parcels_are ∙ batched.parts) committed.ended in
     let spelling : all_passages_in taken_parcels ≡ all_passages_in batched.before = ap all_passages_in all_parcels
-        ∙ flat_map-append passages_in batched.before (parcel.Last ∷ [])
-        ∙ append-nil (all_passages_in batched.before) in
+    ∙ flat_map-append passages_in batched.before (parcel.Last ∷ [])
+    ∙ append-nil (all_passages_in batched.before) in
     let all_outcomes : taken_outcomes ≡ committed.before
-        ++ outcomes.Last ∷ [] =
-        all_taken is_final committed.before outcomes.Last taken_outcomes left_outcomes committed.unfinished
-        (outcomes_are ∙ committed.parts) final in
+    ++ outcomes.Last ∷ [] =
+    all_taken is_final committed.before outcomes.Last taken_outcomes left_outcomes committed.unfinished
+    (outcomes_are ∙ committed.parts) final in
     let answers : answers_in taken_outcomes ≡ answers_in committed.before = ap answers_in all_outcomes
-        ∙ flat_map-append replies_in committed.before (outcomes.Last ∷ [])
-        ∙ append-nil (answers_in committed.before) in
+    ∙ flat_map-append replies_in committed.before (outcomes.Last ∷ [])
+    ∙ append-nil (answers_in committed.before) in
     record {
       ran = record {
         closed = batched.closed;
@@ -92,7 +92,7 @@ few limit bytes size ok = by (not (length bytes % size == 0)) (nat_lt limit (len
 
     by : (odd above : Bool) → nat_lt limit (length bytes / size) ≡ above →
         IsOk (result_of (if odd then Err InvalidDataSize else if above then Err TooMuchData
-            else Ok (length bytes / size))) → length (chunks size bytes) ≤ limit
+        else Ok (length bytes / size))) → length (chunks size bytes) ≤ limit
     by true above is ok = absurd (true≢false (sym ok))
     by false true is ok = absurd (true≢false (sym ok))
     by false false is ok = subst (λ n. n ≤ limit) (sym (length-chunks size (length bytes / size) bytes)) (below is)
@@ -111,7 +111,7 @@ few_events limit packet ok = by (packet.operation == 129) (packet.operation == 1
         (admission_of_size limit bytes (if accounts then Some 128 else if transfers then Some 128
         else if lookup then Some 16 else None)) →
         count_of (if accounts then Accounts (accounts_of bytes)
-            else if transfers then Transfers (transfers_of bytes) else Ids (ids_of bytes)) ≤ limit
+        else if transfers then Transfers (transfers_of bytes) else Ids (ids_of bytes)) ≤ limit
     by true transfers lookup ok = few_mapped limit account_of (chunks 128 bytes) (few limit bytes 128 ok)
     by false true lookup ok = few_mapped limit transfer_of (chunks 128 bytes) (few limit bytes 128 ok)
     by false false true ok = few_mapped limit little_endian (chunks 16 bytes) (few limit bytes 16 ok)

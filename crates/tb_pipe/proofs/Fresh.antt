@@ -21,7 +21,7 @@ pub fresh_batched : (limit submitters : ℕ) (queue : List Ticket) (front : Fron
 fresh_batched limit submitters queue front given under among passes knows no_queue none =
     subst (λ q. IsBatched limit submitters q front given) (sym no_queue)
     (subst (λ g. IsBatched limit submitters [] front g) (sym none)
-        (record { under = under; among = among; passes = passes; joined = tt; unended = refl; knows = knows }))
+    (record { under = under; among = among; passes = passes; joined = tt; unended = refl; knows = knows }))
 
 pub fresh_committed : (clock : ℕ) (taken : List Parcel) (ledger : LedgerState) (given : List Outcomes)
     → ledger ≡ record { opening = clock; groups = []; stopped = false } → Commits clock [] ledger []

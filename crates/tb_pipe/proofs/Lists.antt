@@ -55,7 +55,7 @@ no_more mark (a ∷ before) last (x ∷ xs) ys clear parts found =
     let first : x ≡ a = cc in
     let rest : xs ++ ys ≡ before ++ last ∷ [] = cc in
     ⊎_elim (λ (here : mark x ≡ true). absurd (true≢false (sym here ∙ ap mark first ∙ none.0)))
-            (λ later. no_more mark before last xs ys none.1 rest later) (or_cases (mark x) (list_any mark xs) found)
+    (λ later. no_more mark before last xs ys none.1 rest later) (or_cases (mark x) (list_any mark xs) found)
 
 -- whoever took the marked value took all
 pub all_taken : {A : Type 0} (mark : A → Bool) (before : List A) (last : A) (xs ys : List A)

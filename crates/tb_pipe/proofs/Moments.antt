@@ -41,8 +41,8 @@ one_own item.Close sender control false all own is submitted same = same
 
 mapped : (is_own : Bool) (ticket : Ticket) (tickets : List Ticket) →
     map (λ (t : Ticket). t.item) (if is_own then ticket ∷ tickets else tickets)
-        ≡ (if is_own then ticket.item ∷ map (λ (t : Ticket). t.item) tickets
-        else map (λ (t : Ticket). t.item) tickets)
+    ≡ (if is_own then ticket.item ∷ map (λ (t : Ticket). t.item) tickets
+    else map (λ (t : Ticket). t.item) tickets)
 mapped true ticket tickets = refl
 mapped false ticket tickets = refl
 
@@ -51,9 +51,9 @@ moments-part : (control : ℕ) (queue : List Ticket) → AreSubmitted control qu
 moments-part control [] all = refl
 moments-part control (ticket ∷ queue) all =
     one_own ticket.item ticket.sender control (ticket.sender == control) (items_in queue)
-        (part control queue) refl all.0 (moments-part control queue all.1)
+    (part control queue) refl all.0 (moments-part control queue all.1)
     ∙ ap moments_queued (sym (mapped (ticket.sender == control) ticket
-            (filter (λ (t : Ticket). t.sender == control) queue)))
+    (filter (λ (t : Ticket). t.sender == control) queue)))
 
 last_is_control : (ends : List EndedState) (control : SenderState) (n : ℕ) → length ends ≡ n
     → queued_by ends control n ≡ control.queued
@@ -66,7 +66,7 @@ pub first_moments : (submitters : ℕ) (queue : List Ticket) (ends : List EndedS
     (works behind : List Work) → length ends ≡ submitters → works ++ behind ≡ ahead (items_in queue)
     → AreSubmitted submitters queue →
     part submitters queue ≡ queued_by ends control submitters
-        → IsPrefixOf (moments_committed works) (moments_queued control.queued)
+    → IsPrefixOf (moments_committed works) (moments_queued control.queued)
 first_moments submitters queue ends control works behind long committed submitted own =
     let rest = moments-ahead (items_in queue) in (
       moments_committed behind ++ rest.0,
@@ -74,5 +74,5 @@ first_moments submitters queue ends control works behind long committed submitte
           ∙ ap (λ moments. moments ++ rest.0) (sym (moments-append works behind) ∙ ap moments_committed committed)
           ∙ rest.1
           ∙ moments-part submitters queue submitted ∙ ap moments_queued
-                  (own ∙ last_is_control ends control submitters long),
+          (own ∙ last_is_control ends control submitters long),
     )

@@ -19,8 +19,11 @@ same_origins seats n [] (y ∷ ys) same = absurd (omega (arith, same.0))
 same_origins seats n (x ∷ xs) [] same = absurd (omega (arith, same.0))
 same_origins seats n (x ∷ xs) (y ∷ ys) same =
     let ring : outlet_ring y ≡ outlet_ring x = same.1 0 x (omega arith) in
-    let rest = same_origins seats (suc n) xs ys (omega (arith, same.0), λ k d below.
-        same.1 (suc k) d (omega (arith, below))) in
+    let rest = same_origins seats (suc n) xs ys (
+      omega (arith, same.0),
+      λ k d below.
+          same.1 (suc k) d (omega (arith, below)),
+    ) in
     λ t. record { seat = seats n; ring = ring t } ∷ rest t
 
 -- ---- each ring's origin

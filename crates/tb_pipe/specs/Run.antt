@@ -17,8 +17,11 @@ pub record PipelineState : Type 0 where
 
 abbrev pub pipeline_of : Stages → PipelineState
 pipeline_of stages =
-    record { clock = stages.ledger.opening; intake = stages.intake;
-        submitters = origins stages.intake stages.outlets.items }
+    record {
+      clock = stages.ledger.opening;
+      intake = stages.intake;
+      submitters = origins stages.intake stages.outlets.items;
+    }
 
 pub record IsPipeline (stages : Stages) : Type 0 where
   pub ready : IsReady stages

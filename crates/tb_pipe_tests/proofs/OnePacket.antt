@@ -23,7 +23,7 @@ use Rattle.tb_pipe_tests.specs.OnePacket.{IsReplyToOne, IsRunOfOne, one_and_end}
 abbrev part_if : Bool → Ticket → ℕ → List Ticket → List Item
 part_if b ticket sender queue =
     map (λ (t : Ticket). t.item) (if b then ticket ∷ filter (λ (t : Ticket). t.sender == sender) queue
-        else filter (λ (t : Ticket). t.sender == sender) queue)
+    else filter (λ (t : Ticket). t.sender == sender) queue)
 
 abbrev AreEnds : List Item → Type 0
 AreEnds items = AllByRecursion (λ x. x ≡ item.End) items
@@ -44,7 +44,7 @@ is_end_of : (ticket : Ticket) (queue : List Ticket) → OthersEnd (ticket ∷ qu
     → ticket.item ≡ item.End
 is_end_of ticket queue others above =
     (subst AreEnds (ap (λ b. part_if b ticket ticket.sender queue) (eq-eqb ticket.sender ticket.sender refl))
-        (others ticket.sender above)).0
+    (others ticket.sender above)).0
 
 past_end : (place : Place) → next_place place item.End ≡ place
 past_end (Ahead k) = refl
@@ -59,8 +59,11 @@ Adds ticket queue =
 adds : (ticket : Ticket) (queue : List Ticket) (k : ℕ) → ticket.sender ≡ k → Adds ticket queue
 adds ticket queue zero is = inl (is, ap (λ b. part_if b ticket 0 queue) (eq-eqb ticket.sender 0 is))
 adds ticket queue (suc k) is =
-    inr (omega (arith, is), ap (λ b. part_if b ticket 0 queue)
-    (ne_eqb ticket.sender 0 (λ e. absurd (omega (arith, is, e)))))
+    inr (
+      omega (arith, is),
+      ap (λ b. part_if b ticket 0 queue)
+          (ne_eqb ticket.sender 0 (λ e. absurd (omega (arith, is, e)))),
+    )
 
 pub due_to_first : (clock : ℕ) (done : List Work) (place : Place) (queue : List Ticket) → OthersEnd queue
     → all_due_from clock done place (items_in queue) ≡ all_due_from clock done place (part 0 queue)
@@ -111,7 +114,7 @@ replies_to_one clock packet ledger ends run =
     let first : part 0 run.queue ≡ one_and_end packet = run.lawful.filled.parts 0 (omega arith) ∙ run.submitted in
     run.lawful.replied 0 (omega arith)
     ∙ ap (λ replies. replies_to replies 0) (due_to_first clock (works ledger) (Ahead 0) run.queue
-            (others_end clock packet ledger ends run) ∙ ap (all_due_from clock (works ledger) (Ahead 0)) first)
+    (others_end clock packet ledger ends run) ∙ ap (all_due_from clock (works ledger) (Ahead 0)) first)
 
 reply_where : (clock : ℕ) (packet : Packet) (done : List Work)
     → (done ≡ []) ⊎ (done ≡ work_of (numbered_packet 0 0 packet) ∷ [])
@@ -124,7 +127,7 @@ pub is_reply : (clock : ℕ) (packet : Packet) (ledger : LedgerState) (ends : Li
 is_reply clock packet ledger ends run =
     let first : part 0 run.queue ≡ one_and_end packet = run.lawful.filled.parts 0 (omega arith) ∙ run.submitted in
     reply_where clock packet (works ledger) (front_of_one (works ledger) run.lawful.behind
-        (work_of (numbered_packet 0 0 packet))
+    (work_of (numbered_packet 0 0 packet))
     (run.lawful.committed ∙ ahead_of_first run.queue (others_end clock packet ledger ends run) ∙ ap ahead first))
 
 -- the one end has the reply still to read
@@ -134,7 +137,7 @@ pub lies_for_one : (clock : ℕ) (packet : Packet) (ledger : LedgerState) (ends 
 lies_for_one clock packet ledger ends [] ended run is =
     let unread : ended.read ≡ [] = ap (λ (l : List EndedState). (get_or l 0 ended).read) (sym is) ∙ run.unread ended in
     ap (λ read. read ++ ended.lying) (sym unread) ∙ ap (λ l. replies_of l 0) (sym is)
-        ∙ replies_to_one clock packet ledger ends run
+    ∙ replies_to_one clock packet ledger ends run
 lies_for_one clock packet ledger ends (x ∷ front) ended run is =
     let long : length ends ≡ suc (length front + 1) = ap length is ∙ ap suc (length-append front (ended ∷ [])) in
     absurd (omega (arith, long, run.long))
@@ -168,7 +171,7 @@ new_one credit intake (origin ∷ others) first is seats =
 -- what it has queued and read once it has ended
 pub queued_one : (packet : Packet) (first : SubmitterState) (ended : EndedState) → IsFirst first
     → ended ≡ ended_with (with_item first (item.Packet (numbered_packet first.origin.seat.number 0 packet)))
-        item.End →
+    item.End →
     (ended.queued ≡ one_and_end packet) × (ended.read ≡ [])
 queued_one packet first ended is at = (
   ap (λ (e : EndedState). e.queued) at ∙ ap (λ (before : List Item).

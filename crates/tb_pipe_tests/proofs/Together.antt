@@ -14,8 +14,8 @@ pub is_run : (pipeline : PipelineState) (served : ServedState) (queued : ℕ →
     (ends : List EndedState) → served.clock ≡ pipeline.clock
     → served.intake ≡ record pipeline.intake { taken = served.intake.taken } →
     LawfulReport served.clock served.intake.submitters served.intake.taken queued (works ledger)
-        (replay ledger.opening (works ledger)) ledger.stopped (replies_of ends)
-        → IsGrouping served.intake.limit ledger.groups →
+    (replay ledger.opening (works ledger)) ledger.stopped (replies_of ends)
+    → IsGrouping served.intake.limit ledger.groups →
     IsRun pipeline.clock pipeline.intake.limit pipeline.intake.submitters ledger ends
 is_run pipeline served queued ledger ends clock intake lawful grouping = (
   served.intake.taken,
@@ -23,17 +23,17 @@ is_run pipeline served queued ledger ends clock intake lawful grouping = (
   subst (λ n. LawfulReport n pipeline.intake.submitters served.intake.taken queued (works ledger)
       (replay ledger.opening (works ledger)) ledger.stopped (replies_of ends)) clock
       (subst (λ n. LawfulReport served.clock n served.intake.taken queued (works ledger)
-          (replay ledger.opening (works ledger)) ledger.stopped (replies_of ends))
-          (ap (λ (i : IntakeState). i.submitters) intake) lawful),
+      (replay ledger.opening (works ledger)) ledger.stopped (replies_of ends))
+      (ap (λ (i : IntakeState). i.submitters) intake) lawful),
   subst (λ n. IsGrouping n ledger.groups) (ap (λ (i : IntakeState). i.limit) intake) grouping,
 )
 
 -- the same of a pipeline that was opened so
 pub run_as : (clock limit submitters : ℕ) (pipeline : PipelineState) (ledger : LedgerState) (ends : List EndedState)
     → IsOpenedAs clock limit submitters pipeline → IsRun pipeline.clock pipeline.intake.limit
-        pipeline.intake.submitters ledger ends →
+    pipeline.intake.submitters ledger ends →
     IsRun clock limit submitters ledger ends
 run_as clock limit submitters pipeline ledger ends opened run =
     subst (λ n. IsRun n limit submitters ledger ends) opened.0
     (subst (λ n. IsRun pipeline.clock n submitters ledger ends) opened.1
-        (subst (λ n. IsRun pipeline.clock pipeline.intake.limit n ledger ends) opened.2 run))
+    (subst (λ n. IsRun pipeline.clock pipeline.intake.limit n ledger ends) opened.2 run))

@@ -31,5 +31,5 @@ pub record IsRunOfOne (clock : ℕ) (packet : Packet) (ledger : LedgerState) (en
 abbrev pub IsReplyToOne : ℕ → Packet → Replied → Type 0
 IsReplyToOne clock packet reply =
     (reply ≡ reply_with Stopped (numbered_packet 0 0 packet))
-        ⊎ (reply ≡ reply_with (Committed 0 (answer_of (opening clock) (events_in packet)))
-            (numbered_packet 0 0 packet))
+    ⊎ (reply ≡ reply_with (Committed 0 (answer_of (opening clock) (events_in packet)))
+    (numbered_packet 0 0 packet))

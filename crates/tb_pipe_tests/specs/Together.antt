@@ -23,5 +23,5 @@ IsOpenedAs clock limit submitters pipeline =
 abbrev pub IsRun : ℕ → ℕ → ℕ → LedgerState → List EndedState → Type 0
 IsRun clock limit submitters ledger ends =
     (queue : List Ticket) × (queued : ℕ → List Item)
-        × LawfulReport clock submitters queue queued (works ledger)
-            (replay ledger.opening (works ledger)) ledger.stopped (replies_of ends) × IsGrouping limit ledger.groups
+    × LawfulReport clock submitters queue queued (works ledger)
+    (replay ledger.opening (works ledger)) ledger.stopped (replies_of ends) × IsGrouping limit ledger.groups

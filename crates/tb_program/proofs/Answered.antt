@@ -30,19 +30,19 @@ first_part submitter ticket queue false is = rw is refl
 as_many_due : (clock submitters submitter : ℕ) (committed : List Work) (place : Place) (queue : List Ticket)
     → AreSubmitted submitters queue
     → length (jobs_in (part submitter queue)) ≡ length
-            (replies_to (all_due_from clock committed place (items_in queue)) submitter)
+    (replies_to (all_due_from clock committed place (items_in queue)) submitter)
 as_many_due clock submitters submitter committed place [] all = refl
 as_many_due clock submitters submitter committed place (ticket ∷ queue) all =
     ap (λ items. length (jobs_in items)) (first_part submitter ticket queue (ticket.sender == submitter) refl)
     ∙ one ticket.item (ticket.sender == submitter) refl all.0
-            (as_many_due clock submitters submitter committed (next_place place ticket.item) queue all.1)
+    (as_many_due clock submitters submitter committed (next_place place ticket.item) queue all.1)
   where
     one : (x : Item) (own : Bool) → (ticket.sender == submitter) ≡ own → IsSubmitted submitters ticket.sender x
         → length (jobs_in (part submitter queue)) ≡ length
-                (replies_to (all_due_from clock committed (next_place place x) (items_in queue)) submitter)
+        (replies_to (all_due_from clock committed (next_place place x) (items_in queue)) submitter)
         → length (jobs_in (if own then x ∷ part submitter queue else part submitter queue))
         ≡ length (replies_to (reply_due (outcome_at clock committed place) x
-            ++ all_due_from clock committed (next_place place x) (items_in queue)) submitter)
+        ++ all_due_from clock committed (next_place place x) (items_in queue)) submitter)
     one (item.Packet job) true own is others = rw (ap (λ n. n == submitter) is.0 ∙ own) (ap suc others)
     one (item.Packet job) false own is others = rw (ap (λ n. n == submitter) is.0 ∙ own) others
     one x true own is others = others
@@ -87,12 +87,16 @@ module _ {clock limit submitters : ℕ} {controlled : List Item} {drivers : List
   all_handed_in done k share told share_is told_is =
       let its = driver_at drivers k share told share_is told_is in
       let driver = its.0 in
-      let within : k < length ends = omega (arith, slice_get_within drivers k driver its.1,
-          reported.driven, reported.number) in
+      let within : k < length ends = omega (
+        arith,
+        slice_get_within drivers k driver its.1,
+        reported.driven,
+        reported.number,
+      ) in
       let end = some_at ends k within in
       let is_done = done k driver its.1 in
       let jobs = jobs_in (reported.queued k) in
       let seen = reported.seen k driver end.0 its.1 end.1 is_done.0 in
       subst (λ packets. IsHandedIn packets [] told jobs) its.2
-          (subst (λ all. IsHandedIn (share_of driver) [] all jobs) its.3
-          (subst (λ rest. IsHandedIn (share_of driver) rest (told_of driver) jobs) is_done.1 seen.0))
+      (subst (λ all. IsHandedIn (share_of driver) [] all jobs) its.3
+      (subst (λ rest. IsHandedIn (share_of driver) rest (told_of driver) jobs) is_done.1 seen.0))

@@ -44,7 +44,7 @@ pub one_refused : (share rest : List Packet) (packet : Packet) (told : List Told
     → IsHandedIn share (packet ∷ rest) told queued → IsHandedIn share rest (told ++ Refused refusal ∷ []) queued
 one_refused share rest packet told refusal queued before =
     subst (λ jobs. IsHandedIn share rest (told ++ Refused refusal ∷ []) jobs) (append-nil queued)
-        (one_more share rest packet told (Refused refusal) queued [] refl before)
+    (one_more share rest packet told (Refused refusal) queued [] refl before)
 
 as_many_kept : (handed : List Packet) (told : List Told) → length told ≡ length handed
     → length (kept handed told) ≡ queued_among told
@@ -59,4 +59,4 @@ pub as_many_queued : {share rest : List Packet} {told : List Told} {queued : Lis
     → IsHandedIn share rest told queued → queued_among told ≡ length queued
 as_many_queued {told = told} {queued = queued} is =
     sym (as_many_kept is.handed told is.number) ∙ sym (ap length is.told_so)
-        ∙ length-map queued (λ (job : Numbered). job.packet)
+    ∙ length-map queued (λ (job : Numbered). job.packet)

@@ -15,12 +15,12 @@ first_done driver others done all (suc k) d is = all k d is
 pub first_text : (before after : List ℕ) (submitter : ℕ) (driver : ScriptDriver) (others all : List ScriptDriver)
     (ended : EndedState) (rest ends : List EndedState)
     → all ≡ driver ∷ others → ends ≡ ended ∷ rest
-        → after ≡ before ++ told_text submitter (told_of driver) (ended.read ++ ended.lying)
+    → after ≡ before ++ told_text submitter (told_of driver) (ended.read ++ ended.lying)
     → after ++ packets_text (submitter + 1) (map told_of others) (replies_of rest)
-        ≡ before ++ packets_text submitter (map told_of all) (replies_of ends)
+    ≡ before ++ packets_text submitter (map told_of all) (replies_of ends)
 unfolding packets_text
 first_text before after submitter driver others all ended rest ends all_is ends_is text =
     ap (λ t. t ++ packets_text (submitter + 1) (map told_of others) (replies_of rest)) text ∙ append_assoc before _ _
     ∙ ap (λ (ds : List ScriptDriver). before ++ packets_text submitter (map told_of ds) (replies_of (ended ∷ rest)))
-            (sym all_is)
+    (sym all_is)
     ∙ ap (λ (es : List EndedState). before ++ packets_text submitter (map told_of all) (replies_of es)) (sym ends_is)

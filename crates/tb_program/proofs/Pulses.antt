@@ -15,19 +15,19 @@ pub pulses_behind : (place : ℕ) (works others : List Work)
 pulses_behind place [] others = ap (λ p. pulses_text p others) (omega arith)
 pulses_behind place (Packet submitter number events ∷ works) others =
     pulses_behind (suc place) works others ∙ ap (λ p.
-        pulses_text (suc place) works ++ pulses_text p others) (omega arith)
+    pulses_text (suc place) works ++ pulses_text p others) (omega arith)
 pulses_behind place (Pulse moment ∷ works) others =
     ap (λ text. pulse_line place ++ text) (pulses_behind (suc place) works others
-        ∙ ap (λ p. pulses_text (suc place) works ++ pulses_text p others) (omega arith))
+    ∙ ap (λ p. pulses_text (suc place) works ++ pulses_text p others) (omega arith))
     ∙ sym (append_assoc (pulse_line place) (pulses_text (suc place) works)
-            (pulses_text (place + suc (length works)) others))
+    (pulses_text (place + suc (length works)) others))
 
 -- those of an entry, and of the others after it
 pub first_pulses : (before after : List ℕ) (place behind : ℕ) (entry : Entry) (others all : List Entry)
     → all ≡ entry ∷ others → behind ≡ place + length (group_of entry)
     → after ≡ before ++ pulses_text place (group_of entry)
-        → after ++ pulses_text behind (flat_map group_of others)
-        ≡ before ++ pulses_text place (flat_map group_of all)
+    → after ++ pulses_text behind (flat_map group_of others)
+    ≡ before ++ pulses_text place (flat_map group_of all)
 first_pulses before after place behind entry others all all_is behind_is text =
     ap (λ t. t ++ pulses_text behind (flat_map group_of others)) text ∙ append_assoc before _ _
     ∙ ap (λ p. before ++ (pulses_text place (group_of entry) ++ pulses_text p (flat_map group_of others))) behind_is

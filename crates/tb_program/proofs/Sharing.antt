@@ -25,7 +25,7 @@ not_its submitter submission other = rw (ne_eqb submission.submitter submitter o
 -- an item that is no packet of these submitters changes nothing
 pub dealt_past : (submitter : ℕ) (shares : List (Vec packets.Packet Global)) (items : List Item) (item : Item)
     → ((other : ℕ) → submitter ≤ other → other < submitter + length shares → packet_by other item ≡ [])
-        → AreDealt submitter shares items → AreDealt submitter shares (items ++ item ∷ [])
+    → AreDealt submitter shares items → AreDealt submitter shares (items ++ item ∷ [])
 dealt_past submitter [] items item none dealt = dealt
 dealt_past submitter (own ∷ shares) items item none dealt = (
   dealt.0 ∙ sym (one_more submitter items item ∙ ap (λ last. packets_by submitter items ++ last)
@@ -38,13 +38,13 @@ dealt_past submitter (own ∷ shares) items item none dealt = (
 pub dealt_to : (submitter k : ℕ) (shares : List (Vec packets.Packet Global)) (items : List Item)
     (submission : Submission) (share : Vec packets.Packet Global)
     → submission.submitter ≡ submitter + k → k < length shares
-        → share.items ≡ (get_or shares k share).items ++ packet_of submission ∷ []
+    → share.items ≡ (get_or shares k share).items ++ packet_of submission ∷ []
     → AreDealt submitter shares items → AreDealt submitter (set shares k share) (items ++ Packet submission ∷ [])
 dealt_to submitter k [] items submission share its within is dealt = absurd (omega (arith, within))
 dealt_to submitter zero (own ∷ shares) items submission share its within is dealt =
     let same : submission.submitter ≡ submitter = omega (arith, its) in
     let last : packet_by submitter (Packet submission)
-        ≡ packet_of submission ∷ [] = rw (eq-eqb submission.submitter submitter same) refl in (
+    ≡ packet_of submission ∷ [] = rw (eq-eqb submission.submitter submitter same) refl in (
       is ∙ ap (λ before. before ++ packet_of submission ∷ []) dealt.0
           ∙ sym (one_more submitter items (Packet submission) ∙ ap (λ end. packets_by submitter items ++ end) last),
       dealt_past (suc submitter) shares items (Packet submission)
@@ -63,7 +63,7 @@ pub dealt_lists : (submitter : ℕ) (shares : List (Vec packets.Packet Global)) 
 dealt_lists submitter [] items dealt = refl
 dealt_lists submitter (own ∷ shares) items dealt =
     ap (λ first. first ∷ lists_of shares) dealt.0
-        ∙ ap (λ others. packets_by submitter items ∷ others) (dealt_lists (suc submitter) shares items dealt.1)
+    ∙ ap (λ others. packets_by submitter items ∷ others) (dealt_lists (suc submitter) shares items dealt.1)
 
 -- one submitter more, for whom there is nothing yet
 pub one_more_submitter : (submitter : ℕ) (shares : List (Vec packets.Packet Global))

@@ -103,7 +103,7 @@ abbrev pub IsTextOf : Said → List ℕ → Type 0
 IsTextOf said text =
     let items = items_of said in
     IsRunText (clock_of said.settings) (limit_of said.settings) (shares_of 0 (submitters_of said.settings) items)
-        (lines_of (moments_in items) (shuts_in items))
+    (lines_of (moments_in items) (shuts_in items))
     (refused_of (moments_in items)) text
 
 -- the same of the bytes of a script without a fault

@@ -37,13 +37,21 @@ module _ {T : Type 0} where
 
   abbrev pub outlet_ring : Outlet T → RingId
   outlet_ring outlet =
-      record { words = outlet.producer.end.words; slots = outlet.producer.end.slots;
-          names = outlet.producer.end.names; heap = outlet.producer.end.heap }
+      record {
+        words = outlet.producer.end.words;
+        slots = outlet.producer.end.slots;
+        names = outlet.producer.end.names;
+        heap = outlet.producer.end.heap;
+      }
 
   abbrev pub inlet_ring : Inlet T → RingId
   inlet_ring inlet =
-      record { words = inlet.consumer.end.words; slots = inlet.consumer.end.slots; names = inlet.consumer.end.names;
-          heap = inlet.consumer.end.heap }
+      record {
+        words = inlet.consumer.end.words;
+        slots = inlet.consumer.end.slots;
+        names = inlet.consumer.end.names;
+        heap = inlet.consumer.end.heap;
+      }
 
   -- both are ends of one ring
   abbrev pub IsRing : Outlet T → Inlet T → Type 0

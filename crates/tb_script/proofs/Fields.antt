@@ -45,13 +45,13 @@ low_bytes place (suc size) more number =
     ap (λ (n : ℕ). take (suc size) (bytes_low_first place n number)) count
     ∙ ap (λ (byte : ℕ). byte ∷ take size (bytes_low_first (suc place) (size + more) number)) (byte_at-pow place number)
     ∙ ap (λ bytes. number / 256 ^ place % 256 ∷ bytes)
-            (low_bytes (suc place) size more number ∙ ap (bytes_of size) next)
+    (low_bytes (suc place) size more number ∙ ap (bytes_of size) next)
 
 pub lowest : (size number : ℕ) → size ≤ 16 → take size (to_le_bytes w128 number) ≡ bytes_of size number
 lowest size number h =
     let all : size + (16 - size) ≡ 16 = omega (arith, h) in
     ap (λ (count : ℕ). take size (bytes_low_first 0 count number)) (sym all) ∙ low_bytes 0 size (16 - size) number
-        ∙ ap (bytes_of size) (div-one number)
+    ∙ ap (bytes_of size) (div-one number)
 
 length-bytes_of : (size number : ℕ) → length (bytes_of size number) ≡ size
 unfolding bytes_of
@@ -76,14 +76,14 @@ short_of : {layout : Layout} {place offset size : ℕ} {name : List ℕ}
     → IsFieldAt layout place offset size name → length name ≤ 24
 short_of {layout} {place} {offset} {size} {name} is =
     let h = (and_parts (nat_le (length name) 24) (is_word name)
-        (and_parts (nat_le size 16) (nat_le (length name) 24 && is_word name) is.closed).1).0 in
+    (and_parts (nat_le size 16) (nat_le (length name) 24 && is_word name) is.closed).1).0 in
     grind (arith, nat_tests)
 
 word_of : {layout : Layout} {place offset size : ℕ} {name : List ℕ}
     → IsFieldAt layout place offset size name → is_word name ≡ true
 word_of {layout} {place} {offset} {size} {name} is =
     (and_parts (nat_le (length name) 24) (is_word name)
-        (and_parts (nat_le size 16) (nat_le (length name) 24 && is_word name) is.closed).1).1
+    (and_parts (nat_le size 16) (nat_le (length name) 24 && is_word name) is.closed).1).1
 
 -- the fields from a place and an offset on
 abbrev AreInTurn : Layout → ℕ → ℕ → List NamedNumber → Type 0
@@ -115,39 +115,48 @@ one_field : (layout : Layout) (place size number : ℕ) (name front : List ℕ) 
     → IsFieldAt layout place (length front) size name →
     number < 256 ^ size → slice_index_or given place false ≡ false → length front + size ≤ 128 →
     after_word layout (drafted front given) (name ++ 61 ∷ decimal number)
-        ≡ Ok (drafted (front ++ bytes_of size number) (set given place true))
+    ≡ Ok (drafted (front ++ bytes_of size number) (set given place true))
 unfolding after_word
 one_field layout place size number name front given is h unset room =
     let small = fits size number (small_of is) h in
     let behind : drop (length front + size) (front ++ replicate (128 - length front) 0)
-        ≡ replicate (128 - length (front ++ bytes_of size number)) 0 =
+    ≡ replicate (128 - length (front ++ bytes_of size number)) 0 =
     drop-append-add front (replicate (128 - length front) 0) size ∙ drop-replicate size (128 - length front) 0
     ∙ ap (λ (count : ℕ). replicate count 0) (omega
-            (arith, length-append front (bytes_of size number), length-bytes_of size number)) in
-    rw (sides_of_named name (decimal number) is.bare, is.found, unset, number_within-decimal 0
-        (256 ^ size - 1) number (omega arith) (omega (arith, h)) small)
+    (arith, length-append front (bytes_of size number), length-bytes_of size number)) in
+    rw (
+      sides_of_named name (decimal number) is.bare,
+      is.found,
+      unset,
+      number_within-decimal 0
+          (256 ^ size - 1) number (omega arith) (omega (arith, h)) small,
+    )
     (rw (take-append_seam front (replicate (128 - length front) 0), lowest size number (small_of is), behind) refl)
 
 all_fields : (layout : Layout) (place : ℕ) (front : List ℕ) (given : List Bool) (fields : List NamedNumber)
     → AreInTurn layout place (length front) fields →
     All IsOfItsSize fields → NoneGivenFrom place given → length front + size_of_fields fields ≡ 128 →
     bytes_after (after_words layout (drafted front given) (map field_word fields))
-        ≡ Ok (front ++ bytes_in_turn (map sized fields))
+    ≡ Ok (front ++ bytes_in_turn (map sized fields))
 unfolding after_words
 all_fields layout place front given [] turn h unset room =
     let none : 128 - length front ≡ 0 = omega (arith, room) in
     rw none refl
 all_fields layout place front given (field ∷ fields) turn h unset room =
     let long : length (front ++ bytes_of field.size field.number)
-        ≡ length front + field.size =
-        omega (arith, length-append front (bytes_of field.size field.number), length-bytes_of
-        field.size field.number) in
+    ≡ length front + field.size =
+    omega (
+      arith,
+      length-append front (bytes_of field.size field.number),
+      length-bytes_of
+          field.size field.number,
+    ) in
     let still : NoneGivenFrom (suc place) (set given place true) = λ later after.
-        get_or-set_other given place later true false (omega arith) ∙ unset later (omega arith) in
+    get_or-set_other given place later true false (omega arith) ∙ unset later (omega arith) in
     rw (one_field layout place field.size field.number field.name front given turn.0
-        (All-head IsOfItsSize field fields h) (unset place (omega arith)) (omega (arith, room)))
+    (All-head IsOfItsSize field fields h) (unset place (omega arith)) (omega (arith, room)))
     (all_fields layout (suc place) (front ++ bytes_of field.size field.number) (set given place true) fields
-        (subst (λ (offset : ℕ). AreInTurn layout (suc place) offset fields) (sym long) turn.1)
+    (subst (λ (offset : ℕ). AreInTurn layout (suc place) offset fields) (sym long) turn.1)
     (All-tail IsOfItsSize field fields h) still (omega (arith, long, room))
     ∙ ap Ok (append_assoc front (bytes_of field.size field.number) (bytes_in_turn (map sized fields))))
 
@@ -158,10 +167,10 @@ field_is_word : (name : List ℕ) (number : ℕ) → is_word name ≡ true → n
 field_is_word name number good small =
     let front = (and_parts (nat_lt 0 (length name)) (list_all is_word_byte name) good).1 in
     let back = (and_parts (nat_lt 0 (length (decimal number))) (list_all is_word_byte (decimal number))
-        (decimal_is_word number small)).1 in
+    (decimal_is_word number small)).1 in
     let some : 0 < length (name ++ 61 ∷ decimal number) = omega (arith, length-append name (61 ∷ decimal number)) in
     rw (lt-ltb 0 (length (name ++ 61 ∷ decimal number)) some)
-        (list_all-append is_word_byte name (61 ∷ decimal number) ∙ rw (front, back) refl)
+    (list_all-append is_word_byte name (61 ∷ decimal number) ∙ rw (front, back) refl)
 
 -- the words of fields, after a word
 record AreGoodWords (keyword : List ℕ) (fields : List NamedNumber) : Type 0 where
@@ -175,7 +184,7 @@ good_words layout place offset keyword [] turn h = record { words = refl; short 
 good_words layout place offset keyword (field ∷ fields) turn h =
     let small = fits field.size field.number (small_of turn.0) (All-head IsOfItsSize field fields h) in
     let rest = good_words layout (suc place) (offset + field.size) (field_word field) fields turn.1
-        (All-tail IsOfItsSize field fields h) in
+    (All-tail IsOfItsSize field fields h) in
     record {
       words = rw (field_is_word field.name field.number (word_of turn.0) small, rest.words) refl;
       short = omega (
@@ -210,18 +219,18 @@ MakesEvents keyword layout =
 line_adds : (layout : Layout) (keyword : Keyword) (name : List ℕ) (fields : List NamedNumber)
     → AreInTurn layout 0 0 fields → All IsOfItsSize fields →
     size_of_fields fields ≡ 128 → length fields ≡ 13 → MakesEvents keyword layout → is_word name ≡ true
-        → length name ≤ 16 → (slice_index name 0 == 35) ≡ false →
+    → length name ≤ 16 → (slice_index name 0 == 35) ≡ false →
     keyword_of name ≡ Some keyword → ((said : Said) → is_in_place said keyword ≡ is_some said.packet)
-        → Adds (fields_line name fields) (bytes_in_turn (map sized fields))
+    → Adds (fields_line name fields) (bytes_in_turn (map sized fields))
 line_adds layout keyword name fields turn h size count makes good short mark is place said begun =
     let words = good_words layout 0 0 name fields turn h in
     keyword_line said keyword name (map field_word fields) (rw (good, words.words) refl)
-        (omega (arith, words.short, short, count)) mark is (place said ∙ begun)
+    (omega (arith, words.short, short, count)) mark is (place said ∙ begun)
     ∙ makes said (map field_word fields) ∙ rw (event_is_laid_out layout fields turn h size) refl
 
 at : {layout : Layout} {place offset size : ℕ} {name : List ℕ} → field_of layout name ≡ Some (field place offset size) →
     list_all (λ byte. not (byte == 61)) name ≡ true
-        → (nat_le size 16 && (nat_le (length name) 24 && is_word name)) ≡ true →
+    → (nat_le size 16 && (nat_le (length name) 24 && is_word name)) ≡ true →
     IsFieldAt layout place offset size name
 at found bare closed = record { found = found; bare = bare; closed = closed }
 
@@ -267,13 +276,13 @@ pub accounts_are_laid_out : SpelledAccountsAreLaidOut
 unfolding keyword_of with_line
 accounts_are_laid_out account h =
     line_adds layout.Account word.Account (codes "account") (named_of_account account)
-        (accounts_in_turn account) h refl refl (λ said words. refl) refl (omega arith) refl refl (λ said. refl)
+    (accounts_in_turn account) h refl refl (λ said words. refl) refl (omega arith) refl refl (λ said. refl)
 
 pub transfers_are_laid_out : SpelledTransfersAreLaidOut
 unfolding keyword_of with_line
 transfers_are_laid_out transfer h =
     line_adds layout.Transfer word.Transfer (codes "transfer") (named_of_transfer transfer)
-        (transfers_in_turn transfer) h refl refl (λ said words. refl) refl (omega arith) refl refl (λ said. refl)
+    (transfers_in_turn transfer) h refl refl (λ said words. refl) refl (omega arith) refl refl (λ said. refl)
 
 pub ids_are_laid_out : SpelledIdsAreLaidOut
 unfolding keyword_of with_line
@@ -281,7 +290,7 @@ ids_are_laid_out id h said begun =
     let small : id < 2 ^ 128 = omega (arith, h) in
     let words : list_all is_word (codes "id" ∷ decimal id ∷ []) ≡ true = rw (decimal_is_word id small) refl in
     let short : length (line_of_words (codes "id" ∷ decimal id ∷ []))
-        ≤ 65536 = omega (arith, length-decimal id small) in
+    ≤ 65536 = omega (arith, length-decimal id small) in
     let all : to_le_bytes w128 id ≡ bytes_of 16 id = lowest 16 id (omega arith) in
     keyword_line said word.Id (codes "id") (decimal id ∷ []) words short refl refl begun
     ∙ rw (number_within-decimal 0 (2 ^ 128 - 1) id (omega arith) (omega (arith, small)) small, all) refl

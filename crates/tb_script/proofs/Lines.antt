@@ -38,7 +38,7 @@ none_said number said next h = cc
 pub decides : FirstFaultDecides
 decides number said next [] others line fault h f =
     one_fault number said line others fault (rw (none_said number said next h) f)
-        ∙ ap (λ n. Err (n, fault)) (omega arith)
+    ∙ ap (λ n. Err (n, fault)) (omega arith)
 decides number said next (first ∷ lines) others line fault h f =
     let p = parts number said next first lines h in
     more number said p.0 first (lines ++ line ∷ others) p.1
@@ -48,7 +48,7 @@ decides number said next (first ∷ lines) others line fault h f =
 faultless_step : (number : ℕ) (said : Said) (line : List ℕ) (lines : List (List ℕ)) (r : Result Said Fault)
     → r ≡ after_line said line → IsOk r →
     ((next : Said) → after_line said line ≡ Ok next → IsOk (after_lines (number + 1) next lines))
-        → IsOk (at_line number r >>= λ next. after_lines (number + 1) next lines)
+    → IsOk (at_line number r >>= λ next. after_lines (number + 1) next lines)
 faultless_step number said line lines (Ok next) e fine rest = rest next (sym e)
 faultless_step number said line lines (Err fault) e fine rest = cc
 
@@ -58,4 +58,4 @@ faultless number said [] h = refl
 faultless number said (line ∷ lines) h =
     faultless_step number said line lines (after_line said line) refl (h [] lines line said refl refl)
     (λ next e. faultless (number + 1) next lines (λ front back later before is fine.
-        h (line ∷ front) back later before (ap (λ ls. line ∷ ls) is) (more number said next line front e ∙ fine)))
+    h (line ∷ front) back later before (ap (λ ls. line ∷ ls) is) (more number said next line front e ∙ fine)))

@@ -46,7 +46,7 @@ found_here word name number f rows bare e =
 -- where the first word ends of a line that begins with a name and `=`
 up_to_space : (name others : List ℕ) → list_all (λ byte. not (byte == 32)) name ≡ true →
     position_or_len (λ byte. byte == 32) (name ++ 61 ∷ others)
-        ≡ length name + suc (position_or_len (λ byte. byte == 32) others)
+    ≡ length name + suc (position_or_len (λ byte. byte == 32) others)
 up_to_space [] others h = omega arith
 up_to_space (byte ∷ name) others h =
     let parts = and_parts (not (byte == 32)) (list_all (λ byte. not (byte == 32)) name) h in
@@ -70,15 +70,15 @@ pub not_first : (line name : List ℕ) → ((others : List ℕ) → line ≡ nam
     → first_word line ≡ name ++ 61 ∷ number → ⊥
 not_first line name differs number e = differs (number ++ behind_first_word line)
     (sym (take-append-drop (position_or_len (λ byte. byte == 32) line) line)
-        ∙ ap (λ front. front ++ behind_first_word line) e
-        ∙ append_assoc name (61 ∷ number) (behind_first_word line))
+    ∙ ap (λ front. front ++ behind_first_word line) e
+    ∙ append_assoc name (61 ∷ number) (behind_first_word line))
 
 parts_of : (word : List ℕ) → position_or_len (λ byte. byte == 61) word < length word →
     word ≡ before_first (λ byte. byte == 61) word ++ (61 ∷ after_sign (λ byte. byte == 61) word)
 parts_of word h =
     let at = split_at_first (λ byte. byte == 61) word 0 h in
     let sign = (Decides-eqb (get_or word (position_or_len (λ byte. byte == 61) word) 0) 61).0
-        (passes_at_first (λ byte. byte == 61) word 0 h) in
+    (passes_at_first (λ byte. byte == 61) word 0 h) in
     at ∙ ap (λ byte. before_first (λ byte. byte == 61) word ++ (byte ∷ after_sign (λ byte. byte == 61) word)) sign
 
 -- where they don't, the others decide
@@ -89,8 +89,8 @@ found_later word name f rows differs = elim (cases_lt (position_or_len (λ byte.
   | inl below ↦
       let other : bytes_eq (before_first (λ byte. byte == 61) word) name ≡ false =
       false_from_ne_true _ (λ same. differs (after_sign (λ byte. byte == 61) word)
-          (parts_of word below ∙ ap (λ front. front ++ (61 ∷ after_sign (λ byte. byte == 61) word))
-          ((bytes_eq-Decides (before_first (λ byte. byte == 61) word) name).0 same))) in
+      (parts_of word below ∙ ap (λ front. front ++ (61 ∷ after_sign (λ byte. byte == 61) word))
+      ((bytes_eq-Decides (before_first (λ byte. byte == 61) word) name).0 same))) in
       rw (lt-ltb (position_or_len (λ byte. byte == 61) word) (length word) below, other) refl
   | inr above ↦ rw (le-ltb (position_or_len (λ byte. byte == 61) word) (length word) above) refl
 ]
@@ -118,12 +118,12 @@ pub behind_sign : (word name : List ℕ) → BeginsWith word name
     → word ≡ name ++ 61 ∷ take (length word - (length name + 1)) (drop (length name + 1) word)
 behind_sign word name h =
     let rest : take (length word - (length name + 1)) (drop (length name + 1) word)
-        ≡ drop (length name + 1) word = grind (arith, common_steps) in
+    ≡ drop (length name + 1) word = grind (arith, common_steps) in
     let one : suc (length name) ≡ length name + 1 = omega arith in
     rw rest (split_at word (length name) 0 h.long
-        ∙ ap (λ front. front ++ get_or word (length name) 0 ∷ drop (suc (length name)) word) h.front
+    ∙ ap (λ front. front ++ get_or word (length name) 0 ∷ drop (suc (length name)) word) h.front
     ∙ ap (λ byte. name ++ byte ∷ drop (suc (length name)) word) h.sign
-        ∙ ap (λ (count : ℕ). name ++ 61 ∷ drop count word) one)
+    ∙ ap (λ (count : ℕ). name ++ 61 ∷ drop count word) one)
 
 abbrev row_of : Bor (List ℕ) × Field → List ℕ × Field
 row_of row = (row.0.now, row.1)
@@ -163,7 +163,7 @@ told_by_field draft number (Some field) = refl
 
 told_by_sides : (layout : Layout) (draft : Draft) (sides : Result (List ℕ × List ℕ) Fault) →
     (sides >>= λ s. new_field draft (field_of layout s.0) >>= λ f. number_within 0 (greatest f.size) s.1 >>= λ n.
-        Ok (with_number draft f n))
+    Ok (with_number draft f n))
     ≡ told_of draft (sides >>= λ s. found (look_up s.0 (fields_of layout)) >>= λ f. Ok (f, s.1))
 unfolding field_of
 told_by_sides layout draft (Err fault) = refl
@@ -181,7 +181,7 @@ after_word_named layout draft word both e = told_by_sides layout draft (sides_of
 pub after_first : (layout : Layout) (draft next : Draft) (line : List ℕ)
     → 0 < position_or_len (λ byte. byte == 32) line →
     after_word layout draft (first_word line) ≡ Ok next
-        → after_words layout next (words_of (behind_first_word line)) ≡ after_words layout draft (words_of line)
+    → after_words layout next (words_of (behind_first_word line)) ≡ after_words layout draft (words_of line)
 unfolding after_words
 after_first layout draft next line some e = rw (words_first line some, e) refl
 
@@ -207,7 +207,7 @@ told_by_row table rows name number (Some f) both e own h = rw (own_row table row
 told_by_parts : (table rows : List (List ℕ × Field)) (sides : Result (List ℕ × List ℕ) Fault)
     (both : Field × List ℕ) → AreOwn table rows →
     (sides >>= λ s. found (look_up s.0 rows) >>= λ f. Ok (f, s.1)) ≡ Ok both
-        → (sides >>= λ s. found (look_up s.0 table) >>= λ f. Ok (f, s.1)) ≡ Ok both
+    → (sides >>= λ s. found (look_up s.0 table) >>= λ f. Ok (f, s.1)) ≡ Ok both
 told_by_parts table rows (Err fault) both own h = h
 told_by_parts table rows (Ok sides) both own h =
     told_by_row table rows sides.0 sides.1 (look_up sides.0 rows) both refl own h
@@ -215,12 +215,12 @@ told_by_parts table rows (Ok sides) both own h =
 -- the field that a word names in the rows from a place on is the one that it names in the table
 pub named_from_place : (word : List ℕ) (table : List (Bor (List ℕ) × Field)) (place : ℕ) (both : Field × List ℕ) →
     All (λ row. look_up row.0.now (map row_of table) ≡ Some row.1) table
-        → named word (map row_of (drop place table)) ≡ Ok both →
+    → named word (map row_of (drop place table)) ≡ Ok both →
     named word (map row_of table) ≡ Ok both
 named_from_place word table place both own h =
     told_by_parts (map row_of table) (map row_of (drop place table)) (sides_of word) both
     (All-map (λ row. look_up row.0 (map row_of table) ≡ Some row.1) row_of (drop place table)
-        (All-drop (λ row. look_up row.0.now (map row_of table) ≡ Some row.1) place table own)) h
+    (All-drop (λ row. look_up row.0.now (map row_of table) ≡ Some row.1) place table own)) h
 
 -- ---- a table in another order
 

@@ -61,11 +61,15 @@ pub one_more : (word : List ℕ) (place : ℕ) → place < length word → place
     is_ascii_digit (get_or word place 0) ≡ true → OneMore word place
 one_more word place within short digits digit =
     let more : list_all is_ascii_digit (take (place + 1) word)
-        ≡ true = list_all_more is_ascii_digit word place 0 within ∙ rw (digits, digit) refl in
+    ≡ true = list_all_more is_ascii_digit word place 0 within ∙ rw (digits, digit) refl in
     record {
       digits = more;
-      value = omega (arith, digits_value_more 10 word place within, digit_value_digit (get_or word place 0)
-          (search (rules, digit)));
+      value = omega (
+        arith,
+        digits_value_more 10 word place within,
+        digit_value_digit (get_or word place 0)
+            (search (rules, digit)),
+      );
       small = digits_value_short own (take (place + 1) word) 19 more
           (omega (arith, length-take-le (place + 1) word (omega arith), short, within));
     }
@@ -81,7 +85,7 @@ digits_end line count within digits ends =
     let long = length-take-le count line within in
     position_or_len_is (λ byte. byte == 32) line count 0 within
     (λ k below. no_space (get_or line k 0) (rw (get_or-take count line k 0 below) at
-        (pass k 0 (omega (arith, below, long)))))
+    (pass k 0 (omega (arith, below, long)))))
     (λ below. rw (ends below) refl)
 
 -- what such a line begins with
@@ -105,13 +109,23 @@ digits_read : {E : Type 0} (word : List ℕ) (r : Result ℕ E)
     list_all is_ascii_digit word ≡ true → length word < 40 → result_ok r ≡ fitting (number_of word)
 unfolding number_of
 digits_read word (Ok n) h digits short =
-    rw (lt-ltb 0 (length word) h.0.0, lt-ltb (length word) 40 short, digits, lt-ltb (digits_value 10 word)
-    (2 ^ 128) h.0.1) (ap Some h.1)
+    rw (
+      lt-ltb 0 (length word) h.0.0,
+      lt-ltb (length word) 40 short,
+      digits,
+      lt-ltb (digits_value 10 word)
+          (2 ^ 128) h.0.1,
+    ) (ap Some h.1)
 digits_read word (Err e) h digits short = elim (cases_lt 0 (length word)) [
   | inl some ↦ elim (cases_lt (digits_value 10 word) (2 ^ 128)) [
     | inl small ↦ absurd (h (some, small))
-    | inr large ↦ rw (lt-ltb 0 (length word) some, lt-ltb (length word) 40 short, digits, le-ltb
-        (digits_value 10 word) (2 ^ 128) large) refl
+    | inr large ↦ rw (
+      lt-ltb 0 (length word) some,
+      lt-ltb (length word) 40 short,
+      digits,
+      le-ltb
+          (digits_value 10 word) (2 ^ 128) large,
+    ) refl
   ]
   | inr none ↦ rw (le-ltb 0 (length word) none) refl
 ]
@@ -127,7 +141,7 @@ number_first line n number = elim (cases_lt 0 (position_or_len (λ byte. byte ==
   | inl some ↦ words_first line some
   | inr none ↦
       let empty = no_number (first_word line) (omega
-          (arith, length-take-le (position_or_len (λ byte. byte == 32) line) line (search rules), none)) in
+      (arith, length-take-le (position_or_len (λ byte. byte == 32) line) line (search rules), none)) in
       cc
 ]
 
@@ -142,7 +156,7 @@ small (suc count) place n (suc k) = small count (suc place) n k
 pub halves : (n : ℕ) → n < 2 ^ 128 → to_le_bytes w64 (n % 2 ^ 64) ++ to_le_bytes w64 (n / 2 ^ 64) ≡ to_le_bytes w128 n
 halves n fits =
     let low : to_le_bytes w64 (n % 2 ^ 64) ≡ bytes_low_first 0 8 n = le_bytes_8 (bytes_low_first 0 8 n)
-        (n % 2 ^ 64) refl (small 8 0 n) (omega arith) in
+    (n % 2 ^ 64) refl (small 8 0 n) (omega arith) in
     let high : to_le_bytes w64 (n / 2 ^ 64) ≡ bytes_low_first 8 8 n = le_bytes_8 (bytes_low_first 8 8 n)
-        (n / 2 ^ 64) refl (small 8 8 n) (omega (arith, fits)) in
+    (n / 2 ^ 64) refl (small 8 8 n) (omega (arith, fits)) in
     ap (λ bytes. bytes ++ to_le_bytes w64 (n / 2 ^ 64)) low ∙ ap (λ bytes. bytes_low_first 0 8 n ++ bytes) high

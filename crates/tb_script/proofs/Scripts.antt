@@ -47,7 +47,7 @@ text_onto byte (line ∷ lines) = longer (is_text_byte byte) (is_text line) (lis
 
 text_ended : (ends : Bool) (byte : ℕ) (lines : List (List ℕ)) →
     list_all is_text (if ends then [] ∷ lines else onto_first byte lines)
-        ≡ ((ends || is_text_byte byte) && list_all is_text lines)
+    ≡ ((ends || is_text_byte byte) && list_all is_text lines)
 text_ended true byte lines = refl
 text_ended false byte lines = text_onto byte lines
 

@@ -72,26 +72,26 @@ words_of-line_of_words [] h = refl
 words_of-line_of_words (word ∷ []) h =
     let parts = and_parts (nat_lt 0 (length word)) (list_all is_word_byte word) (and_parts (is_word word) true h).0 in
     ap (filter (λ w. nat_lt 0 (length w))) (slice_split_none (λ b. b == 32) word
-        (all-implied is_word_byte (λ x. (x == 32) ≡ false) word no_space parts.1))
+    (all-implied is_word_byte (λ x. (x == 32) ≡ false) word no_space parts.1))
     ∙ rw parts.0 refl
 words_of-line_of_words (word ∷ next ∷ words) h =
     let both = and_parts (is_word word) (list_all is_word (next ∷ words)) h in
     let parts = and_parts (nat_lt 0 (length word)) (list_all is_word_byte word) both.0 in
     ap (filter (λ w. nat_lt 0 (length w))) (slice_split_at (λ b. b == 32) word 32 (line_of_words (next ∷ words))
-        (all-implied is_word_byte (λ x. (x == 32) ≡ false) word no_space parts.1) refl)
+    (all-implied is_word_byte (λ x. (x == 32) ≡ false) word no_space parts.1) refl)
     ∙ rw parts.0 (ap (λ ws. word ∷ ws) (words_of-line_of_words (next ∷ words) both.1))
 
 is_text-line_of_words : (words : List (List ℕ)) → list_all is_word words ≡ true → is_text (line_of_words words) ≡ true
 is_text-line_of_words [] h = refl
 is_text-line_of_words (word ∷ []) h =
     list_all-implied is_word_byte (λ b. nat_le 32 b && nat_le b 126) word word_is_text
-        (and_parts (nat_lt 0 (length word)) (list_all is_word_byte word) (and_parts (is_word word) true h).0).1
+    (and_parts (nat_lt 0 (length word)) (list_all is_word_byte word) (and_parts (is_word word) true h).0).1
 is_text-line_of_words (word ∷ next ∷ words) h =
     let both = and_parts (is_word word) (list_all is_word (next ∷ words)) h in
     let front = list_all-implied is_word_byte (λ b. nat_le 32 b && nat_le b 126) word word_is_text
-        (and_parts (nat_lt 0 (length word)) (list_all is_word_byte word) both.0).1 in
+    (and_parts (nat_lt 0 (length word)) (list_all is_word_byte word) both.0).1 in
     list_all-append (λ b. nat_le 32 b && nat_le b 126) word (32 ∷ line_of_words (next ∷ words))
-        ∙ rw (front, is_text-line_of_words (next ∷ words) both.1) refl
+    ∙ rw (front, is_text-line_of_words (next ∷ words) both.1) refl
 
 -- ---- lines
 
@@ -158,7 +158,7 @@ says_both said between next front back first second = record {
 pub keyword_line : (said : Said) (keyword : Keyword) (name : List ℕ) (words : List (List ℕ))
     → list_all is_word (name ∷ words) ≡ true → length (line_of_words (name ∷ words)) ≤ 65536 →
     (slice_index name 0 == 35) ≡ false → keyword_of name ≡ Some keyword → is_in_place said keyword ≡ true
-        → after_line said (line_of_words (name ∷ words)) ≡ with_line said keyword words
+    → after_line said (line_of_words (name ∷ words)) ≡ with_line said keyword words
 unfolding after_line
 keyword_line said keyword name words good short mark is place =
     rw (le-ltb 65536 (length (line_of_words (name ∷ words))) short, is_text-line_of_words (name ∷ words) good)
@@ -187,7 +187,7 @@ pub decimal_is_word : (n : ℕ) → n < 2 ^ 128 → is_word (decimal n) ≡ true
 decimal_is_word n h =
     let is = spelled n h in
     rw (lt-ltb 0 (length (decimal n)) is.some) (list_all-implied is_ascii_digit is_word_byte
-        (decimal n) digit_is_word is.digits)
+    (decimal n) digit_is_word is.digits)
 
 pub length-decimal : (n : ℕ) → n < 2 ^ 128 → length (decimal n) ≤ 39
 length-decimal n h = (spelled n h).short
@@ -197,21 +197,26 @@ pub number_within-decimal : (low high n : ℕ) → low ≤ n → n ≤ high → 
 unfolding number_of
 number_within-decimal low high n above below h =
     let is = spelled n h in
-    rw (lt-ltb 0 (length (decimal n)) is.some, lt-ltb (length (decimal n)) 40
-        (omega (arith, is.short)), is.digits, is.value) (grind (arith, nat_tests))
+    rw (
+      lt-ltb 0 (length (decimal n)) is.some,
+      lt-ltb (length (decimal n)) 40
+          (omega (arith, is.short)),
+      is.digits,
+      is.value,
+    ) (grind (arith, nat_tests))
 
 -- ---- settings
 
 says_setting : (said next : Said) (keyword : Keyword) (name : List ℕ) (n : ℕ) → is_word name ≡ true
     → length name ≤ 16 → (slice_index name 0 == 35) ≡ false →
     keyword_of name ≡ Some keyword → is_in_place said keyword ≡ true → n < 2 ^ 128
-        → with_line said keyword (decimal n ∷ []) ≡ Ok next → Says said (setting_lines name (Some n)) next
+    → with_line said keyword (decimal n ∷ []) ≡ Ok next → Says said (setting_lines name (Some n)) next
 says_setting said next keyword name n good short mark is place small line =
     let words : list_all is_word (name ∷ decimal n ∷ []) ≡ true = rw (good, decimal_is_word n small) refl in
     let count : length (line_of_words (name ∷ decimal n ∷ []))
-        ≤ 65536 = omega (arith, length-append name (32 ∷ decimal n), length-decimal n small) in
+    ≤ 65536 = omega (arith, length-append name (32 ∷ decimal n), length-decimal n small) in
     says_more said next next _ [] (is_text-line_of_words (name ∷ decimal n ∷ []) words)
-        (keyword_line said keyword name (decimal n ∷ []) words count mark is place ∙ line) (says_nothing next)
+    (keyword_line said keyword name (decimal n ∷ []) words count mark is place ∙ line) (says_nothing next)
 
 abbrev given : Option ℕ → Option ℕ → Option ℕ → Option ℕ → Option ℕ → Said
 given clock limit capacity credit submitters = record {
@@ -231,7 +236,7 @@ says_clock (Some n) h =
 
 says_limit : (clock limit : Option ℕ) → IfSome limit (λ n. (1 ≤ n) × (n ≤ 8190))
     → Says (given clock None None None None) (setting_lines (codes "limit") limit)
-        (given clock limit None None None)
+    (given clock limit None None None)
 unfolding with_line keyword_of
 says_limit clock None h = says_nothing _
 says_limit clock (Some n) h =
@@ -240,7 +245,7 @@ says_limit clock (Some n) h =
 
 says_capacity : (clock limit capacity : Option ℕ) → IfSome capacity (λ n. (1 ≤ n) × (n ≤ capacity_max))
     → Says (given clock limit None None None) (setting_lines (codes "capacity") capacity)
-        (given clock limit capacity None None)
+    (given clock limit capacity None None)
 unfolding with_line keyword_of
 says_capacity clock limit None h = says_nothing _
 says_capacity clock limit (Some n) h =
@@ -249,7 +254,7 @@ says_capacity clock limit (Some n) h =
 
 says_credit : (clock limit capacity credit : Option ℕ) → IfSome credit (λ n. (1 ≤ n) × (n ≤ capacity_max))
     → Says (given clock limit capacity None None) (setting_lines (codes "credit") credit)
-        (given clock limit capacity credit None)
+    (given clock limit capacity credit None)
 unfolding with_line keyword_of
 says_credit clock limit capacity None h = says_nothing _
 says_credit clock limit capacity (Some n) h =
@@ -259,7 +264,7 @@ says_credit clock limit capacity (Some n) h =
 says_submitters : (clock limit capacity credit submitters : Option ℕ)
     → IfSome submitters (λ n. (1 ≤ n) × (n ≤ submitters_max))
     → Says (given clock limit capacity credit None) (setting_lines (codes "submitters") submitters)
-        (given clock limit capacity credit submitters)
+    (given clock limit capacity credit submitters)
 unfolding with_line keyword_of
 says_submitters clock limit capacity credit None h = says_nothing _
 says_submitters clock limit capacity credit (Some n) h =
@@ -304,11 +309,11 @@ adding settings shut items packet = record { settings = settings; items = items;
 
 says_byte : (settings : Settings) (shut : Bool) (items : List Item) (packet : Submission) (byte : ℕ) → byte < 256 →
     after_line (adding settings shut items packet) (byte_line byte)
-        ≡ Ok (adding settings shut items (record packet { bytes = packet.bytes ++ byte ∷ [] }))
+    ≡ Ok (adding settings shut items (record packet { bytes = packet.bytes ++ byte ∷ [] }))
 unfolding with_line keyword_of
 says_byte settings shut items packet byte h =
     keyword_line (adding settings shut items packet) word.Hex (codes "hex") (encode_lower (byte ∷ []) ∷ [])
-        (rw (encoded_is_word byte h) refl) (omega (arith, length-encoded byte)) refl refl refl
+    (rw (encoded_is_word byte h) refl) (omega (arith, length-encoded byte)) refl refl refl
     ∙ rw (one_byte byte h) refl
 
 byte_line_is_text : (byte : ℕ) → byte < 256 → is_text (byte_line byte) ≡ true
@@ -318,7 +323,7 @@ byte_line_is_text byte h =
 says_bytes : (settings : Settings) (shut : Bool) (items : List Item) (packet : Submission) (bytes : List ℕ)
     → All (λ byte. byte < 256) bytes →
     Says (adding settings shut items packet) (map byte_line bytes)
-        (adding settings shut items (record packet { bytes = packet.bytes ++ bytes }))
+    (adding settings shut items (record packet { bytes = packet.bytes ++ bytes }))
 says_bytes settings shut items packet [] h =
     subst (λ bs. Says (adding settings shut items packet) []
     (adding settings shut items (record packet { bytes = bs }))) (sym (append-nil packet.bytes)) (says_nothing _)
@@ -326,9 +331,9 @@ says_bytes settings shut items packet (byte ∷ bytes) h =
     let small = All-head (λ b. b < 256) byte bytes h in
     let more = record packet { bytes = packet.bytes ++ byte ∷ [] } in
     says_more _ (adding settings shut items more) _ _ _ (byte_line_is_text byte small)
-        (says_byte settings shut items packet byte small)
+    (says_byte settings shut items packet byte small)
     (subst (λ bs. Says (adding settings shut items more) (map byte_line bytes)
-        (adding settings shut items (record packet { bytes = bs }))) (append_assoc packet.bytes (byte ∷ []) bytes)
+    (adding settings shut items (record packet { bytes = bs }))) (append_assoc packet.bytes (byte ∷ []) bytes)
     (says_bytes settings shut items more bytes (All-tail (λ b. b < 256) byte bytes h)))
 
 abbrev packet_words : Submission → List (List ℕ)
@@ -337,8 +342,11 @@ packet_words packet = codes "packet" ∷ decimal packet.submitter ∷ decimal pa
 packet_words_are_words : (packet : Submission) (submitters : ℕ) → submitters ≤ 16 → CanBeSubmitted submitters packet
     → list_all is_word (packet_words packet) ≡ true
 packet_words_are_words packet submitters few h =
-    rw (decimal_is_word packet.submitter (omega (arith, h.submitter)), decimal_is_word packet.operation
-        (omega (arith, h.operation))) refl
+    rw (
+      decimal_is_word packet.submitter (omega (arith, h.submitter)),
+      decimal_is_word packet.operation
+          (omega (arith, h.operation)),
+    ) refl
 
 says_packet_line : (said : Said) (packet : Submission) → submitters_of said.settings ≤ submitters_max
     → CanBeSubmitted (submitters_of said.settings) packet →
@@ -349,14 +357,22 @@ says_packet_line said packet few h =
     let operation : packet.operation < 2 ^ 128 = omega (arith, h.operation) in
     let words = packet_words_are_words packet (submitters_of said.settings) few h in
     let short : length (line_of_words (packet_words packet)) ≤ 65536 =
-    omega (arith, length-append (decimal packet.submitter)
-        (32 ∷ decimal packet.operation), length-decimal packet.submitter submitter, length-decimal
-        packet.operation operation) in
+    omega (
+      arith,
+      length-append (decimal packet.submitter)
+          (32 ∷ decimal packet.operation),
+      length-decimal packet.submitter submitter,
+      length-decimal
+          packet.operation operation,
+    ) in
     keyword_line said word.Packet (codes "packet")
-        (decimal packet.submitter ∷ decimal packet.operation ∷ []) words short refl refl refl
-    ∙ rw (number_within-decimal 0 (submitters_of said.settings - 1) packet.submitter (omega arith)
-            (omega (arith, h.submitter)) submitter, number_within-decimal 0 255 packet.operation (omega arith)
-            (omega (arith, h.operation)) operation) refl
+    (decimal packet.submitter ∷ decimal packet.operation ∷ []) words short refl refl refl
+    ∙ rw (
+      number_within-decimal 0 (submitters_of said.settings - 1) packet.submitter (omega arith)
+          (omega (arith, h.submitter)) submitter,
+      number_within-decimal 0 255 packet.operation (omega arith)
+          (omega (arith, h.operation)) operation,
+    ) refl
 
 -- a pulse's line says its pulse
 says_pulse : (said : Said) (moment : ℕ) → said.shut ≡ false → moment < 2 ^ 64
@@ -366,21 +382,21 @@ says_pulse said moment unshut small =
     let h : moment < 2 ^ 128 = omega (arith, small) in
     let words : list_all is_word (codes "pulse" ∷ decimal moment ∷ []) ≡ true = rw (decimal_is_word moment h) refl in
     let short : length (line_of_words (codes "pulse" ∷ decimal moment ∷ []))
-        ≤ 65536 = omega (arith, length-decimal moment h) in
+    ≤ 65536 = omega (arith, length-decimal moment h) in
     let line = keyword_line said word.Pulse (codes "pulse") (decimal moment ∷ []) words short refl refl
-        (rw unshut refl) ∙ rw (number_within-decimal 0 (2 ^ 64 - 1) moment (omega arith)
-        (omega (arith, small)) h) refl in
+    (rw unshut refl) ∙ rw (number_within-decimal 0 (2 ^ 64 - 1) moment (omega arith)
+    (omega (arith, small)) h) refl in
     says_more said (with_pulse said moment) (with_pulse said moment) _ []
-        (is_text-line_of_words (codes "pulse" ∷ decimal moment ∷ []) words) line
-        (says_nothing (with_pulse said moment))
+    (is_text-line_of_words (codes "pulse" ∷ decimal moment ∷ []) words) line
+    (says_nothing (with_pulse said moment))
 
 -- the line of the Close says it
 says_close : (said : Said) → said.shut ≡ false → Says said (item_lines Shut) (with_close said)
 unfolding with_line keyword_of
 says_close said unshut =
     says_more said (with_close said) (with_close said) _ [] refl
-        (keyword_line said word.Shut (codes "shut") [] refl (omega arith) refl refl (rw unshut refl))
-        (says_nothing (with_close said))
+    (keyword_line said word.Shut (codes "shut") [] refl (omega arith) refl refl (rw unshut refl))
+    (says_nothing (with_close said))
 
 -- a packet's lines say the packet
 says_packet : (said : Said) (packet : Submission) → submitters_of said.settings ≤ submitters_max
@@ -390,7 +406,7 @@ says_packet said packet few h =
     let started = adding said.settings said.shut (items_of said) (record packet { bytes = [] }) in
     let words = packet_words_are_words packet (submitters_of said.settings) few h in
     says_more said started (adding said.settings said.shut (items_of said) packet) _ (map byte_line packet.bytes)
-        (is_text-line_of_words (packet_words packet) words) (says_packet_line said packet few h)
+    (is_text-line_of_words (packet_words packet) words) (says_packet_line said packet few h)
     (says_bytes said.settings said.shut (items_of said) (record packet { bytes = [] }) packet.bytes h.bytes)
 
 -- one item after those that were said
@@ -435,10 +451,10 @@ says_items said (item ∷ items) few all =
     let between = with_item said item in
     let same = settings_stay said item in
     let can = subst (λ b. CanAllBeSaid (submitters_of between.settings) b items) (sym (shut_after said item))
-        (subst (λ (s : Settings). CanAllBeSaid (submitters_of s) (shut_by said.shut item) items)
-        (sym same) all.1) in
+    (subst (λ (s : Settings). CanAllBeSaid (submitters_of s) (shut_by said.shut item) items)
+    (sym same) all.1) in
     let later = says_items between items (subst (λ (s : Settings). submitters_of s ≤ submitters_max) (sym same) few)
-        can in
+    can in
     record {
       next = later.next;
       says = says_both said between later.next (item_lines item) (flat_map item_lines items)
@@ -458,7 +474,11 @@ read_as_spelled settings items can all =
     let start = given settings.clock settings.limit settings.capacity settings.credit settings.submitters in
     let later = says_items start items (few_submitters settings.submitters can.submitters) all in
     let whole = says_both nothing_said start later.next (settings_lines settings) (flat_map item_lines items)
-        (says_settings settings can) later.says in
-    (later.next, ap (after_lines 1 nothing_said) (lines_of-text_of_lines
-        (settings_lines settings ++ flat_map item_lines items) whole.text)
-        ∙ whole.read 1, later.settings, later.all)
+    (says_settings settings can) later.says in (
+      later.next,
+      ap (after_lines 1 nothing_said) (lines_of-text_of_lines
+          (settings_lines settings ++ flat_map item_lines items) whole.text)
+          ∙ whole.read 1,
+      later.settings,
+      later.all,
+    )

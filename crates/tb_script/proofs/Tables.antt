@@ -12,7 +12,7 @@ AreOwn table rows = All (λ row. look_up row.0 table ≡ Some row.1) rows
 own_by : {Value : Type 0} (same : Bool) (table : List (List ℕ × Value)) (row : List ℕ × Value) (name : List ℕ)
     (value : Value) (others : Option Value) →
     Decides same (name ≡ row.0) → look_up row.0 table ≡ Some row.1
-        → (others ≡ Some value → look_up name table ≡ Some value) →
+    → (others ≡ Some value → look_up name table ≡ Some value) →
     cond same (Some row.1) others ≡ Some value → look_up name table ≡ Some value
 own_by true table row name value others decides own later e = ap (λ word. look_up word table) (decides.0 refl) ∙ own ∙ e
 own_by false table row name value others decides own later e = later e
@@ -22,7 +22,7 @@ pub own_row : {Value : Type 0} (table rows : List (List ℕ × Value)) (name : L
 own_row table [] name value own e = absurd (search (rules, e))
 own_row table (row ∷ rows) name value own e =
     own_by (bytes_eq name row.0) table row name value (look_up name rows) (bytes_eq-Decides name row.0)
-        (All-head (λ row. look_up row.0 table ≡ Some row.1) row rows own)
+    (All-head (λ row. look_up row.0 table ≡ Some row.1) row rows own)
     (own_row table rows name value (All-tail (λ row. look_up row.0 table ≡ Some row.1) row rows own)) e
 
 same_found : {Value : Type 0} (here there : Option Value) → ((value : Value) → here ≡ Some value → there ≡ Some value) →
@@ -36,4 +36,4 @@ pub same_rows : {Value : Type 0} (rows table : List (List ℕ × Value)) (name :
     → AreOwn rows table → look_up name rows ≡ look_up name table
 same_rows rows table name own back =
     same_found (look_up name rows) (look_up name table) (λ value. own_row table rows name value own)
-        (λ value. own_row rows table name value back)
+    (λ value. own_row rows table name value back)

@@ -20,7 +20,7 @@ one_line false b = refl
 
 more_lines : (ends : Bool) (b n : ℕ) (bs : List ℕ) → lines_of bs ≡ take n bs ∷ lines_of (drop (n + 1) bs) →
     cond ends ([] ∷ lines_of bs) (onto_first b (lines_of bs))
-        ≡ take (cond (not ends) (1 + n) 0) (b ∷ bs) ∷ lines_of (drop (cond (not ends) (1 + n) 0 + 1) (b ∷ bs))
+    ≡ take (cond (not ends) (1 + n) 0) (b ∷ bs) ∷ lines_of (drop (cond (not ends) (1 + n) 0 + 1) (b ∷ bs))
 more_lines true b n bs e = refl
 more_lines false b n bs e = rw e (grind (arith, common_steps))
 
@@ -61,7 +61,7 @@ record Front (parts : List (List ℕ)) (n : ℕ) (bs : List ℕ) : Type 0 where
 
 front_more : (space : Bool) (b n : ℕ) (bs : List ℕ) → space ≡ (b == 32) → Front (slice_split (λ x. x == 32) bs) n bs →
     Front (cond space ([] ∷ slice_split (λ x. x == 32) bs) (onto_first b (slice_split (λ x. x == 32) bs)))
-        (cond (not space) (1 + n) 0) (b ∷ bs)
+    (cond (not space) (1 + n) 0) (b ∷ bs)
 unfolding words_of
 front_more true b n bs e h =
     record { others = slice_split (λ x. x == 32) bs; parted = refl; words = sym (words_from_space b bs (sym e)) }
@@ -93,7 +93,7 @@ words_first bs h =
 begins : (space : Bool) (b n : ℕ) (bs : List ℕ) → space ≡ (b == 32)
     → (length (drop n bs) ≡ 0) ⊎ (0 < word_end (drop n bs)) →
     (length (drop (cond (not (not space)) (1 + n) 0) (b ∷ bs)) ≡ 0)
-        ⊎ (0 < word_end (drop (cond (not (not space)) (1 + n) 0) (b ∷ bs)))
+    ⊎ (0 < word_end (drop (cond (not (not space)) (1 + n) 0) (b ∷ bs)))
 begins true b n bs e h = let one : 1 + n ≡ suc n = omega arith in rw one h
 begins false b n bs e h = inr (rw (sym e) (omega arith))
 

@@ -35,8 +35,12 @@ pub struct Script {
 impl Model for Script {
     ghost Value = { Said };
 
-    ghost view = { λ script. record { settings = script.settings; items = script.items.items;
-        packet = script.packet; shut = script.shut } };
+    ghost view = { λ script. record {
+      settings = script.settings;
+      items = script.items.items;
+      packet = script.packet;
+      shut = script.shut;
+    } };
 
     ghost invariant = { λ script. InBounds script.settings };
 }

@@ -41,7 +41,7 @@ behind_end (b ∷ body) last (x ∷ xs) ys clear is has =
     let rest : xs ++ ys ≡ body ++ last ∷ [] = cc in
     let none = and_parts (is_end b) _ clear in
     ⊎_elim (λ (t : is_end x ≡ true). absurd (true≢false (sym t ∙ ap is_end first ∙ none.0)))
-            (λ t. behind_end body last xs ys none.1 rest t) (or_parts (is_end x) (list_any is_end xs) has)
+    (λ t. behind_end body last xs ys none.1 rest t) (or_parts (is_end x) (list_any is_end xs) has)
 
 -- what was taken, with an end in it, of a list that ends there
 whole_part : (items xs ys : List Item) → IsEnded items → xs ++ ys ≡ items → list_any is_end xs ≡ true → xs ≡ items
@@ -78,7 +78,7 @@ by_number F (ended ∷ ends) control each last (suc sender) below =
 abbrev part_if : Bool → Ticket → ℕ → List Ticket → List Item
 part_if b ticket sender queue =
     map (λ (t : Ticket). t.item) (if b then ticket ∷ filter (λ (t : Ticket). t.sender == sender) queue
-        else filter (λ (t : Ticket). t.sender == sender) queue)
+    else filter (λ (t : Ticket). t.sender == sender) queue)
 
 all_behind : (P : Item → Type 0) (b : Bool) (ticket : Ticket) (sender : ℕ) (queue : List Ticket)
     → AllByRecursion P (part_if b ticket sender queue) → AllByRecursion P (part sender queue)
@@ -120,7 +120,7 @@ pub record AreSettled (intake : IntakeState) (ends : List EndedState) (control :
   pub seats : (k : ℕ) (d : EndedState) → k < length ends → (get_or ends k d).origin.seat ≡ seat_at intake k
   pub filed : (k : ℕ) (d : EndedState) → k < length ends →
       IsFiled (get_or ends k d).origin.seat.limit (get_or ends k d).origin.seat.submitters
-          (get_or ends k d).origin.seat.number (get_or ends k d).queued
+      (get_or ends k d).origin.seat.number (get_or ends k d).queued
   pub control_seat_is : control.seat ≡ control_seat intake
   pub control_filed : IsFiled control.seat.limit control.seat.submitters control.seat.number control.queued
   pub items : List Ticket
@@ -131,14 +131,16 @@ pub record AreSettled (intake : IntakeState) (ends : List EndedState) (control :
 drained : (intake : IntakeState) (items : List Ticket) (number : ℕ) (seat : Seat) (queued : List Item)
     → seat ≡ seat_at intake number → IsFiled seat.limit seat.submitters seat.number queued →
     part seat.number (intake.taken ++ items) ≡ queued → list_any is_end (part number intake.taken) ≡ true
-        → IsDrained intake number queued
+    → IsDrained intake number queued
 drained intake items number seat queued seat_is filed is has =
     let mine : IsFiled intake.limit intake.submitters number queued = subst
-        (λ (s : Seat). IsFiled s.limit s.submitters s.number queued) seat_is filed in
+    (λ (s : Seat). IsFiled s.limit s.submitters s.number queued) seat_is filed in
     let all : part number (intake.taken ++ items)
-        ≡ queued = subst (λ (s : Seat). part s.number (intake.taken ++ items) ≡ queued) seat_is is in
-    (whole_part queued (part number intake.taken) (part number items) mine.ended
-        (sym (part_append number intake.taken items) ∙ all) has, mine)
+    ≡ queued = subst (λ (s : Seat). part s.number (intake.taken ++ items) ≡ queued) seat_is is in (
+      whole_part queued (part number intake.taken) (part number items) mine.ended
+          (sym (part_append number intake.taken items) ∙ all) has,
+      mine,
+    )
 
 all_drained : (intake : IntakeState) (ends : List EndedState) (control : SenderState)
     → AreSettled intake ends control → (sender : ℕ) → sender ≤ intake.submitters
@@ -148,11 +150,11 @@ all_drained intake ends control is sender below =
     let last = entry control.seat.number control.queued in
     by_number (IsDrained intake) ends control
     (λ k d within. drained intake is.items k (get_or ends k d).origin.seat (get_or ends k d).queued
-        (is.seats k d within) (is.filed k d within) (entry_at IsPart ends last is.whole.0 k d within)
-        (is.finished k (omega (arith, within, is.long))))
+    (is.seats k d within) (is.filed k d within) (entry_at IsPart ends last is.whole.0 k d within)
+    (is.finished k (omega (arith, within, is.long))))
     (subst (λ n. IsDrained intake n control.queued) (sym is.long)
-        (drained intake is.items intake.submitters control.seat control.queued is.control_seat_is is.control_filed
-        (last_entry IsPart ends last is.whole.0) (is.finished intake.submitters (omega arith))))
+    (drained intake is.items intake.submitters control.seat control.queued is.control_seat_is is.control_filed
+    (last_entry IsPart ends last is.whole.0) (is.finished intake.submitters (omega arith))))
     sender (omega (arith, below, is.long))
 
 none_above : (intake : IntakeState) (ends : List EndedState) (control : SenderState)
@@ -165,12 +167,12 @@ none_above intake ends control is sender above =
 each_part : (P : ℕ → Item → Type 0) (intake : IntakeState) (ends : List EndedState) (control : SenderState)
     → AreSettled intake ends control →
     ((sender : ℕ) (items : List Item) → IsFiled intake.limit intake.submitters sender items
-        → AllByRecursion (P sender) items) → (sender : ℕ) → AllByRecursion (P sender) (part sender intake.taken)
+    → AllByRecursion (P sender) items) → (sender : ℕ) → AllByRecursion (P sender) (part sender intake.taken)
 each_part P intake ends control is each sender = ⊎_elim
     (λ (below : sender ≤ intake.submitters). let own = all_drained intake ends control is sender below in subst
-        (AllByRecursion (P sender)) (sym own.0) (each sender _ own.1))
+    (AllByRecursion (P sender)) (sym own.0) (each sender _ own.1))
     (λ (above : intake.submitters < sender). subst (AllByRecursion (P sender))
-        (sym (none_above intake ends control is sender above)) tt)
+    (sym (none_above intake ends control is sender above)) tt)
     (within_or_above sender intake.submitters)
 
 pub settled_queue : (intake : IntakeState) (ends : List EndedState) (control : SenderState)
@@ -188,4 +190,4 @@ pub settled_within : (intake : IntakeState) (ends : List EndedState) (control : 
     → AreSettled intake ends control → AreWithin intake.limit intake.taken
 settled_within intake ends control is =
     all_of_parts (λ sender. IsWithin intake.limit) intake.taken
-        (each_part (λ sender. IsWithin intake.limit) intake ends control is (λ sender items filed. filed.within))
+    (each_part (λ sender. IsWithin intake.limit) intake ends control is (λ sender items filed. filed.within))

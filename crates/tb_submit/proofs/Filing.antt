@@ -14,7 +14,7 @@ use Rattle.tb_submit.specs.Lists.{IsWithin, ArePackets, ArePulses, IsFiled}
 pub packets_more : (limit sender number : ℕ) (items : List Item) (job : Numbered)
     → ArePackets limit sender number items →
     job.submitter ≡ sender → job.number ≡ number + length items → IsOk (admission_of limit job.packet)
-        → ArePackets limit sender number (items ++ Packet job ∷ [])
+    → ArePackets limit sender number (items ++ Packet job ∷ [])
 packets_more limit sender number [] job all own is within = (own, omega (arith, is), within, tt)
 packets_more limit sender number (Packet first ∷ items) job all own is within =
     (all.0, all.1, all.2, packets_more limit sender (number + 1) items job all.3 own (omega (arith, is)) within)
@@ -63,8 +63,13 @@ packets_filed limit submitters sender items among all = record {
   submitted = packets_submitted limit submitters sender 0 items among all;
   within = packets_within limit sender 0 items all;
   numbered = packets_numbered limit sender 0 items all;
-  ended = record { body = items; last = End; parts = refl;
-      unended = packets_unended limit sender 0 items all; ends = refl };
+  ended = record {
+    body = items;
+    last = End;
+    parts = refl;
+    unended = packets_unended limit sender 0 items all;
+    ends = refl;
+  };
 }
 
 -- ---- pulses

@@ -60,7 +60,7 @@ stands_right s (x ∷ xs) ys h = inr (stands_right s xs ys h)
 pub part_append : (s : ℕ) (xs ys : List Ticket) → part s (xs ++ ys) ≡ part s xs ++ part s ys
 part_append s xs ys = ap (map (λ (t : Ticket). t.item)) (filter-append (λ (t : Ticket). t.sender == s) xs ys)
     ∙ map-append (λ (t : Ticket). t.item) (filter (λ (t : Ticket). t.sender == s) xs)
-            (filter (λ (t : Ticket). t.sender == s) ys)
+    (filter (λ (t : Ticket). t.sender == s) ys)
 
 pub part_one : (s : ℕ) (x : Ticket) → x.sender ≡ s → part s (x ∷ []) ≡ x.item ∷ []
 part_one s x e = ap (λ (b : Bool). map (λ (t : Ticket). t.item) (cond b (x ∷ []) [])) (eq-eqb x.sender s e)
@@ -114,8 +114,12 @@ pushes_here n pass x k l own items views _ h at =
             (λ j u other e. (
               each_map (FitsEntry h.pass_of h.count (h.taken ++ items) j)
                   (FitsEntry h.pass_of h.count (h.taken ++ more) j) u.entries
-                  (λ y f. (f.0, f.1, part_same y.number h.taken items x
-                      (λ same. other (sym f.1 ∙ ap h.pass_of (sym same ∙ own) ∙ mine.1)) ∙ f.2))
+                  (λ y f. (
+                    f.0,
+                    f.1,
+                    part_same y.number h.taken items x
+                        (λ same. other (sym f.1 ∙ ap h.pass_of (sym same ∙ own) ∙ mine.1)) ∙ f.2,
+                  ))
                   (h.fits j u e).0,
               (h.fits j u e).1,
             ));
@@ -158,8 +162,8 @@ stands_in : (got items : List Ticket) (x : Ticket) → part x.sender (got ++ x �
 stands_in got items x e =
     nothing_in (part x.sender got) (part x.sender items) x.item
     (ap (λ l. part x.sender got ++ l) (sym (part_append x.sender (x ∷ []) items
-        ∙ ap (λ l. l ++ part x.sender items) (part_one x.sender x refl)))
-        ∙ sym (part_append x.sender got (x ∷ items)) ∙ e)
+    ∙ ap (λ l. l ++ part x.sender items) (part_one x.sender x refl)))
+    ∙ sym (part_append x.sender got (x ∷ items)) ∙ e)
 
 given_out : (got items : List Ticket) (x : Ticket) (count : ℕ)
     → ((s : ℕ) → count ≤ s → part s (got ++ x ∷ items) ≡ []) → x.sender < count
@@ -183,8 +187,8 @@ takes_here pass es got n x items views h at =
     let more = h.taken ++ x ∷ [] in
     let same : more ++ items ≡ h.taken ++ (x ∷ items) = append_assoc h.taken (x ∷ []) items in
     let old : AllAt (λ j u. AllByRecursion (FitsEntry h.pass_of h.count (more ++ items) j) u.entries) views =
-        λ j u e. subst (λ all. AllByRecursion (FitsEntry h.pass_of h.count all j) u.entries)
-        (sym same) (h.fits j u e).0 in (
+    λ j u e. subst (λ all. AllByRecursion (FitsEntry h.pass_of h.count all j) u.entries)
+    (sym same) (h.fits j u e).0 in (
       w,
       record {
         pass_of = h.pass_of;
@@ -193,8 +197,11 @@ takes_here pass es got n x items views h at =
         taken = more;
         fits = all_set (Fits h.pass_of h.reader h.count more items) views pass w
             (old pass (intake es got n) at, (mine.1.0, ap (λ g. g ++ x ∷ []) mine.1.1, mine.1.2))
-            (λ j u other e. (old j u e, mark_apart h.reader h.count h.count h.taken more j pass u.mark other
-                mine.1.0 (h.fits j u e).1));
+            (λ j u other e. (
+              old j u e,
+              mark_apart h.reader h.count h.count h.taken more j pass u.mark other
+                  mine.1.0 (h.fits j u e).1,
+            ));
         stands = λ s below. in_set views pass (intake es got n) w at (λ t stands. stands)
             (h.pass_of s) s (h.stands s below);
         strangers = λ s above. ap (part s) same ∙ h.strangers s above;
@@ -232,12 +239,18 @@ forks_here pass es got n items views h at =
     let all : List Ticket = h.taken ++ items in
     let entry_on : (j : ℕ) (e : Entry) → FitsEntry h.pass_of h.count all j e → FitsEntry pass_of (h.count + 1) all j e
     =
-        λ j e f. (omega (arith, f.0), passed_else h.pass_of n (length vs) e.number
-        (λ same. (let a = f.0 in let b = mine.1.2 in absurd (omega arith))) ∙ f.1, f.2) in
+    λ j e f. (
+      omega (arith, f.0),
+      passed_else h.pass_of n (length vs) e.number
+          (λ same. (let a = f.0 in let b = mine.1.2 in absurd (omega arith))) ∙ f.1,
+      f.2,
+    ) in
     let old : AllAt (Fits pass_of h.reader (h.count + 1) h.taken items) vs
-    = all_set (Fits pass_of h.reader (h.count + 1) h.taken items) views pass l
-    (each_map (FitsEntry h.pass_of h.count all pass) (FitsEntry pass_of (h.count + 1) all pass) es
-        (entry_on pass) mine.0, (mine.1.0, mine.1.1, ap (λ c. c + 1) mine.1.2))
+    = all_set (Fits pass_of h.reader (h.count + 1) h.taken items) views pass l (
+      each_map (FitsEntry h.pass_of h.count all pass) (FitsEntry pass_of (h.count + 1) all pass) es
+          (entry_on pass) mine.0,
+      (mine.1.0, mine.1.1, ap (λ c. c + 1) mine.1.2),
+    )
     (λ j u other e. (
       each_map (FitsEntry h.pass_of h.count all j) (FitsEntry pass_of (h.count + 1) all j) u.entries
           (entry_on j) (h.fits j u e).0,
@@ -250,16 +263,29 @@ forks_here pass es got n items views h at =
       taken = h.taken;
       fits = λ j u e. ⊎_elim (λ x. old j u x)
           (λ (is : (j ≡ length vs) × (r ≡ u)). subst (λ (y : ℕ × View). Fits pass_of h.reader
-              (h.count + 1) h.taken items y.0 y.1) (λ i. (sym is.0 i, is.1 i))
-          (((omega (arith, mine.1.2), passed_there h.pass_of n (length vs) n refl, h.strangers n
-              (omega (arith, mine.1.2))), tt), tt))
+          (h.count + 1) h.taken items y.0 y.1) (λ i. (sym is.0 i, is.1 i)) (
+            (
+              (
+                omega (arith, mine.1.2),
+                passed_there h.pass_of n (length vs) n refl,
+                h.strangers n
+                    (omega (arith, mine.1.2)),
+              ),
+              tt,
+            ),
+            tt,
+          ))
           (at_end vs r u j e);
       stands = λ s below. ⊎_elim
-          (λ (is : s ≡ n). (r, subst (λ (p : ℕ). get_elem? (vs ++ r ∷ []) p ≡ some r)
-              (sym (passed_there h.pass_of n (length vs) s is)) (at_last vs r (length vs) refl), inl (sym is)))
+          (λ (is : s ≡ n). (
+            r,
+            subst (λ (p : ℕ). get_elem? (vs ++ r ∷ []) p ≡ some r)
+                (sym (passed_there h.pass_of n (length vs) s is)) (at_last vs r (length vs) refl),
+            inl (sym is),
+          ))
           (λ (no : s ≢ n). subst (λ (p : ℕ). InView (vs ++ r ∷ []) p s) (sym (passed_else h.pass_of n (length vs) s no))
           (in_longer vs r (h.pass_of s) s (in_set views pass (intake es got n) l at (λ t stands. stands)
-              (h.pass_of s) s (h.stands s (let e = mine.1.2 in omega arith)))))
+          (h.pass_of s) s (h.stands s (let e = mine.1.2 in omega arith)))))
           (cases_eq s n);
       strangers = λ s above. h.strangers s (omega arith);
     }
@@ -276,34 +302,37 @@ merges pass v other u items views h at two at' =
     let vs : List View = set views pass both in
     let all : List Ticket = h.taken ++ items in
     let was : get_elem? views other ≡ some u = ⊎_elim (λ x. absurd (two x.0)) (λ x. x.1)
-        (at_set views pass other both u at') in
+    (at_set views pass other both u at') in
     let mine = h.fits pass v at in
     let theirs = h.fits other u was in
     let pass_of : ℕ → ℕ = λ s. cond (h.pass_of s == other) pass (h.pass_of s) in
     let moved : (s : ℕ) → h.pass_of s ≡ other → pass_of s ≡ pass = λ s e.
-        ap (λ (b : Bool). cond b pass (h.pass_of s)) (eq-eqb (h.pass_of s) other e) in
+    ap (λ (b : Bool). cond b pass (h.pass_of s)) (eq-eqb (h.pass_of s) other e) in
     let stays : (s : ℕ) → h.pass_of s ≢ other → pass_of s ≡ h.pass_of s = λ s e.
-        ap (λ (b : Bool). cond b pass (h.pass_of s)) (ne_eqb (h.pass_of s) other e) in
+    ap (λ (b : Bool). cond b pass (h.pass_of s)) (ne_eqb (h.pass_of s) other e) in
     let apart : (j : ℕ) (e : Entry) → j ≢ other → FitsEntry h.pass_of h.count all j e
-        → FitsEntry pass_of h.count all j e
+    → FitsEntry pass_of h.count all j e
     = λ j e no f. (f.0, stays e.number (λ same. no (sym f.1 ∙ same)) ∙ f.1, f.2) in
     let taken_in : (e : Entry) → FitsEntry h.pass_of h.count all other e
-        → FitsEntry pass_of h.count all pass e = λ e f. (f.0, moved e.number f.1, f.2) in
+    → FitsEntry pass_of h.count all pass e = λ e f. (f.0, moved e.number f.1, f.2) in
     let Now : ℕ → View → Type 0 = λ j y. j ≢ other → Fits pass_of h.reader h.count h.taken items j y in
     let now : AllAt Now vs = all_set Now views pass both
     (λ no. (
       each_append (FitsEntry pass_of h.count all pass) v.entries u.entries
           (each_map (FitsEntry h.pass_of h.count all pass) (FitsEntry pass_of h.count all pass) v.entries
-              (λ e. apart pass e no) mine.0)
+          (λ e. apart pass e no) mine.0)
           (each_map (FitsEntry h.pass_of h.count all other)
-              (FitsEntry pass_of h.count all pass) u.entries taken_in theirs.0),
+          (FitsEntry pass_of h.count all pass) u.entries taken_in theirs.0),
       mine.1,
     ))
-    (λ j y _ e no. (each_map (FitsEntry h.pass_of h.count all j) (FitsEntry pass_of h.count all j) y.entries
-        (λ x. apart j x no) (h.fits j y e).0, (h.fits j y e).1)) in
+    (λ j y _ e no. (
+      each_map (FitsEntry h.pass_of h.count all j) (FitsEntry pass_of h.count all j) y.entries
+          (λ x. apart j x no) (h.fits j y e).0,
+      (h.fits j y e).1,
+    )) in
     let two' : pass ≢ other = λ e. two (sym e) in
     let here : get_elem? (set vs other empty_view) pass ≡ some both = set_else vs other pass empty_view two'
-        ∙ put_here views pass v both at in
+    ∙ put_here views pass v both at in
     record {
       pass_of = pass_of;
       reader = h.reader;
@@ -317,7 +346,7 @@ merges pass v other u items views h at two at' =
             here,
             stands_right s v.entries u.entries
                 (subst (λ (y : View). Stands s y.entries) (some-injective c.0 u
-                    (sym c.1 ∙ ap (get_elem? views) is ∙ was)) c.2),
+                (sym c.1 ∙ ap (get_elem? views) is ∙ was)) c.2),
           ))
           (λ (no : h.pass_of s ≢ other). subst (λ (p : ℕ). InView (set vs other empty_view) p s) (sym (stays s no))
           (let d = in_set views pass v both at (λ t x. stands_left t v.entries u.entries x) (h.pass_of s) s c in

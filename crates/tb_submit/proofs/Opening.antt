@@ -10,7 +10,7 @@ use Rattle.tb_submit.specs.Inside.{ReaderState}
 origins_more : (seats : ℕ → Seat) (number all : ℕ) (outlets : List (Outlet Replied)) (outlet : Outlet Replied)
     → all ≡ number + length outlets →
     origins_from seats number (outlets ++ outlet ∷ [])
-        ≡ origins_from seats number outlets ++ record { seat = seats all; ring = outlet_ring outlet } ∷ []
+    ≡ origins_from seats number outlets ++ record { seat = seats all; ring = outlet_ring outlet } ∷ []
 origins_more seats number all [] outlet is = let same : number ≡ all =
     omega (arith, is) in ap (λ n. record { seat = seats n; ring = outlet_ring outlet } ∷ []) same
 origins_more seats number all (first ∷ outlets) outlet is =
@@ -20,14 +20,14 @@ origins_more seats number all (first ∷ outlets) outlet is =
 pub opened_more : (credit number : ℕ) (seats : ℕ → Seat) (outlets : List (Outlet Replied))
     (opened : List SubmitterState) (outlet : Outlet Replied) (one : SubmitterState) → length outlets ≡ number →
     opened ≡ map (new_submitter credit) (origins_from seats 0 outlets)
-        → one ≡ new_submitter credit (record { seat = seats number; ring = outlet_ring outlet }) →
+    → one ≡ new_submitter credit (record { seat = seats number; ring = outlet_ring outlet }) →
     opened ++ one ∷ [] ≡ map (new_submitter credit) (origins_from seats 0 (outlets ++ outlet ∷ []))
 opened_more credit number seats outlets opened outlet one long opened_is one_is =
     let origin : Origin = record { seat = seats number; ring = outlet_ring outlet } in
     ap (λ all. all ++ one ∷ []) opened_is ∙ ap (λ s.
-        map (new_submitter credit) (origins_from seats 0 outlets) ++ s ∷ []) one_is
+    map (new_submitter credit) (origins_from seats 0 outlets) ++ s ∷ []) one_is
     ∙ sym (map-append (new_submitter credit) (origins_from seats 0 outlets) (origin ∷ []))
-        ∙ ap (map (new_submitter credit)) (sym (origins_more seats 0 number outlets outlet (omega (arith, long))))
+    ∙ ap (map (new_submitter credit)) (sym (origins_more seats 0 number outlets outlet (omega (arith, long))))
 
 pub origins_back : (credit : ℕ) (origins : List Origin) → map origin_of (map (new_submitter credit) origins) ≡ origins
 origins_back credit [] = refl
@@ -51,7 +51,7 @@ ends_long seats number (ended ∷ ends) (outlet ∷ outlets) is = ap suc (ends_l
 pub origin_at : (seats : ℕ → Seat) (number at k : ℕ) (ends : List EndedState) (outlets : List (Outlet Replied))
     (d : EndedState) (o : Outlet Replied) → map end_origin ends ≡ origins_from seats number outlets →
     k < length ends → at ≡ number + k → (get_or ends k d).origin
-        ≡ record { seat = seats at; ring = outlet_ring (get_or outlets k o) }
+    ≡ record { seat = seats at; ring = outlet_ring (get_or outlets k o) }
 origin_at seats number at k [] outlets d o is below at_is = absurd (omega (arith, below))
 origin_at seats number at k (ended ∷ ends) [] d o is below at_is = cc
 origin_at seats number at zero (ended ∷ ends) (outlet ∷ outlets) d o is below at_is =

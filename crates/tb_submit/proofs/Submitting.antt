@@ -34,14 +34,14 @@ credit_left s packet none most =
     let refused = refusal_in (admission_of s.origin.seat.limit packet) in
     let full = if in_flight s == s.credit then Some InFlight else None in
     let other : in_flight s ≢ s.credit = eqb-false (in_flight s) s.credit
-        (apart (in_flight s == s.credit) (or_none refused full (or_none told (or_else refused full) none))) in
+    (apart (in_flight s == s.credit) (or_none refused full (or_none told (or_else refused full) none))) in
     omega (arith, most, other)
 
 pub counts_packet : (seat : Seat) (queued : List Item) (count credit seen : ℕ) (first : Option Refusal)
     (read : List Replied) (job : Numbered) → IsSubmitter seat queued count credit seen first read →
     job.submitter ≡ seat.number → job.number ≡ count → IsOk (admission_of seat.limit job.packet)
-        → length queued - length read < credit → IsSubmitter seat (queued ++ Packet job ∷ [])
-            (count + 1) credit seen first read
+    → length queued - length read < credit → IsSubmitter seat (queued ++ Packet job ∷ [])
+    (count + 1) credit seen first read
 counts_packet seat queued count credit seen first read job is own number within left = record {
   among = is.among;
   limited = is.limited;
@@ -58,7 +58,7 @@ counts_packet seat queued count credit seen first read job is own number within 
 pub counts_reply : (seat : Seat) (queued : List Item) (count credit seen next : ℕ) (first now : Option Refusal)
     (read : List Replied) (reply : Replied) → IsSubmitter seat queued count credit seen first read →
     next ≡ min (seen + 1) 18446744073709551615 → now ≡ or_else first (told_by reply.outcome)
-        → IsSubmitter seat queued count credit next now (read ++ reply ∷ [])
+    → IsSubmitter seat queued count credit next now (read ++ reply ∷ [])
 counts_reply seat queued count credit seen next first now read reply is next_is now_is = record {
   among = is.among;
   limited = is.limited;

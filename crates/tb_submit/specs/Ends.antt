@@ -99,8 +99,12 @@ sender_with sender item = record sender { queued = sender.queued ++ item ∷ [] 
 -- the submitter with this as its last item
 abbrev pub ended_with : SubmitterState → Item → EndedState
 ended_with submitter item =
-    record { origin = submitter.origin; queued = submitter.queued ++ item ∷ []; read = submitter.read;
-        lying = submitter.lying }
+    record {
+      origin = submitter.origin;
+      queued = submitter.queued ++ item ∷ [];
+      read = submitter.read;
+      lying = submitter.lying;
+    }
 
 -- ---- all that have ended, by rising number
 

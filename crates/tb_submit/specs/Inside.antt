@@ -45,8 +45,10 @@ seat_with queue submitters limit number =
 
 abbrev pub state_while_open : Pass Ticket View → ℕ → ℕ → ℕ → SenderState
 state_while_open pass submitters limit number =
-    record { seat = seat_with (Some pass.table_id) submitters limit number;
-        queued = first_pushed (view_of pass).entries }
+    record {
+      seat = seat_with (Some pass.table_id) submitters limit number;
+      queued = first_pushed (view_of pass).entries;
+    }
 
 -- a sender that has ended, whose pass may be gone
 abbrev pub state_once_ended : Option (Pass Ticket View) → ℕ → ℕ → ℕ → SenderState
@@ -57,7 +59,7 @@ abbrev pub IsLeft : Option (Pass Ticket View) → ℕ → ℕ → ℕ → Type 0
 IsLeft None submitters limit number = ⊤
 IsLeft (Some pass) submitters limit number =
     (pass.me.1 ≡ []) × (view_of pass ≡ sender number (first_pushed (view_of pass).entries))
-        × IsFiled limit submitters number (first_pushed (view_of pass).entries)
+    × IsFiled limit submitters number (first_pushed (view_of pass).entries)
 
 -- a submitter's counts: of what it queued, and of the replies read, as far as 64 bits go
 pub record IsSubmitter (seat : Seat) (queued : List Item) (count credit seen : ℕ) (first : Option Refusal)

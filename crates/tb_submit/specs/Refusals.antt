@@ -62,7 +62,7 @@ abbrev pub submit_refusal : SubmitterState → Packet → Option Refusal
 submit_refusal submitter packet =
     or_else (told_in submitter.read)
     (or_else (refusal_in (admission_of submitter.origin.seat.limit packet))
-        (if in_flight submitter == submitter.credit then Some InFlight else None))
+    (if in_flight submitter == submitter.credit then Some InFlight else None))
 
 -- why a packet isn't queued: the refusal that is due, or where none is, want of memory or a full queue
 abbrev pub IsSubmitRefusal : SubmitterState → Packet → Refusal → Type 0

@@ -106,7 +106,7 @@ pub record Kept (items : List Ticket) (views : List View) : Type 0 where
 abbrev pub IsWhole : List Entry → List Ticket → ℕ → List Ticket → Type 0
 IsWhole entries taken count items =
     AllByRecursion (λ (e : Entry). part e.number (taken ++ items) ≡ e.pushed) entries
-        × ((number : ℕ) → count ≤ number → part number (taken ++ items) ≡ [])
+    × ((number : ℕ) → count ≤ number → part number (taken ++ items) ≡ [])
 
 abbrev pub TellsMark : List Entry → Option Mark → List Ticket → Type 0
 TellsMark entries None items = ⊤

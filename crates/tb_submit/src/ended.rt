@@ -50,8 +50,10 @@ impl Ended {
     pub(crate) fn settle(&mut self, reader: &mut Reader, outlet: &mut Outlet<Reply>)
         requires queue { self.old.origin.seat.queue ≡ Some reader.old.queue }
         requires ring { self.old.origin.ring ≡ outlet_ring outlet.old }
-        ensures entries { reader.new ≡ record reader.old { entries = reader.old.entries
-            ++ entry self.old.origin.seat.number self.old.queued ∷ [] } }
+        ensures entries { reader.new ≡ record reader.old {
+          entries = reader.old.entries
+              ++ entry self.old.origin.seat.number self.old.queued ∷ [];
+        } }
         ensures filed { IsFiled self.old.origin.seat.limit self.old.origin.seat.submitters
             self.old.origin.seat.number self.old.queued }
         ensures replies { self.new.read ++ self.new.lying ≡ given outlet.old }

@@ -38,7 +38,7 @@ fn open_submitters(
     ensures reader { OnOk result (reader.new ≡ record reader.old { count = submitters }) }
     ensures submitters { IfOk result (λ ends. ends.0.items
         ≡ map (new_submitter credit) (origins (new_intake reader.old.queue submitters limit
-            reader.old.capacity) ends.1.items)) }
+        reader.old.capacity) ends.1.items)) }
     ensures outlets { IfOk result (λ ends. (length ends.1.items ≡ submitters)
         × All (λ outlet. given outlet ≡ []) ends.1.items) }
     ensures slots { IfOk result (λ ends. All (λ outlet. slots outlet ≡ credit) ends.1.items) }

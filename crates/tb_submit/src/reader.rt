@@ -47,7 +47,7 @@ impl Model for Reader {
 
     ghost invariant = { λ s. IsPassOf (arc_value s.queue) s.place
         × (view_of s.place ≡ intake (view_of s.place).entries (taken_of (view_of s.place).mark)
-            (count_of (view_of s.place).mark)) };
+        (count_of (view_of s.place).mark)) };
 }
 
 impl Reader {
@@ -99,8 +99,10 @@ impl Reader {
     /// Takes in what an ended sender pushed, so that it is known here from now on.
     pub(crate) fn gather(&mut self, ended: &mut EndedSender)
         requires { ended.old.seat.queue ≡ Some self.old.queue }
-        ensures entries { self.new ≡ record self.old { entries = self.old.entries
-            ++ entry ended.old.seat.number ended.old.queued ∷ [] } }
+        ensures entries { self.new ≡ record self.old {
+          entries = self.old.entries
+              ++ entry ended.old.seat.number ended.old.queued ∷ [];
+        } }
         ensures filed { IsFiled ended.old.seat.limit ended.old.seat.submitters ended.old.seat.number ended.old.queued }
     {
         let Some(place) = ended.place.take() else {

@@ -24,8 +24,8 @@ fn settle_all(reader: &mut Reader, ends: Vec<Ended>, outlets: Vec<Outlet<Reply>>
     ensures reader { reader.new ≡ record reader.old { entries = reader.old.entries ++ map entry_of ends.items } }
     ensures filed { (k : ℕ) (d : EndedState) → k < length ends.items
         → IsFiled (slice_index_or ends.items k d).origin.seat.limit
-            (slice_index_or ends.items k d).origin.seat.submitters
-            (slice_index_or ends.items k d).origin.seat.number (slice_index_or ends.items k d).queued }
+        (slice_index_or ends.items k d).origin.seat.submitters
+        (slice_index_or ends.items k d).origin.seat.number (slice_index_or ends.items k d).queued }
     ensures long { length result.items ≡ length ends.items }
     ensures replies { (k : ℕ) (d : EndedState) (o : OutletValue Replied) → k < length ends.items
         → (slice_index_or result.items k d).read ++ (slice_index_or result.items k d).lying

@@ -125,7 +125,7 @@ impl Submitter {
         requires { length self.old.queued < 2 ^ 56 }
         ensures ok { IfOk result (λ number. (number ≡ length self.old.queued)
             × (self.new ≡ with_item self.old (item.Packet
-                (numbered_packet self.old.origin.seat.number number packet)))) }
+            (numbered_packet self.old.origin.seat.number number packet)))) }
         ensures admitted { OnOk result (submit_refusal self.old packet ≡ None) }
         ensures back { IfErr result (λ refused. (refused.0 ≡ packet) × (self.new ≡ self.old)) }
         ensures refusal { IfErr result (λ refused. IsSubmitRefusal self.old packet refused.1) }

@@ -54,5 +54,5 @@ is_due clock transfer = not (transfer.timeout == 0) && nat_le (expires_at transf
 abbrev pub expire_due : ℕ → Facts → Facts
 expire_due clock facts =
     let expires : Transfer → Bool = λ transfer. is_expired facts transfer.id
-        || (is_reserving facts transfer && is_due clock transfer) in
+    || (is_reserving facts transfer && is_due clock transfer) in
     record facts { expired = map (λ (transfer : Transfer). transfer.id) (filter expires facts.transfers) }

@@ -86,5 +86,7 @@ pub record CanExpire (facts : Facts) (account_entries : List (ℕ × Account)) (
 -- the facts once one more transfer has expired, which has this id
 abbrev pub expire_one : ℕ → Facts → Facts
 expire_one id facts =
-    record facts { expired = map (λ (transfer : Transfer). transfer.id)
-    (filter (λ transfer. is_expired facts transfer.id || (id == transfer.id)) facts.transfers) }
+    record facts {
+      expired = map (λ (transfer : Transfer). transfer.id)
+          (filter (λ transfer. is_expired facts transfer.id || (id == transfer.id)) facts.transfers);
+    }

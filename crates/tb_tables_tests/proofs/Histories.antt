@@ -29,7 +29,7 @@ pub history-push : (changes : List Change) (change : Change) (old new : Lists) �
     → plain_history (changes ++ change ∷ []) new ≡ with_change (plain_history changes old) (facts_of new)
 history-push changes change old new e =
     ap (λ past. record { now = facts_of new; past = past })
-        (past_of-push changes change new ∙ ap (λ lists. past_of changes lists ++ facts_of lists ∷ []) e)
+    (past_of-push changes change new ∙ ap (λ lists. past_of changes lists ++ facts_of lists ∷ []) e)
 
 -- the history with the last change on it again
 pub history-pop : (changes : List Change) (change : Change) (now : Lists)
@@ -59,5 +59,5 @@ pub lawful_pop : (changes : List Change) (change : Change) (now : Lists)
     → AreLawful (plain_history changes (cut_back change now))
 lawful_pop changes change now all =
     let past = all_pop IsLawful (past_of changes (cut_back change now)) (facts_of (cut_back change now))
-        (subst AreLawful (sym (history-pop changes change now)) all).past in
+    (subst AreLawful (sym (history-pop changes change now)) all).past in
     record { now = past.1; past = past.0 }

@@ -20,9 +20,9 @@ facts_of-push lists transfer =
     let row : TransferRecord × Bool = (transfer, false) in
     let transfers = map-append (λ (r : TransferRecord × Bool). r.0) lists.rows (row ∷ []) in
     let expired : expired_in (lists.rows ++ row ∷ [])
-        ≡ expired_in lists.rows =
-        ap (map (λ (r : TransferRecord × Bool). r.0.id))
-        (filter-append (λ (r : TransferRecord × Bool). r.1) lists.rows (row ∷ []) ∙ append-nil _) in
+    ≡ expired_in lists.rows =
+    ap (map (λ (r : TransferRecord × Bool). r.0.id))
+    (filter-append (λ (r : TransferRecord × Bool). r.1) lists.rows (row ∷ []) ∙ append-nil _) in
     λ i. record { accounts = lists.accounts; transfers = transfers i; expired = expired i; failed = lists.failed }
 
 module _ (changes : List Change) (old : Lists) (all : AreLawful (plain_history changes old)) where
@@ -52,13 +52,13 @@ module _ (changes : List Change) (old : Lists) (all : AreLawful (plain_history c
   pub row-added : (transfer : TransferRecord) → (IsLawful (facts_of old)
       → IsLawful (add_transfer (facts_of old) transfer))
       → GoesOn Transfer (record old { rows = old.rows ++ (transfer, false) ∷ [] })
-          (add_transfer (facts_of old) transfer)
+      (add_transfer (facts_of old) transfer)
   row-added transfer keeps =
       let row : TransferRecord × Bool = (transfer, false) in
       let is = facts_of-push old transfer in
       let on = added Transfer (record old { rows = old.rows ++ row ∷ [] })
-          (ap (λ rows. record old { rows = rows }) (without_last-push old.rows row))
-          (subst IsLawful (sym is) (keeps all.now)) in
+      (ap (λ rows. record old { rows = rows }) (without_last-push old.rows row))
+      (subst IsLawful (sym is) (keeps all.now)) in
       (on.0, on.1 ∙ ap (with_change (plain_history changes old)) is)
 
 abbrev Rows : Type 0
@@ -82,8 +82,13 @@ mark-is : (rows : Rows) (p : ℕ) (row : TransferRecord × Bool) → ids_distinc
 mark-is [] p row distinct at = cc
 mark-is (r ∷ rows) zero row distinct at = grind (arith, nat_tests, unmarked r.0.id rows)
 mark-is (r ∷ rows) (suc p) row distinct at =
-    grind (arith, nat_tests, has_id-at r.0.id (transfers_in rows) p row.0
-    (transfer-at rows p row at), mark-is rows p row)
+    grind (
+      arith,
+      nat_tests,
+      has_id-at r.0.id (transfers_in rows) p row.0
+          (transfer-at rows p row at),
+      mark-is rows p row,
+    )
 
 -- what is marked, where a test of the transfer tells the mark
 expired-by : (test : TransferRecord → Bool) (rows : Rows)
@@ -94,7 +99,7 @@ expired-by test (r ∷ rows) same = grind (arith, same 0 r refl, expired-by test
 
 ordered : (rows : Rows) → IsLawful (facts_in rows)
     → expired_in rows ≡ map (λ (t : TransferRecord). t.id)
-        (filter (λ t. is_expired (facts_in rows) t.id) (transfers_in rows))
+    (filter (λ t. is_expired (facts_in rows) t.id) (transfers_in rows))
 ordered rows lawful =
     expired-by (λ t. is_expired (facts_in rows) t.id) rows (λ p row. mark-is rows p row lawful.distinct)
 
@@ -112,11 +117,21 @@ expired-set : (test : TransferRecord → Bool) (rows : Rows) (place : ℕ) (x : 
     expired_in (set rows place (x, true)) ≡ map (λ (t : TransferRecord). t.id) (filter test (transfers_in rows))
 expired-set test [] place x at same = cc
 expired-set test (r ∷ rows) zero x at same =
-    grind (arith, nat_tests, same 0 r refl, expired-by test rows
-    (λ p row at'. grind (arith, nat_tests, same (suc p) row at')))
+    grind (
+      arith,
+      nat_tests,
+      same 0 r refl,
+      expired-by test rows
+          (λ p row at'. grind (arith, nat_tests, same (suc p) row at')),
+    )
 expired-set test (r ∷ rows) (suc place) x at same =
-    grind (arith, nat_tests, same 0 r refl, expired-set test rows place x at
-    (λ p row at'. grind (arith, nat_tests, same (suc p) row at')))
+    grind (
+      arith,
+      nat_tests,
+      same 0 r refl,
+      expired-set test rows place x at
+          (λ p row at'. grind (arith, nat_tests, same (suc p) row at')),
+    )
 
 -- those before a place have expired where they are due
 pub record AreMarked (clock : ℕ) (old now : Rows) (place : ℕ) : Type 0 where
@@ -153,8 +168,11 @@ module _ (clock : ℕ) (old now : Rows) (place : ℕ) (d : TransferRecord × Boo
       is =
           let transfers = transfers-set now place x true at in
           let expired = expired-set (λ t. is_expired (facts_in now) t.id || (x.id == t.id)) now place x at
-          (λ p row at'. cc (mark-is now p row are.lawful.distinct at', one-place
-              (transfers_in now) place p x row.0 are.lawful.distinct at (transfer-at now p row at'))) in
+          (λ p row at'. cc (
+            mark-is now p row are.lawful.distinct at',
+            one-place
+                (transfers_in now) place p x row.0 are.lawful.distinct at (transfer-at now p row at'),
+          )) in
           λ i. record (facts_in now) { transfers = transfers i; expired = expired i }
 
       done : (p : ℕ) (t : TransferRecord) → p < place + 1 → slice_get (transfers_in now) p ≡ Some t
@@ -167,12 +185,21 @@ module _ (clock : ℕ) (old now : Rows) (place : ℕ) (d : TransferRecord × Boo
 
   pub passed : (is_reserving (facts_in now) x && is_due clock x) ≡ false → AreMarked clock old now (place + 1)
   passed not_due =
-      record { lawful = are.lawful; same = are.same; len = are.len;
-          done = λ p t below at'. let was = are.done p t in grind (arith, nat_tests, not_due, was, at, at', below) }
+      record {
+        lawful = are.lawful;
+        same = are.same;
+        len = are.len;
+        done = λ p t below at'. let was = are.done p t in grind (arith, nat_tests, not_due, was, at, at', below);
+      }
 
 pub all-marked : (clock : ℕ) (old now : Rows) (place : ℕ) → length old ≤ place → AreMarked clock old now place
     → facts_in now ≡ expire_due clock (facts_in old)
 all-marked clock old now place past are =
     sym (none-left clock (facts_in now) (ordered now are.lawful)
-        (λ p t at. are.done p t (omega (arith, are.len, slice_get_within (transfers_in now) p t at, length-map now
-        (λ (row : TransferRecord × Bool). row.0))) at)) ∙ are.same
+    (λ p t at. are.done p t (omega (
+      arith,
+      are.len,
+      slice_get_within (transfers_in now) p t at,
+      length-map now
+          (λ (row : TransferRecord × Bool). row.0),
+    )) at)) ∙ are.same

@@ -25,8 +25,12 @@ expired_in rows = map (λ row. row.0.id) (filter (λ row. row.1) rows)
 
 abbrev pub facts_of : Lists → Facts
 facts_of lists =
-    record { accounts = lists.accounts; transfers = transfers_in lists.rows;
-        expired = expired_in lists.rows; failed = lists.failed }
+    record {
+      accounts = lists.accounts;
+      transfers = transfers_in lists.rows;
+      expired = expired_in lists.rows;
+      failed = lists.failed;
+    }
 
 -- the facts of rows alone, which is all that balances depend on
 abbrev pub facts_in : List (TransferRecord × Bool) → Facts

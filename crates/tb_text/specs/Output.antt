@@ -26,7 +26,7 @@ fault_line number text = codes "fault " ++ decimal number ++ codes " " ++ text +
 unfoldable pub refused_line : ℕ → Refusal → List ℕ
 refused_line submitter refusal =
     codes "packet " ++ decimal submitter ++ codes " refused " ++ decimal (number_of refusal) ++ codes " "
-        ++ name_of refusal ++ codes "\n"
+    ++ name_of refusal ++ codes "\n"
 
 abbrev pub failure_text : Failure → List ℕ
 failure_text failure = codes " " ++ decimal failure.index ++ codes ":" ++ decimal failure.code
@@ -73,7 +73,7 @@ account_front id timestamp = codes "account " ++ decimal id ++ codes " " ++ deci
 unfoldable pub balances_text : Account → List ℕ
 balances_text account =
     codes " " ++ decimal account.debits_pending ++ codes " " ++ decimal account.debits_posted ++ codes " "
-        ++ decimal account.credits_pending
+    ++ decimal account.credits_pending
     ++ codes " " ++ decimal account.credits_posted ++ codes "\n"
 
 abbrev pub account_line : Account → List ℕ

@@ -29,8 +29,8 @@ pub is_open-chunk : (operation : ℕ) (bytes chunk : List ℕ) (chunks : List (L
     → is_chunk_linked operation chunk ≡ is_open (events_of operation bytes)
 is_open-chunk operation bytes chunk chunks is last =
     let at : slice_get (chunks_of 128 bytes) (length (chunks_of 128 bytes) - 1)
-        ≡ Some chunk = ap (λ (rs : List (List ℕ)). slice_get rs (length rs - 1)) (sym is) ∙ sym last in
+    ≡ Some chunk = ap (λ (rs : List (List ℕ)). slice_get rs (length rs - 1)) (sym is) ∙ sym last in
     chosen (operation == 129) (operation == 130) (Accounts (accounts_of bytes)) (Transfers (transfers_of bytes))
-        (Ids (ids_of bytes)) _ _
+    (Ids (ids_of bytes)) _ _
     (sym (is_last_linked-chunk is_linked_account account_of (chunks_of 128 bytes) chunk at))
-        (sym (is_last_linked-chunk is_linked_transfer transfer_of (chunks_of 128 bytes) chunk at)) refl
+    (sym (is_last_linked-chunk is_linked_transfer transfer_of (chunks_of 128 bytes) chunk at)) refl

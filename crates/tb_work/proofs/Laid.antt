@@ -14,8 +14,12 @@ chunks-more zero (byte ∷ bytes) chunk is one = absurd (omega (arith, is))
 chunks-more (suc k) bytes chunk is one =
     let fits : 128 ≤ length bytes = omega (arith, is) in
     let rest : length (drop 128 bytes) ≡ k * 128 = omega (arith, length-drop 128 bytes, is) in
-    rw (take-append-le 128 bytes chunk fits, drop-append-le 128 bytes chunk fits, chunks-more k
-        (drop 128 bytes) chunk rest one) refl
+    rw (
+      take-append-le 128 bytes chunk fits,
+      drop-append-le 128 bytes chunk fits,
+      chunks-more k
+          (drop 128 bytes) chunk rest one,
+    ) refl
 
 -- and one event more
 pub events-more : {Event : Type 0} (f : List ℕ → Event) (k : ℕ) (bytes chunk : List ℕ) → length bytes ≡ k * 128
@@ -25,7 +29,7 @@ events-more f k bytes chunk is one =
     let before : length bytes / 128 ≡ k = omega (arith, is) in
     ap (λ n. map f (first_chunks 128 n (bytes ++ chunk))) all ∙ ap (map f) (chunks-more k bytes chunk is one)
     ∙ map-append f (first_chunks 128 k bytes) (chunk ∷ [])
-        ∙ ap (λ n. map f (first_chunks 128 n bytes) ++ f chunk ∷ []) (sym before)
+    ∙ ap (λ n. map f (first_chunks 128 n bytes) ++ f chunk ∷ []) (sym before)
 
 -- events that are laid so that they are read back, once one more is laid
 module _ {Event : Type 0} (write : Event → List ℕ) (read : List ℕ → Event) (events : List Event) (k : ℕ)
@@ -35,7 +39,7 @@ module _ {Event : Type 0} (write : Event → List ℕ) (read : List ℕ → Even
   laid-bytes is =
       behind ∙ ap (λ front. front ++ write event) is
       ∙ sym (ap (flat_map write) next ∙ flat_map-append write (take k events) (event ∷ [])
-          ∙ ap (λ last. flat_map write (take k events) ++ last) (append-nil (write event)))
+      ∙ ap (λ last. flat_map write (take k events) ++ last) (append-nil (write event)))
 
   pub laid-length : length bytes ≡ k * 128 → length (write event) ≡ 128 → length after ≡ (k + 1) * 128
   laid-length is one = ap length behind ∙ omega (arith, is, one, length-append bytes (write event))

@@ -30,8 +30,12 @@ impl Model for Reply {
 
     ghost Value = { Replied };
 
-    ghost view = { λ reply. record { submitter = reply.submitter; number = reply.number; packet = reply.packet;
-        outcome = reply.outcome } };
+    ghost view = { λ reply. record {
+      submitter = reply.submitter;
+      number = reply.number;
+      packet = reply.packet;
+      outcome = reply.outcome;
+    } };
 
     ghost invariant = { λ reply. IsOutcomeOf reply.packet reply.outcome };
 }

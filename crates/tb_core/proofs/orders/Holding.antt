@@ -96,22 +96,31 @@ stepped refused front ticket clear =
 sent_ticket : (refused : Bool) (queue : List Ticket) (applied : List Passage) (front : FrontState)
     (batches : List Parcel) (ticket : Ticket) → AreSent queue applied front [] batches →
     (let next = take_step refused front ticket.sender ticket.item in AreSent
-        (queue ++ ticket ∷ []) applied next.front next.parcels batches)
+    (queue ++ ticket ∷ []) applied next.front next.parcels batches)
 sent_ticket refused queue applied front batches ticket sent =
     let next = take_step refused front ticket.sender ticket.item in
     let step = stepped refused front ticket sent.clear in
     let more = passes_then HasJobs refused front ticket.sender ticket.item next step (items_in queue)
-        (applied ++ all_passages_in batches) (rw append_assoc sent.passes) in
-    record { passes = rw items_push (simp append_assoc at more); clear = step.clear; parcel_jobs = step.parcels;
-        batch_jobs = sent.batch_jobs }
+    (applied ++ all_passages_in batches) (rw append_assoc sent.passes) in
+    record {
+      passes = rw items_push (simp append_assoc at more);
+      clear = step.clear;
+      parcel_jobs = step.parcels;
+      batch_jobs = sent.batch_jobs;
+    }
 
 -- the batcher goes on
 batched : (Unrefused : Type 0) (clock n : ℕ) (pushed taken queue : List Ticket) (w : WorldState)
     (front : FrontState) (parcels batches : List Parcel) (last : Bool) → (h : Holds Unrefused clock n pushed w)
     → pushed ≡ taken ++ queue →
     (Unrefused → front.stopped ≡ false) → AreSent taken h.applied front parcels batches
-        → Holds Unrefused clock n pushed (record w { queue = queue; front = front; parcels = parcels;
-            last_sent = last; batches = batches })
+    → Holds Unrefused clock n pushed (record w {
+      queue = queue;
+      front = front;
+      parcels = parcels;
+      last_sent = last;
+      batches = batches;
+    })
 batched Unrefused clock n pushed taken queue w front parcels batches last h split goes sent =
     record {
       taken = taken;
@@ -135,25 +144,29 @@ pop_holds Unrefused refused clock n pushed w [] [] p q u h = h
 pop_holds Unrefused refused clock n pushed w [] (ticket ∷ queue) p q u h =
     let next = take_step refused w.front ticket.sender ticket.item in
     let sent = sent_ticket refused h.taken h.applied w.front w.batches ticket
-        (subst (λ ps. AreSent h.taken h.applied w.front ps w.batches) p h.sent) in
+    (subst (λ ps. AreSent h.taken h.applied w.front ps w.batches) p h.sent) in
     batched Unrefused clock n pushed (h.taken ++ ticket ∷ []) queue w next.front next.parcels w.batches w.last_sent h
     (h.split ∙ ap (λ rest. h.taken ++ rest) q ∙ sym (append_assoc h.taken (ticket ∷ []) queue))
     (λ is. goes_on HasJobs refused w.front ticket.sender ticket.item next
-        (stepped refused w.front ticket h.sent.clear) (u is) (h.goes is).front) sent
+    (stepped refused w.front ticket h.sent.clear) (u is) (h.goes is).front) sent
 
 -- a parcel goes to the batch ring, from those to push or as the group held
 sent_parcel : (queue : List Ticket) (applied : List Passage) (front : FrontState) (held : List Numbered)
     (parcels others batches : List Parcel) (p : Parcel) → HasJobs p → AllHaveJobs others
     → IsClear (with_group front held) →
     all_passages_in parcels ++ held_by front ≡ passages_in p ++ (all_passages_in others ++ map Admitted held)
-        → AreSent queue applied front parcels batches
-        → AreSent queue applied (with_group front held) others (batches ++ p ∷ [])
+    → AreSent queue applied front parcels batches
+    → AreSent queue applied (with_group front held) others (batches ++ p ∷ [])
 sent_parcel queue applied front held parcels others batches p has all clear list sent =
     let way : on_the_way front parcels batches ≡ on_the_way (with_group front held) others
-        (batches ++ p ∷ []) =
-        rw list (simp (flat_map-append passages_in batches (p ∷ []), append-nil, append_assoc)) in
-    record { passes = rw way at sent.passes; clear = clear; parcel_jobs = all;
-        batch_jobs = all-push HasJobs batches p sent.batch_jobs has }
+    (batches ++ p ∷ []) =
+    rw list (simp (flat_map-append passages_in batches (p ∷ []), append-nil, append_assoc)) in
+    record {
+      passes = rw way at sent.passes;
+      clear = clear;
+      parcel_jobs = all;
+      batch_jobs = all-push HasJobs batches p sent.batch_jobs has;
+    }
 
 pub batch_push_holds : (Unrefused : Type 0) (clock n : ℕ) (pushed : List Ticket) (w : WorldState)
     (parcels : List Parcel) (held : List Numbered) → w.parcels ≡ parcels → w.front.held ≡ held →
@@ -161,20 +174,20 @@ pub batch_push_holds : (Unrefused : Type 0) (clock n : ℕ) (pushed : List Ticke
 batch_push_holds Unrefused clock n pushed w (p ∷ parcels) held e g h =
     let sent = subst (λ ps. AreSent h.taken h.applied w.front ps w.batches) e h.sent in
     batched Unrefused clock n pushed h.taken w.queue w w.front parcels (w.batches ++ p ∷ []) w.last_sent h h.split
-        (λ is. (h.goes is).front)
+    (λ is. (h.goes is).front)
     (sent_parcel h.taken h.applied w.front w.front.held
-        (p ∷ parcels) parcels w.batches p sent.parcel_jobs.0 sent.parcel_jobs.1 sent.clear
-        (append_assoc (passages_in p) (all_passages_in parcels) (held_by w.front)) sent)
+    (p ∷ parcels) parcels w.batches p sent.parcel_jobs.0 sent.parcel_jobs.1 sent.clear
+    (append_assoc (passages_in p) (all_passages_in parcels) (held_by w.front)) sent)
 batch_push_holds Unrefused clock n pushed w [] (job ∷ jobs) e g h =
     let group = parcel.Batch (job ∷ jobs) in
     let list : all_passages_in w.parcels ++ held_by w.front ≡ passages_in group ++ (all_passages_in w.parcels ++ []) =
     ap (λ (ps : List Parcel). all_passages_in ps ++ held_by w.front) e ∙ ap (map Admitted) g
-        ∙ sym (append-nil (passages_in group)) ∙ ap (λ (ps : List Parcel). passages_in group
-        ++ (all_passages_in ps ++ [])) (sym e) in
+    ∙ sym (append-nil (passages_in group)) ∙ ap (λ (ps : List Parcel). passages_in group
+    ++ (all_passages_in ps ++ [])) (sym e) in
     batched Unrefused clock n pushed h.taken w.queue w (with_group w.front []) w.parcels
-        (w.batches ++ group ∷ []) w.last_sent h h.split (λ is. (h.goes is).front)
+    (w.batches ++ group ∷ []) w.last_sent h h.split (λ is. (h.goes is).front)
     (sent_parcel h.taken h.applied w.front [] w.parcels w.parcels w.batches group (omega arith) h.sent.parcel_jobs
-        (λ any. refl) list h.sent)
+    (λ any. refl) list h.sent)
 batch_push_holds Unrefused clock n pushed w [] [] e g h = by (all_ended w.front && not w.last_sent)
   where
     by : (b : Bool) → Holds Unrefused clock n pushed
@@ -182,9 +195,9 @@ batch_push_holds Unrefused clock n pushed w [] [] e g h = by (all_ended w.front 
         else None) w)
     by true =
         batched Unrefused clock n pushed h.taken w.queue w w.front w.parcels
-            (w.batches ++ parcel.Last ∷ []) true h h.split (λ is. (h.goes is).front)
+        (w.batches ++ parcel.Last ∷ []) true h h.split (λ is. (h.goes is).front)
         (sent_parcel h.taken h.applied w.front w.front.held w.parcels w.parcels w.batches parcel.Last tt
-            h.sent.parcel_jobs h.sent.clear refl h.sent)
+        h.sent.parcel_jobs h.sent.clear refl h.sent)
     by false = h
 
 -- ---- the committer
@@ -198,8 +211,11 @@ routed_more : (n : ℕ) (answers : List Replied) (shelves : List Shelf) (way mor
 routed_more n answers shelves way more routed =
     record {
       long = routed.long;
-      each = λ submitter among. rw (replies_to-append submitter answers more, replies_to-append submitter way more,
-          routed.each submitter among) (simp append_assoc);
+      each = λ submitter among. rw (
+        replies_to-append submitter answers more,
+        replies_to-append submitter way more,
+        routed.each submitter among,
+      ) (simp append_assoc);
     }
 
 left_replies : (outcome : Outcomes) → of_one (left_by outcome) ≡ replies_in outcome
@@ -214,9 +230,13 @@ sent_applied : (queue : List Ticket) (applied : List Passage) (front : FrontStat
 sent_applied queue applied front parcels batches p sent =
     let rest = all_passages_in parcels ++ held_by front in
     let list : applied ++ ((passages_in p ++ all_passages_in batches) ++ rest)
-        ≡ (applied ++ passages_in p) ++ (all_passages_in batches ++ rest) = simp append_assoc in
-    record { passes = subst (Passes (items_in queue) front.closed front.stopped) list sent.passes;
-        clear = sent.clear; parcel_jobs = sent.parcel_jobs; batch_jobs = sent.batch_jobs.1 }
+    ≡ (applied ++ passages_in p) ++ (all_passages_in batches ++ rest) = simp append_assoc in
+    record {
+      passes = subst (Passes (items_in queue) front.closed front.stopped) list sent.passes;
+      clear = sent.clear;
+      parcel_jobs = sent.parcel_jobs;
+      batch_jobs = sent.batch_jobs.1;
+    }
 
 -- the next parcel is applied without a stop where nothing was refused
 abbrev pub GoesOn : Type 0 → Bool → WorldState → Type 0
@@ -228,7 +248,7 @@ pub batch_pop_holds : (Unrefused : Type 0) (refused : Bool) (clock n : ℕ) (pus
     (outcome : Option Outcomes) (batches : List Parcel) → w.outcome ≡ outcome → w.batches ≡ batches
     → GoesOn Unrefused refused w →
     Holds Unrefused clock n pushed w → Holds Unrefused clock n pushed
-        (unwrap_or (batch_pop refused w outcome batches) w)
+    (unwrap_or (batch_pop refused w outcome batches) w)
 batch_pop_holds Unrefused refused clock n pushed w (Some outcome) batches o e goes h = h
 batch_pop_holds Unrefused refused clock n pushed w None [] o e goes h = h
 batch_pop_holds Unrefused refused clock n pushed w None (p ∷ batches) o e goes h =
@@ -236,10 +256,10 @@ batch_pop_holds Unrefused refused clock n pushed w None (p ∷ batches) o e goes
     let sent = subst (λ ps. AreSent h.taken h.applied w.front w.parcels ps) e h.sent in
     let more = replies_in next.outcomes in
     let routed = routed_more n h.answers w.shelves (unrouted w.replies w.outcomes None) more
-        (subst (λ o. AreRouted n h.answers w.shelves (unrouted w.replies w.outcomes o)) o h.routed) in
+    (subst (λ o. AreRouted n h.answers w.shelves (unrouted w.replies w.outcomes o)) o h.routed) in
     let way : unrouted w.replies w.outcomes None ++ more
-        ≡ unrouted w.replies w.outcomes (left_by next.outcomes) =
-        rw left_replies (simp (append-nil, append_assoc)) in
+    ≡ unrouted w.replies w.outcomes (left_by next.outcomes) =
+    rw left_replies (simp (append-nil, append_assoc)) in
     record {
       taken = h.taken;
       applied = h.applied ++ passages_in p;
@@ -258,11 +278,25 @@ rerouted : (Unrefused : Type 0) (clock n : ℕ) (pushed : List Ticket) (w : Worl
     (outcomes : List Outcomes) (outcome : Option Outcomes) (shelves : List Shelf)
     → (h : Holds Unrefused clock n pushed w) →
     AreRouted n h.answers shelves (unrouted replies outcomes outcome)
-        → Holds Unrefused clock n pushed (record w { replies = replies; outcomes = outcomes;
-            outcome = outcome; shelves = shelves })
+    → Holds Unrefused clock n pushed (record w {
+      replies = replies;
+      outcomes = outcomes;
+      outcome = outcome;
+      shelves = shelves;
+    })
 rerouted Unrefused clock n pushed w replies outcomes outcome shelves h routed =
-    record { taken = h.taken; applied = h.applied; answers = h.answers; split = h.split; counted = h.counted;
-        senders = h.senders; sent = h.sent; commits = h.commits; routed = routed; goes = h.goes }
+    record {
+      taken = h.taken;
+      applied = h.applied;
+      answers = h.answers;
+      split = h.split;
+      counted = h.counted;
+      senders = h.senders;
+      sent = h.sent;
+      commits = h.commits;
+      routed = routed;
+      goes = h.goes;
+    }
 
 pub outcome_push_holds : (Unrefused : Type 0) (clock n : ℕ) (pushed : List Ticket) (w : WorldState)
     (outcome : Option Outcomes) → w.outcome ≡ outcome →
@@ -270,8 +304,8 @@ pub outcome_push_holds : (Unrefused : Type 0) (clock n : ℕ) (pushed : List Tic
 outcome_push_holds Unrefused clock n pushed w None o h = h
 outcome_push_holds Unrefused clock n pushed w (Some outcome) o h =
     let way : unrouted w.replies w.outcomes (Some outcome)
-        ≡ unrouted w.replies (w.outcomes ++ outcome ∷ []) None =
-        simp (flat_map-append replies_in w.outcomes (outcome ∷ []), append-nil) in
+    ≡ unrouted w.replies (w.outcomes ++ outcome ∷ []) None =
+    simp (flat_map-append replies_in w.outcomes (outcome ∷ []), append-nil) in
     rerouted Unrefused clock n pushed w w.replies (w.outcomes ++ outcome ∷ []) None w.shelves h
     (subst (AreRouted n h.answers w.shelves) (ap (unrouted w.replies w.outcomes) o ∙ way) h.routed)
 
@@ -286,23 +320,23 @@ outcome_pop_holds Unrefused clock n pushed w [] (outcome ∷ outcomes) r o h =
     rerouted Unrefused clock n pushed w (replies_in outcome) outcomes w.outcome w.shelves h
     (subst (AreRouted n h.answers w.shelves)
     (ap (λ (rs : List Replied). unrouted rs w.outcomes w.outcome) r
-        ∙ ap (λ (os : List Outcomes). unrouted [] os w.outcome) o
-        ∙ append_assoc (replies_in outcome) (of_all outcomes) (of_one w.outcome)) h.routed)
+    ∙ ap (λ (os : List Outcomes). unrouted [] os w.outcome) o
+    ∙ append_assoc (replies_in outcome) (of_all outcomes) (of_one w.outcome)) h.routed)
 
 -- a submitter has the same where a shelf was replaced, and its own replies with what is on the way
 replaced : (n submitter own : ℕ) (shelves : List Shelf) (new : Shelf) (old way : List Replied) → length shelves ≡ n
     → submitter < n → shelved own shelves old ≡ new.received ++ (new.ring ++ replies_to way own) →
     (own ≢ submitter → replies_to old submitter ≡ replies_to way submitter)
-        → shelved submitter shelves old ≡ shelved submitter (set shelves own new) way
+    → shelved submitter shelves old ≡ shelved submitter (set shelves own new) way
 replaced n submitter own shelves new old way long among here elsewhere =
     ⊎_elim
     (λ (same : own ≡ submitter). subst (λ k. shelved k shelves old ≡ shelved k (set shelves own new) way) same
     (here ∙ ap (λ (s : Shelf). s.received ++ (s.ring ++ replies_to way own))
-        (sym (get_or-set_same shelves own new empty_shelf (omega (arith, long, same, among))))))
+    (sym (get_or-set_same shelves own new empty_shelf (omega (arith, long, same, among))))))
     (λ (other : own ≢ submitter). ap (λ rs. (shelf_at shelves submitter).received
-        ++ ((shelf_at shelves submitter).ring ++ rs)) (elsewhere other)
+    ++ ((shelf_at shelves submitter).ring ++ rs)) (elsewhere other)
     ∙ ap (λ (s : Shelf). s.received ++ (s.ring ++ replies_to way submitter))
-            (sym (get_or-set_other shelves own submitter new empty_shelf (λ same. other (sym same)))))
+    (sym (get_or-set_other shelves own submitter new empty_shelf (λ same. other (sym same)))))
     (cases_eq own submitter)
 
 -- a reply goes from the way to its submitter's ring
@@ -321,8 +355,8 @@ reply_push_holds Unrefused clock n pushed w (reply ∷ replies) r h =
           ∙ ap (λ (rs : List Replied). shelved submitter w.shelves (unrouted rs w.outcomes w.outcome)) r
           ∙ replaced n submitter own w.shelves (with_reply shelf reply) (reply ∷ way) way h.routed.long among
           (rw (eq-eqb own own refl) (ap (λ rs. shelf.received ++ rs)
-              (sym (append_assoc shelf.ring (reply ∷ []) (replies_to way own)))))
-              (λ other. rw (ne_eqb own submitter other) refl);
+          (sym (append_assoc shelf.ring (reply ∷ []) (replies_to way own)))))
+          (λ other. rw (ne_eqb own submitter other) refl);
     })
 
 -- ---- the submitters
@@ -330,7 +364,7 @@ reply_push_holds Unrefused clock n pushed w (reply ∷ replies) r h =
 pub reply_pop_holds : (Unrefused : Type 0) (clock n : ℕ) (pushed : List Ticket) (w : WorldState) (own : ℕ)
     (ring : List Replied) → (shelf_at w.shelves own).ring ≡ ring →
     Holds Unrefused clock n pushed w → Holds Unrefused clock n pushed
-        (unwrap_or (reply_pop w own (after_pop_of (shelf_at w.shelves own) ring)) w)
+    (unwrap_or (reply_pop w own (after_pop_of (shelf_at w.shelves own) ring)) w)
 reply_pop_holds Unrefused clock n pushed w own [] e h = h
 reply_pop_holds Unrefused clock n pushed w own (reply ∷ ring) e h =
     let received = (shelf_at w.shelves own).received in
@@ -341,8 +375,8 @@ reply_pop_holds Unrefused clock n pushed w own (reply ∷ ring) e h =
       long = length-set w.shelves own new ∙ h.routed.long;
       each = λ submitter among. h.routed.each submitter among
           ∙ replaced n submitter own w.shelves new way way h.routed.long among
-                  (ap (λ rs. received ++ (rs ++ replies_to way own)) e
-              ∙ sym (append_assoc received (reply ∷ []) (ring ++ replies_to way own))) (λ other. refl);
+          (ap (λ rs. received ++ (rs ++ replies_to way own)) e
+          ∙ sym (append_assoc received (reply ∷ []) (ring ++ replies_to way own))) (λ other. refl);
     })
 
 -- ---- a push
@@ -350,8 +384,10 @@ reply_pop_holds Unrefused clock n pushed w own (reply ∷ ring) e h =
 pub push_holds : (Unrefused : Type 0) (clock n : ℕ) (pushed : List Ticket) (w : WorldState) (ticket : Ticket)
     (b : Bool) → is_lawful w ticket ≡ b → Holds Unrefused clock n pushed w →
     Holds Unrefused clock n (pushed ++ (if b then ticket ∷ [] else []))
-        (unwrap_or (if b then Some (record w { senders = senders_after w.senders ticket;
-            queue = w.queue ++ ticket ∷ [] }) else None) w)
+    (unwrap_or (if b then Some (record w {
+      senders = senders_after w.senders ticket;
+      queue = w.queue ++ ticket ∷ [];
+    }) else None) w)
 push_holds Unrefused clock n pushed w ticket false is h =
     subst (λ l. Holds Unrefused clock n l w) (sym (append-nil pushed)) h
 push_holds Unrefused clock n pushed w ticket true is h =

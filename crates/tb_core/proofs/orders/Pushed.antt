@@ -95,19 +95,35 @@ pushed_more number sender items x goes next has =
         → packets_in (items ++ x ∷ []) ≡ packets_in items + packets_in (x ∷ [])
         → HasPushed number (sender_after sender x) (items ++ x ∷ [])
     by (item.Packet job) all count =
-        record { numbered = all; counted = omega (arith, has.counted, count);
-            goes_on = λ on. unended_push items (item.Packet job) unended refl; ended =
-            λ over. (let e = sym goes ∙ over in cc) }
+        record {
+          numbered = all;
+          counted = omega (arith, has.counted, count);
+          goes_on = λ on. unended_push items (item.Packet job) unended refl;
+          ended =
+              λ over. (let e = sym goes ∙ over in cc);
+        }
     by (item.Pulse moment) all count =
-        record { numbered = all; counted = omega (arith, has.counted, count);
-            goes_on = λ on. unended_push items (item.Pulse moment) unended refl; ended =
-            λ over. (let e = sym goes ∙ over in cc) }
+        record {
+          numbered = all;
+          counted = omega (arith, has.counted, count);
+          goes_on = λ on. unended_push items (item.Pulse moment) unended refl;
+          ended =
+              λ over. (let e = sym goes ∙ over in cc);
+        }
     by item.End all count =
-        record { numbered = all; counted = omega (arith, has.counted, count); goes_on = λ on. cc;
-            ended = λ over. ended_by items item.End unended refl }
+        record {
+          numbered = all;
+          counted = omega (arith, has.counted, count);
+          goes_on = λ on. cc;
+          ended = λ over. ended_by items item.End unended refl;
+        }
     by item.Close all count =
-        record { numbered = all; counted = omega (arith, has.counted, count); goes_on = λ on. cc;
-            ended = λ over. ended_by items item.Close unended refl }
+        record {
+          numbered = all;
+          counted = omega (arith, has.counted, count);
+          goes_on = λ on. cc;
+          ended = λ over. ended_by items item.Close unended refl;
+        }
 
 -- ---- all senders
 
@@ -143,19 +159,19 @@ push_counted limit submitters pushed senders ticket lawful have =
     let both = and_parts (not old.ended) (may_push_item limit submitters ticket.sender old ticket.item) lawful in
     let is = may limit submitters ticket.sender old ticket.item both.1 in
     let Each : ℕ → Type 0 = λ sender. HasPushed sender (sender_at (senders_after senders ticket) sender)
-        (part sender (pushed ++ ticket ∷ [])) in
+    (part sender (pushed ++ ticket ∷ [])) in
     let its : Each ticket.sender =
     subst (λ s. HasPushed ticket.sender s (part ticket.sender (pushed ++ ticket ∷ [])))
-        (sym (get_or-set_same senders ticket.sender new newcomer (omega (arith, have.long, is.among))))
+    (sym (get_or-set_same senders ticket.sender new newcomer (omega (arith, have.long, is.among))))
     (subst (HasPushed ticket.sender new) (sym (part_push ticket.sender pushed ticket
-        ∙ rw (eq-eqb ticket.sender ticket.sender refl) refl))
+    ∙ rw (eq-eqb ticket.sender ticket.sender refl) refl))
     (pushed_more ticket.sender old (part ticket.sender pushed) ticket.item (not-true old.ended both.0) is.next
-        (have.each ticket.sender is.among))) in
+    (have.each ticket.sender is.among))) in
     let others : (sender : ℕ) → sender ≤ submitters → ticket.sender ≢ sender → Each sender = λ sender among other.
     subst (λ s. HasPushed sender s (part sender (pushed ++ ticket ∷ [])))
-        (sym (get_or-set_other senders ticket.sender sender new newcomer (λ same. other (sym same))))
+    (sym (get_or-set_other senders ticket.sender sender new newcomer (λ same. other (sym same))))
     (subst (HasPushed sender (sender_at senders sender)) (sym (part_of_others sender pushed ticket other))
-        (have.each sender among)) in
+    (have.each sender among)) in
     record {
       long = length-set senders ticket.sender new ∙ have.long;
       submitted = all-push (λ (t : Ticket). IsSubmitted submitters t.sender t.item) pushed ticket

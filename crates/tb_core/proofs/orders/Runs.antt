@@ -44,8 +44,13 @@ goes_on ledger p goes room = by p room
     by : (p : Parcel) → length (works ledger) + length (works_in (passages_in p)) ≤ 2 ^ 63
         → (apply_step false ledger p).ledger.stopped ≡ false
     by (parcel.Batch jobs) room =
-        committed (length jobs) _ _ (omega (arith, room, ap length
-        (works_in-admitted jobs), length-map jobs work_of)) goes
+        committed (length jobs) _ _ (omega (
+          arith,
+          room,
+          ap length
+              (works_in-admitted jobs),
+          length-map jobs work_of,
+        )) goes
     by (parcel.Pulse moment) room = committed 1 _ _ room goes
     by p room = goes
 
@@ -56,20 +61,25 @@ parcel_goes Unrefused refused clock n pushed w u short h = λ is p batches e.
     let on_way = on_the_way w.front w.parcels w.batches in
     let rest = on_the_way w.front w.parcels batches in
     let way : works_in on_way ≡ works_in (passages_in p)
-        ++ works_in rest =
-        rw e (ap works_in (append_assoc (passages_in p) _ _) ∙ works_in-append (passages_in p) rest) in
+    ++ works_in rest =
+    rw e (ap works_in (append_assoc (passages_in p) _ _) ∙ works_in-append (passages_in p) rest) in
     let far = so_far clock (items_in h.taken) w.front.closed w.front.stopped h.applied on_way w.ledger h.answers
-        h.sent.passes h.commits in
+    h.sent.passes h.commits in
     let all = far.whole (h.goes is).front (h.goes is).ledger in
-    let few : length (ahead (items_in h.taken)) ≤ length pushed = omega
-        (arith, length-ahead (items_in h.taken), length-map h.taken
-        (λ (ticket : Ticket). ticket.item), ap length h.split, length-append h.taken w.queue) in
+    let few : length (ahead (items_in h.taken)) ≤ length pushed = omega (
+      arith,
+      length-ahead (items_in h.taken),
+      length-map h.taken
+          (λ (ticket : Ticket). ticket.item),
+      ap length h.split,
+      length-append h.taken w.queue,
+    ) in
     let sum = ap length way ∙ length-append (works_in (passages_in p)) (works_in rest) in
     let room : length (works w.ledger) + length (works_in (passages_in p))
-        ≤ 2 ^ 63 =
-        omega (arith, short, few, sum, ap length all, length-append (works w.ledger) (works_in on_way)) in
+    ≤ 2 ^ 63 =
+    omega (arith, short, few, sum, ap length all, length-append (works w.ledger) (works_in on_way)) in
     subst (λ b. (apply_step b w.ledger p).ledger.stopped ≡ false) (sym (u is))
-        (goes_on w.ledger p (h.goes is).ledger room)
+    (goes_on w.ledger p (h.goes is).ledger room)
 
 -- ---- one event
 
@@ -88,7 +98,7 @@ event_holds U clock n pushed w BatchPush u short h =
     none_more U clock n pushed _ (batch_push_holds U clock n pushed w w.parcels w.front.held refl refl h)
 event_holds U clock n pushed w (BatchPop refused) u short h =
     none_more U clock n pushed _ (batch_pop_holds U refused clock n pushed w w.outcome w.batches refl refl
-        (parcel_goes U refused clock n pushed w u short h) h)
+    (parcel_goes U refused clock n pushed w u short h) h)
 event_holds U clock n pushed w OutcomePush u short h =
     none_more U clock n pushed _ (outcome_push_holds U clock n pushed w w.outcome refl h)
 event_holds U clock n pushed w OutcomePop u short h =
@@ -107,20 +117,25 @@ run_holds U clock n pushed w [] u short h = none_more U clock n pushed w h
 run_holds U clock n pushed w (e ∷ es) u short h =
     let others = history (after_event w e) es in
     let list : (pushed ++ pushed_at w e) ++ others
-        ≡ pushed ++ (pushed_at w e ++ others) = append_assoc pushed (pushed_at w e) others in
+    ≡ pushed ++ (pushed_at w e ++ others) = append_assoc pushed (pushed_at w e) others in
     subst (λ l. Holds U clock n l (run (after_event w e) es)) list
     (run_holds U clock n (pushed ++ pushed_at w e) (after_event w e) es
-        (λ is. (or_parts (is_refused e) (list_any is_refused es) (u is)).1)
-        (subst (λ l. length l ≤ 2 ^ 63) (sym list) short)
+    (λ is. (or_parts (is_refused e) (list_any is_refused es) (u is)).1)
+    (subst (λ l. length l ≤ 2 ^ 63) (sym list) short)
     (event_holds U clock n pushed w e (λ is. (or_parts (is_refused e) (list_any is_refused es) (u is)).0)
-        (omega (arith, short, length-append pushed (pushed_at w e ++ others))) h))
+    (omega (arith, short, length-append pushed (pushed_at w e ++ others))) h))
 
 -- at most one ticket an event
 length-history : (w : WorldState) (es : List Event) → length (history w es) ≤ length es
 length-history w [] = omega arith
 length-history w (e ∷ es) =
-    omega (arith, length-append (pushed_at w e) (history (after_event w e) es), length-history
-    (after_event w e) es, one e)
+    omega (
+      arith,
+      length-append (pushed_at w e) (history (after_event w e) es),
+      length-history
+          (after_event w e) es,
+      one e,
+    )
   where
     by : (b : Bool) (ticket : Ticket) → length (if b then ticket ∷ [] else []) ≤ 1
     by true ticket = omega arith
@@ -146,8 +161,14 @@ opened_holds U clock limit n =
         parcel_jobs = tt;
         batch_jobs = tt;
       };
-      commits = record { from = refl; behind = []; committed = refl; whole = λ any. refl;
-          unstopped = λ any. refl; replied = refl };
+      commits = record {
+        from = refl;
+        behind = [];
+        committed = refl;
+        whole = λ any. refl;
+        unstopped = λ any. refl;
+        replied = refl;
+      };
       routed = record {
         long = length-replicate n empty_shelf;
         each = λ submitter among. sym (ap (λ (shelf : Shelf). shelf.received ++ (shelf.ring ++ []))
@@ -158,8 +179,8 @@ opened_holds U clock limit n =
 
 pub all_holds : (clock limit n : ℕ) (es : List Event) → length es ≤ 2 ^ 63
     → Holds (list_any is_refused es ≡ false) clock n (history (new_world clock limit n) es)
-        (run (new_world clock limit n) es)
+    (run (new_world clock limit n) es)
 all_holds clock limit n es short =
     run_holds (list_any is_refused es ≡ false) clock n [] (new_world clock limit n) es (λ is. is)
-        (omega (arith, short, length-history (new_world clock limit n) es))
-        (opened_holds (list_any is_refused es ≡ false) clock limit n)
+    (omega (arith, short, length-history (new_world clock limit n) es))
+    (opened_holds (list_any is_refused es ≡ false) clock limit n)

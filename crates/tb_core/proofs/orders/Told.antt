@@ -34,9 +34,11 @@ due-prefix : (clock : ℕ) (journal : List Work) (place : Place) (items others :
 due-prefix clock journal place [] others = (all_due_from clock journal place others, refl)
 due-prefix clock journal place (x ∷ items) others =
     let first = reply_due (outcome_at clock journal place) x in
-    let more = due-prefix clock journal (next_place place x) items others in
-    (more.0, append_assoc first (all_due_from clock journal (next_place place x) items) more.0
-        ∙ ap (λ rs. first ++ rs) more.1)
+    let more = due-prefix clock journal (next_place place x) items others in (
+      more.0,
+      append_assoc first (all_due_from clock journal (next_place place x) items) more.0
+          ∙ ap (λ rs. first ++ rs) more.1,
+    )
 
 through : {X : Type 0} (xs ys zs : List X) → IsPrefix xs ys → IsPrefix ys zs → IsPrefix xs zs
 through xs ys zs h g = (h.0 ++ g.0, sym (append_assoc xs h.0 g.0) ∙ ap (λ l. l ++ g.0) h.1 ∙ g.1)
@@ -75,9 +77,9 @@ module _ (U : Type 0) (clock n : ℕ) (pushed : List Ticket) (w : WorldState) (h
             let others = shelf.ring ++ replies_to (unrouted w.replies w.outcomes w.outcome) submitter in
             let all = all_due clock (before ++ after) journal in
             let answers = through h.answers (all_due clock before journal) all (far.later, far.due)
-                (due-prefix clock journal (Ahead 0) before after) in
+            (due-prefix clock journal (Ahead 0) before after) in
             rw items_are (through shelf.received (replies_to h.answers submitter) (replies_to all submitter)
-                (others, sym (h.routed.each submitter among)) (replies_to-prefix submitter h.answers all answers));
+            (others, sym (h.routed.each submitter among)) (replies_to-prefix submitter h.answers all answers));
       }
 
   none_stopped : Goes w.front w.ledger → NoneStopped n w
@@ -85,8 +87,8 @@ module _ (U : Type 0) (clock n : ℕ) (pushed : List Ticket) (w : WorldState) (h
       let shelf = shelf_at w.shelves submitter in
       let others = shelf.ring ++ replies_to (unrouted w.replies w.outcomes w.outcome) submitter in
       none_of_first shelf.received others (replies_to h.answers submitter) (sym (h.routed.each submitter among))
-          (none_among (λ (reply : Replied). reply.submitter == submitter) h.answers
-          (far.untold goes.front goes.ledger))
+      (none_among (λ (reply : Replied). reply.submitter == submitter) h.answers
+      (far.untold goes.front goes.ledger))
 
 -- ---- at rest
 
@@ -165,7 +167,7 @@ module _ (U : Type 0) (clock n : ℕ) (pushed : List Ticket) (w : WorldState)
         passed = subst (λ (queue : List Ticket). Passes
             (items_in queue) w.front.closed w.front.stopped h.applied) taken_all
             (subst (Passes (items_in h.taken) w.front.closed w.front.stopped)
-                (ap (λ l. h.applied ++ l) e.way ∙ append-nil h.applied) h.sent.passes);
+            (ap (λ l. h.applied ++ l) e.way ∙ append-nil h.applied) h.sent.passes);
         commits = h.commits;
       }
 
@@ -173,13 +175,13 @@ module _ (U : Type 0) (clock n : ℕ) (pushed : List Ticket) (w : WorldState)
   received_all submitter among =
       let received = received_of w submitter in
       sym (h.routed.each submitter among ∙ ap (λ (way : List Replied). shelved submitter w.shelves way) e.unrouted
-          ∙ ap (λ (ring : List Replied). received ++ (ring ++ [])) (e.rings submitter) ∙ append-nil received)
+      ∙ ap (λ (ring : List Replied). received ++ (ring ++ [])) (e.rings submitter) ∙ append-nil received)
 
   rests : Rests clock n pushed w
   rests =
       let all : h.answers ≡ all_due clock (items_in pushed) (works w.ledger) =
-          (far U clock n pushed w h).replied e.way ∙ ap
-          (λ (queue : List Ticket). all_due clock (items_in queue) (works w.ledger)) taken_all in
+      (far U clock n pushed w h).replied e.way ∙ ap
+      (λ (queue : List Ticket). all_due clock (items_in queue) (works w.ledger)) taken_all in
       record {
         received = λ submitter among. received_all submitter among ∙ ap (λ rs. replies_to rs submitter) all;
         reports = λ over. run_is_lawful clock n pushed (λ sender. part sender pushed) w.ledger h.answers
@@ -190,7 +192,7 @@ module _ (U : Type 0) (clock n : ℕ) (pushed : List Ticket) (w : WorldState)
   whole goes =
       let is = far U clock n pushed w h in
       sym (append-nil (works w.ledger)) ∙ ap (λ (l : List Passage). works w.ledger ++ works_in l) (sym e.way)
-          ∙ is.whole goes.front goes.ledger ∙ ap (λ (queue : List Ticket). ahead (items_in queue)) taken_all
+      ∙ is.whole goes.front goes.ledger ∙ ap (λ (queue : List Ticket). ahead (items_in queue)) taken_all
 
 -- ---- a list of events
 

@@ -72,7 +72,7 @@ NoneStopped submitters world =
 abbrev pub Reports : ℕ → ℕ → List Ticket → WorldState → Type 0
 Reports clock submitters queue world =
     LawfulReport clock submitters queue (λ sender. part sender queue) (works world.ledger)
-        (replay world.ledger.opening (works world.ledger)) world.ledger.stopped (received_of world)
+    (replay world.ledger.opening (works world.ledger)) world.ledger.stopped (received_of world)
 
 -- a World at rest, of which so much was pushed
 pub record Rests (clock submitters : ℕ) (queue : List Ticket) (world : WorldState) : Type 0 where

@@ -10,7 +10,7 @@ use Rattle.tb_core.specs.declared.world.sender.Sender.{Sender}
 abbrev pub may_push_item : ℕ → ℕ → ℕ → Sender → Item → Bool
 may_push_item limit submitters number sender (Packet job) =
     nat_lt number submitters && ((job.submitter == number)
-        && ((job.number == sender.pushed) && nat_le (count_of job.packet) limit))
+    && ((job.number == sender.pushed) && nat_le (count_of job.packet) limit))
 may_push_item limit submitters number sender (Pulse moment) = number == submitters
 may_push_item limit submitters number sender End = nat_le number submitters
 may_push_item limit submitters number sender Close = number == submitters

@@ -150,8 +150,14 @@ new_world clock limit submitters =
       submitters = submitters;
       senders = replicate (submitters + 1) newcomer;
       queue = [];
-      front = record { limit = limit; submitters = submitters; held = []; closed = false; stopped = false;
-          ended = replicate 17 false };
+      front = record {
+        limit = limit;
+        submitters = submitters;
+        held = [];
+        closed = false;
+        stopped = false;
+        ended = replicate 17 false;
+      };
       parcels = [];
       last_sent = false;
       batches = [];

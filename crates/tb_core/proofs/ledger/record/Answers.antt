@@ -10,24 +10,28 @@ use Rattle.tb_core.proofs.ledger.record.Goals as goal
 pub new-requires : goal.new-requires
 new-requires c =
     let answered = c.requires.answered in
-    rw c.answer-answer.ensures (recorded (record { accounts = c.joining_is_invisible.ensures.accounts;
-        transfers = c.joining_is_invisible.ensures.transfers }) c.args.place answered.0 c.args.parts
-        c.requires.fits answered.1).fits
+    rw c.answer-answer.ensures (recorded (record {
+      accounts = c.joining_is_invisible.ensures.accounts;
+      transfers = c.joining_is_invisible.ensures.transfers;
+    }) c.args.place answered.0 c.args.parts
+    c.requires.fits answered.1).fits
 
 pub returns-clause-entry : goal.returns-clause-entry
 returns-clause-entry c =
     let answered = c.requires.answered.1 in
     let parts = c.args.parts in
     let packets = ap (λ body. packets_of parts.operation body parts.stubs.items) answered.body
-        ∙ ap (packets_of parts.operation _) answered.stubs
-        ∙ entry_has parts.operation parts.jobs.items answered.lawful in
+    ∙ ap (packets_of parts.operation _) answered.stubs
+    ∙ entry_has parts.operation parts.jobs.items answered.lawful in
     rw c.push_reserved.ensures.items (map-append group_of c.args.entries.now.items _
-        ∙ ap (λ group. map group_of c.args.entries.now.items ++ group ∷ []) packets)
+    ∙ ap (λ group. map group_of c.args.entries.now.items ++ group ∷ []) packets)
 
 pub returns-clause-replies : goal.returns-clause-replies
 returns-clause-replies c = λ clock before at answered.
-    let law : JoinInvisibly = record { accounts = c.joining_is_invisible.ensures.accounts;
-        transfers = c.joining_is_invisible.ensures.transfers } in
+    let law : JoinInvisibly = record {
+      accounts = c.joining_is_invisible.ensures.accounts;
+      transfers = c.joining_is_invisible.ensures.transfers;
+    } in
     c.new.ensures ∙ rw c.answer-answer.ensures (recorded law c.args.place
-        (replay clock before) c.args.parts c.requires.fits answered).replies
+    (replay clock before) c.args.parts c.requires.fits answered).replies
     ∙ replies_from-answers clock c.args.place (replay clock before) _ before c.args.parts.jobs.items refl at refl

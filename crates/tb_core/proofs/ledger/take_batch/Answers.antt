@@ -12,9 +12,14 @@ lookup-requires c =
     let may = may_look_up parts.operation parts.jobs.items are.lawful lookup in
     let body = c.deref.ensures.value ∙ are.body in
     let count = ap (λ body. length body / 16) body ∙ may.count in
-    record { whole = ap (λ body. length body % 16) body
-        ∙ may.whole; limit = omega (arith, count, are.lawful.few); empty = search rules; room =
-        omega (arith, count, are.room.for_accounts lookup) }
+    record {
+      whole = ap (λ body. length body % 16) body
+          ∙ may.whole;
+      limit = omega (arith, count, are.lawful.few);
+      empty = search rules;
+      room =
+          omega (arith, count, are.room.for_accounts lookup);
+    }
 
 pub commit-requires : goal.commit-requires
 commit-requires c =
@@ -24,9 +29,15 @@ commit-requires c =
     let may = may_commit parts.operation parts.jobs.items are.lawful other in
     let body = c.deref-else-parts.ensures.value ∙ are.body in
     let count = ap (λ body. length body / 128) body ∙ may.count in
-    record { operation = may.kind; whole = ap (λ body. length body % 128) body
-        ∙ may.whole; limit = omega (arith, count, are.lawful.few); empty = search rules; room =
-        omega (arith, count, are.room.for_failures other) }
+    record {
+      operation = may.kind;
+      whole = ap (λ body. length body % 128) body
+          ∙ may.whole;
+      limit = omega (arith, count, are.lawful.few);
+      empty = search rules;
+      room =
+          omega (arith, count, are.room.for_failures other);
+    }
 
 pub returns-then-parts-clause-state : goal.returns-then-parts-clause-state
 returns-then-parts-clause-state c = search rules

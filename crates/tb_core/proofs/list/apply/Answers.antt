@@ -10,8 +10,12 @@ returns-else-stopped c = λ clock limit sent joined is.
     let ledger = c.try_apply.new.self in
     let replies = c.args.replies.now.items in
     let applied = has_applied false c.args.ledger.now c.args.parcel
-        (apply_result ledger c.in-Ok.outcomes) c.try_apply.ensures.some c.in-Ok.ensures.ok in
+    (apply_result ledger c.in-Ok.outcomes) c.try_apply.ensures.some c.in-Ok.ensures.ok in
     let more : GoesOn clock limit (sent ++ passages_in c.args.parcel) ledger (replies ++ replies_in c.in-Ok.outcomes) =
-    record { commits = applied.commits clock sent replies is.commits; unmarked = sym c.stopped.ensures
-        ∙ c.if-stopped.false; joined = applied.joined limit joined is.joined } in
+    record {
+      commits = applied.commits clock sent replies is.commits;
+      unmarked = sym c.stopped.ensures
+          ∙ c.if-stopped.false;
+      joined = applied.joined limit joined is.joined;
+    } in
     subst (GoesOn clock limit (sent ++ passages_in c.args.parcel) ledger) (sym c.in_ok-put-in-Ok.ensures) more

@@ -19,7 +19,7 @@ pub loop-parcel-preserved : goal.loop-parcel-preserved
 loop-parcel-preserved c = λ clock limit sent joined on.
     let rest = c.pop_at.new.self.items in
     let have = rw (first_out c.loop-parcel.parcels.items rest c.in-Some.parcel c.in-Some.ensures.value
-        c.in-Some.ensures.items) at (c.loop-parcel.invariant clock limit sent joined on) in
+    c.in-Some.ensures.items) at (c.loop-parcel.invariant clock limit sent joined on) in
     record {
       done = have.done ++ passages_in c.in-Some.parcel;
       parts = append_assoc have.done (passages_in c.in-Some.parcel) (all_passages_in rest) ∙ have.parts;
@@ -31,4 +31,4 @@ pub returns-clause-applied : goal.returns-clause-applied
 returns-clause-applied c = λ clock limit sent joined on.
     let have = c.loop-parcel.invariant clock limit sent joined on in
     rw (sym have.parts ∙ ap (λ rest. have.done ++ all_passages_in rest)
-        (none_left c.loop-parcel.parcels.items c.in_default.ensures.value) ∙ append-nil have.done) have.on
+    (none_left c.loop-parcel.parcels.items c.in_default.ensures.value) ∙ append-nil have.done) have.on

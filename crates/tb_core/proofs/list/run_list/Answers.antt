@@ -36,5 +36,8 @@ returns-in-Ok-take_all_and_finish-clause-ran c = (done c).ran
 
 pub returns-in-Ok-take_all_and_finish-clause-grouping : goal.returns-in-Ok-take_all_and_finish-clause-grouping
 returns-in-Ok-take_all_and_finish-clause-grouping c =
-    λ within. record { joined = (done c).joined; within = subst (AreWithin c.args.limit)
-    (sym (listed c).committed) within }
+    λ within. record {
+      joined = (done c).joined;
+      within = subst (AreWithin c.args.limit)
+          (sym (listed c).committed) within;
+    }

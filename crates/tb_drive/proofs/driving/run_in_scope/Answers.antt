@@ -3,5 +3,12 @@ use Rattle.tb_drive.proofs.driving.run_in_scope.Goals as goal
 
 pub scoped-requires : goal.scoped-requires
 scoped-requires g c =
-    record { at = λ scope. (c.requires.own, (c.requires.control,
-    (c.requires.number, (search rules, search rules)))) }
+    record {
+      at = λ scope. (
+        c.requires.own,
+        (
+          c.requires.control,
+          (c.requires.number, (search rules, search rules)),
+        ),
+      );
+    }

@@ -9,26 +9,31 @@ use Rattle.tb_drive.proofs.driving.seat_all.Goals as goal
 pub invariant_of-push : goal.invariant_of-push
 invariant_of-push g c =
     let submitters : c.loop-submitter.submitter-iterator.rest.items
-        ≡ c.in-Some.submitter ∷ c.next.new.self.rest.items = search rules in
+    ≡ c.in-Some.submitter ∷ c.next.new.self.rest.items = search rules in
     let drivers : into_iter_items c.loop-submitter.drivers
-        ≡ c.in-Some-next.driver ∷ into_iter_items c.next-in-loop-submitter.new.self =
-        c.in-Some-next.ensures.items in
+    ≡ c.in-Some-next.driver ∷ into_iter_items c.next-in-loop-submitter.new.self =
+    c.in-Some-next.ensures.items in
     first_has g.D.Driver.has_seen drivers submitters c.loop-submitter.invariant.seen
 
 pub loop-submitter-preserved : goal.loop-submitter-preserved
 loop-submitter-preserved g c =
     let submitters : c.loop-submitter.submitter-iterator.rest.items
-        ≡ c.in-Some.submitter ∷ c.next.new.self.rest.items = search rules in
+    ≡ c.in-Some.submitter ∷ c.next.new.self.rest.items = search rules in
     let drivers : into_iter_items c.loop-submitter.drivers
-        ≡ c.in-Some-next.driver ∷ into_iter_items c.next-in-loop-submitter.new.self =
-        c.in-Some-next.ensures.items in
+    ≡ c.in-Some-next.driver ∷ into_iter_items c.next-in-loop-submitter.new.self =
+    c.in-Some-next.ensures.items in
     let all = c.loop-submitter.all.items in
     let driver = c.in-Some-next.driver in
     let seated : SeatedState = record { submitter = c.in-Some.submitter; share = g.D.Driver.share driver } in
     let pushed : c.push.new.self.items ≡ all ++ seated ∷ [] = c.in_ok-push.ensures.items in
     record {
-      own = rw (pushed, map-append seated_origin all (seated ∷ []), map-append origin_of c.loop-submitter.yielded
-          (c.in-Some.submitter ∷ []), c.loop-submitter.invariant.own) refl;
+      own = rw (
+        pushed,
+        map-append seated_origin all (seated ∷ []),
+        map-append origin_of c.loop-submitter.yielded
+            (c.in-Some.submitter ∷ []),
+        c.loop-submitter.invariant.own,
+      ) refl;
       shares = rw (pushed, map-append seated_share all (seated ∷ []))
           (append_assoc (map seated_share all) (g.D.Driver.share driver ∷ []) _
           ∙ sym (ap (λ ds. map seated_share all ++ map g.D.Driver.share ds) drivers)

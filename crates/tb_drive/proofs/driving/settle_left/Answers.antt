@@ -13,7 +13,7 @@ returns-clause-reported g c =
     let settled = c.settle.ensures in
     let own : map end_origin ends ≡ served.submitters = search rules in
     let long : length ends ≡ served.intake.submitters = sym (length-map ends end_origin)
-        ∙ ap length own ∙ c.requires.number in
+    ∙ ap length own ∙ c.requires.number in
     record {
       queue = served.intake.taken;
       queued = queued_by ends c.args.control.end;

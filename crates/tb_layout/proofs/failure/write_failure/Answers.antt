@@ -7,9 +7,9 @@ use Rattle.tb_layout.proofs.failure.write_failure.Goals as goal
 pub returns : goal.returns
 returns c =
     let front : take 8 c.write_u32-2.new.bytes ≡ failure_bytes c.args.failure.now = rw
-        (c.write_u32-2.ensures.front, c.write_u32.ensures.front) (simp (append_assoc, append-nil)) in
+    (c.write_u32-2.ensures.front, c.write_u32.ensures.front) (simp (append_assoc, append-nil)) in
     let all : c.write_u32-2.new.bytes ≡ failure_bytes c.args.failure.now = sym
-        (take_all 8 c.write_u32-2.new.bytes (omega (arith, c.write_u32-2.auto.bytes))) ∙ front in
+    (take_all 8 c.write_u32-2.new.bytes (omega (arith, c.write_u32-2.auto.bytes))) ∙ front in
     record {
       value = all;
       read_back = ap failure_of all ∙ failure_of-failure_bytes c.args.failure.now c.write_u32.ensures.fits

@@ -23,7 +23,7 @@ returns c =
       c.write_u128.ensures.front,
     ) (simp (append_assoc, append-nil)) in
     let all : c.write_u64-2.new.bytes ≡ transfer_bytes c.args.transfer.now = sym
-        (take_all 128 c.write_u64-2.new.bytes (omega (arith, c.write_u64-2.auto.bytes))) ∙ front in
+    (take_all 128 c.write_u64-2.new.bytes (omega (arith, c.write_u64-2.auto.bytes))) ∙ front in
     record {
       value = all;
       read_back = ap transfer_of all ∙ transfer_of-transfer_bytes c.args.transfer.now (record {

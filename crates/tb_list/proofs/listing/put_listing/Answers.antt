@@ -5,5 +5,5 @@ pub returns : goal.returns
 returns c clock plan lines_are is =
     on_ok c.put_state.result
     (λ second. whole clock plan _ _ _ _ _ _ _ lines_are is c.machine.ensures
-        (rw c.deref.ensures.value at c.in_ok-put_lines.ensures) second)
+    (rw c.deref.ensures.value at c.in_ok-put_lines.ensures) second)
     c.put_state.ensures

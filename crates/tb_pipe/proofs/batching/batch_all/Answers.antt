@@ -9,9 +9,9 @@ returns-then-finished-clause-all g c =
     let intake = c.args.intake.now in
     let is = c.loop.invariant.batched in
     all_batched intake.limit intake.submitters c.loop.intake.taken c.pass_group.new.front
-        (given c.pass_group.new.batches) (given c.give_waiting.new.outlet) c.pass_group.ensures.none
+    (given c.pass_group.new.batches) (given c.give_waiting.new.outlet) c.pass_group.ensures.none
     (subst (λ n. HaveAllEnded n c.loop.intake.taken) is.among
-        ((c.finished.ensures.ends c.loop.intake.taken is.knows).0 c.if-finished.true))
+    ((c.finished.ensures.ends c.loop.intake.taken is.knows).0 c.if-finished.true))
     c.give_waiting.ensures.given (c.pass_group.ensures.batched intake.limit intake.submitters c.loop.intake.taken is)
 
 pub loop-preserved-in-Some-take : goal.loop-preserved-in-Some-take

@@ -7,7 +7,7 @@ pub loop-preserved : goal.loop-preserved
 loop-preserved g c =
     let parcel = c.clear-cleared.result in
     let more : CommittedTo c.commit.result c.args.ledger.opening
-        (taken c.loop.inlet ++ parcel ∷ []) c.commit.new.ledger (given c.commit.new.outlet)
+    (taken c.loop.inlet ++ parcel ∷ []) c.commit.new.ledger (given c.commit.new.outlet)
     = c.commit.ensures.committed c.args.ledger.opening (taken c.loop.inlet) c.loop.invariant.committed in
     record {
       inlet = c.in-Some-take.ensures.ring ∙ c.loop.invariant.inlet;

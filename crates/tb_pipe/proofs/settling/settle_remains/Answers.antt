@@ -19,27 +19,27 @@ run c =
     let one = c.lying.ensures in
     let two = c.lying-2.ensures in
     let parcels : taken remains.committed.inlet ++ lies c.lying.new.self
-        ≡ given remains.batches = ap (λ x. x ++ lies c.lying.new.self) (sym one.same.0) ∙ one.all ∙ one.same.1 in
+    ≡ given remains.batches = ap (λ x. x ++ lies c.lying.new.self) (sym one.same.0) ∙ one.all ∙ one.same.1 in
     let outs : taken remains.routed.inlet ++ lies c.lying-2.new.self
-        ≡ given remains.committed.outlet =
-        ap (λ x. x ++ lies c.lying-2.new.self) (sym two.same.0) ∙ two.all ∙ two.same.1 in
+    ≡ given remains.committed.outlet =
+    ap (λ x. x ++ lies c.lying-2.new.self) (sym two.same.0) ∙ two.all ∙ two.same.1 in
     drained remains.committed.ledger.opening remains.intake.limit remains.intake.submitters remains.intake.taken
-        (given remains.batches) (taken remains.committed.inlet) (lies c.lying.new.self) remains.committed.ledger
+    (given remains.batches) (taken remains.committed.inlet) (lies c.lying.new.self) remains.committed.ledger
     (given remains.committed.outlet) (taken remains.routed.inlet)
-        (lies c.lying-2.new.self) is.batched is.committed parcels outs is.routed.ended
+    (lies c.lying-2.new.self) is.batched is.committed parcels outs is.routed.ended
 
 report : (c : goal.After-drop-batches) → LawfulReport c.args.remains.committed.ledger.opening
     c.args.remains.intake.submitters c.args.remains.intake.taken (queued_by c.args.ends.items c.args.control)
     (works c.args.remains.committed.ledger)
     (replay c.args.remains.committed.ledger.opening (works c.args.remains.committed.ledger))
-        c.args.remains.committed.ledger.stopped (replies_of c.settle_queue-ends.result.items)
+    c.args.remains.committed.ledger.stopped (replies_of c.settle_queue-ends.result.items)
 report c =
     let remains = c.args.remains in
     let is = c.requires.served in
     let answers = answers_in (taken remains.routed.inlet) in
     c.run_is_lawful.ensures remains.committed.ledger.opening remains.intake.submitters remains.intake.taken
-        (queued_by c.args.ends.items c.args.control) remains.committed.ledger answers
-        (replies_of c.settle_queue-ends.result.items)
+    (queued_by c.args.ends.items c.args.control) remains.committed.ledger answers
+    (replies_of c.settle_queue-ends.result.items)
     c.settle_queue-ends.ensures.queue (run c).ran
     (λ submitter below.
     let within : submitter < length remains.routed.outlets.items = omega (arith, below, is.number) in
@@ -53,16 +53,16 @@ pub returns-clause-grouping : goal.returns-clause-grouping
 returns-clause-grouping c =
     let remains = c.args.remains in
     grouped remains.intake.limit remains.intake.taken remains.committed.ledger (report c).behind
-        (run c).joined c.settle_queue-ends.ensures.within (report c).committed
+    (run c).joined c.settle_queue-ends.ensures.within (report c).committed
 
 pub returns-clause-pulses : goal.returns-clause-pulses
 returns-clause-pulses c =
     let remains = c.args.remains in
     let long : length c.args.ends.items ≡ remains.intake.submitters
     =
-        sym (length-map c.args.ends.items end_origin) ∙ ap length c.requires.ends
-        ∙ length-origins (seat_at remains.intake) 0 remains.routed.outlets.items ∙ c.requires.served.number in
+    sym (length-map c.args.ends.items end_origin) ∙ ap length c.requires.ends
+    ∙ length-origins (seat_at remains.intake) 0 remains.routed.outlets.items ∙ c.requires.served.number in
     first_moments remains.intake.submitters remains.intake.taken c.args.ends.items c.args.control
-        (works remains.committed.ledger) (report c).behind long
-        (report c).committed c.settle_queue-ends.ensures.queue.submitted
+    (works remains.committed.ledger) (report c).behind long
+    (report c).committed c.settle_queue-ends.ensures.queue.submitted
     (c.settle_queue-ends.ensures.queue.parts remains.intake.submitters (omega arith))

@@ -6,5 +6,5 @@ pub returns-in-Ok : goal.returns-in-Ok
 returns-in-Ok g c =
     let settled = c.settle.ensures in
     is_run c.args.pipeline c.in-Ok.served (queued_by c.args.ends.submitters.items c.args.ends.control)
-        c.settle.result.ledger c.settle.result.ends.items c.in-Ok.ensures.clock c.in-Ok.ensures.intake
-        settled.report settled.grouping
+    c.settle.result.ledger c.settle.result.ends.items c.in-Ok.ensures.clock c.in-Ok.ensures.intake
+    settled.report settled.grouping

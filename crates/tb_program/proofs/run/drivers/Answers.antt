@@ -12,8 +12,13 @@ loop-packets-preserved c =
     let last = c.in_ok-new.field-0 in
     let pushed : c.push.new.self.items ≡ drivers ++ last ∷ [] = search rules in
     record {
-      shares = rw (pushed, map-append share_of drivers
-          (last ∷ []), c.loop-packets.invariant.shares, c.in_ok-new.ensures.share)
+      shares = rw (
+        pushed,
+        map-append share_of drivers
+            (last ∷ []),
+        c.loop-packets.invariant.shares,
+        c.in_ok-new.ensures.share,
+      )
           (sym (map-append (λ (share : Vec Packet Global). share.items) c.loop-packets.yielded (_ ∷ [])));
       new = subst AreNew (sym pushed) (one_more_new drivers last c.loop-packets.invariant.new c.in_ok-new.ensures.new);
     }

@@ -15,12 +15,16 @@ run_opened-requires-clause-number g c κs within =
     let packets = c.in_ok-packets.field-0.packets.items in
     let number : length packets ≡ submitters_of c.in_ok-settings.settings = search rules in
     sym (length-map drivers share_of) ∙ ap length c.in_ok-drivers.ensures.shares
-        ∙ length-map packets (λ (share : Vec Packet Global). share.items) ∙ number ∙ sym c.in-Ok.ensures.number
+    ∙ length-map packets (λ (share : Vec Packet Global). share.items) ∙ number ∙ sym c.in-Ok.ensures.number
 
 pub run_opened-requires-clause-few : goal.run_opened-requires-clause-few
 run_opened-requires-clause-few g c κs within =
-    omega (arith, run_opened-requires-clause-number g c κs within, c.in-Ok.ensures.number,
-        c.in_ok-settings.ensures.bounds.submitters_high)
+    omega (
+      arith,
+      run_opened-requires-clause-number g c κs within,
+      c.in-Ok.ensures.number,
+      c.in_ok-settings.ensures.bounds.submitters_high,
+    )
 
 pub returns-in-Ok : goal.returns-in-Ok
 returns-in-Ok g c =
@@ -32,9 +36,9 @@ returns-in-Ok g c =
     let number : length packets ≡ submitters_of c.in_ok-settings.settings = search rules in
     let dealt : AreDealt 0 packets c.in_ok-settings.items.items = search rules in
     let shares = c.in_ok-drivers.ensures.shares ∙ dealt_lists 0 packets c.in_ok-settings.items.items dealt
-        ∙ ap (λ n. shares_of 0 n c.in_ok-settings.items.items) number
+    ∙ ap (λ n. shares_of 0 n c.in_ok-settings.items.items) number
     ∙ ap (λ (settings : Settings). shares_of 0 (submitters_of settings) c.in_ok-settings.items.items) all.0
-        ∙ ap (shares_of 0 (submitters_of said.settings)) all.1 in
+    ∙ ap (shares_of 0 (submitters_of said.settings)) all.1 in
     let moments : c.in_ok-packets.field-0.lines.moments.items ≡ moments_in (items_of said) = search rules in
     let shuts : c.in_ok-packets.field-0.lines.shuts ≡ shuts_in (items_of said) = search rules in
     rw (clock, limit, shares, moments, shuts) at c.run_opened.ensures

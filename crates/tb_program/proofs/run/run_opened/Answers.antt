@@ -55,5 +55,5 @@ returns-in_ok-text_of-in-Ok g c =
           (all_handed_in reported c.in_ok-text_of-in-Ok.ensures.done);
       printed = subst (λ refused. string_bytes c.in_ok-text_of-in-Ok.field-0
           ≡ run_text told replies (works ledger) refused state) c.in-Ok.ensures.refused
-              c.in_ok-text_of-in-Ok.ensures.text;
+          c.in_ok-text_of-in-Ok.ensures.text;
     }

@@ -9,14 +9,14 @@ pub returns-in_err-next : goal.returns-in_err-next
 returns-in_err-next c =
     let some = some_word c.loop-rest.rest.now c.loop-rest.invariant.begins (search rules) in
     let faulty = sym c.loop-rest.invariant.draft ∙ faulty_first c.args.layout c.loop-rest.draft c.loop-rest.rest.now
-        _ some c.in_err-next.ensures.draft in
+    _ some c.in_err-next.ensures.draft in
     search (rules, faulty)
 
 pub loop-rest-preserved : goal.loop-rest-preserved
 loop-rest-preserved c =
     let some = some_word c.loop-rest.rest.now c.loop-rest.invariant.begins (search rules) in
     let next = after_first c.args.layout c.loop-rest.draft c.assign.new.draft c.loop-rest.rest.now some
-        c.in_ok-next.ensures.draft in
+    c.in_ok-next.ensures.draft in
     record {
       place = c.in_ok-next.ensures.place;
       begins = c.trim_spaces-rest-in-loop-rest.ensures.begins;

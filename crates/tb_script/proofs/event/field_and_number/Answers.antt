@@ -47,14 +47,14 @@ pub returns-in-Account-clause-both : goal.returns-in-Account-clause-both
 unfolding field_and_number
 returns-in-Account-clause-both c =
     rw c.in-Account.is (subst (λ told. Tells (λ first. (first.field, first_word first.from_number.now))
-        c.named_from.result told)
+    c.named_from.result told)
     (named_in_order (first_word c.args.line.now) account_rows account_fields (search rules) (search rules))
-        c.named_from.ensures.both)
+    c.named_from.ensures.both)
 
 pub returns-in-Transfer-clause-both : goal.returns-in-Transfer-clause-both
 unfolding field_and_number
 returns-in-Transfer-clause-both c =
     rw c.in-Transfer.is (subst (λ told. Tells (λ first. (first.field, first_word first.from_number.now))
-        c.named_from-in-Transfer.result told)
+    c.named_from-in-Transfer.result told)
     (named_in_order (first_word c.args.line.now) transfer_rows transfer_fields (search rules) (search rules))
-        c.named_from-in-Transfer.ensures.both)
+    c.named_from-in-Transfer.ensures.both)

@@ -9,8 +9,8 @@ returns-in-Some-clause-both c =
     let first = first_row c.loop-table.table.now _ c.loop-table.invariant.bare c.in-len1-up.len_at_least in
     let begins = named_first c.args.line.now _ c.in-Some.from_number.now first.bare c.in-Some.ensures in
     sym c.loop-table.invariant.same ∙ ap (named (first_word c.args.line.now)) first.rows
-        ∙ found_here (first_word c.args.line.now) _ (first_word c.in-Some.from_number.now) _
-            _ first.bare begins.word
+    ∙ found_here (first_word c.args.line.now) _ (first_word c.in-Some.from_number.now) _
+    _ first.bare begins.word
 
 pub returns-in-Some-clause-rest : goal.returns-in-Some-clause-rest
 returns-in-Some-clause-rest c =

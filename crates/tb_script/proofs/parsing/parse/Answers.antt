@@ -14,7 +14,7 @@ pub returns-in-Err-Fault : goal.returns-in-Err-Fault
 returns-in-Err-Fault c =
     rw c.in-Err-Fault.field-0-is (sym c.loop-rest.invariant.same
     ∙ line_faulty (c.loop-rest.number + 1) _ _ _ _ _ c.split_line.ensures.line
-        (rw c.in-Err-Fault.field-0-is at c.in-Err-Fault.ensures))
+    (rw c.in-Err-Fault.field-0-is at c.in-Err-Fault.ensures))
 
 pub returns : goal.returns
 returns c = sym c.loop-rest.invariant.same ∙ lines_ended _ _ _ (search rules)

@@ -9,5 +9,5 @@ pub returns : goal.returns
 returns c = subst (λ bytes. c.fold.result ≡ list_all (λ b. nat_le 32 b && nat_le b 126) bytes) c.iter.ensures.rest
     (fold_over fronts (λ byte. byte.now) _ (λ bytes all. all ≡ list_all (λ b. nat_le 32 b && nat_le b 126) bytes) _
     (λ bytes all byte _ _ so_far called. let next = all_and_next
-        (λ b. nat_le 32 b && nat_le b 126) bytes byte.now all so_far in search rules)
+    (λ b. nat_le 32 b && nat_le b 126) bytes byte.now all so_far in search rules)
     _ _ _ _ (slice_gives c.iter.result) refl c.fold.ensures.ran)

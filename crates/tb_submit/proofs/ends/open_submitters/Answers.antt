@@ -18,9 +18,13 @@ loop-number-preserved c =
     let outlet = c.in_ok-outlet.outlet in
     let seats = seat_at (new_intake before.queue c.args.submitters c.args.limit before.capacity) in
     let seat : c.in_ok-sender.sender.seat ≡ seats loop.number = ap
-        (λ (s : SenderState). s.seat) c.in_ok-sender.ensures.sender
-        ∙ ap (λ (r : ReaderState). record { queue = Some r.queue; submitters = c.args.submitters;
-            limit = c.args.limit; number = loop.number }) was in
+    (λ (s : SenderState). s.seat) c.in_ok-sender.ensures.sender
+    ∙ ap (λ (r : ReaderState). record {
+      queue = Some r.queue;
+      submitters = c.args.submitters;
+      limit = c.args.limit;
+      number = loop.number;
+    }) was in
     record {
       reader = reader_counted c.sender.new.self before (loop.number + 1)
           (queue.0 ∙ ap (λ (r : ReaderState). r.queue) was, queue.1 ∙ ap (λ (r : ReaderState). r.capacity) was)
@@ -28,12 +32,17 @@ loop-number-preserved c =
           (c.in_ok-sender.ensures.count ∙ ap (λ (r : ReaderState). r.count + 1) was);
       opened = c.in_ok-push-2.ensures.items
           ∙ opened_more c.args.credit loop.number seats loop.outlets.items loop.opened.items outlet c.new.result
-                  loop.invariant.long loop.invariant.opened (c.new.ensures
-              ∙ (λ i. new_submitter c.args.credit (record { seat = seat i; ring = c.in_ok-outlet.ensures.pair i })))
+          loop.invariant.long loop.invariant.opened (c.new.ensures
+          ∙ (λ i. new_submitter c.args.credit (record { seat = seat i; ring = c.in_ok-outlet.ensures.pair i })))
           ∙ ap (λ outlets. map (new_submitter c.args.credit) (origins_from seats 0 outlets))
-                  (sym c.in_ok-push.ensures.items);
-      long = omega (arith, loop.invariant.long, ap length c.in_ok-push.ensures.items, length-append
-          loop.outlets.items (outlet ∷ []));
+          (sym c.in_ok-push.ensures.items);
+      long = omega (
+        arith,
+        loop.invariant.long,
+        ap length c.in_ok-push.ensures.items,
+        length-append
+            loop.outlets.items (outlet ∷ []),
+      );
       given = rw c.in_ok-push.ensures.items (All-push
           (λ (o : Outlet Replied). given o ≡ []) _ _ loop.invariant.given c.in_ok-outlet.ensures.empty.0);
       slots = rw c.in_ok-push.ensures.items (All-push

@@ -21,38 +21,38 @@ one_further : {A : Type 0} (F : ℕ → A → Type 0) (xs : List A) (k : ℕ) (x
     (j : ℕ) (d : A) → j < k + 1 → F j (get_or (set xs k x) j d)
 one_further F xs k x within here before j d below = ⊎_elim
     (λ (is : j ≡ k). subst (λ i. F i (get_or (set xs k x) i d)) (sym is)
-        (subst (F k) (sym (get_or-set_same xs k x d within)) here))
+    (subst (F k) (sym (get_or-set_same xs k x d within)) here))
     (λ (other : j ≢ k). subst (F j) (sym (get_or-set_other xs k j x d other))
-        (before j d (omega (arith, below, other))))
+    (before j d (omega (arith, below, other))))
     (cases_eq j k)
 
 origin_here : (intake : IntakeState) (xs ls : List EndedState) (os ms : List (Outlet Replied)) (k : ℕ)
     (x : EndedState) (y : Outlet Replied) → map end_origin xs ≡ origins intake os → k < length xs →
     x ≡ get_or ls k x → get_or ls k x ≡ get_or xs k x → y ≡ get_or ms k y → get_or ms k y ≡ get_or os k y
-        → x.origin ≡ record { seat = seat_at intake k; ring = outlet_ring y }
+    → x.origin ≡ record { seat = seat_at intake k; ring = outlet_ring y }
 origin_here intake xs ls os ms k x y is within x_is x_same y_is y_same =
     ap (λ (e : EndedState). e.origin) (x_is ∙ x_same)
-        ∙ origin_at (seat_at intake) 0 k k xs os x y is within (omega arith)
+    ∙ origin_at (seat_at intake) 0 k k xs os x y is within (omega arith)
     ∙ ap (λ (o : Outlet Replied). record { seat = seat_at intake k; ring = outlet_ring o }) (sym (y_is ∙ y_same))
 
 reader_more : (old was new : ReaderState) (xs : List EndedState) (k : ℕ) (x : EndedState) → k < length xs
     → x ≡ get_or xs k x → was ≡ record old { entries = old.entries ++ map entry_of (take k xs) } →
     new ≡ record was { entries = was.entries ++ entry_of x ∷ [] }
-        → new ≡ record old { entries = old.entries ++ map entry_of (take (k + 1) xs) }
+    → new ≡ record old { entries = old.entries ++ map entry_of (take (k + 1) xs) }
 reader_more old was new xs k x within same was_is new_is =
     new_is ∙ ap (λ (r : ReaderState). record r { entries = r.entries ++ entry_of x ∷ [] }) was_is
     ∙ ap (λ es. record old { entries = es })
     (append_assoc old.entries (map entry_of (take k xs)) (entry_of x ∷ [])
     ∙ ap (λ (e : EndedState). old.entries ++ (map entry_of (take k xs) ++ entry_of e ∷ [])) same
     ∙ ap (λ es. old.entries ++ es) (sym (ap (map entry_of) (take_more xs k x within)
-        ∙ map-append entry_of (take k xs) (get_or xs k x ∷ []))))
+    ∙ map-append entry_of (take k xs) (get_or xs k x ∷ []))))
 
 read_kept : (xs : List EndedState) (k : ℕ) (x old : EndedState) (j : ℕ) (d : EndedState) → k < length xs
     → old ≡ get_or xs k old → x.read ≡ old.read → (get_or (set xs k x) j d).read ≡ (get_or xs j d).read
 read_kept xs k x old j d within old_is same = ⊎_elim
     (λ (is : j ≡ k). subst (λ i. (get_or (set xs k x) i d).read ≡ (get_or xs i d).read) (sym is)
     (ap (λ (e : EndedState). e.read) (get_or-set_same xs k x d within) ∙ same
-        ∙ ap (λ (e : EndedState). e.read) (old_is ∙ same_at xs k old d within)))
+    ∙ ap (λ (e : EndedState). e.read) (old_is ∙ same_at xs k old d within)))
     (λ (other : j ≢ k). ap (λ (e : EndedState). e.read) (get_or-set_other xs k j x d other))
     (cases_eq j k)
 
@@ -64,34 +64,43 @@ filed_further : (xs : List EndedState) (k : ℕ) (x : EndedState) → k < length
     (j : ℕ) (d : EndedState) → j < k + 1 → FiledAt (get_or xs j d)
 filed_further xs k x within same here before j d below = ⊎_elim
     (λ (is : j ≡ k). subst (λ i. FiledAt (get_or xs i d)) (sym is)
-        (subst FiledAt (same ∙ same_at xs k x d within) here))
+    (subst FiledAt (same ∙ same_at xs k x d within) here))
     (λ (other : j ≢ k). before j d (omega (arith, below, other)))
     (cases_eq j k)
 
 pub index_mut-requires-in-loop-k : goal.index_mut-requires-in-loop-k
 index_mut-requires-in-loop-k c =
     let long = ends_long (seat_at c.requires.0) 0 c.args.ends.items c.args.outlets.items c.requires.2 in
-    omega (arith, long, c.loop-k.invariant.outlets, c.loop-k.outlets.ok.0, c.args.ends.ok.0,
-        c.len-k-end.ensures, c.loop-k-test.true)
+    omega (
+      arith,
+      long,
+      c.loop-k.invariant.outlets,
+      c.loop-k.outlets.ok.0,
+      c.args.ends.ok.0,
+      c.len-k-end.ensures,
+      c.loop-k-test.true,
+    )
 
 origin_of_one : (c : goal.After-index_mut-in-loop-k)
-    → c.index_mut.result.now.origin ≡ record { seat = seat_at c.requires.0 c.loop-k.k;
-        ring = outlet_ring c.index_mut-in-loop-k.result.now }
+    → c.index_mut.result.now.origin ≡ record {
+      seat = seat_at c.requires.0 c.loop-k.k;
+      ring = outlet_ring c.index_mut-in-loop-k.result.now;
+    }
 origin_of_one c =
     let k = c.loop-k.k in
     let x = c.index_mut.result.now in
     let y = c.index_mut-in-loop-k.result.now in
     let within : k < length c.args.ends.items = omega
-        (arith, c.args.ends.ok.0, c.len-k-end.ensures, c.loop-k-test.true) in
+    (arith, c.args.ends.ok.0, c.len-k-end.ensures, c.loop-k-test.true) in
     origin_here c.requires.0 c.args.ends.items c.loop-k.ends.items c.args.outlets.items c.loop-k.outlets.items
-        k x y c.requires.2 within
+    k x y c.requires.2 within
     c.index_mut.ensures.value (c.loop-k.invariant.rest k x (omega arith)) c.index_mut-in-loop-k.ensures.value
-        (c.loop-k.invariant.ungiven k y (omega arith))
+    (c.loop-k.invariant.ungiven k y (omega arith))
 
 pub settle-requires-clause-queue : goal.settle-requires-clause-queue
 settle-requires-clause-queue c =
     ap (λ (o : Origin). o.seat.queue) (origin_of_one c)
-        ∙ ap Some (c.requires.1 ∙ sym (ap (λ (r : ReaderState). r.queue) c.loop-k.invariant.reader))
+    ∙ ap Some (c.requires.1 ∙ sym (ap (λ (r : ReaderState). r.queue) c.loop-k.invariant.reader))
 
 pub settle-requires-clause-ring : goal.settle-requires-clause-ring
 settle-requires-clause-ring c = ap (λ (o : Origin). o.ring) (origin_of_one c)
@@ -126,7 +135,7 @@ loop-k-preserved c =
       replies = λ j d o below. one_further (λ i (e : EndedState). (q : Outlet Replied)
           → e.read ++ e.lying ≡ given (get_or os i q)) ls k c.settle.new.self inside
           (λ q. c.settle.ensures.replies ∙ ap given (y_same ∙ same_at os k y q among))
-              (λ i e before q. inv.replies i e q before) j d below o;
+          (λ i e before q. inv.replies i e q before) j d below o;
     }
 
 pub loop-k-init : goal.loop-k-init

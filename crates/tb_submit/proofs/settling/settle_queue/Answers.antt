@@ -15,15 +15,15 @@ use Rattle.tb_submit.proofs.settling.settle_queue.Goals as goal
 gathered_whole : (first more next last : ReaderState) (xs : List EndedState) (e : Entry) (count : ℕ)
     (items : List Ticket) → first.entries ≡ [] → first.count ≡ count →
     more ≡ record first { entries = first.entries ++ map entry_of xs }
-        → next ≡ record more { entries = more.entries ++ e ∷ [] } → last ≡ next →
+    → next ≡ record more { entries = more.entries ++ e ∷ [] } → last ≡ next →
     IsWhole last.entries last.taken last.count items → IsWhole (map entry_of xs ++ e ∷ []) first.taken count items
 gathered_whole first more next last xs e count items none count_is more_is next_is last_is whole =
     let same : last ≡ record first { entries = map entry_of xs ++ e ∷ [] }
     =
-        last_is ∙ next_is ∙ ap (λ (r : ReaderState). record r { entries = r.entries ++ e ∷ [] }) more_is
-        ∙ ap (λ es. record first { entries = (es ++ map entry_of xs) ++ e ∷ [] }) none in
+    last_is ∙ next_is ∙ ap (λ (r : ReaderState). record r { entries = r.entries ++ e ∷ [] }) more_is
+    ∙ ap (λ es. record first { entries = (es ++ map entry_of xs) ++ e ∷ [] }) none in
     subst (λ n. IsWhole (map entry_of xs ++ e ∷ []) first.taken n items) count_is
-        (subst (λ (r : ReaderState). IsWhole r.entries r.taken r.count items) same whole)
+    (subst (λ (r : ReaderState). IsWhole r.entries r.taken r.count items) same whole)
 
 replies_all : (F : ℕ → List Replied → Type 0) (ends : List EndedState)
     → ((k : ℕ) (d : EndedState) → k < length ends → F k ((get_or ends k d).read ++ (get_or ends k d).lying)) →
@@ -42,9 +42,9 @@ settled c =
     let before = c.intake.inside in
     let last = c.control.inside.sender in
     let whole = gathered_whole before.reader c.settle_all-ends.new.reader c.gather.new.self c.learn.new.self xs
-        (entry last.seat.number last.queued) (before.submitters + 1) c.learn.ensures.whole.0
+    (entry last.seat.number last.queued) (before.submitters + 1) c.learn.ensures.whole.0
     c.intake.invariant.0 c.intake.invariant.1 c.settle_all-ends.ensures.reader c.gather.ensures.entries
-        c.learn.ensures.same c.learn.ensures.whole.1 in
+    c.learn.ensures.same c.learn.ensures.whole.1 in
     record {
       long = ends_long (seat_at intake) 0 xs os c.requires.ends ∙ c.requires.number;
       seats = λ k d below. seat_of_one (seat_at intake) 0 k k xs os d c.requires.ends below (omega arith);
@@ -55,9 +55,9 @@ settled c =
       items = c.learn.ensures.whole.0;
       whole = subst (λ (i : IntakeState). IsWhole (map entry_of xs
           ++ entry c.args.control.seat.number c.args.control.queued ∷ []) i.taken
-              (i.submitters + 1) c.learn.ensures.whole.0) c.intake.view_is
+          (i.submitters + 1) c.learn.ensures.whole.0) c.intake.view_is
           (subst (λ (s : SenderState). IsWhole (map entry_of xs ++ entry s.seat.number s.queued ∷ [])
-              before.reader.taken (before.submitters + 1) c.learn.ensures.whole.0) c.control.view_is whole);
+          before.reader.taken (before.submitters + 1) c.learn.ensures.whole.0) c.control.view_is whole);
       finished = c.requires.finished;
     }
 
@@ -74,6 +74,6 @@ pub returns-clause-replies : goal.returns-clause-replies
 returns-clause-replies c =
     let all = c.settle_all-ends.ensures.long in
     λ sender d below. replies_all (λ k replies. replies ≡ given (get_or c.args.outlets.items k d))
-        c.settle_all-ends.result.items
+    c.settle_all-ends.result.items
     (λ k e within. c.settle_all-ends.ensures.replies k e d (omega (arith, within, all))) sender
-        (omega (arith, below, all, (settled c).long))
+    (omega (arith, below, all, (settled c).long))

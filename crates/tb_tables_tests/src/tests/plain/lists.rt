@@ -22,8 +22,11 @@ impl Model for Lists {
 
     ghost Value = { Record };
 
-    ghost view = { λ lists. record { accounts = lists.accounts.items; rows = lists.rows.items;
-        failed = lists.failed.items } };
+    ghost view = { λ lists. record {
+      accounts = lists.accounts.items;
+      rows = lists.rows.items;
+      failed = lists.failed.items;
+    } };
 }
 
 impl Lists {

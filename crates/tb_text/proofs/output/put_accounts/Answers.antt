@@ -14,7 +14,7 @@ loop-place-preserved c =
     let at : slice_get accounts place ≡ Some account = sym c.account_at.ensures ∙ c.unwrap-account.ensures in
     let taken : take (place + 1) accounts ≡ take place accounts ++ account ∷ [] =
     take_more accounts place account (slice_get_within accounts place account at)
-        ∙ ap (λ x. take place accounts ++ x ∷ []) (get_or_from_slice_get accounts place account account at) in
+    ∙ ap (λ x. take place accounts ++ x ∷ []) (get_or_from_slice_get accounts place account account at) in
     c.in_ok-put_account.ensures ∙ ap (λ bytes. bytes ++ account_line account) c.loop-place.invariant
     ∙ flat_map_more account_line (string_bytes c.args.out.now) (take place accounts) account
     ∙ ap (λ xs. string_bytes c.args.out.now ++ flat_map account_line xs) (sym taken)

@@ -10,5 +10,5 @@ invariant_of-self c =
     still_held c.join.result c.self.inside.limit c.in-Some.held c.join.new.self c.args.job
     (subst (λ held. IsHeld c.self.inside.limit (jobs_of held)) c.in-Some.is c.self.invariant)
     (ap (λ held. is_taken c.self.inside.limit (jobs_of held) c.args.job) (sym c.in-Some.is)
-        ∙ ap (λ (held : Held). is_taken held.limit held.jobs c.args.job) c.self.view_is ∙ c.requires)
+    ∙ ap (λ (held : Held). is_taken held.limit held.jobs c.args.job) c.self.view_is ∙ c.requires)
     c.join.ensures.group c.join.ensures.same

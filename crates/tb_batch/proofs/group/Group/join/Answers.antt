@@ -18,20 +18,28 @@ invariant_of-self-2 c =
     let put = c.append.ensures in
     let succeeded = sym c.is_err.ensures.value ∙ c.if-is_err.false in
     let counted : c.stub.result.count ≡ count_of c.args.job.packet = ap
-        (λ (stub : Stub). stub.count) c.stub.ensures.value in
+    (λ (stub : Stub). stub.count) c.stub.ensures.value in
     let has_room : HasRoom c.self.inside.parts.operation
-        (c.self.inside.events + count_of c.args.job.packet) c.append.new.self.failures c.append.new.self.accounts =
+    (c.self.inside.events + count_of c.args.job.packet) c.append.new.self.failures c.append.new.self.accounts =
     record {
       no_failures = ap (λ (v : Vec Failure Global). v.items) put.answer.0 ∙ room.answer.0;
       no_accounts = ap (λ (v : Vec Account Global). v.items) put.answer.1 ∙ room.answer.1;
-      for_failures = λ other. omega (arith, ap (λ (v : Vec Failure Global). vec_capacity v) put.answer.0, counted,
-          given c.reserve_for.result _ succeeded room.room_for_failures other);
-      for_accounts = λ lookup. omega (arith, ap (λ (v : Vec Account Global). vec_capacity v) put.answer.1, counted,
-          given c.reserve_for.result _ succeeded room.room_for_accounts lookup);
+      for_failures = λ other. omega (
+        arith,
+        ap (λ (v : Vec Failure Global). vec_capacity v) put.answer.0,
+        counted,
+        given c.reserve_for.result _ succeeded room.room_for_failures other,
+      );
+      for_accounts = λ lookup. omega (
+        arith,
+        ap (λ (v : Vec Account Global). vec_capacity v) put.answer.1,
+        counted,
+        given c.reserve_for.result _ succeeded room.room_for_accounts lookup,
+      );
     } in
     rw c.stub.ensures.value (batch_more c.self.inside.parts c.append.new.self c.self.inside.shares
-        c.self.inside.events c.args.limit c.args.job c.self.invariant c.requires.limit
-        (ap (λ js. is_taken c.args.limit js c.args.job) c.self.view_is ∙ c.requires.joins)
+    c.self.inside.events c.args.limit c.args.job c.self.invariant c.requires.limit
+    (ap (λ js. is_taken c.args.limit js c.args.job) c.self.view_is ∙ c.requires.joins)
     put.admitted (put.operation ∙ room.operation) (put.jobs ∙ ap (λ js. js ++ c.args.job ∷ []) room.jobs.0)
-        (put.stubs ∙ ap (λ ss. ss ++ stub_of c.args.job ∷ []) room.jobs.1)
-        (put.body ∙ ap (λ bs. bs ++ c.args.job.packet.bytes) room.jobs.2) has_room)
+    (put.stubs ∙ ap (λ ss. ss ++ stub_of c.args.job ∷ []) room.jobs.1)
+    (put.body ∙ ap (λ bs. bs ++ c.args.job.packet.bytes) room.jobs.2) has_room)

@@ -10,7 +10,7 @@ taken c = has_taken false c.args.self.now c.args.ticket _ c.try_take.ensures.fro
 -- the ticket came back, with the front as it was
 taken_refused : (c : goal.After-step_refused)
     → HasTaken true c.args.self.now c.args.ticket
-        (take_result c.step_refused.new.self c.step_refused.new.parcels.items)
+    (take_result c.step_refused.new.self c.step_refused.new.parcels.items)
 taken_refused c =
     has_taken true c.args.self.now c.args.ticket _ c.try_take.ensures.front c.requires.sender
     (cc (c.in-Err.ensures.err.0, c.in-Err.ensures.err.1, c.step_refused.ensures.took))

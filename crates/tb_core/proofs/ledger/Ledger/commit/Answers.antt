@@ -11,41 +11,49 @@ use Rattle.tb_core.proofs.ledger.Ledger.commit.Goals as goal
 pub invariant_of-self-2 : goal.invariant_of-self-2
 invariant_of-self-2 c =
     let inside = c.self.inside in
-    let ledger : LedgerState = record { opening = inside.opening; groups = map group_of inside.entries.items;
-        stopped = inside.stopped } in
+    let ledger : LedgerState = record {
+      opening = inside.opening;
+      groups = map group_of inside.entries.items;
+      stopped = inside.stopped;
+    } in
     let parts = c.take_batch.new.parts in
     let ok = sym c.is_err-2.ensures.value ∙ c.if-is_err-2.false in
     let answered = given c.take_batch.result _ ok c.take_batch.ensures.answered in
     let next = given c.take_batch.result _ ok c.take_batch.ensures.state in
     let groups = c.record-replies.ensures.entry ∙ ap
-        (λ items. map group_of items ++ map work_of parts.jobs.items ∷ []) c.reserve.ensures.items in
+    (λ items. map group_of items ++ map work_of parts.jobs.items ∷ []) c.reserve.ensures.items in
     let count = ap length (c.jobs-count.ensures.jobs ∙ sym c.into_parts-parts.ensures.jobs
-        ∙ sym c.take_batch.ensures.jobs) in
+    ∙ sym c.take_batch.ensures.jobs) in
     let goes = ap (λ (l : LedgerState). must_stop false l (length c.jobs-count.result.now)) c.self.view_is
-        ∙ sym c.halts_at.ensures ∙ c.if-halts_at.false in
-    let law : JoinInvisibly = record { accounts = c.joining_is_invisible.ensures.accounts;
-        transfers = c.joining_is_invisible.ensures.transfers } in
+    ∙ sym c.halts_at.ensures ∙ c.if-halts_at.false in
+    let law : JoinInvisibly = record {
+      accounts = c.joining_is_invisible.ensures.accounts;
+      transfers = c.joining_is_invisible.ensures.transfers;
+    } in
     batch_entered law ledger inside.machine c.take_batch.new.machine inside.places
-        (map group_of c.record-replies.new.entries.items) parts
-        (length c.jobs-count.result.now) c.self.invariant answered next groups count goes
+    (map group_of c.record-replies.new.entries.items) parts
+    (length c.jobs-count.result.now) c.self.invariant answered next groups count goes
 
 pub returns-clause-ok : goal.returns-clause-ok
 returns-clause-ok c =
     let inside = c.self.inside in
-    let ledger : LedgerState = record { opening = inside.opening; groups = map group_of inside.entries.items;
-        stopped = inside.stopped } in
+    let ledger : LedgerState = record {
+      opening = inside.opening;
+      groups = map group_of inside.entries.items;
+      stopped = inside.stopped;
+    } in
     let parts = c.take_batch.new.parts in
     let ok = sym c.is_err-2.ensures.value ∙ c.if-is_err-2.false in
     let answered = given c.take_batch.result _ ok c.take_batch.ensures.answered in
     let groups = c.record-replies.ensures.entry ∙ ap
-        (λ items. map group_of items ++ map work_of parts.jobs.items ∷ []) c.reserve.ensures.items in
+    (λ items. map group_of items ++ map work_of parts.jobs.items ∷ []) c.reserve.ensures.items in
     let same = c.take_batch.ensures.jobs ∙ c.into_parts-parts.ensures.jobs in
     let goes = ap (λ (l : LedgerState). must_stop false l (length c.args.batch)) c.self.view_is
-        ∙ ap (λ jobs. must_stop false c.args.self.now (length jobs)) (sym c.jobs-count.ensures.jobs)
-        ∙ sym c.halts_at.ensures ∙ c.if-halts_at.false in
+    ∙ ap (λ jobs. must_stop false c.args.self.now (length jobs)) (sym c.jobs-count.ensures.jobs)
+    ∙ sym c.halts_at.ensures ∙ c.if-halts_at.false in
     batch_applied ledger inside.machine inside.places
-        (map group_of c.record-replies.new.entries.items) parts.jobs.items c.args.batch c.record-replies.result
-        c.self.invariant groups same
+    (map group_of c.record-replies.new.entries.items) parts.jobs.items c.args.batch c.record-replies.result
+    c.self.invariant groups same
     (c.record-replies.ensures.replies inside.opening (works ledger) c.self.invariant.counted
-        (subst (λ state. AreAnswered state parts) c.self.invariant.machine answered)) goes
+    (subst (λ state. AreAnswered state parts) c.self.invariant.machine answered)) goes
     ∙ ap (λ (l : LedgerState). apply_step false l (parcel.Batch c.args.batch)) c.self.view_is

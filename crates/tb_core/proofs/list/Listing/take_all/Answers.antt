@@ -5,8 +5,11 @@ use Rattle.tb_core.proofs.list.Listing.take_all.Goals as goal
 pub loop-item-init : goal.loop-item-init
 loop-item-init c = record {
   none = c.new-parcels.ensures;
-  runs = λ clock limit run. record { done = [];
-      parts = sym c.into_iter-item-iterator.ensures.into_iter_gives.0; run = run };
+  runs = λ clock limit run. record {
+    done = [];
+    parts = sym c.into_iter-item-iterator.ensures.into_iter_gives.0;
+    run = run;
+  };
 }
 
 pub loop-item-preserved : goal.loop-item-preserved

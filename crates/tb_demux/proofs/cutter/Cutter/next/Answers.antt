@@ -12,7 +12,7 @@ invariant_of-self-2 c =
     let rest = into_iter_items c.next.new.self in
     let known : (source : Source) → c.self.inside.source ≡ source → IsSourceOf source (job ∷ rest) =
     λ source is. subst (λ s. IsSourceOf s (job ∷ rest)) is
-        (subst (λ jobs. IsSourceOf c.self.inside.source jobs) c.in_ok-job.ensures.items c.self.invariant) in
+    (subst (λ jobs. IsSourceOf c.self.inside.source jobs) c.in_ok-job.ensures.items c.self.invariant) in
     elim c.match-self.branch [
       | in-Failures w ↦ let left =
           w.reply.ensures in rw w.self-inside-is (next_left w.in-Failures.uncut w.reply.new.self job rest
@@ -28,9 +28,9 @@ returns-clause-some c =
     let job = c.in_ok-job.job in
     let rest = into_iter_items c.next.new.self in
     let started : (source : Source) → c.self.inside.source ≡ source
-        → c.args.self.now ≡ replies_left source (job ∷ rest) =
+    → c.args.self.now ≡ replies_left source (job ∷ rest) =
     λ source is. sym c.self.view_is ∙ ap (λ jobs. replies_left c.self.inside.source jobs) c.in_ok-job.ensures.items
-        ∙ ap (λ s. replies_left s (job ∷ rest)) is in
+    ∙ ap (λ s. replies_left s (job ∷ rest)) is in
     elim c.match-self.branch [
       | in-Failures w ↦ let left =
           w.reply.ensures in rw (w.self-inside-is, w.result-is, left.reply)
@@ -40,7 +40,7 @@ returns-clause-some c =
           subst (λ s. IsSourceOf s (job ∷ rest)) w.in-Lookup.is
           (subst (λ jobs. IsSourceOf c.self.inside.source jobs) c.in_ok-job.ensures.items c.self.invariant) in
           rw (w.self-inside-is, w.result-is, w.of.ensures, w.replace.ensures.value)
-              (started _ w.in-Lookup.is ∙ none_left_replies w.in-Lookup.outcome w.replace.new.dest job rest fits)
+          (started _ w.in-Lookup.is ∙ none_left_replies w.in-Lookup.outcome w.replace.new.dest job rest fits)
       | in-Shutdown w ↦ rw (w.self-inside-is, w.result-is, w.of-in-Shutdown.ensures, w.in-Shutdown.is)
           (started _ w.in-Shutdown.is)
       | in-Stopped w ↦ rw (w.self-inside-is, w.result-is, w.of-in-Stopped.ensures, w.in-Stopped.is)

@@ -15,22 +15,22 @@ committed-reply-requires-clause-rise c =
     let end : c.from.result + c.from-2.result ≡ c.args.self.now.offset + count_of c.args.job.packet =
     omega (arith, c.from.ensures, c.from-2.ensures, ap (λ (stub : Stub). stub.count) c.stub.ensures.value) in
     let uncut : c.split_at.result.1.now ≡ failures_left c.args.self.now = c.split_at.ensures.back
-        ∙ ap (drop c.args.self.now.taken) c.as_slice.ensures in
+    ∙ ap (drop c.args.self.now.taken) c.as_slice.ensures in
     rw (c.split_at-2.ensures.front, c.count_below.ensures.value, end, uncut)
     (rise_own c.args.self.now.offset c.requires.rise.0 (c.args.self.now.offset + count_of c.args.job.packet)
-        (failures_left c.args.self.now) c.requires.rise.1)
+    (failures_left c.args.self.now) c.requires.rise.1)
 
 pub offset_behind-self-requires : goal.offset_behind-self-requires
 offset_behind-self-requires c =
     let end : c.from.result + c.from-2.result ≡ c.args.self.now.offset + count_of c.args.job.packet =
     omega (arith, c.from.ensures, c.from-2.ensures, ap (λ (stub : Stub). stub.count) c.stub.ensures.value) in
     let uncut : c.split_at.result.1.now ≡ failures_left c.args.self.now = c.split_at.ensures.back
-        ∙ ap (drop c.args.self.now.taken) c.as_slice.ensures in (
+    ∙ ap (drop c.args.self.now.taken) c.as_slice.ensures in (
       c.requires.rise.0,
       rw (c.split_at-2.ensures.back, c.count_below.ensures.value, end, uncut)
           (rise_behind c.args.self.now.offset c.requires.rise.0
-              (c.args.self.now.offset + count_of c.args.job.packet)
-              (failures_left c.args.self.now) c.requires.rise.1),
+          (c.args.self.now.offset + count_of c.args.job.packet)
+          (failures_left c.args.self.now) c.requires.rise.1),
     )
 
 pub returns-clause-reply : goal.returns-clause-reply
@@ -38,12 +38,12 @@ returns-clause-reply c =
     let end : c.from.result + c.from-2.result ≡ c.args.self.now.offset + count_of c.args.job.packet =
     omega (arith, c.from.ensures, c.from-2.ensures, ap (λ (stub : Stub). stub.count) c.stub.ensures.value) in
     let uncut : c.split_at.result.1.now ≡ failures_left c.args.self.now = c.split_at.ensures.back
-        ∙ ap (drop c.args.self.now.taken) c.as_slice.ensures in
+    ∙ ap (drop c.args.self.now.taken) c.as_slice.ensures in
     let own : c.split_at-2.result.0.now ≡ take (count_below (c.args.self.now.offset + count_of c.args.job.packet)
-        (failures_left c.args.self.now)) (failures_left c.args.self.now) =
+    (failures_left c.args.self.now)) (failures_left c.args.self.now) =
     rw (c.split_at-2.ensures.front, c.count_below.ensures.value, end, uncut) refl in
     c.committed-reply.ensures
     ∙ ap (λ failures. reply_with (Committed c.args.self.now.place (Failures failures)) c.args.job)
     (ap (map (from_offset c.args.self.now.offset)) own
-        ∙ sym (cut_leading c.args.self.now.offset (count_of c.args.job.packet) c.requires.rise.0
-            (failures_left c.args.self.now) c.requires.rise.1))
+    ∙ sym (cut_leading c.args.self.now.offset (count_of c.args.job.packet) c.requires.rise.0
+    (failures_left c.args.self.now) c.requires.rise.1))

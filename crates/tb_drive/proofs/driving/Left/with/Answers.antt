@@ -10,7 +10,12 @@ invariant_of-result g c =
     let drivers : c.push-2.new.self.items ≡ c.self.inside.drivers.items ++ c.driven.inside.driver ∷ [] = search rules in
     let seen : HasSeenEnd g.D.Driver.has_seen c.driven.inside.driver c.in-Some.ended = search rules in
     rw (drivers, ends) (
-      omega (arith, c.self.invariant.0, length-append c.self.inside.ends.items
-          (c.in-Some.ended ∷ []), length-append c.self.inside.drivers.items (c.driven.inside.driver ∷ [])),
+      omega (
+        arith,
+        c.self.invariant.0,
+        length-append c.self.inside.ends.items
+            (c.in-Some.ended ∷ []),
+        length-append c.self.inside.drivers.items (c.driven.inside.driver ∷ []),
+      ),
       one_more g.D.Driver.has_seen _ _ _ _ c.self.invariant.0 c.self.invariant.1 seen,
     )

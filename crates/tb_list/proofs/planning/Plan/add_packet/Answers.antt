@@ -14,8 +14,8 @@ returns-in-Ok c =
     let queue = c.args.self.now.queue in
     let packet = c.packet_of-packet.ensures in
     let job : c.in-Ok.job ≡ numbered_packet submission.submitter (number_in submission.submitter queue)
-        (packet_of submission) = search rules in
+    (packet_of submission) = search rules in
     let is : IsOk (admission_of c.args.limit (packet_of submission)) = subst
-        (λ (p : packets.Packet). IsOk (admission_of c.args.limit p)) packet c.in-Ok.ensures.admitted in
+    (λ (p : packets.Packet). IsOk (admission_of c.args.limit p)) packet c.in-Ok.ensures.admitted in
     on_ok c.queue_packet.result (λ e. e ∙ ap (λ planned. with_planned c.args.self.now planned)
-        (ap Packet job ∙ sym (admitted_is_queued queue submission _ is))) c.queue_packet.ensures
+    (ap Packet job ∙ sym (admitted_is_queued queue submission _ is))) c.queue_packet.ensures

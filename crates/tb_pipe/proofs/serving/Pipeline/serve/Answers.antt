@@ -6,4 +6,4 @@ use Rattle.tb_pipe.proofs.serving.Pipeline.serve.Goals as goal
 pub returns-in-Ok-clause-submitters : goal.returns-in-Ok-clause-submitters
 returns-in-Ok-clause-submitters g c =
     (served_is c.self.inside.stages c.in-Ok.remains c.self.invariant c.in-Ok.ensures.served).submitters
-        ∙ ap (λ (p : PipelineState). p.submitters) c.self.view_is
+    ∙ ap (λ (p : PipelineState). p.submitters) c.self.view_is

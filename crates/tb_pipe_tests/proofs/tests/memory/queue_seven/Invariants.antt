@@ -4,5 +4,7 @@ use Rattle.tb_pipe_tests.proofs.tests.memory.queue_seven.Given as goal
 
 abbrev pub invariant-loop-id : goal.invariant-loop-id
 invariant-loop-id g l =
-    record { submitter : origin_of l.submitter ≡ origin_of l.initial.submitter;
-        control : l.control.seat ≡ l.initial.control.seat }
+    record {
+      submitter : origin_of l.submitter ≡ origin_of l.initial.submitter;
+      control : l.control.seat ≡ l.initial.control.seat;
+    }

@@ -4,5 +4,7 @@ use Rattle.tb_pipe_tests.proofs.tests.queued.queue_steps.Given as goal
 
 abbrev pub invariant-loop-step : goal.invariant-loop-step
 invariant-loop-step g l =
-    record { submitter : origin_of l.submitter ≡ origin_of l.initial.submitter;
-        control : l.control.seat ≡ l.initial.control.seat }
+    record {
+      submitter : origin_of l.submitter ≡ origin_of l.initial.submitter;
+      control : l.control.seat ≡ l.initial.control.seat;
+    }

@@ -10,7 +10,7 @@ as_many : (c : goal.After-len) → length (group_of c.args.entry.now) ≡ c.len.
 as_many c =
     let stubs : length c.in-Batch.stubs.items ≡ c.len.result = search rules in
     ap (λ (e : Entry). length (group_of e)) c.in-Batch.is
-        ∙ as_many_packets c.in-Batch.operation c.in-Batch.body.items c.in-Batch.stubs.items ∙ stubs
+    ∙ as_many_packets c.in-Batch.operation c.in-Batch.body.items c.in-Batch.stubs.items ∙ stubs
 
 pub overflow_add-result : goal.overflow_add-result
 overflow_add-result c = omega (arith, c.requires, as_many c)
@@ -23,4 +23,4 @@ returns-in-Batch-clause-text c =
     let out = string_bytes c.args.out.now in
     let place = c.args.place in
     sym (ap (λ text. out ++ text) (ap (λ (e : Entry). pulses_text place (group_of e)) c.in-Batch.is
-        ∙ none_in_batch place c.in-Batch.operation c.in-Batch.body.items c.in-Batch.stubs.items) ∙ append-nil out)
+    ∙ none_in_batch place c.in-Batch.operation c.in-Batch.body.items c.in-Batch.stubs.items) ∙ append-nil out)

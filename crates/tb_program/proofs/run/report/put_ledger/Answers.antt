@@ -18,8 +18,8 @@ returns c =
     let refused = refused_pulses_text c.args.refused_pulses in
     let state = state_text c.machine.result.now in
     c.in_ok-put_state.ensures ∙ ap (λ t. t ++ state)
-        (c.in_ok-put_refused_pulses.ensures ∙ ap (λ t. t ++ refused)
-        (c.in_ok-put_pulses.ensures ∙ ap (λ ws. out ++ pulses_text 0 ws)
-        (of_entries c.journal.result.now c.args.ledger.now c.journal.ensures)))
+    (c.in_ok-put_refused_pulses.ensures ∙ ap (λ t. t ++ refused)
+    (c.in_ok-put_pulses.ensures ∙ ap (λ ws. out ++ pulses_text 0 ws)
+    (of_entries c.journal.result.now c.args.ledger.now c.journal.ensures)))
     ∙ ap (λ t. t ++ state) (append_assoc out pulses refused) ∙ append_assoc out (pulses ++ refused) state
-        ∙ ap (λ (s : State). out ++ (pulses ++ refused ++ state_text s)) c.machine.ensures
+    ∙ ap (λ (s : State). out ++ (pulses ++ refused ++ state_text s)) c.machine.ensures

@@ -10,6 +10,6 @@ put_all_told-put-requires c =
     let seen = c.requires.seen (c.in-Some.ensures.done refl).0 in
     let replies : c.into_iter.result.rest.items ≡ c.in-Some.field-0.replies.items = search rules in
     ap queued_among c.deref.ensures.value ∙ ap (λ (notes : Notes). queued_among notes.told.items) is
-        ∙ as_many_queued seen.0 ∙ c.requires.number
+    ∙ as_many_queued seen.0 ∙ c.requires.number
     ∙ ap (λ read. length (read ++ c.args.ended.lying))
-            (sym (replies ∙ ap (λ (notes : Notes). notes.replies.items) is ∙ seen.1))
+    (sym (replies ∙ ap (λ (notes : Notes). notes.replies.items) is ∙ seen.1))

@@ -11,15 +11,21 @@ loop-entry-preserved c =
     let rest = drop (c.loop-entry.entry-index + 1) c.args.journal.now in
     let within : c.loop-entry.entry-index < length c.args.journal.now = search rules in
     let is : get_or c.args.journal.now c.loop-entry.entry-index c.entry-item.result
-        ≡ c.entry-item.result = search rules in
+    ≡ c.entry-item.result = search rules in
     let first = drop_more c.args.journal.now c.loop-entry.entry-index c.entry-item.result within
-        ∙ ap (λ entry. entry ∷ rest) is in
+    ∙ ap (λ entry. entry ∷ rest) is in
     let before = c.loop-entry.invariant in
     let behind = c.in_ok-place.ensures.behind in
     record {
-      place = omega (arith, before.place, behind, ap
-          (λ (es : List Entry). length (flat_map group_of es)) first, length-append (group_of c.entry-item.result)
-          (flat_map group_of rest));
+      place = omega (
+        arith,
+        before.place,
+        behind,
+        ap
+            (λ (es : List Entry). length (flat_map group_of es)) first,
+        length-append (group_of c.entry-item.result)
+            (flat_map group_of rest),
+      );
       text = first_pulses _ _ c.loop-entry.place c.in_ok-place.place c.entry-item.result rest _ first behind
           c.in_ok-place.ensures.text ∙ before.text;
     }

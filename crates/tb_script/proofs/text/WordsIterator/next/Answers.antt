@@ -11,11 +11,11 @@ pub returns-clause-steps : goal.returns-clause-steps
 returns-clause-steps c =
     let some = some_word c.trim_spaces-trimmed.result.now c.trim_spaces-trimmed.ensures.begins (search rules) in
     rw (c.split_word.ensures.word, c.split_word.ensures.rest)
-        (sym c.trim_spaces-trimmed.ensures.same ∙ words_first c.trim_spaces-trimmed.result.now some)
+    (sym c.trim_spaces-trimmed.ensures.same ∙ words_first c.trim_spaces-trimmed.result.now some)
 
 pub returns-clause-goes : goal.returns-clause-goes
 returns-clause-goes c =
     let some = some_word c.trim_spaces-trimmed.result.now c.trim_spaces-trimmed.ensures.begins (search rules) in
     let fewer = ap length (sym c.trim_spaces-trimmed.ensures.same
-        ∙ words_first c.trim_spaces-trimmed.result.now some) in
+    ∙ words_first c.trim_spaces-trimmed.result.now some) in
     rw c.split_word.ensures.rest (search (rules, fewer))

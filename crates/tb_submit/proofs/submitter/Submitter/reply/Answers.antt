@@ -11,16 +11,16 @@ invariant_of-self-then-is_none c =
     let reply = c.in_ok-reply.reply in
     let outcome = ap (λ (r : Replied). told_by r.outcome) c.reply.view_is in
     subst (λ read. IsSubmitter before.sender.seat before.sender.queued before.queued before.credit
-        c.saturating_add-self-inside.result c.told_by-self-inside.result read) (sym c.in_ok-reply.ensures.some)
+    c.saturating_add-self-inside.result c.told_by-self-inside.result read) (sym c.in_ok-reply.ensures.some)
     (counts_reply _ _ _ _ _ _ _ _ _ reply c.self.invariant c.saturating_add-self-inside.ensures
-        (c.told_by-self-inside.ensures ∙ outcome ∙ else_none before.told
-        (told_by reply.outcome) c.if-is_none.ensures))
+    (c.told_by-self-inside.ensures ∙ outcome ∙ else_none before.told
+    (told_by reply.outcome) c.if-is_none.ensures))
 
 pub invariant_of-self-else-is_none : goal.invariant_of-self-else-is_none
 invariant_of-self-else-is_none c =
     let before = c.self.inside in
     let reply = c.in_ok-reply.reply in
     subst (λ read. IsSubmitter before.sender.seat before.sender.queued before.queued before.credit
-        c.saturating_add-self-inside.result before.told read) (sym c.in_ok-reply.ensures.some)
+    c.saturating_add-self-inside.result before.told read) (sym c.in_ok-reply.ensures.some)
     (counts_reply _ _ _ _ _ _ _ _ _ reply c.self.invariant c.saturating_add-self-inside.ensures
-        (else_some before.told (told_by reply.outcome) c.if-is_none.ensures))
+    (else_some before.told (told_by reply.outcome) c.if-is_none.ensures))

@@ -16,12 +16,12 @@ invariant_of-self g c =
     let made : job ≡ _ = c.in_ok-job.ensures.job in
     let none : submit_refusal c.args.self.now c.args.packet ≡ None = sym c.refusal.ensures ∙ c.in_default.is in
     subst (λ (s : SenderState). IsSubmitter s.seat s.queued
-        (before.queued + 1) before.credit before.read before.told (taken before.inlet)) (sym c.in-Ok.ensures.ok)
+    (before.queued + 1) before.credit before.read before.told (taken before.inlet)) (sym c.in-Ok.ensures.ok)
     (counts_packet _ _ _ _ _ _ _ job c.self.invariant (ap (λ (j : Numbered). j.submitter) made ∙ c.number.ensures)
-        (ap (λ (j : Numbered). j.number) made)
+    (ap (λ (j : Numbered). j.number) made)
     (subst (λ (j : Numbered). IsOk (admission_of before.sender.seat.limit j.packet)) (sym made)
-        (subst (λ limit. IsOk (admission_of limit c.args.packet)) c.limit.ensures c.in_ok-job.ensures.admitted))
+    (subst (λ limit. IsOk (admission_of limit c.args.packet)) c.limit.ensures c.in_ok-job.ensures.admitted))
     (let state = sym c.self.view_is in
     subst (λ (s : SubmitterState). in_flight s < s.credit) state
-        (credit_left c.args.self.now c.args.packet none
-        (subst (λ (s : SubmitterState). in_flight s ≤ s.credit) (sym state) c.self.invariant.credited))))
+    (credit_left c.args.self.now c.args.packet none
+    (subst (λ (s : SubmitterState). in_flight s ≤ s.credit) (sym state) c.self.invariant.credited))))

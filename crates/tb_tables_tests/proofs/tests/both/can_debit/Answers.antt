@@ -5,5 +5,10 @@ use Rattle.tb_tables_tests.proofs.tests.both.can_debit.Goals as goal
 
 pub returns-in-Some-clause-fits : goal.returns-in-Some-clause-fits
 returns-in-Some-clause-fits c =
-    λ can. grind (arith, found-id (λ (a : Account). a.id) c.args.id c.args.tables.now.now.accounts,
-    c.account.ensures, c.in-Some.is, c.fits.ensures can)
+    λ can. grind (
+      arith,
+      found-id (λ (a : Account). a.id) c.args.id c.args.tables.now.now.accounts,
+      c.account.ensures,
+      c.in-Some.is,
+      c.fits.ensures can,
+    )

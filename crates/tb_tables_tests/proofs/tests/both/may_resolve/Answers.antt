@@ -15,8 +15,13 @@ returns-clause-may c = λ most.
       pending = c.in-Some.pending;
       named = search rules;
       is_pending_one = search rules;
-      unresolved = grind (arith, found-id (λ (t : Transfer). t.id) id facts.transfers, status,
-          c.transfer.ensures, c.in-Some.is);
+      unresolved = grind (
+        arith,
+        found-id (λ (t : Transfer). t.id) id facts.transfers,
+        status,
+        c.transfer.ensures,
+        c.in-Some.is,
+      );
       same_debit = c.if-transfer-pending.false;
       same_credit = c.if-transfer-pending-2.false;
       at_most = grind (arith, nat_tests, most);

@@ -8,4 +8,4 @@ returns-in-Some c =
     let inside = c.self.inside in
     rw (← c.self.view_is)
     (c.is_last_linked.ensures ∙ is_open-chunk inside.packet.operation inside.packet.bytes c.in-Some.chunk.now _
-        (c.as_chunks.ensures.front ∙ ap (chunks 128) c.as_slice.ensures) c.in-Some.ensures.value)
+    (c.as_chunks.ensures.front ∙ ap (chunks 128) c.as_slice.ensures) c.in-Some.ensures.value)

@@ -11,7 +11,7 @@ returns-in_ok-push-clause-packets c = λ items dealt.
     let here : c.args.submission.submitter ≡ 0 + k = omega (arith, its) in
     let within : k < length shares = search rules in
     let is : c.push.new.self.items ≡ (get_or shares k c.push.new.self).items
-        ++ packet_of c.args.submission ∷ [] = search rules in
+    ++ packet_of c.args.submission ∷ [] = search rules in
     dealt_to 0 k shares items c.args.submission c.push.new.self here within is dealt
 
 pub returns-in_default-clause-packets : goal.returns-in_default-clause-packets
@@ -20,4 +20,4 @@ returns-in_default-clause-packets c = λ items dealt.
     let its : c.args.submission.submitter ≡ c.get-submitter.result = search rules in
     let past : length shares ≤ c.get-submitter.result = search rules in
     dealt_past 0 shares items _ (λ other least most.
-        not_its other c.args.submission (λ e. omega (arith, e, its, past, most))) dealt
+    not_its other c.args.submission (λ e. omega (arith, e, its, past, most))) dealt

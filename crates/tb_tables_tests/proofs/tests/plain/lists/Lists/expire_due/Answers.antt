@@ -6,5 +6,5 @@ pub returns-clause-lawful : goal.returns-clause-lawful
 returns-clause-lawful c =
     let lawful = c.expire_due.ensures.lawful in
     rw (with_items_is c.self.inside.rows c.expire_due.new.rows
-        (c.expire_due.ensures.len ∙ c.as_mut_slice.ensures.len))
-        (record { distinct = lawful.distinct; debits_fit = lawful.debits_fit; credits_fit = lawful.credits_fit })
+    (c.expire_due.ensures.len ∙ c.as_mut_slice.ensures.len))
+    (record { distinct = lawful.distinct; debits_fit = lawful.debits_fit; credits_fit = lawful.credits_fit })
