@@ -205,13 +205,8 @@ post_or_void false false false h k = cc
 equal : (a b : ℕ) → not (a == b) ≡ false → a ≡ b
 equal a b h = eqb-true a b (not_not (a == b) h)
 
--- what stands at the place of the transfer that it names is that transfer
-pub is_named : (facts : Facts) (id : ℕ) (place : Option ℕ) (at : ℕ) (one : Transfer) → IsPlaceOfTransfer facts id place → place ≡ Some at → Some one ≡ slice_get facts.transfers at → transfer_with facts id ≡ Some one
-is_named facts id None at one is same there = cc
-is_named facts id (Some place) at one is same there = cc (is.1, is.2, there, same)
-
--- and it is stored as resolved against that
-pub stored_is : (facts : Facts) (timestamp : ℕ) (event pending : Transfer) → transfer_with facts event.pending_id ≡ Some pending → is_resolving event ≡ true →
+-- it is stored as resolved against what it names
+stored_is : (facts : Facts) (timestamp : ℕ) (event pending : Transfer) → transfer_with facts event.pending_id ≡ Some pending → is_resolving event ≡ true →
     stored_transfer facts timestamp event ≡ record (resolved_transfer pending event) { timestamp = timestamp }
 stored_is facts timestamp event pending named resolves =
     ap (λ found. record (resolved_transfer_of found event) { timestamp = timestamp }) named
