@@ -1,6 +1,6 @@
 -- An event whose checks find nothing may be stored.
 use Rattle.std.proofs.Common.{refl, sym, ap, subst, ◌∙◌, arith, ◌≡◌, ℕ, ◌+◌, ◌*◌, ◌<◌, ◌≤◌, ◌^◌, Bool, true, false, true≢false, not, List, [], ◌∷◌, Option, Some, None, Result}
-use Rattle.std.specs.Prelude.{◌==◌, ◌&&◌, ◌||◌, nat_lt, slice_get, IsSome, if◌then◌else◌}
+use Rattle.std.specs.Prelude.{◌==◌, ◌&&◌, ◌||◌, nat_lt, IsSome, if◌then◌else◌}
 use Rattle.std.specs.List.{AllByRecursion, list_all}
 use Rattle.std.specs.Option.{option_map}
 use Rattle.std.proofs.lemmas.Bool.{eqb-true}
@@ -13,7 +13,7 @@ use Rattle.tb_layout.specs.declared.transfer_code.TransferCode.{TransferCode}
 use Rattle.tb_layout.specs.declared.transfer_code.TransferCode.TheVariants.{Exists, Ok}
 use Rattle.tb_layout.specs.TransferCode.{number_of}
 use Rattle.tb_layout.specs.Transfer.{is_pending, is_post, is_void, is_resolving}
-use Rattle.tb_tables.specs.Facts.{Facts, account_with, IsPlaceOf, IsPlaceOfTransfer, transfer_with}
+use Rattle.tb_tables.specs.Facts.{Facts, account_with, IsPlaceOf, transfer_with}
 use Rattle.tb_tables.specs.Balances.{balanced_account, with_balances, debits, credits}
 use Rattle.tb_tables.specs.Status.{status_of, is_due, expires_at}
 use Rattle.tb_tables.specs.declared.status.Status.{Status}

@@ -212,7 +212,7 @@ fn commit_chain<E: Event>(
         (map E.event_of chain.now)).facts) }
     ensures failures { OnOk result (out.new.items
         ≡ out.old.items ++ failures_from index (chain_outcome E.operation clock tables.old.now
-            (map E.event_of chain.now)).results) }
+        (map E.event_of chain.now)).results) }
     ensures len { vec_len out.new ≤ vec_len out.old + length chain.now }
     ensures capacity { vec_capacity out.new ≡ vec_capacity out.old }
 {
@@ -245,7 +245,7 @@ fn commit_first<E: Event>(
         (map E.event_of (take count events.now))).facts) }
     ensures failures { IfOk result (λ count. out.new.items
         ≡ out.old.items ++ failures_from index (chain_outcome E.operation clock tables.old.now
-            (map E.event_of (take count events.now))).results) }
+        (map E.event_of (take count events.now))).results) }
     ensures len { IfOk result (λ count. vec_len out.new ≤ vec_len out.old + count) }
     ensures capacity { vec_capacity out.new ≡ vec_capacity out.old }
 {
