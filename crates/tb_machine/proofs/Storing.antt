@@ -1,6 +1,6 @@
 -- An event whose checks find nothing may be stored.
 use Rattle.std.proofs.Common.{refl, sym, ap, subst, ◌∙◌, arith, ◌≡◌, ℕ, ◌+◌, ◌*◌, ◌<◌, ◌≤◌, ◌^◌, Bool, true, false, true≢false, not, List, [], ◌∷◌, Option, Some, None, Result}
-use Rattle.std.specs.Prelude.{◌==◌, ◌&&◌, ◌||◌, nat_lt, slice_get, IsSome, if◌then◌else◌}
+use Rattle.std.specs.Prelude.{◌==◌, ◌&&◌, ◌||◌, nat_lt, IsSome, if◌then◌else◌}
 use Rattle.std.specs.List.{AllByRecursion, list_all}
 use Rattle.std.specs.Option.{option_map}
 use Rattle.std.proofs.lemmas.Bool.{eqb-true}
@@ -13,7 +13,7 @@ use Rattle.tb_layout.specs.declared.transfer_code.TransferCode.{TransferCode}
 use Rattle.tb_layout.specs.declared.transfer_code.TransferCode.TheVariants.{Exists, Ok}
 use Rattle.tb_layout.specs.TransferCode.{number_of}
 use Rattle.tb_layout.specs.Transfer.{is_pending, is_post, is_void, is_resolving}
-use Rattle.tb_tables.specs.Facts.{Facts, account_with, IsPlaceOf, IsPlaceOfTransfer, transfer_with}
+use Rattle.tb_tables.specs.Facts.{Facts, account_with, IsPlaceOf, transfer_with}
 use Rattle.tb_tables.specs.Balances.{balanced_account, with_balances, debits, credits}
 use Rattle.tb_tables.specs.Status.{status_of, is_due, expires_at}
 use Rattle.tb_tables.specs.declared.status.Status.{Status}
@@ -205,13 +205,8 @@ post_or_void false false false h k = cc
 equal : (a b : ℕ) → not (a == b) ≡ false → a ≡ b
 equal a b h = eqb-true a b (not_not (a == b) h)
 
--- what stands at the place of the transfer that it names is that transfer
-pub is_named : (facts : Facts) (id : ℕ) (place : Option ℕ) (at : ℕ) (one : Transfer) → IsPlaceOfTransfer facts id place → place ≡ Some at → Some one ≡ slice_get facts.transfers at → transfer_with facts id ≡ Some one
-is_named facts id None at one is same there = cc
-is_named facts id (Some place) at one is same there = cc (is.1, is.2, there, same)
-
--- and it is stored as resolved against that
-pub stored_is : (facts : Facts) (timestamp : ℕ) (event pending : Transfer) → transfer_with facts event.pending_id ≡ Some pending → is_resolving event ≡ true →
+-- it is stored as resolved against what it names
+stored_is : (facts : Facts) (timestamp : ℕ) (event pending : Transfer) → transfer_with facts event.pending_id ≡ Some pending → is_resolving event ≡ true →
     stored_transfer facts timestamp event ≡ record (resolved_transfer pending event) { timestamp = timestamp }
 stored_is facts timestamp event pending named resolves =
     ap (λ found. record (resolved_transfer_of found event) { timestamp = timestamp }) named

@@ -32,6 +32,7 @@ fn against_existing(existing: &Account, event: &Account) -> AccountCode
 }
 
 /// The first check that an event with a new id fails, or Ok.
+#[inline(always)]
 fn of_new(event: &Account) -> AccountCode
     ensures { result ≡ spec.of_new event.now }
 {

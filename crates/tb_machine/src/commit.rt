@@ -1,11 +1,11 @@
 //! A packet's chains, one by one.
 
-ghost use Rattle.std.specs.Prelude.{◌≡◌, ◌≢◌, ◌+◌, ◌^◌, ◌<◌, ◌≤◌, ◌++◌, [], length, map, vec_len, vec_capacity, Ok, None, IfOk, OnOk};
+ghost use Rattle.std.specs.Prelude.{◌≡◌, ◌≢◌, ◌+◌, ◌^◌, ◌<◌, ◌≤◌, ◌++◌, [], length, map, take, vec_len, vec_capacity, Ok, None, IfOk, OnOk};
 ghost use Rattle.tb_tables.specs.History.{mark_of, back_to, Extends};
 ghost use Rattle.tb_layout.specs.Limits.{clock_max};
 ghost use Rattle.tb_machine.specs.Clock as spec;
 ghost use Rattle.tb_machine.specs.Chain.{verdict_at, facts_with, facts_with_all, first_fault, left_behind, open_outcome, closed_outcome, chain_outcome};
-ghost use Rattle.tb_machine.specs.Examining.{event_outcome, fault_as};
+ghost use Rattle.tb_machine.specs.Examining.{event_outcome, fault_as, first_chain_length};
 ghost use Rattle.tb_machine.specs.Packet.{events_outcome, failures_from};
 
 use crate::chain::first_chain_length;
@@ -219,11 +219,43 @@ fn commit_chain<E: Event>(
     let last = chain.len() - 1;
     if E::is_chunk_linked(&chain[last]) {
         commit_open_chain::<E>(clock, tables, &chain[..last], index, out)
-    } else if last == 0 {
-        commit_event::<E>(clock, tables, &chain[0], index, out)
     } else {
         commit_closed_chain::<E>(clock, tables, chain, index, out)
     }
+}
+
+/// Takes the first chain of some events, and answers how many events it has. Most events are chains by themselves.
+#[inline(always)]
+fn commit_first<E: Event>(
+    clock: u64,
+    tables: &mut Tables,
+    events: &[[u8; 128]],
+    index: usize,
+    out: &mut Vec<Failure>,
+) -> Result<usize, NoMemory>
+    requires some { 0 < length events.now }
+    requires clock { clock ≤ clock_max }
+    requires room { vec_len out.old + length events.now ≤ vec_capacity out.old }
+    requires fits { index + length events.now < 2 ^ 32 }
+    ensures count { IfOk result (λ count. count
+        ≡ first_chain_length E.operation.is_linked (map E.event_of events.now)) }
+    ensures within { IfOk result (λ count. (0 < count) × (count ≤ length events.now)) }
+    ensures extends { Extends tables.old tables.new }
+    ensures facts { IfOk result (λ count. tables.new.now ≡ (chain_outcome E.operation clock tables.old.now
+        (map E.event_of (take count events.now))).facts) }
+    ensures failures { IfOk result (λ count. out.new.items
+        ≡ out.old.items ++ failures_from index (chain_outcome E.operation clock tables.old.now
+        (map E.event_of (take count events.now))).results) }
+    ensures len { IfOk result (λ count. vec_len out.new ≤ vec_len out.old + count) }
+    ensures capacity { vec_capacity out.new ≡ vec_capacity out.old }
+{
+    if !E::is_chunk_linked(&events[0]) {
+        commit_event::<E>(clock, tables, &events[0], index, out)?;
+        return Ok(1);
+    }
+    let count = first_chain_length::<E>(events);
+    commit_chain::<E>(clock, tables, &events[..count], index, out)?;
+    Ok(count)
 }
 
 /// Takes the chains of a packet in order, and reports the events that failed. On an error, part of
@@ -248,9 +280,7 @@ pub fn commit_chains<E: Event>(
     let mut clock = clock;
     let mut start = 0;
     while start < chunks.len() {
-        let rest = &chunks[start..];
-        let count = first_chain_length::<E>(rest);
-        commit_chain::<E>(clock, tables, &rest[..count], start, out)?;
+        let count = commit_first::<E>(clock, tables, &chunks[start..], start, out)?;
         clock = clock_after(clock, count);
         start += count;
     }

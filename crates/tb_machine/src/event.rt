@@ -1,6 +1,6 @@
 //! What the two operations that change the facts make of their events.
 
-ghost use Rattle.std.specs.Prelude.{◌≡◌, ◌≢◌, ◌≤◌, ℕ, List, None, Ok, IfOk, OnOk, OnErr, is_some, not, true};
+ghost use Rattle.std.specs.Prelude.{◌≡◌, ◌≢◌, ◌≤◌, ◌==◌, ℕ, List, None, Ok, IfOk, OnOk, OnErr, is_some, not, true};
 ghost use Rattle.tb_layout.specs.Account.{account_of};
 ghost use Rattle.tb_layout.specs.Transfer.{transfer_of};
 ghost use Rattle.tb_layout.specs.AccountCode.{number_of as account_number};
@@ -17,8 +17,7 @@ ghost use Rattle.tb_machine.specs.Operations as spec;
 
 use crate::account_verdict::{account_verdict, new_account_verdict};
 use crate::prefetch::{Sides, Target};
-use crate::resolved::resolved;
-use crate::transfer_verdict::{new_transfer_verdict, transfer_verdict};
+use crate::transfer_verdict::{new_resolving, new_transfer_verdict, transfer_verdict};
 use tb_layout::{
     Account, NoMemory, Transfer, TransferCode, is_chunk_linked, read_account, read_transfer,
 };
@@ -196,35 +195,30 @@ fn examine_moving(
     Ok(transfer_verdict(tables, Target::Between(sides), timestamp, event).number())
 }
 
-/// Stores a post or a void that passes the checks of one with a new id, where its id is new; whether it is.
-#[inline(never)]
+/// Stores a post or a void, with its fields resolved, where its checks find nothing; whether it is stored. Its id is
+/// looked up where it is stored, as that of a plain or pending transfer, and the transfer that it names is read once.
+#[inline(always)]
 fn store_resolved(
     tables: &mut Tables,
     pending: Option<usize>,
     timestamp: u64,
     event: &Transfer,
 ) -> Result<bool, NoMemory>
-    requires target { IsTarget tables.old.now event.now (Named pending) }
-    requires ok { number_of (new_verdict_of tables.old.now timestamp event.now) ≡ 0 }
-    ensures new { IfOk result (λ added. added ≡ not (is_some (transfer_with tables.old.now event.now.id))) }
-    ensures added { result ≡ Ok true → tables.new
-        ≡ with_change tables.old (add_transfer tables.old.now
-        (stored_transfer tables.old.now timestamp event.now)) }
+    requires { IsTarget tables.old.now event.now (Named pending) }
+    ensures passes { IfOk result (λ passes. passes
+        ≡ (number_of (verdict_of tables.old.now timestamp event.now) == 0)) }
+    ensures stored { result ≡ Ok true → tables.new ≡ with_change tables.old
+        (add_transfer tables.old.now (stored_transfer tables.old.now timestamp event.now)) }
     ensures same { result ≢ Ok true → tables.new ≡ tables.old }
 {
+    let Some(transfer) = new_resolving(tables, pending, timestamp, event) else {
+        return Ok(false);
+    };
     let Some(place) = pending else { unreachable!() };
-    let Some(named) = tables.transfer_at(place) else {
-        unreachable!()
-    };
-    let transfer = Transfer {
-        timestamp,
-        ..resolved(&named, event)
-    };
     tables.resolve_new_at(&transfer, place)
 }
 
-/// Stores a post or a void where its checks find nothing, and answers the number of its result. Its id is looked up
-/// where it is stored, as that of a plain or pending transfer.
+/// Stores a post or a void where its checks find nothing, and answers the number of its result.
 #[inline(never)]
 fn examine_resolving(
     tables: &mut Tables,
@@ -238,10 +232,8 @@ fn examine_resolving(
         (add_transfer tables.old.now (stored_transfer tables.old.now timestamp event.now)) }
     ensures same { result ≢ Ok 0 → tables.new ≡ tables.old }
 {
-    let target = Target::Named(pending);
-    let code = new_transfer_verdict(tables, target, timestamp, event).number();
-    if code == 0 && store_resolved(tables, pending, timestamp, event)? {
+    if store_resolved(tables, pending, timestamp, event)? {
         return Ok(0);
     }
-    Ok(transfer_verdict(tables, target, timestamp, event).number())
+    Ok(transfer_verdict(tables, Target::Named(pending), timestamp, event).number())
 }

@@ -1,9 +1,13 @@
 //! The checks of a post or a void, in their order.
 
-ghost use Rattle.std.specs.Prelude.{◌≡◌, Some, true, slice_get};
+ghost use Rattle.std.specs.Prelude.{◌≡◌, ◌≢◌, Some, true, slice_get, IfOk, OnOk, IfErr, MatchOption};
+ghost use Rattle.tb_layout.specs.declared.transfer_code.TransferCode.{TransferCode as Code};
+ghost use Rattle.tb_layout.specs.TransferCode.{number_of};
 ghost use Rattle.tb_layout.specs.Transfer.{is_pending};
-ghost use Rattle.tb_tables.specs.Facts.{IsPlaceOfTransfer};
 ghost use Rattle.tb_tables.specs.Status.{status_of, is_due as is_due_at};
+ghost use Rattle.tb_machine.specs.Table.{first_row};
+ghost use Rattle.tb_machine.specs.Prefetch.{IsTarget};
+ghost use Rattle.tb_machine.specs.declared.prefetch.Target.TheVariants.{Named};
 ghost use Rattle.tb_machine.specs.TransferVerdict as spec;
 
 use crate::clock::expires_at;
@@ -74,6 +78,64 @@ fn against_pending(
     against_status(tables, place, pending, is_due(timestamp, pending))
 }
 
+/// The first check that a post or a void fails before what it names is looked at, if it fails one.
+fn naming_fault(event: &Transfer) -> Option<TransferCode>
+    ensures rest { MatchOption result
+        ((rest : Code) → first_row (spec.resolving_checks event.now) rest ≡ rest)
+        (λ code. (rest : Code) → first_row (spec.resolving_checks event.now) rest ≡ code) }
+    ensures not_ok { MatchOption result Unit (λ code. number_of code ≢ 0) }
+{
+    if event.pending_id == 0 {
+        return Some(TransferCode::PendingIdMustNotBeZero);
+    }
+    if event.pending_id == u128::MAX {
+        return Some(TransferCode::PendingIdMustNotBeIntMax);
+    }
+    if event.pending_id == event.id {
+        return Some(TransferCode::PendingIdMustBeDifferent);
+    }
+    if event.timeout != 0 {
+        return Some(TransferCode::TimeoutReservedForPendingTransfer);
+    }
+    None
+}
+
+/// A post or a void as it is stored, where its checks find nothing, or else the first one that it fails. The transfer
+/// that it names is read once.
+#[inline(always)]
+pub fn resolve(
+    tables: &Tables,
+    pending: Option<usize>,
+    timestamp: u64,
+    event: &Transfer,
+) -> Result<Transfer, TransferCode>
+    requires { IsTarget tables.now.now event.now (Named pending) }
+    ensures ok { OnOk result (number_of (spec.resolving_verdict tables.now.now timestamp event.now) ≡ 0) }
+    ensures stored { IfOk result (λ transfer. transfer ≡ spec.stored_transfer tables.now.now timestamp event.now) }
+    ensures faulty { IfErr result (λ code. code ≡ spec.resolving_verdict tables.now.now timestamp event.now) }
+    ensures not_ok { IfErr result (λ code. number_of code ≢ 0) }
+{
+    if let Some(code) = naming_fault(event) {
+        return Err(code);
+    }
+    let Some(place) = pending else {
+        return Err(TransferCode::PendingTransferNotFound);
+    };
+    let Some(named) = tables.transfer_at(place) else {
+        return Err(TransferCode::PendingTransferNotFound);
+    };
+    let transfer = Transfer {
+        timestamp,
+        ..resolved(&named, event)
+    };
+    let code = against_pending(tables, place, timestamp, &named, &transfer);
+    if code.number() == 0 {
+        Ok(transfer)
+    } else {
+        Err(code)
+    }
+}
+
 /// The first check that a post or a void fails, or Ok.
 #[inline(never)]
 pub fn resolving_verdict(
@@ -82,26 +144,11 @@ pub fn resolving_verdict(
     timestamp: u64,
     event: &Transfer,
 ) -> TransferCode
-    requires { IsPlaceOfTransfer tables.now.now event.now.pending_id pending }
+    requires { IsTarget tables.now.now event.now (Named pending) }
     ensures { result ≡ spec.resolving_verdict tables.now.now timestamp event.now }
 {
-    if event.pending_id == 0 {
-        return TransferCode::PendingIdMustNotBeZero;
+    match resolve(tables, pending, timestamp, event) {
+        Ok(_) => TransferCode::Ok,
+        Err(code) => code,
     }
-    if event.pending_id == u128::MAX {
-        return TransferCode::PendingIdMustNotBeIntMax;
-    }
-    if event.pending_id == event.id {
-        return TransferCode::PendingIdMustBeDifferent;
-    }
-    if event.timeout != 0 {
-        return TransferCode::TimeoutReservedForPendingTransfer;
-    }
-    let Some(place) = pending else {
-        return TransferCode::PendingTransferNotFound;
-    };
-    let Some(named) = tables.transfer_at(place) else {
-        return TransferCode::PendingTransferNotFound;
-    };
-    against_pending(tables, place, timestamp, &named, &resolved(&named, event))
 }

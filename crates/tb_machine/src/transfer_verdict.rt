@@ -1,14 +1,18 @@
 //! The checks of an event that asks for a transfer, in their order.
 
-ghost use Rattle.std.specs.Prelude.{◌≡◌, ℕ, Some, None};
+ghost use Rattle.std.specs.Prelude.{◌≡◌, ◌≢◌, ℕ, Some, None, IfNone, IfSome, MatchOption};
+ghost use Rattle.tb_layout.specs.declared.transfer_code.TransferCode.{TransferCode as Code};
+ghost use Rattle.tb_layout.specs.TransferCode.{number_of};
 ghost use Rattle.tb_tables.specs.Facts.{IsPlaceOfTransfer, transfer_with};
 ghost use Rattle.tb_machine.specs.TransferVerdict as spec;
+ghost use Rattle.tb_machine.specs.Table.{first_row};
 ghost use Rattle.tb_machine.specs.Prefetch.{IsTarget};
+ghost use Rattle.tb_machine.specs.declared.prefetch.Target.TheVariants.{Named};
 
 use crate::moving_verdict::moving_verdict;
 use crate::prefetch::Target;
 use crate::resolved::resolved_by;
-use crate::resolving_verdict::resolving_verdict;
+use crate::resolving_verdict::{resolve, resolving_verdict};
 use tb_layout::{Transfer, TransferCode};
 use tb_tables::Tables;
 
@@ -74,6 +78,46 @@ fn has_exclusive_flags(event: &Transfer) -> bool
         || event.is_post() && event.is_void()
 }
 
+/// The first check that any event fails, if it fails one.
+#[inline(always)]
+fn event_fault(event: &Transfer) -> Option<TransferCode>
+    ensures rest { MatchOption result
+        ((rest : Code) → first_row (spec.event_checks event.now) rest ≡ rest)
+        (λ code. (rest : Code) → first_row (spec.event_checks event.now) rest ≡ code) }
+    ensures not_ok { MatchOption result Unit (λ code. number_of code ≢ 0) }
+{
+    if event.timestamp != 0 {
+        return Some(TransferCode::TimestampMustBeZero);
+    }
+    if event.has_reserved_flag() {
+        return Some(TransferCode::ReservedFlag);
+    }
+    if event.id == 0 {
+        return Some(TransferCode::IdMustNotBeZero);
+    }
+    if event.id == u128::MAX {
+        return Some(TransferCode::IdMustNotBeIntMax);
+    }
+    None
+}
+
+/// The first check that any event fails whose id is that of no transfer, if it fails one.
+#[inline(always)]
+fn new_id_fault(tables: &Tables, event: &Transfer) -> Option<TransferCode>
+    ensures rest { MatchOption result
+        ((rest : Code) → first_row (spec.new_id_checks tables.now.now event.now) rest ≡ rest)
+        (λ code. (rest : Code) → first_row (spec.new_id_checks tables.now.now event.now) rest ≡ code) }
+    ensures not_ok { MatchOption result Unit (λ code. number_of code ≢ 0) }
+{
+    if tables.failed(event.id) {
+        return Some(TransferCode::IdAlreadyFailed);
+    }
+    if has_exclusive_flags(event) {
+        return Some(TransferCode::FlagsAreMutuallyExclusive);
+    }
+    None
+}
+
 /// The first check that an event fails whose id is that of no transfer, or Ok. The accounts, or the pending transfer,
 /// were looked up before.
 #[inline(always)]
@@ -81,11 +125,8 @@ fn of_new_id(tables: &Tables, target: Target, timestamp: u64, event: &Transfer) 
     requires { IsTarget tables.now.now event.now target }
     ensures { result ≡ spec.of_new_id tables.now.now timestamp event.now }
 {
-    if tables.failed(event.id) {
-        return TransferCode::IdAlreadyFailed;
-    }
-    if has_exclusive_flags(event) {
-        return TransferCode::FlagsAreMutuallyExclusive;
+    if let Some(code) = new_id_fault(tables, event) {
+        return code;
     }
     match target {
         Target::Between(sides) => moving_verdict(tables, sides, timestamp, event),
@@ -108,17 +149,8 @@ fn verdict_beside(
     ensures any { IsPlaceOfTransfer tables.now.now event.now.id found
         → result ≡ spec.transfer_verdict tables.now.now timestamp event.now }
 {
-    if event.timestamp != 0 {
-        return TransferCode::TimestampMustBeZero;
-    }
-    if event.has_reserved_flag() {
-        return TransferCode::ReservedFlag;
-    }
-    if event.id == 0 {
-        return TransferCode::IdMustNotBeZero;
-    }
-    if event.id == u128::MAX {
-        return TransferCode::IdMustNotBeIntMax;
+    if let Some(code) = event_fault(event) {
+        return code;
     }
     match found {
         Some(place) => against_place(tables, place, event),
@@ -138,6 +170,25 @@ pub fn new_transfer_verdict(
     ensures { result ≡ spec.new_transfer_verdict tables.now.now timestamp event.now }
 {
     verdict_beside(tables, target, timestamp, event, None)
+}
+
+/// A post or a void as it is stored, where its checks find nothing if no transfer has its id.
+#[inline(always)]
+pub fn new_resolving(
+    tables: &Tables,
+    pending: Option<usize>,
+    timestamp: u64,
+    event: &Transfer,
+) -> Option<Transfer>
+    requires { IsTarget tables.now.now event.now (Named pending) }
+    ensures stored { IfSome result (λ transfer. transfer ≡ spec.stored_transfer tables.now.now timestamp event.now) }
+    ensures ok { IfSome result (λ _. number_of (spec.new_transfer_verdict tables.now.now timestamp event.now) ≡ 0) }
+    ensures faulty { IfNone result (number_of (spec.new_transfer_verdict tables.now.now timestamp event.now) ≢ 0) }
+{
+    if event_fault(event).is_some() || new_id_fault(tables, event).is_some() {
+        return None;
+    }
+    resolve(tables, pending, timestamp, event).ok()
 }
 
 /// The first check that the event fails, or Ok.

@@ -22,12 +22,17 @@ pub fn put_in(
     Ok(())
 }
 
-/// Takes a pair out.
+/// Takes a pair out. It is often the first one: what is resolved before its timeout is over is mostly resolved in the
+/// order in which it would have expired.
 pub fn take_out(expiries: &mut BTreeSet<(u64, usize)>, moment: u64, place: usize)
     ensures { (m p : ℕ) → is_indexed expiries.new m p
         ≡ (not (same_pair moment place m p) && is_indexed expiries.old m p) }
 {
-    expiries.remove(&(moment, place));
+    if expiries.first() == Some(&(moment, place)) {
+        expiries.pop_first();
+    } else {
+        expiries.remove(&(moment, place));
+    }
 }
 
 /// Takes the first pair out, where it is due at a clock.

@@ -4,7 +4,7 @@ use Rattle.tb_machine.proofs.commit.commit_chains.Goals as goal
 
 pub loop-start-preserved : goal.loop-start-preserved
 loop-start-preserved g c =
-    let within = c.first_chain_length-count.ensures.within in
+    let within = c.in_ok-count.ensures.within in
     record {
       within = search rules;
       clock = search rules;
@@ -12,6 +12,6 @@ loop-start-preserved g c =
       len = search rules;
       capacity = search rules;
       left =
-          left_more_chunks g.E.Event.operation g.E.Event.event_of _ _ _ _ _ _ _ _ _ _ _ _ refl c.clock_after-clock.ensures.value c.loop-start-test.true c.first_chain_length-count.ensures.value
-          c.in_ok-commit_chain.ensures.facts c.in_ok-commit_chain.ensures.failures c.loop-start.invariant.left;
+          left_more_chunks g.E.Event.operation g.E.Event.event_of _ _ _ _ _ _ _ _ _ _ _ _ refl c.clock_after-clock.ensures.value c.loop-start-test.true c.in_ok-count.ensures.count
+          c.in_ok-count.ensures.facts c.in_ok-count.ensures.failures c.loop-start.invariant.left;
     }
