@@ -69,7 +69,8 @@ failure index code = record { index = index; code = code }
 
 -- ---- accounts
 
-two_submitters_joined : failures_of (replay 0 (Packet 0 0 (Accounts (account 1 ∷ account 2 ∷ [])) ∷ [])) (Accounts (account 1 ∷ record (account 3) { ledger = 0 } ∷ [])) ≡ failure 0 21 ∷ failure 1 13 ∷ []
+two_submitters_joined : failures_of (replay 0 (Packet 0 0 (Accounts (account 1 ∷ account 2 ∷ [])) ∷ []))
+    (Accounts (account 1 ∷ record (account 3) { ledger = 0 } ∷ [])) ≡ failure 0 21 ∷ failure 1 13 ∷ []
 two_submitters_joined = refl
 
 abbrev broken : Events
@@ -78,7 +79,8 @@ broken = Accounts (linked 1 ∷ linked 0 ∷ account 2 ∷ account 3 ∷ [])
 broken_chain : failures_of (replay 0 []) broken ≡ failure 0 1 ∷ failure 1 6 ∷ failure 2 1 ∷ []
 broken_chain = refl
 
-broken_chain-timestamps : map (λ (made : Account). made.timestamp) (replay 0 (Packet 0 0 broken ∷ [])).facts.accounts ≡ 4 ∷ []
+broken_chain-timestamps : map (λ (made : Account). made.timestamp)
+    (replay 0 (Packet 0 0 broken ∷ [])).facts.accounts ≡ 4 ∷ []
 broken_chain-timestamps = refl
 
 abbrev broken_and_open : Events
@@ -90,10 +92,13 @@ broken_and_open_chain = refl
 broken_and_open_chain-state : replay 0 (Packet 0 0 broken_and_open ∷ []) ≡ record { clock = 3; facts = no_facts }
 broken_and_open_chain-state = refl
 
-clock_exhausted : failures_of (replay 9223372036854775806 (Packet 0 0 (Accounts (account 1 ∷ [])) ∷ [])) (Accounts (account 2 ∷ [])) ≡ failure 0 201 ∷ []
+clock_exhausted : failures_of (replay 9223372036854775806 (Packet 0 0 (Accounts (account 1 ∷ [])) ∷ []))
+    (Accounts (account 2 ∷ [])) ≡ failure 0 201 ∷ []
 clock_exhausted = refl
 
-bad_account_fields : failures_of (replay 0 []) (Accounts (record (account 1) { timestamp = 5 } ∷ record (account 2) { flags = 6 } ∷ record (account 3) { flags = 16 } ∷ [])) ≡ failure 0 3 ∷ failure 1 8 ∷ failure 2 5 ∷ []
+bad_account_fields : failures_of (replay 0 [])
+    (Accounts (record (account 1) { timestamp = 5 } ∷ record (account 2) { flags = 6 }
+    ∷ record (account 3) { flags = 16 } ∷ [])) ≡ failure 0 3 ∷ failure 1 8 ∷ failure 2 5 ∷ []
 bad_account_fields = refl
 
 -- ---- transfers, after accounts 1 and 2
@@ -105,15 +110,20 @@ abbrev limited_accounts : Work
 limited_accounts = Packet 0 0 (Accounts (account 1 ∷ record (account 2) { flags = 2 } ∷ account 3 ∷ []))
 
 abbrev chain : Events
-chain = Transfers (record (transfer 1 1 2 10) { flags = 1 } ∷ record (transfer 2 2 3 10) { flags = 1 } ∷ record (transfer 3 1 3 10) { ledger = 0 } ∷ [])
+chain =
+    Transfers (record (transfer 1 1 2 10) { flags = 1 } ∷ record (transfer 2 2 3 10) { flags = 1 }
+    ∷ record (transfer 3 1 3 10) { ledger = 0 } ∷ [])
 
-chains_of_transfers_joined : failures_of (replay 0 (limited_accounts ∷ [])) chain ≡ failure 0 1 ∷ failure 1 1 ∷ failure 2 19 ∷ []
+chains_of_transfers_joined : failures_of (replay 0 (limited_accounts ∷ [])) chain
+    ≡ failure 0 1 ∷ failure 1 1 ∷ failure 2 19 ∷ []
 chains_of_transfers_joined = refl
 
-chains_of_transfers_joined-second : failures_of (replay 0 (limited_accounts ∷ Packet 0 0 chain ∷ [])) (Transfers (transfer 2 2 3 10 ∷ [])) ≡ failure 0 54 ∷ []
+chains_of_transfers_joined-second : failures_of (replay 0 (limited_accounts ∷ Packet 0 0 chain ∷ []))
+    (Transfers (transfer 2 2 3 10 ∷ [])) ≡ failure 0 54 ∷ []
 chains_of_transfers_joined-second = refl
 
-chains_of_transfers_joined-clock : (replay 0 (limited_accounts ∷ Packet 0 0 chain ∷ Packet 0 0 (Transfers (transfer 2 2 3 10 ∷ [])) ∷ [])).clock ≡ 7
+chains_of_transfers_joined-clock : (replay 0 (limited_accounts ∷ Packet 0 0 chain
+    ∷ Packet 0 0 (Transfers (transfer 2 2 3 10 ∷ [])) ∷ [])).clock ≡ 7
 chains_of_transfers_joined-clock = refl
 
 abbrev posted : List Work
@@ -126,12 +136,16 @@ post_then_void-balance : debits_posted (replay 0 posted).facts 1 ≡ 100
 post_then_void-balance = refl
 
 abbrev late : List Work
-late = two_accounts ∷ Packet 0 0 (Transfers (pending 1 100 1 ∷ [])) ∷ Pulse 1000000002 ∷ Packet 0 0 (Transfers (post 2 1 most ∷ [])) ∷ Pulse 0 ∷ []
+late =
+    two_accounts ∷ Packet 0 0 (Transfers (pending 1 100 1 ∷ [])) ∷ Pulse 1000000002
+    ∷ Packet 0 0 (Transfers (post 2 1 most ∷ [])) ∷ Pulse 0 ∷ []
 
 late_post_then_pulse : answer_at 0 late 3 ≡ Some (answer.Failures (failure 0 35 ∷ []))
 late_post_then_pulse = refl
 
-late_post_then_pulse-between : debits_pending (replay 0 (two_accounts ∷ Packet 0 0 (Transfers (pending 1 100 1 ∷ [])) ∷ Pulse 1000000002 ∷ Packet 0 0 (Transfers (post 2 1 most ∷ [])) ∷ [])).facts 1 ≡ 100
+late_post_then_pulse-between : debits_pending
+    (replay 0 (two_accounts ∷ Packet 0 0 (Transfers (pending 1 100 1 ∷ [])) ∷ Pulse 1000000002
+    ∷ Packet 0 0 (Transfers (post 2 1 most ∷ [])) ∷ [])).facts 1 ≡ 100
 late_post_then_pulse-between = refl
 
 late_post_then_pulse-behind : debits_pending (replay 0 late).facts 1 ≡ 0
@@ -140,7 +154,8 @@ late_post_then_pulse-behind = refl
 late_post_then_pulse-clock : (replay 0 late).clock ≡ 1000000003
 late_post_then_pulse-clock = refl
 
-overflowing_pending_sums : failures_of (replay 0 (two_accounts ∷ [])) (Transfers (pending 1 most 0 ∷ pending 2 1 0 ∷ transfer 3 1 2 1 ∷ [])) ≡ failure 1 47 ∷ failure 2 51 ∷ []
+overflowing_pending_sums : failures_of (replay 0 (two_accounts ∷ []))
+    (Transfers (pending 1 most 0 ∷ pending 2 1 0 ∷ transfer 3 1 2 1 ∷ [])) ≡ failure 1 47 ∷ failure 2 51 ∷ []
 overflowing_pending_sums = refl
 
 abbrev repeated : Events
@@ -158,13 +173,16 @@ repeated_post-posted = refl
 repeated_post-clock : (replay 0 (two_accounts ∷ Packet 0 0 repeated ∷ [])).clock ≡ 6
 repeated_post-clock = refl
 
-timeout_overflows : failures_of (replay 9223372036854775000 (two_accounts ∷ [])) (Transfers (pending 1 1 1 ∷ [])) ≡ failure 0 53 ∷ []
+timeout_overflows : failures_of (replay 9223372036854775000 (two_accounts ∷ []))
+    (Transfers (pending 1 1 1 ∷ [])) ≡ failure 0 53 ∷ []
 timeout_overflows = refl
 
 abbrev refused : Events
-refused = Transfers (transfer 1 1 2 30 ∷ transfer 1 1 2 30 ∷ transfer 2 1 1 1 ∷ transfer 3 1 9 1 ∷ transfer 0 1 2 1 ∷ [])
+refused =
+    Transfers (transfer 1 1 2 30 ∷ transfer 1 1 2 30 ∷ transfer 2 1 1 1 ∷ transfer 3 1 9 1 ∷ transfer 0 1 2 1 ∷ [])
 
-transfer_refusals : failures_of (replay 0 (two_accounts ∷ [])) refused ≡ failure 1 46 ∷ failure 2 12 ∷ failure 3 22 ∷ failure 4 5 ∷ []
+transfer_refusals : failures_of (replay 0 (two_accounts ∷ [])) refused
+    ≡ failure 1 46 ∷ failure 2 12 ∷ failure 3 22 ∷ failure 4 5 ∷ []
 transfer_refusals = refl
 
 transfer_refusals-debits : debits_posted (replay 0 (two_accounts ∷ Packet 0 0 refused ∷ [])).facts 1 ≡ 30
@@ -175,13 +193,15 @@ transfer_refusals-credits = refl
 
 abbrev three : List Work
 three =
-    two_accounts ∷ Packet 0 0 (Transfers (pending 1 100 1 ∷ pending 2 50 1 ∷ pending 3 7 0 ∷ [])) ∷ Packet 0 0 (Transfers (void 4 2 0 ∷ [])) ∷
+    two_accounts ∷ Packet 0 0 (Transfers (pending 1 100 1 ∷ pending 2 50 1 ∷ pending 3 7 0 ∷ []))
+    ∷ Packet 0 0 (Transfers (void 4 2 0 ∷ [])) ∷
     Pulse 2000000000 ∷ []
 
 expiry_void_and_untimed : credits_pending (replay 0 three).facts 2 ≡ 7
 expiry_void_and_untimed = refl
 
-expiry_void_and_untimed-statuses : map (status_with (replay 0 three).facts) (1 ∷ 2 ∷ 3 ∷ 4 ∷ []) ≡ Some Expired ∷ Some Voided ∷ Some Pending ∷ None ∷ []
+expiry_void_and_untimed-statuses : map (status_with (replay 0 three).facts) (1 ∷ 2 ∷ 3 ∷ 4 ∷ [])
+    ≡ Some Expired ∷ Some Voided ∷ Some Pending ∷ None ∷ []
 expiry_void_and_untimed-statuses = refl
 
 expiry_void_and_untimed-clock : (replay 0 three).clock ≡ 2000000000
@@ -190,12 +210,14 @@ expiry_void_and_untimed-clock = refl
 abbrev ordered : List Work
 ordered =
     two_accounts ∷ Packet 0 0 (Transfers (pending 1 10 2 ∷ pending 2 20 1 ∷ pending 3 30 1 ∷ [])) ∷
-    Packet 0 0 (Transfers (record (post 4 2 most) { flags = 5 } ∷ transfer 0 1 2 0 ∷ [])) ∷ Pulse 1000000004 ∷ Pulse 1000000005 ∷ []
+    Packet 0 0 (Transfers (record (post 4 2 most) { flags = 5 } ∷ transfer 0 1 2 0 ∷ []))
+    ∷ Pulse 1000000004 ∷ Pulse 1000000005 ∷ []
 
 expiry_order : answer_at 0 ordered 2 ≡ Some (answer.Failures (failure 0 1 ∷ failure 1 5 ∷ []))
 expiry_order = refl
 
-expiry_order-statuses : map (status_with (replay 0 ordered).facts) (1 ∷ 2 ∷ 3 ∷ []) ≡ Some Pending ∷ Some Expired ∷ Some Expired ∷ []
+expiry_order-statuses : map (status_with (replay 0 ordered).facts) (1 ∷ 2 ∷ 3 ∷ [])
+    ≡ Some Pending ∷ Some Expired ∷ Some Expired ∷ []
 expiry_order-statuses = refl
 
 expiry_order-balance : debits_pending (replay 0 ordered).facts 1 ≡ 10
@@ -208,7 +230,9 @@ failed =
     Packet 0 0 (Transfers (transfer 3 1 2 1 ∷ record (transfer 2 1 2 1) { flags = 6 } ∷ [])) ∷ []
 
 id_already_failed : map (answer_at 0 failed) (1 ∷ 2 ∷ 3 ∷ 4 ∷ [])
-    ≡ Some (answer.Failures (failure 0 1 ∷ failure 1 22 ∷ [])) ∷ Some (answer.Failures (failure 1 68 ∷ [])) ∷ Some (answer.Failures (failure 0 25 ∷ [])) ∷ Some (answer.Failures (failure 0 68 ∷ failure 1 68 ∷ [])) ∷ []
+    ≡ Some (answer.Failures (failure 0 1 ∷ failure 1 22 ∷ [])) ∷ Some (answer.Failures (failure 1 68 ∷ []))
+    ∷ Some (answer.Failures (failure 0 25 ∷ [])) ∷ Some
+    (answer.Failures (failure 0 68 ∷ failure 1 68 ∷ [])) ∷ []
 id_already_failed = refl
 
 id_already_failed-clock : (replay 0 failed).clock ≡ 9
@@ -216,8 +240,10 @@ id_already_failed-clock = refl
 
 -- ---- a lookup of accounts 2, 9 and 1
 
-lookup : answer_at 0 (two_accounts ∷ Packet 0 0 (Transfers (transfer 1 1 2 30 ∷ [])) ∷ Packet 0 0 (Ids (2 ∷ 9 ∷ 1 ∷ [])) ∷ []) 2
-    ≡ Some (answer.Accounts (record (account 2) { credits_posted = 30; timestamp = 2 } ∷ record (account 1) { debits_posted = 30; timestamp = 1 } ∷ []))
+lookup : answer_at 0 (two_accounts ∷ Packet 0 0 (Transfers (transfer 1 1 2 30 ∷ []))
+    ∷ Packet 0 0 (Ids (2 ∷ 9 ∷ 1 ∷ [])) ∷ []) 2
+    ≡ Some (answer.Accounts (record (account 2) { credits_posted = 30; timestamp = 2 }
+    ∷ record (account 1) { debits_posted = 30; timestamp = 1 } ∷ []))
 lookup = refl
 
 lookup-clock : (replay 0 (two_accounts ∷ Packet 0 0 (Ids (2 ∷ [])) ∷ [])).clock ≡ 2

@@ -17,43 +17,57 @@ failure index code = record { index = index; code = code }
 abbrev pub failing : ℕ → ℕ → List Failure → List Failure
 failing index code rest = if code == 0 then rest else failure index code ∷ rest
 
-chosen-append : (b : Bool) (first : Failure) (xs ys : List Failure) → (if b then xs ++ ys else first ∷ xs ++ ys) ≡ (if b then xs else first ∷ xs) ++ ys
+chosen-append : (b : Bool) (first : Failure) (xs ys : List Failure)
+    → (if b then xs ++ ys else first ∷ xs ++ ys) ≡ (if b then xs else first ∷ xs) ++ ys
 chosen-append true first xs ys = refl
 chosen-append false first xs ys = refl
 
-pub failures_from-append : (index : ℕ) (xs ys : List ℕ) → failures_from index (xs ++ ys) ≡ failures_from index xs ++ failures_from (index + length xs) ys
+pub failures_from-append : (index : ℕ) (xs ys : List ℕ)
+    → failures_from index (xs ++ ys) ≡ failures_from index xs ++ failures_from (index + length xs) ys
 failures_from-append index [] ys = ap (λ i. failures_from i ys) (omega arith)
 failures_from-append index (code ∷ codes) ys =
     let next : index + 1 + length codes ≡ index + length (code ∷ codes) = omega arith in
-    ap (failing index code) (failures_from-append (index + 1) codes ys ∙ ap (λ i. failures_from (index + 1) codes ++ failures_from i ys) next)
-    ∙ chosen-append (code == 0) (failure index code) (failures_from (index + 1) codes) (failures_from (index + length (code ∷ codes)) ys)
+    ap (failing index code) (failures_from-append (index + 1) codes ys
+    ∙ ap (λ i. failures_from (index + 1) codes ++ failures_from i ys) next)
+    ∙ chosen-append (code == 0) (failure index code) (failures_from (index + 1) codes)
+    (failures_from (index + length (code ∷ codes)) ys)
 
 failures_from-none : (index count : ℕ) → failures_from index (replicate count 0) ≡ []
 failures_from-none index zero = refl
 failures_from-none index (suc count) = failures_from-none (index + 1) count
 
-pub failures_from-linked_more : (index count : ℕ) → failures_from index (replicate (count + 1) 1) ≡ failures_from index (replicate count 1) ++ failure (index + count) 1 ∷ []
+pub failures_from-linked_more : (index count : ℕ)
+    → failures_from index (replicate (count + 1) 1)
+    ≡ failures_from index (replicate count 1) ++ failure (index + count) 1 ∷ []
 failures_from-linked_more index count =
     ap (failures_from index) (sym (replicate_more count 1)) ∙ failures_from-append index (replicate count 1) (1 ∷ [])
     ∙ ap (λ n. failures_from index (replicate count 1) ++ failure (index + n) 1 ∷ []) (length-replicate count 1)
 
 pub failures_from-fault : (index place code count : ℕ) → code ≢ 0 →
     failures_from index (replicate place 1 ++ code ∷ replicate count 1)
-    ≡ failures_from index (replicate place 1) ++ (failure (index + place) code ∷ failures_from (index + place + 1) (replicate count 1))
+    ≡ failures_from index (replicate place 1) ++ (failure (index + place) code
+    ∷ failures_from (index + place + 1) (replicate count 1))
 failures_from-fault index place code count fault =
     failures_from-append index (replicate place 1) (code ∷ replicate count 1)
-    ∙ ap (λ n. failures_from index (replicate place 1) ++ failures_from (index + n) (code ∷ replicate count 1)) (length-replicate place 1)
-    ∙ ap (λ b. failures_from index (replicate place 1) ++ (if b then failures_from (index + place + 1) (replicate count 1) else failure (index + place) code ∷ failures_from (index + place + 1) (replicate count 1))) (eqb-false code 0 fault)
+    ∙ ap (λ n. failures_from index (replicate place 1) ++ failures_from (index + n) (code ∷ replicate count 1))
+    (length-replicate place 1)
+    ∙ ap (λ b. failures_from index (replicate place 1)
+    ++ (if b then failures_from (index + place + 1) (replicate count 1)
+    else failure (index + place) code ∷ failures_from (index + place + 1) (replicate count 1)))
+    (eqb-false code 0 fault)
 
 -- the last event of an open chain reports so
 pub failures_from-open : {Event : Type 0} (index count : ℕ) (fault : Option (Fault Event)) → LiesBelow count fault →
-    failures_from index (failed_results count fault ++ 2 ∷ []) ≡ failures_from index (failed_results count fault) ++ failure (index + count) 2 ∷ []
+    failures_from index (failed_results count fault ++ 2 ∷ [])
+    ≡ failures_from index (failed_results count fault) ++ failure (index + count) 2 ∷ []
 failures_from-open index count fault below =
     failures_from-append index (failed_results count fault) (2 ∷ [])
-    ∙ ap (λ n. failures_from index (failed_results count fault) ++ failure (index + n) 2 ∷ []) (length-failed_results count fault below)
+    ∙ ap (λ n. failures_from index (failed_results count fault) ++ failure (index + n) 2 ∷ [])
+    (length-failed_results count fault below)
 
 -- a chain without a fault reports nothing
-pub failures_from-quiet : {Event : Type 0} (operation : Operation Event) (clock : ℕ) (facts : Facts) (chain : List Event) (index : ℕ) (fault : Option (Fault Event)) → is_some fault ≡ false →
+pub failures_from-quiet : {Event : Type 0} (operation : Operation Event) (clock : ℕ) (facts : Facts)
+    (chain : List Event) (index : ℕ) (fault : Option (Fault Event)) → is_some fault ≡ false →
     failures_from index (closed_outcome operation clock facts chain fault).results ≡ []
 failures_from-quiet operation clock facts chain index None quiet = failures_from-none index (length chain)
 failures_from-quiet operation clock facts chain index (Some fault) quiet = cc

@@ -11,59 +11,90 @@ use Rattle.tb_machine.specs.Chain.{Operation, Outcome, verdict_at, facts_with, f
 use Rattle.tb_machine.specs.Examining.{LiesBelow, fault_as}
 
 pub eqb-false : (a b : ℕ) → a ≢ b → (a == b) ≡ false
-eqb-false a b ne = ⊎_elim (λ (y : (eqb a b ≡ true) × (a ≡ b)). absurd (ne y.1)) (λ (n : (eqb a b ≡ false) × (a ≢ b)). n.0) (eqb_tells a b)
+eqb-false a b ne =
+    ⊎_elim (λ (y : (eqb a b ≡ true) × (a ≡ b)). absurd (ne y.1))
+    (λ (n : (eqb a b ≡ false) × (a ≢ b)). n.0) (eqb_tells a b)
 
 ne_from_eqb : (a b : ℕ) → (a == b) ≡ false → a ≢ b
-ne_from_eqb a b h = ⊎_elim (λ (y : (eqb a b ≡ true) × (a ≡ b)). absurd (cc (h, y.0))) (λ (n : (eqb a b ≡ false) × (a ≢ b)). n.1) (eqb_tells a b)
+ne_from_eqb a b h =
+    ⊎_elim (λ (y : (eqb a b ≡ true) × (a ≡ b)). absurd (cc (h, y.0)))
+    (λ (n : (eqb a b ≡ false) × (a ≢ b)). n.1) (eqb_tells a b)
 
-chosen : {Event : Type 0} (is_ok : Bool) (code index end : ℕ) (event : Event) (rest : Option (Fault Event)) → (code == 0) ≡ is_ok → index < end →
-    LiesBelow end rest → LiesBelow end (if is_ok then rest else Some (record { index = index; event = event; code = code }))
+chosen : {Event : Type 0} (is_ok : Bool) (code index end : ℕ) (event : Event) (rest : Option (Fault Event))
+    → (code == 0) ≡ is_ok → index < end →
+    LiesBelow end rest → LiesBelow end (if is_ok then rest
+    else Some (record { index = index; event = event; code = code }))
 chosen true code index end event rest e within below = below
 chosen false code index end event rest e within below = (within, ne_from_eqb code 0 e)
 
-first_fault-below : {Event : Type 0} (operation : Operation Event) (index clock : ℕ) (facts : Facts) (events : List Event) (end : ℕ) → index + length events ≤ end →
+first_fault-below : {Event : Type 0} (operation : Operation Event) (index clock : ℕ) (facts : Facts)
+    (events : List Event) (end : ℕ) → index + length events ≤ end →
     LiesBelow end (first_fault operation index clock facts events)
 first_fault-below operation index clock facts [] end h = tt
 first_fault-below operation index clock facts (event ∷ events) end h =
     let code = verdict_at operation facts (next_timestamp clock) event in
     chosen (code == 0) code index end event _ refl (omega arith)
-    (first_fault-below operation (index + 1) (clock_after clock 1) (facts_with operation facts (next_timestamp clock) event) events end (omega arith))
+    (first_fault-below operation (index + 1) (clock_after clock 1)
+    (facts_with operation facts (next_timestamp clock) event) events end (omega arith))
 
 -- the same for events that chunks of bytes hold
-pub fault-below : {Chunk Event : Type 0} (operation : Operation Event) (f : Chunk → Event) (clock : ℕ) (facts : Facts) (chunks : List Chunk) → LiesBelow (length chunks) (first_fault operation 0 clock facts (map f chunks))
-fault-below operation f clock facts chunks = first_fault-below operation 0 clock facts (map f chunks) (length chunks) (omega (arith, length-map chunks f))
+pub fault-below : {Chunk Event : Type 0} (operation : Operation Event) (f : Chunk → Event) (clock : ℕ)
+    (facts : Facts) (chunks : List Chunk) → LiesBelow (length chunks)
+    (first_fault operation 0 clock facts (map f chunks))
+fault-below operation f clock facts chunks =
+    first_fault-below operation 0 clock facts (map f chunks) (length chunks) (omega (arith, length-map chunks f))
 
 -- whatever its event becomes, a fault stays one
-pub quiet_as : {A B : Type 0} (become : A → B) (fault : Option (Fault A)) → is_some fault ≡ false → is_some (fault_as become fault) ≡ false
+pub quiet_as : {A B : Type 0} (become : A → B) (fault : Option (Fault A)) → is_some fault ≡ false
+    → is_some (fault_as become fault) ≡ false
 quiet_as become None h = refl
 quiet_as become (Some fault) h = h
 
-pub length-failed_results : {Event : Type 0} (count : ℕ) (fault : Option (Fault Event)) → LiesBelow count fault → length (failed_results count fault) ≡ count
+pub length-failed_results : {Event : Type 0} (count : ℕ) (fault : Option (Fault Event)) → LiesBelow count fault
+    → length (failed_results count fault) ≡ count
 length-failed_results count None below = length-replicate count 1
 length-failed_results count (Some fault) below =
     let at = below.0 in
     length-append (replicate fault.index 1) (fault.code ∷ replicate (count - fault.index - 1) 1)
-    ∙ (let e : length (replicate fault.index 1) + suc (length (replicate (count - fault.index - 1) 1)) ≡ count = omega (arith, length-replicate {A = ℕ} fault.index 1, length-replicate {A = ℕ} (count - fault.index - 1) 1) in e)
+    ∙ (let e : length (replicate fault.index 1) + suc (length (replicate (count - fault.index - 1) 1))
+    ≡ count =
+    omega (
+      arith,
+      length-replicate {A = ℕ} fault.index 1,
+      length-replicate {A = ℕ}
+          (count - fault.index - 1) 1,
+    ) in e)
 
-length-all_but_last : {Event : Type 0} (is_linked : Event → Bool) (events : List Event) → is_last_linked is_linked events ≡ true → length (all_but_last events) + 1 ≡ length events
+length-all_but_last : {Event : Type 0} (is_linked : Event → Bool) (events : List Event)
+    → is_last_linked is_linked events ≡ true → length (all_but_last events) + 1 ≡ length events
 length-all_but_last is_linked [] h = cc
 length-all_but_last is_linked (event ∷ []) h = refl
 length-all_but_last is_linked (event ∷ next ∷ events) h = omega (arith, length-all_but_last is_linked (next ∷ events) h)
 
-length-closed : {Event : Type 0} (operation : Operation Event) (clock : ℕ) (facts : Facts) (chain : List Event) (fault : Option (Fault Event)) → LiesBelow (length chain) fault →
+length-closed : {Event : Type 0} (operation : Operation Event) (clock : ℕ) (facts : Facts) (chain : List Event)
+    (fault : Option (Fault Event)) → LiesBelow (length chain) fault →
     length (closed_outcome operation clock facts chain fault).results ≡ length chain
 length-closed operation clock facts chain None below = length-replicate (length chain) 0
 length-closed operation clock facts chain (Some fault) below = length-failed_results (length chain) (Some fault) below
 
-length-chosen : (b : Bool) (x y : Outcome) (n : ℕ) → (b ≡ true → length x.results ≡ n) → (b ≡ false → length y.results ≡ n) → length (if b then x else y).results ≡ n
+length-chosen : (b : Bool) (x y : Outcome) (n : ℕ) → (b ≡ true → length x.results ≡ n)
+    → (b ≡ false → length y.results ≡ n) → length (if b then x else y).results ≡ n
 length-chosen true x y n h k = h refl
 length-chosen false x y n h k = k refl
 
 -- a chain has one result for each event
-pub length-chain_outcome : {Event : Type 0} (operation : Operation Event) (clock : ℕ) (facts : Facts) (chain : List Event) → length (chain_outcome operation clock facts chain).results ≡ length chain
+pub length-chain_outcome : {Event : Type 0} (operation : Operation Event) (clock : ℕ) (facts : Facts)
+    (chain : List Event) → length (chain_outcome operation clock facts chain).results ≡ length chain
 length-chain_outcome operation clock facts chain =
     let front = all_but_last chain in
     let fault = first_fault operation 0 clock facts front in
     length-chosen (is_last_linked operation.is_linked chain) _ _ (length chain)
-    (λ open_one. omega (arith, length-append (failed_results (length front) fault) (2 ∷ []), length-failed_results (length front) fault (first_fault-below operation 0 clock facts front (length front) (omega arith)), length-all_but_last operation.is_linked chain open_one))
-    (λ _. length-closed operation clock facts chain (first_fault operation 0 clock facts chain) (first_fault-below operation 0 clock facts chain (length chain) (omega arith)))
+    (λ open_one. omega (
+      arith,
+      length-append (failed_results (length front) fault) (2 ∷ []),
+      length-failed_results
+          (length front) fault (first_fault-below operation 0 clock facts front (length front) (omega arith)),
+      length-all_but_last operation.is_linked chain open_one,
+    ))
+    (λ _. length-closed operation clock facts chain (first_fault operation 0 clock facts chain)
+    (first_fault-below operation 0 clock facts chain (length chain) (omega arith)))

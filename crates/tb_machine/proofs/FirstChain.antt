@@ -14,141 +14,203 @@ use Rattle.tb_machine.proofs.Failures.{failures_from-append}
 
 -- ---- whether a chain is open is told by its last event
 
-last_linked : {Event : Type 0} (is_linked : Event → Bool) (events : List Event) (d : Event) → 0 < length events → is_last_linked is_linked events ≡ is_linked (get_or events (length events - 1) d)
+last_linked : {Event : Type 0} (is_linked : Event → Bool) (events : List Event) (d : Event) → 0 < length events
+    → is_last_linked is_linked events ≡ is_linked (get_or events (length events - 1) d)
 last_linked is_linked [] d h = absurd (omega arith)
 last_linked is_linked (event ∷ []) d h = refl
 last_linked is_linked (event ∷ next ∷ events) d h =
     last_linked is_linked (next ∷ events) d (omega arith)
-    ∙ (let e : suc (length (next ∷ events) - 1) ≡ length (event ∷ next ∷ events) - 1 = omega arith in ap (λ k. is_linked (get_or (event ∷ next ∷ events) k d)) e)
+    ∙ (let e : suc (length (next ∷ events) - 1) ≡ length (event ∷ next ∷ events) - 1 = omega arith in ap
+    (λ k. is_linked (get_or (event ∷ next ∷ events) k d)) e)
 
 all_but_last-take : {Event : Type 0} (events : List Event) → all_but_last events ≡ take (length events - 1) events
 all_but_last-take [] = refl
 all_but_last-take (event ∷ []) = refl
 all_but_last-take (event ∷ next ∷ events) =
     ap (λ rest. event ∷ rest) (all_but_last-take (next ∷ events))
-    ∙ (let e : suc (length (next ∷ events) - 1) ≡ length (event ∷ next ∷ events) - 1 = omega arith in ap (λ k. take k (event ∷ next ∷ events)) e)
+    ∙ (let e : suc (length (next ∷ events) - 1) ≡ length (event ∷ next ∷ events) - 1 = omega arith in ap
+    (λ k. take k (event ∷ next ∷ events)) e)
 
-chain_outcome-open : {Event : Type 0} (operation : Operation Event) (clock : ℕ) (facts : Facts) (chain : List Event) (d : Event) → 0 < length chain → operation.is_linked (get_or chain (length chain - 1) d) ≡ true →
-    let front = take (length chain - 1) chain in chain_outcome operation clock facts chain ≡ open_outcome operation facts front (first_fault operation 0 clock facts front)
+chain_outcome-open : {Event : Type 0} (operation : Operation Event) (clock : ℕ) (facts : Facts) (chain : List Event)
+    (d : Event) → 0 < length chain → operation.is_linked (get_or chain (length chain - 1) d) ≡ true →
+    let front = take (length chain - 1) chain in chain_outcome operation clock facts chain
+    ≡ open_outcome operation facts front (first_fault operation 0 clock facts front)
 chain_outcome-open operation clock facts chain d h linked =
-    ap (λ b. if b then open_outcome operation facts (all_but_last chain) (first_fault operation 0 clock facts (all_but_last chain)) else closed_outcome operation clock facts chain (first_fault operation 0 clock facts chain)) (last_linked operation.is_linked chain d h ∙ linked)
-    ∙ ap (λ front. open_outcome operation facts front (first_fault operation 0 clock facts front)) (all_but_last-take chain)
+    ap (λ b. if b then open_outcome operation facts (all_but_last chain)
+    (first_fault operation 0 clock facts (all_but_last chain))
+    else closed_outcome operation clock facts chain (first_fault operation 0 clock facts chain))
+    (last_linked operation.is_linked chain d h ∙ linked)
+    ∙ ap (λ front. open_outcome operation facts front (first_fault operation 0 clock facts front))
+    (all_but_last-take chain)
 
-chain_outcome-closed : {Event : Type 0} (operation : Operation Event) (clock : ℕ) (facts : Facts) (chain : List Event) (d : Event) → 0 < length chain → operation.is_linked (get_or chain (length chain - 1) d) ≡ false →
-    chain_outcome operation clock facts chain ≡ closed_outcome operation clock facts chain (first_fault operation 0 clock facts chain)
+chain_outcome-closed : {Event : Type 0} (operation : Operation Event) (clock : ℕ) (facts : Facts)
+    (chain : List Event) (d : Event) → 0 < length chain
+    → operation.is_linked (get_or chain (length chain - 1) d) ≡ false →
+    chain_outcome operation clock facts chain ≡ closed_outcome operation clock facts chain
+    (first_fault operation 0 clock facts chain)
 chain_outcome-closed operation clock facts chain d h linked =
-    ap (λ b. if b then open_outcome operation facts (all_but_last chain) (first_fault operation 0 clock facts (all_but_last chain)) else closed_outcome operation clock facts chain (first_fault operation 0 clock facts chain)) (last_linked operation.is_linked chain d h ∙ linked)
+    ap (λ b. if b then open_outcome operation facts (all_but_last chain)
+    (first_fault operation 0 clock facts (all_but_last chain))
+    else closed_outcome operation clock facts chain (first_fault operation 0 clock facts chain))
+    (last_linked operation.is_linked chain d h ∙ linked)
 
 -- the same for events that chunks of bytes hold
 
-map-front : {Chunk Event : Type 0} (f : Chunk → Event) (chunks : List Chunk) → take (length (map f chunks) - 1) (map f chunks) ≡ map f (take (length chunks - 1) chunks)
+map-front : {Chunk Event : Type 0} (f : Chunk → Event) (chunks : List Chunk)
+    → take (length (map f chunks) - 1) (map f chunks) ≡ map f (take (length chunks - 1) chunks)
 map-front f chunks = ap (λ n. take (n - 1) (map f chunks)) (length-map chunks f) ∙ take-map f (length chunks - 1) chunks
 
-last_chunk : {Chunk Event : Type 0} (f : Chunk → Event) (chunks : List Chunk) (d : Chunk) → 0 < length chunks → get_or (map f chunks) (length (map f chunks) - 1) (f d) ≡ f (get_or chunks (length chunks - 1) d)
-last_chunk f chunks d h = ap (λ n. get_or (map f chunks) (n - 1) (f d)) (length-map chunks f) ∙ get_or-map f chunks (length chunks - 1) d (f d) (omega arith)
+last_chunk : {Chunk Event : Type 0} (f : Chunk → Event) (chunks : List Chunk) (d : Chunk) → 0 < length chunks
+    → get_or (map f chunks) (length (map f chunks) - 1) (f d) ≡ f (get_or chunks (length chunks - 1) d)
+last_chunk f chunks d h =
+    ap (λ n. get_or (map f chunks) (n - 1) (f d)) (length-map chunks f)
+    ∙ get_or-map f chunks (length chunks - 1) d (f d) (omega arith)
 
-pub chunks-open : {Chunk Event : Type 0} (operation : Operation Event) (f : Chunk → Event) (clock : ℕ) (facts : Facts) (chunks : List Chunk) (d : Chunk) → 0 < length chunks → operation.is_linked (f (get_or chunks (length chunks - 1) d)) ≡ true →
-    let front = map f (take (length chunks - 1) chunks) in chain_outcome operation clock facts (map f chunks) ≡ open_outcome operation facts front (first_fault operation 0 clock facts front)
+pub chunks-open : {Chunk Event : Type 0} (operation : Operation Event) (f : Chunk → Event) (clock : ℕ)
+    (facts : Facts) (chunks : List Chunk) (d : Chunk) → 0 < length chunks
+    → operation.is_linked (f (get_or chunks (length chunks - 1) d)) ≡ true →
+    let front = map f (take (length chunks - 1) chunks) in chain_outcome operation clock facts (map f chunks)
+    ≡ open_outcome operation facts front (first_fault operation 0 clock facts front)
 chunks-open operation f clock facts chunks d h linked =
-    chain_outcome-open operation clock facts (map f chunks) (f d) (omega (arith, length-map chunks f)) (ap operation.is_linked (last_chunk f chunks d h) ∙ linked)
+    chain_outcome-open operation clock facts (map f chunks) (f d) (omega (arith, length-map chunks f))
+    (ap operation.is_linked (last_chunk f chunks d h) ∙ linked)
     ∙ ap (λ front. open_outcome operation facts front (first_fault operation 0 clock facts front)) (map-front f chunks)
 
-pub chunks-closed : {Chunk Event : Type 0} (operation : Operation Event) (f : Chunk → Event) (clock : ℕ) (facts : Facts) (chunks : List Chunk) (d : Chunk) → 0 < length chunks → operation.is_linked (f (get_or chunks (length chunks - 1) d)) ≡ false →
-    chain_outcome operation clock facts (map f chunks) ≡ closed_outcome operation clock facts (map f chunks) (first_fault operation 0 clock facts (map f chunks))
+pub chunks-closed : {Chunk Event : Type 0} (operation : Operation Event) (f : Chunk → Event) (clock : ℕ)
+    (facts : Facts) (chunks : List Chunk) (d : Chunk) → 0 < length chunks
+    → operation.is_linked (f (get_or chunks (length chunks - 1) d)) ≡ false →
+    chain_outcome operation clock facts (map f chunks)
+    ≡ closed_outcome operation clock facts (map f chunks) (first_fault operation 0 clock facts (map f chunks))
 chunks-closed operation f clock facts chunks d h linked =
-    chain_outcome-closed operation clock facts (map f chunks) (f d) (omega (arith, length-map chunks f)) (ap operation.is_linked (last_chunk f chunks d h) ∙ linked)
+    chain_outcome-closed operation clock facts (map f chunks) (f d) (omega (arith, length-map chunks f))
+    (ap operation.is_linked (last_chunk f chunks d h) ∙ linked)
 
 -- ---- cutting off the first chain
 
 first_alone : {Event : Type 0} (is_linked : Event → Bool) (b : Bool) (event : Event) →
-    (if b then (event ∷ []) ∷ [] else (event ∷ []) ∷ []) ≡ take (if b then 1 else 1) (event ∷ []) ∷ chains_of is_linked (drop (if b then 1 else 1) (event ∷ []))
+    (if b then (event ∷ []) ∷ [] else (event ∷ []) ∷ [])
+    ≡ take (if b then 1 else 1) (event ∷ []) ∷ chains_of is_linked (drop (if b then 1 else 1) (event ∷ []))
 first_alone is_linked true event = refl
 first_alone is_linked false event = refl
 
-first_before : {Event : Type 0} (is_linked : Event → Bool) (n : ℕ) (b : Bool) (event : Event) (events : List Event) → chains_of is_linked events ≡ take n events ∷ chains_of is_linked (drop n events) →
+first_before : {Event : Type 0} (is_linked : Event → Bool) (n : ℕ) (b : Bool) (event : Event) (events : List Event)
+    → chains_of is_linked events ≡ take n events ∷ chains_of is_linked (drop n events) →
     (if b then before_chains event (chains_of is_linked events) else (event ∷ []) ∷ chains_of is_linked events)
-    ≡ take (if b then suc n else 1) (event ∷ events) ∷ chains_of is_linked (drop (if b then suc n else 1) (event ∷ events))
+    ≡ take (if b then suc n else 1) (event ∷ events)
+    ∷ chains_of is_linked (drop (if b then suc n else 1) (event ∷ events))
 first_before is_linked n true event events h = ap (before_chains event) h
 first_before is_linked n false event events h = refl
 
 chains_of-first : {Event : Type 0} (is_linked : Event → Bool) (event : Event) (events : List Event) →
-    let n = first_chain_length is_linked (event ∷ events) in chains_of is_linked (event ∷ events) ≡ take n (event ∷ events) ∷ chains_of is_linked (drop n (event ∷ events))
+    let n = first_chain_length is_linked (event ∷ events) in chains_of is_linked (event ∷ events)
+    ≡ take n (event ∷ events) ∷ chains_of is_linked (drop n (event ∷ events))
 chains_of-first is_linked event [] = first_alone is_linked (is_linked event) event
 chains_of-first is_linked event (next ∷ events) =
-    first_before is_linked (first_chain_length is_linked (next ∷ events)) (is_linked event) event (next ∷ events) (chains_of-first is_linked next events)
+    first_before is_linked (first_chain_length is_linked (next ∷ events)) (is_linked event) event (next ∷ events)
+    (chains_of-first is_linked next events)
 
 if_le : (b : Bool) (m n k : ℕ) → m ≤ k → n ≤ k → (if b then m else n) ≤ k
 if_le true m n k h g = h
 if_le false m n k h g = g
 
-pub first_chain_length-le : {Event : Type 0} (is_linked : Event → Bool) (events : List Event) → first_chain_length is_linked events ≤ length events
+pub first_chain_length-le : {Event : Type 0} (is_linked : Event → Bool) (events : List Event)
+    → first_chain_length is_linked events ≤ length events
 first_chain_length-le is_linked [] = omega arith
 first_chain_length-le is_linked (event ∷ events) =
-    if_le (is_linked event) (suc (first_chain_length is_linked events)) 1 (length (event ∷ events)) (omega (arith, first_chain_length-le is_linked events)) (omega arith)
+    if_le (is_linked event) (suc (first_chain_length is_linked events)) 1 (length (event ∷ events))
+    (omega (arith, first_chain_length-le is_linked events)) (omega arith)
 
 -- the outcome of some events is that of their first chain and then of the rest
-events_outcome-first : {Event : Type 0} (operation : Operation Event) (clock : ℕ) (facts : Facts) (events : List Event) (n : ℕ) → 0 < length events → n ≡ first_chain_length operation.is_linked events →
-    let first = chain_outcome operation clock facts (take n events) in events_outcome operation clock facts events ≡ then_outcome first (events_outcome operation (clock_after clock n) first.facts (drop n events))
+events_outcome-first : {Event : Type 0} (operation : Operation Event) (clock : ℕ) (facts : Facts)
+    (events : List Event) (n : ℕ) → 0 < length events → n ≡ first_chain_length operation.is_linked events →
+    let first = chain_outcome operation clock facts (take n events) in events_outcome operation clock facts events
+    ≡ then_outcome first (events_outcome operation (clock_after clock n) first.facts (drop n events))
 events_outcome-first operation clock facts [] n h is = absurd (omega arith)
 events_outcome-first operation clock facts (event ∷ events) n h is =
     let all = event ∷ events in
     let first = chain_outcome operation clock facts (take n all) in
-    let long : length (take n all) ≡ n = length-take-le n all (omega (arith, is, first_chain_length-le operation.is_linked all)) in
-    ap (chains_outcome operation clock facts) (chains_of-first operation.is_linked event events ∙ ap (λ k. take k all ∷ chains_of operation.is_linked (drop k all)) (sym is))
+    let long : length (take n all) ≡ n = length-take-le n all
+    (omega (arith, is, first_chain_length-le operation.is_linked all)) in
+    ap (chains_outcome operation clock facts) (chains_of-first operation.is_linked event events
+    ∙ ap (λ k. take k all ∷ chains_of operation.is_linked (drop k all)) (sym is))
     ∙ ap (λ k. then_outcome first (events_outcome operation (clock_after clock k) first.facts (drop n all))) long
 
 -- ---- the chains before event number i were taken, and what is left tells the whole
 
-pub record IsLeft {Event : Type 0} (operation : Operation Event) (clock : ℕ) (old : Facts) (events : List Event) (now : ℕ) (facts : Facts) (index : ℕ) (rest : List Event) (out : List Failure) : Type 0 where
+pub record IsLeft {Event : Type 0} (operation : Operation Event) (clock : ℕ) (old : Facts) (events : List Event)
+    (now : ℕ) (facts : Facts) (index : ℕ) (rest : List Event) (out : List Failure) : Type 0 where
   pub facts_after : (events_outcome operation clock old events).facts ≡ (events_outcome operation now facts rest).facts
-  pub failures : failures_from 0 (events_outcome operation clock old events).results ≡ out ++ failures_from index (events_outcome operation now facts rest).results
+  pub failures : failures_from 0 (events_outcome operation clock old events).results
+      ≡ out ++ failures_from index (events_outcome operation now facts rest).results
 
-pub left_none : {Event : Type 0} (operation : Operation Event) (clock : ℕ) (old : Facts) (events : List Event) (out : List Failure) → out ≡ [] → IsLeft operation clock old events clock old 0 events out
+pub left_none : {Event : Type 0} (operation : Operation Event) (clock : ℕ) (old : Facts) (events : List Event)
+    (out : List Failure) → out ≡ [] → IsLeft operation clock old events clock old 0 events out
 left_none operation clock old events out empty = record {
   facts_after = refl;
   failures = ap (λ fs. fs ++ failures_from 0 (events_outcome operation clock old events).results) (sym empty);
 }
 
-left_more : {Event : Type 0} (operation : Operation Event) (clock : ℕ) (old : Facts) (events : List Event) (now n index : ℕ) (facts next : Facts) (rest : List Event) (out more : List Failure) →
+left_more : {Event : Type 0} (operation : Operation Event) (clock : ℕ) (old : Facts) (events : List Event)
+    (now n index : ℕ) (facts next : Facts) (rest : List Event) (out more : List Failure) →
     0 < length rest → n ≡ first_chain_length operation.is_linked rest →
     next ≡ (chain_outcome operation now facts (take n rest)).facts →
     more ≡ out ++ failures_from index (chain_outcome operation now facts (take n rest)).results →
-    IsLeft operation clock old events now facts index rest out → IsLeft operation clock old events (clock_after now n) next (index + n) (drop n rest) more
+    IsLeft operation clock old events now facts index rest out
+    → IsLeft operation clock old events (clock_after now n) next (index + n) (drop n rest) more
 left_more operation clock old events now n index facts next rest out more some is next_is more_is left =
     let first = chain_outcome operation now facts (take n rest) in
     let later = events_outcome operation (clock_after now n) next (drop n rest) in
     let fits : n ≤ length rest = omega (arith, is, first_chain_length-le operation.is_linked rest) in
     let whole : events_outcome operation now facts rest ≡ then_outcome first later =
-    events_outcome-first operation now facts rest n some is ∙ ap (λ f. then_outcome first (events_outcome operation (clock_after now n) f (drop n rest))) (sym next_is) in
-    let size : length first.results ≡ n = length-chain_outcome operation now facts (take n rest) ∙ length-take-le n rest fits in
+    events_outcome-first operation now facts rest n some is
+    ∙ ap (λ f. then_outcome first (events_outcome operation (clock_after now n) f (drop n rest)))
+    (sym next_is) in
+    let size : length first.results ≡ n = length-chain_outcome operation now facts (take n rest)
+    ∙ length-take-le n rest fits in
     record {
       facts_after = left.facts_after ∙ ap (λ (o : Outcome). o.facts) whole;
       failures =
           left.failures ∙ ap (λ (o : Outcome). out ++ failures_from index o.results) whole
           ∙ ap (λ fs. out ++ fs) (failures_from-append index first.results later.results)
-          ∙ sym (append_assoc out (failures_from index first.results) (failures_from (index + length first.results) later.results))
+          ∙ sym (append_assoc out (failures_from index first.results)
+          (failures_from (index + length first.results) later.results))
           ∙ ap (λ fs. fs ++ failures_from (index + length first.results) later.results) (sym more_is)
           ∙ ap (λ k. more ++ failures_from (index + k) later.results) size;
     }
 
-pub left_all : {Event : Type 0} (operation : Operation Event) (clock : ℕ) (old : Facts) (events : List Event) (now : ℕ) (facts : Facts) (index : ℕ) (rest : List Event) (out : List Failure) → rest ≡ [] →
-    IsLeft operation clock old events now facts index rest out → (facts ≡ (events_outcome operation clock old events).facts) × (out ≡ failures_from 0 (events_outcome operation clock old events).results)
+pub left_all : {Event : Type 0} (operation : Operation Event) (clock : ℕ) (old : Facts) (events : List Event)
+    (now : ℕ) (facts : Facts) (index : ℕ) (rest : List Event) (out : List Failure) → rest ≡ [] →
+    IsLeft operation clock old events now facts index rest out
+    → (facts ≡ (events_outcome operation clock old events).facts)
+    × (out ≡ failures_from 0 (events_outcome operation clock old events).results)
 left_all operation clock old events now facts index rest out none left = (
   sym (left.facts_after ∙ ap (λ es. (events_outcome operation now facts es).facts) none),
-  sym (left.failures ∙ ap (λ es. out ++ failures_from index (events_outcome operation now facts es).results) none ∙ append-nil out),
+  sym (left.failures ∙ ap (λ es. out ++ failures_from index (events_outcome operation now facts es).results) none
+      ∙ append-nil out),
 )
 
 -- the same for events that chunks of bytes hold, where what is left of the chunks has a name
-pub left_more_chunks : {Chunk Event : Type 0} (operation : Operation Event) (f : Chunk → Event) (clock : ℕ) (old : Facts) (chunks rest : List Chunk) (now after n index : ℕ) (facts next : Facts) (out more : List Failure) →
-    rest ≡ take (length chunks - index) (drop index chunks) → after ≡ clock_after now n → index < length chunks → n ≡ first_chain_length operation.is_linked (map f rest) →
+pub left_more_chunks : {Chunk Event : Type 0} (operation : Operation Event) (f : Chunk → Event) (clock : ℕ)
+    (old : Facts) (chunks rest : List Chunk) (now after n index : ℕ) (facts next : Facts)
+    (out more : List Failure) →
+    rest ≡ take (length chunks - index) (drop index chunks) → after ≡ clock_after now n → index < length chunks
+    → n ≡ first_chain_length operation.is_linked (map f rest) →
     next ≡ (chain_outcome operation now facts (map f (take n rest))).facts →
     more ≡ out ++ failures_from index (chain_outcome operation now facts (map f (take n rest))).results →
-    IsLeft operation clock old (map f chunks) now facts index (map f (drop index chunks)) out → IsLeft operation clock old (map f chunks) after next (index + n) (map f (drop (index + n) chunks)) more
-left_more_chunks {Chunk} operation f clock old chunks rest now after n index facts next out more rest_is after_is h is next_is more_is left =
+    IsLeft operation clock old (map f chunks) now facts index (map f (drop index chunks)) out
+    → IsLeft operation clock old (map f chunks) after next (index + n) (map f (drop (index + n) chunks)) more
+left_more_chunks {Chunk} operation f clock old chunks rest now after n index facts next out more rest_is after_is h
+    is next_is more_is left =
     let same : rest ≡ drop index chunks = rest_is ∙ take_rest chunks index in
-    let first : map f (take n rest) ≡ take n (map f (drop index chunks)) = ap (λ (rs : List Chunk). map f (take n rs)) same ∙ sym (take-map f n (drop index chunks)) in
-    let some : 0 < length (map f (drop index chunks)) = omega (arith, length-map (drop index chunks) f, length-drop index chunks) in
-    let dropped : drop n (map f (drop index chunks)) ≡ map f (drop (index + n) chunks) = drop-map f n (drop index chunks) ∙ ap (map f) (drop-drop n index chunks) in
+    let first : map f (take n rest) ≡ take n (map f (drop index chunks)) = ap
+    (λ (rs : List Chunk). map f (take n rs)) same ∙ sym (take-map f n (drop index chunks)) in
+    let some : 0 < length (map f (drop index chunks)) = omega
+    (arith, length-map (drop index chunks) f, length-drop index chunks) in
+    let dropped : drop n (map f (drop index chunks))
+    ≡ map f (drop (index + n) chunks) =
+    drop-map f n (drop index chunks) ∙ ap (map f) (drop-drop n index chunks) in
     rw (after_is, ← dropped)
-    (left_more operation clock old (map f chunks) now n index facts next (map f (drop index chunks)) out more some (is ∙ ap (λ rs. first_chain_length operation.is_linked (map f rs)) same)
-    (next_is ∙ ap (λ es. (chain_outcome operation now facts es).facts) first) (more_is ∙ ap (λ es. out ++ failures_from index (chain_outcome operation now facts es).results) first) left)
+    (left_more operation clock old (map f chunks) now n index facts next (map f (drop index chunks)) out more some
+    (is ∙ ap (λ rs. first_chain_length operation.is_linked (map f rs)) same)
+    (next_is ∙ ap (λ es. (chain_outcome operation now facts es).facts) first)
+    (more_is ∙ ap (λ es. out ++ failures_from index (chain_outcome operation now facts es).results) first) left)

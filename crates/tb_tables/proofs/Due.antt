@@ -12,7 +12,8 @@ use Rattle.tb_tables.proofs.Sums.{amount_if, amounts, amounts-same, but_for, but
 use Rattle.tb_tables.proofs.Expecting.{find-at, has_id-at, one-place, one-transfer}
 use Rattle.tb_tables.proofs.Stepping.{ids-found, expired-is}
 
-pub filter-at : (f g : Transfer → Bool) (xs : List Transfer) → ((place : ℕ) (x : Transfer) → slice_get xs place ≡ Some x → f x ≡ g x) → filter f xs ≡ filter g xs
+pub filter-at : (f g : Transfer → Bool) (xs : List Transfer)
+    → ((place : ℕ) (x : Transfer) → slice_get xs place ≡ Some x → f x ≡ g x) → filter f xs ≡ filter g xs
 filter-at f g [] same = refl
 filter-at f g (x ∷ xs) same = grind (arith, same 0 x refl, filter-at f g xs (λ place. same (suc place)))
 
@@ -20,34 +21,57 @@ abbrev pub expires : ℕ → Facts → Transfer → Bool
 expires clock facts transfer = is_expired facts transfer.id || (is_reserving facts transfer && is_due clock transfer)
 
 -- where none that reserves its amount is due, none is left to expire
-pub none-left : (clock : ℕ) (facts : Facts) → facts.expired ≡ map (λ (t : Transfer). t.id) (filter (λ t. is_expired facts t.id) facts.transfers) →
-    ((p : ℕ) (y : Transfer) → slice_get facts.transfers p ≡ Some y → (is_reserving facts y && is_due clock y) ≡ false) → expire_due clock facts ≡ facts
+pub none-left : (clock : ℕ) (facts : Facts) → facts.expired
+    ≡ map (λ (t : Transfer). t.id) (filter (λ t. is_expired facts t.id) facts.transfers) →
+    ((p : ℕ) (y : Transfer) → slice_get facts.transfers p ≡ Some y
+    → (is_reserving facts y && is_due clock y) ≡ false) → expire_due clock facts ≡ facts
 none-left clock facts ordered none =
-    λ i. record facts { expired = (ap (map (λ (t : Transfer). t.id)) (filter-at (expires clock facts) (λ (t : Transfer). is_expired facts t.id) facts.transfers (λ p y at. grind (arith, none p y at))) ∙ sym ordered) i }
+    λ i. record facts {
+      expired = (ap (map (λ (t : Transfer). t.id))
+          (filter-at (expires clock facts) (λ (t : Transfer). is_expired facts t.id) facts.transfers
+          (λ p y at. grind (arith, none p y at))) ∙ sym ordered) i;
+    }
 
 -- ---- one transfer more has expired
 
-module _ (facts : Facts) (x : Transfer) (place : ℕ) (at : slice_get facts.transfers place ≡ Some x) (lawful : IsLawful facts) (reserving : is_reserving facts x ≡ true)
+module _ (facts : Facts) (x : Transfer) (place : ℕ) (at : slice_get facts.transfers place ≡ Some x)
+    (lawful : IsLawful facts) (reserving : is_reserving facts x ≡ true)
     (ordered : facts.expired ≡ map (λ (t : Transfer). t.id) (filter (λ t. is_expired facts t.id) facts.transfers)) where
   abbrev pub after : Facts
   after = expire_one x.id facts
 
   pub more : (id : ℕ) → is_expired after id ≡ (is_expired facts id || (x.id == id))
-  more id = grind (arith, nat_tests, ids-found (λ k. is_expired facts k || (x.id == k)) id facts.transfers, expired-is facts ordered id, has_id-at id facts.transfers place x at)
+  more id =
+      grind (
+        arith,
+        nat_tests,
+        ids-found (λ k. is_expired facts k || (x.id == k)) id facts.transfers,
+        expired-is
+            facts ordered id,
+        has_id-at id facts.transfers place x at,
+      )
 
   pub reserving-after : (y : Transfer) → is_reserving after y ≡ (is_reserving facts y && not (x.id == y.id))
   reserving-after y = grind (arith, more y.id)
 
-  reserves-after : (side : Transfer → ℕ) (id : ℕ) (y : Transfer) → reserves side after id y ≡ but_for x.id (reserves side facts id) y
+  reserves-after : (side : Transfer → ℕ) (id : ℕ) (y : Transfer)
+      → reserves side after id y ≡ but_for x.id (reserves side facts id) y
   reserves-after side id y = grind (arith, reserving-after y, ==_swap x.id y.id)
 
-  reserved-after : (side : Transfer → ℕ) (id : ℕ) → amounts (reserves side facts id) facts.transfers ≡ amounts (reserves side after id) facts.transfers + (if side x == id then x.amount else 0)
+  reserved-after : (side : Transfer → ℕ) (id : ℕ)
+      → amounts (reserves side facts id) facts.transfers
+      ≡ amounts (reserves side after id) facts.transfers + (if side x == id then x.amount else 0)
   reserved-after side id =
-      but_for-found (reserves side facts id) x.id facts.transfers x lawful.distinct (find-at facts.transfers place x lawful.distinct at)
-      ∙ ap (λ n. n + amount_if (reserves side facts id) x) (sym (amounts-same (reserves side after id) (but_for x.id (reserves side facts id)) facts.transfers (reserves-after side id)))
-      ∙ ap (λ b. amounts (reserves side after id) facts.transfers + (if b && (side x == id) then x.amount else 0)) reserving
+      but_for-found (reserves side facts id) x.id facts.transfers x lawful.distinct
+      (find-at facts.transfers place x lawful.distinct at)
+      ∙ ap (λ n. n + amount_if (reserves side facts id) x)
+      (sym (amounts-same (reserves side after id) (but_for x.id (reserves side facts id)) facts.transfers
+      (reserves-after side id)))
+      ∙ ap (λ b. amounts (reserves side after id) facts.transfers +
+      (if b && (side x == id) then x.amount else 0)) reserving
 
-  pub sums-after : AreSame (sums_of facts) (with_amount phase.Pending x.debit_account_id x.credit_account_id x.amount (sums_of after))
+  pub sums-after : AreSame (sums_of facts) (with_amount phase.Pending x.debit_account_id x.credit_account_id
+      x.amount (sums_of after))
   sums-after = record {
     debits_pending = reserved-after (λ t. t.debit_account_id);
     debits_posted = λ id. refl;
@@ -68,8 +92,13 @@ module _ (facts : Facts) (x : Transfer) (place : ℕ) (at : slice_get facts.tran
   row-expired : record (row_in facts x) { status = Some Expired } ≡ row_in after x
   row-expired = grind (arith, nat_tests, reserving, resolved_either x.id facts.transfers, more x.id)
 
-  pub rows-after : {entries : List (ℕ × Row)} → entries ≡ transfer_rows facts facts.transfers → IsDistinct nat_eq (keys_of entries) → set_value_at entries place (record (row_in facts x) { status = Some Expired }) ≡ transfer_rows after facts.transfers
-  rows-after is apart = rows-set (λ (t : Transfer). t.id) (row_in facts) (row_in after) [] facts.transfers place x at row-expired row-other (is ∙ sym (append-nil _)) apart ∙ append-nil _
+  pub rows-after : {entries : List (ℕ × Row)} → entries ≡ transfer_rows facts facts.transfers
+      → IsDistinct nat_eq (keys_of entries) → set_value_at entries place
+      (record (row_in facts x) { status = Some Expired }) ≡ transfer_rows after facts.transfers
+  rows-after is apart =
+      rows-set (λ (t : Transfer). t.id) (row_in facts)
+      (row_in after) [] facts.transfers place x at row-expired row-other
+      (is ∙ sym (append-nil _)) apart ∙ append-nil _
 
   -- ---- what it does to sound facts and to the index
 
@@ -79,21 +108,31 @@ module _ (facts : Facts) (x : Transfer) (place : ℕ) (at : slice_get facts.tran
   expects-after : (m p : ℕ) → expects after m p ≡ true → (expects facts m p ≡ true) × ((place == p) ≡ false)
   expects-after m p has = by (slice_get facts.transfers p) refl has
     where
-      by : (o : Option Transfer) → slice_get facts.transfers p ≡ o → (is_pair_of m o && reserves_at after o) ≡ true → ((is_pair_of m o && reserves_at facts o) ≡ true) × ((place == p) ≡ false)
+      by : (o : Option Transfer) → slice_get facts.transfers p ≡ o → (is_pair_of m o && reserves_at after o) ≡ true
+          → ((is_pair_of m o && reserves_at facts o) ≡ true) × ((place == p) ≡ false)
       by None at' h = grind arith
-      by (Some y) at' h = let one = one-place facts.transfers place p x y lawful.distinct at at' in (grind (arith, reserving-after y, h), grind (arith, reserving-after y, one, h))
+      by (Some y) at' h = let one =
+          one-place facts.transfers place p x y lawful.distinct at
+          at' in (grind (arith, reserving-after y, h), grind (arith, reserving-after y, one, h))
 
-  pub sound-after : (indexed next : ℕ → ℕ → Bool) → ((m p : ℕ) → next m p ≡ (not (same_pair (expires_at x) place m p) && indexed m p)) → IsSound indexed facts → IsSound next after
+  pub sound-after : (indexed next : ℕ → ℕ → Bool)
+      → ((m p : ℕ) → next m p ≡ (not (same_pair (expires_at x) place m p) && indexed m p))
+      → IsSound indexed facts → IsSound next after
   sound-after indexed next is sound = record {
     lawful = lawful-after;
     grounded = sound.grounded;
     made = sound.made;
     expiries = record {
-      ordered = ap (map (λ (t : Transfer). t.id)) (filter_agree (λ (t : Transfer). is_expired facts t.id || (x.id == t.id)) (λ (t : Transfer). is_expired after t.id) (λ t. sym (more t.id)) facts.transfers);
+      ordered = ap (map (λ (t : Transfer). t.id)) (filter_agree
+          (λ (t : Transfer). is_expired facts t.id || (x.id == t.id)) (λ (t : Transfer). is_expired after t.id)
+          (λ t. sym (more t.id)) facts.transfers);
       open_ones = λ p y at' expired.
           let one = same p y at' in
-          let was = sound.expiries.open_ones p y at' in
-          (grind (arith, more y.id, expired, reserving, one, was), grind (arith, more y.id, expired, reserving, one, was));
+          let was = sound.expiries.open_ones p y at' in (
+            grind (arith, more y.id, expired, reserving, one, was),
+            grind
+                (arith, more y.id, expired, reserving, one, was),
+          );
     };
     paired = λ m p has. grind (arith, is m p, expects-after m p has, sound.paired m p);
   }
@@ -102,28 +141,41 @@ module _ (facts : Facts) (x : Transfer) (place : ℕ) (at : slice_get facts.tran
 
   pub due-after : (clock : ℕ) → is_due clock x ≡ true → expire_due clock after ≡ expire_due clock facts
   due-after clock due =
-      λ i. record facts { expired = map (λ (t : Transfer). t.id) (filter-at (expires clock after) (expires clock facts) facts.transfers each i) }
+      λ i. record facts {
+        expired = map (λ (t : Transfer). t.id)
+            (filter-at (expires clock after) (expires clock facts) facts.transfers each i);
+      }
     where
-      each : (p : ℕ) (y : Transfer) → slice_get facts.transfers p ≡ Some y → expires clock after y ≡ expires clock facts y
+      each : (p : ℕ) (y : Transfer) → slice_get facts.transfers p ≡ Some y
+          → expires clock after y ≡ expires clock facts y
       each p y at' = let one = same p y at' in grind (arith, more y.id, reserving-after y, reserving, due, one)
 
 -- the entry of the transfer at a place
-row-at : {facts : Facts} {accounts : List (ℕ × Account)} {transfers : List (ℕ × Row)} → Hold facts accounts transfers → (place : ℕ) {t : Transfer} → slice_get facts.transfers place ≡ Some t → slice_get transfers place ≡ Some (t.id, row_in facts t)
-row-at {facts} hold place at = row-placed (λ (x : Transfer). x.id) (row_in facts) facts.transfers hold.transfers_are place at
+row-at : {facts : Facts} {accounts : List (ℕ × Account)} {transfers : List (ℕ × Row)}
+    → Hold facts accounts transfers → (place : ℕ) {t : Transfer} → slice_get facts.transfers place ≡ Some t
+    → slice_get transfers place ≡ Some (t.id, row_in facts t)
+row-at {facts} hold place at =
+    row-placed (λ (x : Transfer). x.id) (row_in facts) facts.transfers hold.transfers_are place at
 
 -- ---- one expires
 
-module _ {facts : Facts} {accounts : List (ℕ × Account)} {transfers : List (ℕ × Row)} {place : ℕ} (can : CanExpire facts accounts transfers place) where
+module _ {facts : Facts} {accounts : List (ℕ × Account)} {transfers : List (ℕ × Row)} {place : ℕ}
+    (can : CanExpire facts accounts transfers place) where
   pub ground : IsGrounded facts.accounts facts.transfers can.transfer
   ground = all-there (IsGrounded facts.accounts facts.transfers) facts.transfers place can.transfer can.grounded can.at
 
   pub there : slice_get transfers place ≡ Some (can.transfer.id, row_in facts can.transfer)
   there = row-at can.hold place can.at
 
-  pub released : accounts ≡ account_rows (with_amount phase.Pending can.transfer.debit_account_id can.transfer.credit_account_id can.transfer.amount (sums_of (expire_one can.transfer.id facts))) facts.accounts
-  released = can.hold.accounts_are ∙ rows-same _ _ facts.accounts (sums-after facts can.transfer place can.at can.lawful can.reserves can.ordered)
+  pub released : accounts ≡ account_rows (with_amount phase.Pending can.transfer.debit_account_id
+      can.transfer.credit_account_id can.transfer.amount
+      (sums_of (expire_one can.transfer.id facts))) facts.accounts
+  released = can.hold.accounts_are ∙ rows-same _ _ facts.accounts
+      (sums-after facts can.transfer place can.at can.lawful can.reserves can.ordered)
 
-  pub can-take : {places : Places} {amount : ℕ} → AreAt facts.accounts places can.transfer.debit_account_id can.transfer.credit_account_id → amount ≡ can.transfer.amount → CanTake accounts places phase.Pending amount
+  pub can-take : {places : Places} {amount : ℕ}
+      → AreAt facts.accounts places can.transfer.debit_account_id can.transfer.credit_account_id
+      → amount ≡ can.transfer.amount → CanTake accounts places phase.Pending amount
   can-take are_at same = rw same (record {
     sums = sums_of (expire_one can.transfer.id facts);
     accounts = facts.accounts;
@@ -133,13 +185,17 @@ module _ {facts : Facts} {accounts : List (ℕ × Account)} {transfers : List (�
     are = released;
   })
 
-  pub expired-row : IsDistinct nat_eq (keys_of transfers) → set_value_at transfers place (record (row_in facts can.transfer) { status = Some Expired }) ≡ transfer_rows (expire_one can.transfer.id facts) facts.transfers
-  expired-row apart = rows-after facts can.transfer place can.at can.lawful can.reserves can.ordered can.hold.transfers_are apart
+  pub expired-row : IsDistinct nat_eq (keys_of transfers)
+      → set_value_at transfers place (record (row_in facts can.transfer) { status = Some Expired })
+      ≡ transfer_rows (expire_one can.transfer.id facts) facts.transfers
+  expired-row apart =
+      rows-after facts can.transfer place can.at can.lawful can.reserves can.ordered can.hold.transfers_are apart
 
 -- ---- the loop
 
 -- facts of which the same are still to expire
-pub record StillDue (clock : ℕ) (facts : Facts) (accounts : List (ℕ × Account)) (transfers : List (ℕ × Row)) (indexed : ℕ → ℕ → Bool) : Type 0 where
+pub record StillDue (clock : ℕ) (facts : Facts) (accounts : List (ℕ × Account)) (transfers : List (ℕ × Row))
+    (indexed : ℕ → ℕ → Bool) : Type 0 where
   pub now : Facts
   pub held : AreHeld accounts transfers indexed now
   pub same : expire_due clock now ≡ expire_due clock facts
@@ -151,11 +207,13 @@ pub record IsPairOf (facts : Facts) (moment place : ℕ) : Type 0 where
   pub is : expires_at transfer ≡ moment
   pub timed : is_timed transfer ≡ true
 
-module _ {accounts : List (ℕ × Account)} {transfers : List (ℕ × Row)} {indexed : ℕ → ℕ → Bool} {facts : Facts} (held : AreHeld accounts transfers indexed facts) {moment place : ℕ} (has : indexed moment place ≡ true) where
+module _ {accounts : List (ℕ × Account)} {transfers : List (ℕ × Row)} {indexed : ℕ → ℕ → Bool} {facts : Facts}
+    (held : AreHeld accounts transfers indexed facts) {moment place : ℕ} (has : indexed moment place ≡ true) where
   pub pair : IsPairOf facts moment place
   pair = by (slice_get facts.transfers place) refl (held.timed moment place has)
     where
-      by : (o : Option Transfer) → slice_get facts.transfers place ≡ o → is_pair_of moment o ≡ true → IsPairOf facts moment place
+      by : (o : Option Transfer) → slice_get facts.transfers place ≡ o → is_pair_of moment o ≡ true
+          → IsPairOf facts moment place
       by None at h = absurd (true≢false (sym h))
       by (Some t) at h = record { transfer = t; at = at; is = grind (arith, nat_tests, h); timed = grind (arith, h) }
 
@@ -173,9 +231,13 @@ module _ {accounts : List (ℕ × Account)} {transfers : List (ℕ × Row)} {ind
     reserves = grind (arith, open_one, resolved_either pair.transfer.id facts.transfers);
   }
 
-  module _ {clock : ℕ} (within : moment ≤ clock) {next : ℕ → ℕ → Bool} (took : (m p : ℕ) → next m p ≡ (not (same_pair moment place m p) && indexed m p)) where
+  module _ {clock : ℕ} (within : moment ≤ clock) {next : ℕ → ℕ → Bool}
+      (took : (m p : ℕ) → next m p ≡ (not (same_pair moment place m p) && indexed m p)) where
     -- it expires
-    pub still-due : {old : Facts} (can : CanExpire facts accounts transfers place) → expire_due clock facts ≡ expire_due clock old → {accounts' : List (ℕ × Account)} {transfers' : List (ℕ × Row)} → Hold (expire_one can.transfer.id facts) accounts' transfers' →
+    pub still-due : {old : Facts} (can : CanExpire facts accounts transfers place)
+        → expire_due clock facts ≡ expire_due clock old
+        → {accounts' : List (ℕ × Account)} {transfers' : List (ℕ × Row)}
+        → Hold (expire_one can.transfer.id facts) accounts' transfers' →
         StillDue clock old accounts' transfers' next
     still-due can same hold =
         let one : can.transfer ≡ pair.transfer = cc (can.at, pair.at) in
@@ -186,7 +248,8 @@ module _ {accounts : List (ℕ × Account)} {transfers : List (ℕ × Row)} {ind
           held = record {
             hold = hold;
             timed = λ m p h. held.timed m p (grind (arith, took m p, h));
-            sound = sound-after facts can.transfer place can.at can.lawful can.reserves can.ordered indexed next (λ m p. took m p ∙ ap (λ n. not (same_pair n place m p) && indexed m p) (sym moment-is)) held.sound;
+            sound = sound-after facts can.transfer place can.at can.lawful can.reserves can.ordered indexed next
+                (λ m p. took m p ∙ ap (λ n. not (same_pair n place m p) && indexed m p) (sym moment-is)) held.sound;
           };
           same = due-after facts can.transfer place can.at can.lawful can.reserves can.ordered clock due ∙ same;
         }
@@ -195,17 +258,37 @@ module _ {accounts : List (ℕ × Account)} {transfers : List (ℕ × Row)} {ind
         due-now t timed is = grind (arith, nat_tests, within)
 
     -- it reserves nothing any more
-    pub passed-over : {old : Facts} → is_open_status (row_in facts pair.transfer).status ≡ false → expire_due clock facts ≡ expire_due clock old → StillDue clock old accounts transfers next
+    pub passed-over : {old : Facts} → is_open_status (row_in facts pair.transfer).status ≡ false
+        → expire_due clock facts ≡ expire_due clock old → StillDue clock old accounts transfers next
     passed-over closed same = record {
       now = facts;
-      held = held-by held (λ m p h. grind (arith, took m p, h)) (λ m p h was. grind (arith, nat_tests, took m p, pair.at, closed, h, was, resolved_either pair.transfer.id facts.transfers));
+      held = held-by held (λ m p h. grind (arith, took m p, h))
+          (λ m p h was. grind (
+            arith,
+            nat_tests,
+            took m p,
+            pair.at,
+            closed,
+            h,
+            was,
+            resolved_either
+                pair.transfer.id facts.transfers,
+          ));
       same = same;
     }
 
 -- where no pair is due, nothing that reserves its amount is
-none-due : (clock : ℕ) (indexed : ℕ → ℕ → Bool) (facts : Facts) → IsSound indexed facts → ((m p : ℕ) → indexed m p ≡ true → clock < m) → (p : ℕ) (y : Transfer) → slice_get facts.transfers p ≡ Some y → (is_reserving facts y && is_due clock y) ≡ false
-none-due clock indexed facts sound later p y at = grind (arith, nat_tests, at, sound.paired (expires_at y) p, later (expires_at y) p)
+none-due : (clock : ℕ) (indexed : ℕ → ℕ → Bool) (facts : Facts) → IsSound indexed facts
+    → ((m p : ℕ) → indexed m p ≡ true → clock < m) → (p : ℕ) (y : Transfer) → slice_get facts.transfers p ≡ Some y
+    → (is_reserving facts y && is_due clock y) ≡ false
+none-due clock indexed facts sound later p y at =
+    grind (arith, nat_tests, at, sound.paired (expires_at y) p, later (expires_at y) p)
 
-pub all-due : {clock : ℕ} {facts : Facts} {accounts : List (ℕ × Account)} {transfers : List (ℕ × Row)} {indexed : ℕ → ℕ → Bool} → StillDue clock facts accounts transfers indexed → ((m p : ℕ) → indexed m p ≡ true → clock < m) →
+pub all-due : {clock : ℕ} {facts : Facts} {accounts : List (ℕ × Account)} {transfers : List (ℕ × Row)}
+    {indexed : ℕ → ℕ → Bool} → StillDue clock facts accounts transfers indexed
+    → ((m p : ℕ) → indexed m p ≡ true → clock < m) →
     AreHeld accounts transfers indexed (expire_due clock facts)
-all-due {clock} {facts} {accounts} {transfers} {indexed} due later = subst (AreHeld accounts transfers indexed) (sym (none-left clock due.now due.held.sound.expiries.ordered (none-due clock indexed due.now due.held.sound later)) ∙ due.same) due.held
+all-due {clock} {facts} {accounts} {transfers} {indexed} due later =
+    subst (AreHeld accounts transfers indexed) (sym
+    (none-left clock due.now due.held.sound.expiries.ordered (none-due clock indexed due.now due.held.sound later))
+    ∙ due.same) due.held

@@ -10,7 +10,8 @@ use Rattle.tb_tables.proofs.Keeping.{held-by}
 
 -- ---- one transfer
 
-module _ {facts : Facts} {t : Transfer} {entries : List (ℕ × Row)} {place : ℕ} (can : IsForgettable facts t entries place) where
+module _ {facts : Facts} {t : Transfer} {entries : List (ℕ × Row)} {place : ℕ}
+    (can : IsForgettable facts t entries place) where
   pub row-there : slice_get entries place ≡ Some (t.id, row_in facts t)
   row-there = row-placed (λ (x : Transfer). x.id) (row_in facts) facts.transfers can.transfers_are place can.at
 
@@ -18,37 +19,57 @@ module _ {facts : Facts} {t : Transfer} {entries : List (ℕ × Row)} {place : �
   fits timed = can.expiry_fits (grind (arith, timed))
 
   -- its pair is spent, where it has one and its status isn't pending
-  pub spent-is : (m p : ℕ) → ((place == p) && is_spent facts m p) ≡ (is_timed t && not (is_open_status (row_in facts t).status) && same_pair (expires_at t) place m p)
+  pub spent-is : (m p : ℕ) → ((place == p) && is_spent facts m p)
+      ≡ (is_timed t && not (is_open_status (row_in facts t).status) && same_pair (expires_at t) place m p)
   spent-is m p = grind (arith, nat_tests, can.at, resolved_either t.id facts.transfers)
 
 -- ---- all that some changes resolved
 
-resolved-push : (place : ℕ) (changes : List (Change Places)) (change : Change Places) → is_resolved_at place (changes ++ change ∷ []) ≡ (is_resolved_at place changes || resolves_at place change)
+resolved-push : (place : ℕ) (changes : List (Change Places)) (change : Change Places)
+    → is_resolved_at place (changes ++ change ∷ []) ≡ (is_resolved_at place changes || resolves_at place change)
 resolved-push place changes change = grind (arith, list_any-append (resolves_at place) changes (change ∷ []))
 
 -- after one change more
-pub forgotten-more : (changes : List (Change Places)) (k : ℕ) (d : Change Places) (p : ℕ) (pair had now next : Bool) → k < length changes →
-    now ≡ (not (is_resolved_at p (take k changes) && pair) && had) → next ≡ (not (resolves_at p (get_or changes k d) && pair) && now) → next ≡ (not (is_resolved_at p (take (k + 1) changes) && pair) && had)
+pub forgotten-more : (changes : List (Change Places)) (k : ℕ) (d : Change Places) (p : ℕ)
+    (pair had now next : Bool) → k < length changes →
+    now ≡ (not (is_resolved_at p (take k changes) && pair) && had)
+    → next ≡ (not (resolves_at p (get_or changes k d) && pair) && now)
+    → next ≡ (not (is_resolved_at p (take (k + 1) changes) && pair) && had)
 forgotten-more changes k d p pair had now next h was is =
     let e : k + 1 ≡ suc k = omega arith in
-    let more : is_resolved_at p (take (k + 1) changes) ≡ (is_resolved_at p (take k changes) || resolves_at p (get_or changes k d)) =
-    ap (λ n. is_resolved_at p (take n changes)) e ∙ ap (is_resolved_at p) (take-suc changes k d h) ∙ resolved-push p (take k changes) (get_or changes k d) in
-    is ∙ bits (is_resolved_at p (take k changes)) (resolves_at p (get_or changes k d)) now was ∙ ap (λ b. not (b && pair) && had) (sym more)
+    let more : is_resolved_at p (take (k + 1) changes)
+    ≡ (is_resolved_at p (take k changes) || resolves_at p (get_or changes k d)) =
+    ap (λ n. is_resolved_at p (take n changes)) e ∙ ap (is_resolved_at p) (take-suc changes k d h)
+    ∙ resolved-push p (take k changes) (get_or changes k d) in
+    is ∙ bits (is_resolved_at p (take k changes)) (resolves_at p (get_or changes k d)) now was
+    ∙ ap (λ b. not (b && pair) && had) (sym more)
   where
-    bits : (a r now : Bool) → now ≡ (not (a && pair) && had) → (not (r && pair) && now) ≡ (not ((a || r) && pair) && had)
+    bits : (a r now : Bool) → now ≡ (not (a && pair) && had)
+        → (not (r && pair) && now) ≡ (not ((a || r) && pair) && had)
     bits a r now was = grind arith
 
 -- ---- in the maps
 
 module _ (old : Stored) (kept : IsKept old) where
-  pub can-forget : (changes : List (Change Places)) → AllByRecursion (NamesOne (facts_of old)) changes → AllByRecursion (λ change. CanForget (facts_of old) change old.transfers) changes
+  pub can-forget : (changes : List (Change Places)) → AllByRecursion (NamesOne (facts_of old)) changes
+      → AllByRecursion (λ change. CanForget (facts_of old) change old.transfers) changes
   can-forget [] all = tt
   can-forget (change ∷ changes) all = (can, can-forget changes all.1)
     where
       can : CanForget (facts_of old) change old.transfers
       can place is =
-          let named = all.0 place is in
-          (named.0, record { transfers_are = kept.hold.transfers_are; at = named.1; expiry_fits = (all-there (IsGrounded (facts_of old).accounts (facts_of old).transfers) (facts_of old).transfers place named.0 kept.sound.grounded named.1).expiry_fits })
+          let named = all.0 place is in (
+            named.0,
+            record {
+              transfers_are = kept.hold.transfers_are;
+              at = named.1;
+              expiry_fits = (all-there (IsGrounded (facts_of old).accounts (facts_of old).transfers)
+                  (facts_of old).transfers place named.0 kept.sound.grounded named.1).expiry_fits;
+            },
+          )
 
-  pub kept-now : (changes : List (Change Places)) (indexed : ℕ → ℕ → Bool) → ((m p : ℕ) → indexed m p ≡ (not (is_resolved_at p changes && is_spent (facts_of old) m p) && old.is_indexed m p)) → IsKept (record old { is_indexed = indexed })
-  kept-now changes indexed is = held-by kept (λ m p has. grind (arith, is m p, has)) (λ m p has was. grind (arith, is m p, has, was))
+  pub kept-now : (changes : List (Change Places)) (indexed : ℕ → ℕ → Bool)
+      → ((m p : ℕ) → indexed m p ≡ (not (is_resolved_at p changes && is_spent (facts_of old) m p)
+      && old.is_indexed m p)) → IsKept (record old { is_indexed = indexed })
+  kept-now changes indexed is =
+      held-by kept (λ m p has. grind (arith, is m p, has)) (λ m p has was. grind (arith, is m p, has, was))

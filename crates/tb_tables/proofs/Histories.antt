@@ -10,11 +10,14 @@ without_last-push xs x =
 
 -- `undo` takes a change back, and `seen` tells what stands as facts
 module _ {T X : Type 0} (undo : Change T → X → X) (seen : X → Facts) where
-  pub oldest-push : (changes : List (Change T)) (change : Change T) (now : X) → oldest undo (changes ++ change ∷ []) now ≡ oldest undo changes (undo change now)
+  pub oldest-push : (changes : List (Change T)) (change : Change T) (now : X)
+      → oldest undo (changes ++ change ∷ []) now ≡ oldest undo changes (undo change now)
   oldest-push [] change now = refl
   oldest-push (first ∷ changes) change now = ap (undo first) (oldest-push changes change now)
 
-  past_of-push : (changes : List (Change T)) (change : Change T) (now : X) → past_of undo seen (changes ++ change ∷ []) now ≡ past_of undo seen changes (undo change now) ++ seen (undo change now) ∷ []
+  past_of-push : (changes : List (Change T)) (change : Change T) (now : X)
+      → past_of undo seen (changes ++ change ∷ []) now
+      ≡ past_of undo seen changes (undo change now) ++ seen (undo change now) ∷ []
   past_of-push [] change now = refl
   past_of-push (first ∷ changes) change now = cc (oldest-push changes change now, past_of-push changes change now)
 
@@ -27,16 +30,22 @@ module _ {T X : Type 0} (undo : Change T → X → X) (seen : X → Facts) where
   no-changes (change ∷ changes) now none = cc
 
   -- one entry more is one change more
-  pub history_of-push : (changes : List (Change T)) (change : Change T) (old new : X) → undo change new ≡ old → history_of undo seen (changes ++ change ∷ []) new ≡ with_change (history_of undo seen changes old) (seen new)
+  pub history_of-push : (changes : List (Change T)) (change : Change T) (old new : X) → undo change new ≡ old
+      → history_of undo seen (changes ++ change ∷ []) new
+      ≡ with_change (history_of undo seen changes old) (seen new)
   history_of-push changes change old new e =
-      ap (λ past. record { now = seen new; past = past }) (past_of-push changes change new ∙ ap (λ x. past_of undo seen changes x ++ seen x ∷ []) e)
+      ap (λ past. record { now = seen new; past = past })
+      (past_of-push changes change new ∙ ap (λ x. past_of undo seen changes x ++ seen x ∷ []) e)
 
   -- the history with the last change on it again
-  pub history_of-pop : (changes : List (Change T)) (change : Change T) (now : X) → with_change (history_of undo seen changes (undo change now)) (seen now) ≡ history_of undo seen (changes ++ change ∷ []) now
+  pub history_of-pop : (changes : List (Change T)) (change : Change T) (now : X)
+      → with_change (history_of undo seen changes (undo change now)) (seen now)
+      ≡ history_of undo seen (changes ++ change ∷ []) now
   history_of-pop changes change now = sym (history_of-push changes change (undo change now) now refl)
 
 -- ---- what is true of each entry, with one more
 
-pub all_push : {X : Type 0} (P : X → Type 0) (xs : List X) (x : X) → AllByRecursion P xs → P x → AllByRecursion P (xs ++ x ∷ [])
+pub all_push : {X : Type 0} (P : X → Type 0) (xs : List X) (x : X) → AllByRecursion P xs → P x
+    → AllByRecursion P (xs ++ x ∷ [])
 all_push P [] x all p = (p, tt)
 all_push P (y ∷ xs) x all p = (all.0, all_push P xs x all.1 p)

@@ -26,14 +26,16 @@ pub find-none : (id : ℕ) (xs : List Transfer) → find (λ (x : Transfer). x.i
 find-none id [] e = refl
 find-none id (x ∷ xs) e = grind (arith, find-none id xs)
 
-pub distinct-push : (xs : List Transfer) (t : Transfer) → has_id t.id xs ≡ false → ids_distinct xs ≡ true → ids_distinct (xs ++ t ∷ []) ≡ true
+pub distinct-push : (xs : List Transfer) (t : Transfer) → has_id t.id xs ≡ false → ids_distinct xs ≡ true
+    → ids_distinct (xs ++ t ∷ []) ≡ true
 distinct-push [] t fresh distinct = refl
 distinct-push (x ∷ xs) t fresh distinct =
     grind (arith, nat_tests, list_any-append (λ (y : Transfer). y.id == x.id) xs (t ∷ []), distinct-push xs t)
 
 -- ---- one plain or pending transfer more
 
-pub any-push : (test : Transfer → Bool) (xs : List Transfer) (x : Transfer) → list_any test (xs ++ x ∷ []) ≡ (list_any test xs || test x)
+pub any-push : (test : Transfer → Bool) (xs : List Transfer) (x : Transfer)
+    → list_any test (xs ++ x ∷ []) ≡ (list_any test xs || test x)
 any-push test xs x = list_any-append test xs (x ∷ []) ∙ ap (λ b. list_any test xs || b) (or-false (test x))
 
 module _ (facts : Facts) (t : Transfer) (may : MayAdd facts t) where
@@ -41,19 +43,29 @@ module _ (facts : Facts) (t : Transfer) (may : MayAdd facts t) where
   resolves_nothing id = grind (arith, may.not_post, may.not_void)
 
   pub reserving-same : (y : Transfer) → is_reserving (add_transfer facts t) y ≡ is_reserving facts y
-  reserving-same y = grind (arith, any-push (λ other. is_resolving other && (other.pending_id == y.id)) facts.transfers t, resolves_nothing y.id)
+  reserving-same y =
+      grind (
+        arith,
+        any-push (λ other. is_resolving other && (other.pending_id == y.id)) facts.transfers
+            t,
+        resolves_nothing y.id,
+      )
 
-  pub reserves-same : (side : Transfer → ℕ) (id : ℕ) (y : Transfer) → reserves side (add_transfer facts t) id y ≡ reserves side facts id y
+  pub reserves-same : (side : Transfer → ℕ) (id : ℕ) (y : Transfer)
+      → reserves side (add_transfer facts t) id y ≡ reserves side facts id y
   reserves-same side id y = ap (λ b. b && (side y == id)) (reserving-same y)
 
   -- either it reserves its amount, or it has posted it
-  total-push : (side : Transfer → ℕ) (id : ℕ) → total side (add_transfer facts t) id ≤ total side facts id + (if side t == id then t.amount else 0)
+  total-push : (side : Transfer → ℕ) (id : ℕ) → total side (add_transfer facts t) id
+      ≤ total side facts id + (if side t == id then t.amount else 0)
   total-push side id =
-      let reserved = amounts-push (reserves side facts id) (reserves side (add_transfer facts t) id) facts.transfers t (reserves-same side id) in
+      let reserved = amounts-push (reserves side facts id)
+      (reserves side (add_transfer facts t) id) facts.transfers t (reserves-same side id) in
       let posted = amounts-push (posts side id) (posts side id) facts.transfers t (λ y. refl) in
       grind (arith, reserved, posted)
 
-  total-fits : (side : Transfer → ℕ) → total side facts (side t) + t.amount < 2 ^ 128 → (id : ℕ) → total side facts id < 2 ^ 128 → total side (add_transfer facts t) id < 2 ^ 128
+  total-fits : (side : Transfer → ℕ) → total side facts (side t) + t.amount < 2 ^ 128 → (id : ℕ)
+      → total side facts id < 2 ^ 128 → total side (add_transfer facts t) id < 2 ^ 128
   total-fits side more id fits = grind (arith, nat_tests, total-push side id)
 
   pub add_transfer_lawful : IsLawful facts → IsLawful (add_transfer facts t)
@@ -66,7 +78,9 @@ module _ (facts : Facts) (t : Transfer) (may : MayAdd facts t) where
 -- ---- one post or void more
 
 pub resolved_either : (id : ℕ) (xs : List Transfer) →
-    list_any (λ x. is_resolving x && (x.pending_id == id)) xs ≡ (list_any (λ x. is_post x && (x.pending_id == id)) xs || list_any (λ x. is_void x && (x.pending_id == id)) xs)
+    list_any (λ x. is_resolving x && (x.pending_id == id)) xs
+    ≡ (list_any (λ x. is_post x && (x.pending_id == id)) xs
+    || list_any (λ x. is_void x && (x.pending_id == id)) xs)
 resolved_either id [] = refl
 resolved_either id (x ∷ xs) = grind (arith, resolved_either id xs)
 
@@ -76,11 +90,25 @@ module _ (facts : Facts) (t : Transfer) (may : MayResolve facts t) where
 
   -- the transfer that it names reserves its amount
   pub reserving : is_reserving facts may.pending ≡ true
-  reserving = grind (arith, found-id (λ (x : Transfer). x.id) t.pending_id facts.transfers may.pending may.named, may.is_pending_one, may.unresolved, resolved_either t.pending_id facts.transfers)
+  reserving = grind (
+    arith,
+    found-id (λ (x : Transfer). x.id) t.pending_id facts.transfers may.pending may.named,
+    may.is_pending_one,
+    may.unresolved,
+    resolved_either t.pending_id facts.transfers,
+  )
 
-  pub reserving-other : (y : Transfer) → is_reserving (add_transfer facts t) y ≡ (is_reserving facts y && not (t.pending_id == y.id))
-  reserving-other y = grind (arith, any-push (λ other. is_resolving other && (other.pending_id == y.id)) facts.transfers t, resolves)
+  pub reserving-other : (y : Transfer) → is_reserving (add_transfer facts t) y
+      ≡ (is_reserving facts y && not (t.pending_id == y.id))
+  reserving-other y =
+      grind (
+        arith,
+        any-push (λ other. is_resolving other && (other.pending_id == y.id))
+            facts.transfers t,
+        resolves,
+      )
 
   -- it takes the amount of the one that it names from what is reserved, and nothing else
-  pub reserves-but_for : (side : Transfer → ℕ) (id : ℕ) (y : Transfer) → reserves side (add_transfer facts t) id y ≡ but_for t.pending_id (reserves side facts id) y
+  pub reserves-but_for : (side : Transfer → ℕ) (id : ℕ) (y : Transfer)
+      → reserves side (add_transfer facts t) id y ≡ but_for t.pending_id (reserves side facts id) y
   reserves-but_for side id y = grind (arith, reserving-other y, ==_swap t.pending_id y.id)

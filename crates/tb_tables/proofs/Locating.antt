@@ -11,11 +11,19 @@ use Rattle.std.proofs.lemmas.List.Folds.{find_at}
 use Rattle.tb_tables.proofs.Grounding.{all-found}
 
 -- the place of a key, as the map tells it
-placed : {X V : Type 0} (key : X → ℕ) (made : X → V) (xs : List X) {es : List (ℕ × V)} → es ≡ rows key made xs → (id : ℕ) (place : Option ℕ) → place ≡ position (nat_eq id) (keys_of es) → IsPlaceAmong xs (find (λ x. key x == id) xs) place
-placed key made xs {es} are id None is = grind (arith, ap (lookup (nat_eq id)) are ∙ lookup-rows key made id xs, (Missing-position (nat_eq id) es (sym is)).value)
+placed : {X V : Type 0} (key : X → ℕ) (made : X → V) (xs : List X) {es : List (ℕ × V)} → es ≡ rows key made xs
+    → (id : ℕ) (place : Option ℕ) → place ≡ position (nat_eq id) (keys_of es)
+    → IsPlaceAmong xs (find (λ x. key x == id) xs) place
+placed key made xs {es} are id None is =
+    grind (
+      arith,
+      ap (lookup (nat_eq id)) are ∙ lookup-rows key made id xs,
+      (Missing-position (nat_eq id) es (sym is)).value,
+    )
 placed key made xs {es} are id (Some place) is =
     let there = key-placed key made xs are place (key-of-position id es place (sym is)) in
-    let first = sym (ap (λ es. position_or_len (nat_eq id) (keys_of es)) are ∙ first-of-key key made id xs) ∙ (Found-position (nat_eq id) es place (sym is)).or_len in
+    let first = sym (ap (λ es. position_or_len (nat_eq id) (keys_of es)) are ∙ first-of-key key made id xs)
+    ∙ (Found-position (nat_eq id) es place (sym is)).or_len in
     (there.0, there.1, find_at (λ x. key x == id) xs ∙ ap (slice_get xs) first ∙ there.1)
 
 as-some : {X Y : Type 0} (f : X → Y) (found : Option X) → not (is_some (option_map f found)) ≡ not (is_some found)
@@ -28,58 +36,85 @@ none-there None new = refl
 none-there (Some x) new = cc
 
 -- whether what was asked for was done
-pub is-done : {E : Type 0} (same : E → E → Bool) (result : Result Bool E) → true ≡ result_eq bool_eq same result (Ok true) → result ≡ Ok true
+pub is-done : {E : Type 0} (same : E → E → Bool) (result : Result Bool E)
+    → true ≡ result_eq bool_eq same result (Ok true) → result ≡ Ok true
 is-done same (Ok true) is = refl
 is-done same (Ok false) is = cc
 is-done same (Err x) is = cc
 
-pub isn't-done : {E : Type 0} (same : E → E → Bool) (result : Result Bool E) → false ≡ result_eq bool_eq same result (Ok true) → result ≢ Ok true
+pub isn't-done : {E : Type 0} (same : E → E → Bool) (result : Result Bool E)
+    → false ≡ result_eq bool_eq same result (Ok true) → result ≢ Ok true
 isn't-done same result isn't is = let no = rw is at isn't in cc
 
 -- what a post or a void names stands at the place that was found
-pub may-post : {facts : Facts} {t : Transfer} {place : ℕ} → MayResolve facts t → IsPlaceOfTransfer facts t.pending_id (Some place) → transfer_with facts t.id ≡ None → MayPost facts t place
+pub may-post : {facts : Facts} {t : Transfer} {place : ℕ} → MayResolve facts t
+    → IsPlaceOfTransfer facts t.pending_id (Some place) → transfer_with facts t.id ≡ None → MayPost facts t place
 may-post may at new = record { new = new; may = may; pending_at = at.1 ∙ sym at.2 ∙ may.named }
 
-module _ {facts : Facts} {accounts : List (ℕ × Account)} {transfers : List (ℕ × Row)} (hold : Hold facts accounts transfers) where
-  pub account-found : (id : ℕ) → lookup (nat_eq id) accounts ≡ option_map (with_sums (sums_of facts)) (account_with facts id)
-  account-found id = ap (lookup (nat_eq id)) hold.accounts_are ∙ lookup-rows (λ (a : Account). a.id) (with_sums (sums_of facts)) id facts.accounts
+module _ {facts : Facts} {accounts : List (ℕ × Account)} {transfers : List (ℕ × Row)}
+    (hold : Hold facts accounts transfers) where
+  pub account-found : (id : ℕ) → lookup (nat_eq id) accounts
+      ≡ option_map (with_sums (sums_of facts)) (account_with facts id)
+  account-found id =
+      ap (lookup (nat_eq id)) hold.accounts_are ∙ lookup-rows (λ (a : Account). a.id)
+      (with_sums (sums_of facts)) id facts.accounts
 
-  account-place : (place : ℕ) {id : ℕ} → slice_get (keys_of accounts) place ≡ Some id → (a : Account) × (slice_get facts.accounts place ≡ Some a) × (a.id ≡ id)
+  account-place : (place : ℕ) {id : ℕ} → slice_get (keys_of accounts) place ≡ Some id
+      → (a : Account) × (slice_get facts.accounts place ≡ Some a) × (a.id ≡ id)
   account-place = key-placed (λ (a : Account). a.id) (with_sums (sums_of facts)) facts.accounts hold.accounts_are
 
   -- the place, as the map tells it
-  pub account-placed : (id : ℕ) (place : Option ℕ) → place ≡ position (nat_eq id) (keys_of accounts) → IsPlaceOf facts id place
+  pub account-placed : (id : ℕ) (place : Option ℕ) → place ≡ position (nat_eq id) (keys_of accounts)
+      → IsPlaceOf facts id place
   account-placed = placed (λ (a : Account). a.id) (with_sums (sums_of facts)) facts.accounts hold.accounts_are
 
-  pub transfer-placed : (id : ℕ) (place : Option ℕ) → place ≡ position (nat_eq id) (keys_of transfers) → IsPlaceOfTransfer facts id place
+  pub transfer-placed : (id : ℕ) (place : Option ℕ) → place ≡ position (nat_eq id) (keys_of transfers)
+      → IsPlaceOfTransfer facts id place
   transfer-placed = placed (λ (t : Transfer). t.id) (row_in facts) facts.transfers hold.transfers_are
 
   -- what stands at a place
-  pub row-at : (place : ℕ) → slice_get transfers place ≡ option_map (λ (t : Transfer). (t.id, row_in facts t)) (slice_get facts.transfers place)
-  row-at place = ap (λ es. slice_get es place) hold.transfers_are ∙ slice_get-map (λ (t : Transfer). (t.id, row_in facts t)) facts.transfers place
+  pub row-at : (place : ℕ) → slice_get transfers place
+      ≡ option_map (λ (t : Transfer). (t.id, row_in facts t)) (slice_get facts.transfers place)
+  row-at place =
+      ap (λ es. slice_get es place) hold.transfers_are
+      ∙ slice_get-map (λ (t : Transfer). (t.id, row_in facts t)) facts.transfers place
 
   pub row-found : (id : ℕ) → lookup (nat_eq id) transfers ≡ option_map (row_in facts) (transfer_with facts id)
-  row-found id = ap (lookup (nat_eq id)) hold.transfers_are ∙ lookup-rows (λ (t : Transfer). t.id) (row_in facts) id facts.transfers
+  row-found id =
+      ap (lookup (nat_eq id)) hold.transfers_are ∙ lookup-rows (λ (t : Transfer). t.id)
+      (row_in facts) id facts.transfers
 
   -- whether an id is new, as the map tells it
   pub told-new : (id : ℕ) → not (is_some (lookup (nat_eq id) transfers)) ≡ not (is_some (transfer_with facts id))
   told-new id = ap (λ found. not (is_some found)) (row-found id) ∙ as-some (row_in facts) (transfer_with facts id)
 
   pub told-new-account : (id : ℕ) → not (is_some (lookup (nat_eq id) accounts)) ≡ not (is_some (account_with facts id))
-  told-new-account id = ap (λ found. not (is_some found)) (account-found id) ∙ as-some (with_sums (sums_of facts)) (account_with facts id)
+  told-new-account id =
+      ap (λ found. not (is_some found)) (account-found id)
+      ∙ as-some (with_sums (sums_of facts)) (account_with facts id)
 
   pub transfers-length : length transfers ≡ length facts.transfers
-  transfers-length = ap length hold.transfers_are ∙ length-map facts.transfers (λ (t : Transfer). (t.id, row_in facts t))
+  transfers-length =
+      ap length hold.transfers_are ∙ length-map facts.transfers (λ (t : Transfer). (t.id, row_in facts t))
 
   pub account-there : (id : ℕ) → IsSome (account_with facts id) → IsSome (lookup (nat_eq id) accounts)
   account-there id there = grind (arith, account-found id, there)
 
-  pub are-at : (t : Transfer) (places : Places) → slice_get (keys_of accounts) places.debit ≡ Some t.debit_account_id → slice_get (keys_of accounts) places.credit ≡ Some t.credit_account_id →
+  pub are-at : (t : Transfer) (places : Places)
+      → slice_get (keys_of accounts) places.debit ≡ Some t.debit_account_id
+      → slice_get (keys_of accounts) places.credit ≡ Some t.credit_account_id →
       AreAt facts.accounts places t.debit_account_id t.credit_account_id
   are-at t places debit credit =
       let d = account-place places.debit debit in
       let c = account-place places.credit credit in
-      record { debit_account = d.0; credit_account = c.0; debit_at = d.1; credit_at = c.1; debit_is = d.2; credit_is = c.2 }
+      record {
+        debit_account = d.0;
+        credit_account = c.0;
+        debit_at = d.1;
+        credit_at = c.1;
+        debit_is = d.2;
+        credit_is = c.2;
+      }
 
   -- the accounts of the transfer that a post or a void names are there
   there : (id : ℕ) (xs : List Account) → has_account id xs ≡ true → IsSome (find (λ (a : Account). a.id == id) xs)
@@ -91,10 +126,13 @@ module _ {facts : Facts} {accounts : List (ℕ × Account)} {transfers : List (�
 
   module _ (grounded : AreGrounded facts) (t : Transfer) (may : MayResolve facts t) where
     ground : IsGrounded facts.accounts facts.transfers may.pending
-    ground = all-found (IsGrounded facts.accounts facts.transfers) (λ (x : Transfer). x.id == t.pending_id) facts.transfers may.pending grounded may.named
+    ground = all-found (IsGrounded facts.accounts facts.transfers)
+        (λ (x : Transfer). x.id == t.pending_id) facts.transfers may.pending grounded may.named
 
     pub debit-there : IsSome (lookup (nat_eq t.debit_account_id) accounts)
-    debit-there = has-account t.debit_account_id (ap (λ id. has_account id facts.accounts) may.same_debit ∙ ground.debit)
+    debit-there =
+        has-account t.debit_account_id (ap (λ id. has_account id facts.accounts) may.same_debit ∙ ground.debit)
 
     pub credit-there : IsSome (lookup (nat_eq t.credit_account_id) accounts)
-    credit-there = has-account t.credit_account_id (ap (λ id. has_account id facts.accounts) may.same_credit ∙ ground.credit)
+    credit-there =
+        has-account t.credit_account_id (ap (λ id. has_account id facts.accounts) may.same_credit ∙ ground.credit)

@@ -14,22 +14,35 @@ use Rattle.tb_tables.proofs.Settling.{row-new}
 use Rattle.std.proofs.lemmas.List.{map_push}
 
 -- the ids of those whose id passes a test
-pub ids-found : (test : ℕ → Bool) (id : ℕ) (xs : List TransferRecord) → list_any (λ other. other == id) (map (λ (t : TransferRecord). t.id) (filter (λ t. test t.id) xs)) ≡ (test id && has_id id xs)
+pub ids-found : (test : ℕ → Bool) (id : ℕ) (xs : List TransferRecord)
+    → list_any (λ other. other == id) (map (λ (t : TransferRecord). t.id) (filter (λ t. test t.id) xs))
+    ≡ (test id && has_id id xs)
 ids-found test id [] = grind arith
 ids-found test id (x ∷ xs) = grind (arith, nat_tests, ids-found test id xs)
 
-pub expired-is : (facts : Facts) → facts.expired ≡ map (λ (t : TransferRecord). t.id) (filter (λ t. is_expired facts t.id) facts.transfers) → (id : ℕ) → is_expired facts id ≡ (is_expired facts id && has_id id facts.transfers)
-expired-is facts ordered id = ap (list_any (λ other. other == id)) ordered ∙ ids-found (is_expired facts) id facts.transfers
+pub expired-is : (facts : Facts) → facts.expired
+    ≡ map (λ (t : TransferRecord). t.id) (filter (λ t. is_expired facts t.id) facts.transfers) → (id : ℕ)
+    → is_expired facts id ≡ (is_expired facts id && has_id id facts.transfers)
+expired-is facts ordered id =
+    ap (list_any (λ other. other == id)) ordered ∙ ids-found (is_expired facts) id facts.transfers
 
-pub no-other : (facts : Facts) (t : TransferRecord) (pending : Option ℕ) → MayStore facts t pending → transfer_with facts t.id ≡ None
+pub no-other : (facts : Facts) (t : TransferRecord) (pending : Option ℕ) → MayStore facts t pending
+    → transfer_with facts t.id ≡ None
 no-other facts t None may = may.new
 no-other facts t (Some place) may = may.new
 
-pub allows : (indexed : ℕ → ℕ → Bool) (facts : Facts) (t : TransferRecord) (places : Places) → IsSound indexed facts → AreAt facts.accounts places t.debit_account_id t.credit_account_id → MayStore facts t places.pending → Allow facts t places
+pub allows : (indexed : ℕ → ℕ → Bool) (facts : Facts) (t : TransferRecord) (places : Places) → IsSound indexed facts
+    → AreAt facts.accounts places t.debit_account_id t.credit_account_id
+    → MayStore facts t places.pending → Allow facts t places
 allows indexed facts t places sound are_at may = record {
   lawful = sound.lawful;
   grounded = sound.grounded;
-  not_expired = grind (arith, expired-is facts sound.expiries.ordered t.id, find-none t.id facts.transfers (no-other facts t places.pending may));
+  not_expired = grind (
+    arith,
+    expired-is facts sound.expiries.ordered t.id,
+    find-none t.id facts.transfers
+        (no-other facts t places.pending may),
+  );
   are_at = are_at;
   may = may;
 }
@@ -41,7 +54,8 @@ module _ (facts : Facts) (t : TransferRecord) where
   record Leaves : Type 0 where
     pub lawful : IsLawful (add_transfer facts t)
     pub grounded : AreGrounded (add_transfer facts t)
-    pub open_ones : (y : TransferRecord) → is_expired facts y.id ≡ true → is_resolved facts y.id ≡ false → is_resolved (add_transfer facts t) y.id ≡ false
+    pub open_ones : (y : TransferRecord) → is_expired facts y.id ≡ true → is_resolved facts y.id ≡ false
+        → is_resolved (add_transfer facts t) y.id ≡ false
     pub less : (y : TransferRecord) → is_reserving (add_transfer facts t) y ≡ true → is_reserving facts y ≡ true
 
   leaves : (places : Places) → Allow facts t places → Leaves
@@ -51,13 +65,28 @@ module _ (facts : Facts) (t : TransferRecord) where
       by None may = record {
         lawful = add_transfer_lawful facts t may allow.lawful;
         grounded = grounded_added facts t may allow.grounded;
-        open_ones = λ y expired open_one. grind (arith, any-push (λ other. is_resolving other && (other.pending_id == y.id)) facts.transfers t, resolves_nothing facts t may y.id, open_one);
+        open_ones = λ y expired open_one. grind (
+          arith,
+          any-push
+              (λ other. is_resolving other && (other.pending_id == y.id)) facts.transfers t,
+          resolves_nothing
+              facts t may y.id,
+          open_one,
+        );
         less = λ y reserves. sym (reserving-same facts t may y) ∙ reserves;
       }
       by (Some place) posted = record {
         lawful = resolve_lawful facts t posted.may posted.new allow.lawful;
         grounded = grounded_resolved facts t posted.may allow.grounded;
-        open_ones = λ y expired open_one. grind (arith, nat_tests, any-push (λ other. is_resolving other && (other.pending_id == y.id)) facts.transfers t, posted.may.unresolved, expired, open_one);
+        open_ones = λ y expired open_one. grind (
+          arith,
+          nat_tests,
+          any-push
+              (λ other. is_resolving other && (other.pending_id == y.id)) facts.transfers t,
+          posted.may.unresolved,
+          expired,
+          open_one,
+        );
         less = λ y reserves. grind (arith, reserving-other facts t posted.may y, reserves);
       }
 
@@ -65,7 +94,10 @@ module _ (facts : Facts) (t : TransferRecord) where
   expiries-push l fresh old = record {
     ordered =
         let last : filter (λ (y : TransferRecord). is_expired facts y.id) (t ∷ []) ≡ [] = grind (arith, fresh) in
-        old.ordered ∙ ap (map (λ (y : TransferRecord). y.id)) (sym (filter-append (λ (y : TransferRecord). is_expired facts y.id) facts.transfers (t ∷ []) ∙ ap (λ ys. filter (λ (y : TransferRecord). is_expired facts y.id) facts.transfers ++ ys) last ∙ append-nil _));
+        old.ordered ∙ ap (map (λ (y : TransferRecord). y.id))
+        (sym (filter-append (λ (y : TransferRecord). is_expired facts y.id) facts.transfers (t ∷ [])
+        ∙ ap (λ ys. filter (λ (y : TransferRecord). is_expired facts y.id) facts.transfers ++ ys) last
+        ∙ append-nil _));
     open_ones = λ place y at expired.
         let which = sym (slice_get-push facts.transfers t place) ∙ at in
         let was = old.open_ones place y in
@@ -73,7 +105,8 @@ module _ (facts : Facts) (t : TransferRecord) where
         (grind (arith, which, expired, fresh, was), grind (arith, which, expired, fresh, was, still));
   }
 
-  pub sound-push : (indexed next : ℕ → ℕ → Bool) (places : Places) → Allow facts t places → IsSound indexed facts → ((m p : ℕ) → next m p ≡ (its_pair facts t m p || indexed m p)) → IsSound next (add_transfer facts t)
+  pub sound-push : (indexed next : ℕ → ℕ → Bool) (places : Places) → Allow facts t places → IsSound indexed facts
+      → ((m p : ℕ) → next m p ≡ (its_pair facts t m p || indexed m p)) → IsSound next (add_transfer facts t)
   sound-push indexed next places allow sound put =
       let l = leaves places allow in
       record {
@@ -86,43 +119,66 @@ module _ (facts : Facts) (t : TransferRecord) where
 
   -- ---- one more
 
-  held-push : {accounts accounts' : List (ℕ × Account)} {transfers transfers' : List (ℕ × Row)} {indexed next : ℕ → ℕ → Bool} {places : Places} → AreHeld accounts transfers indexed facts → Allow facts t places → Hold (add_transfer facts t) accounts' transfers' →
-      ((m p : ℕ) → next m p ≡ (its_pair facts t m p || indexed m p)) → AreHeld accounts' transfers' next (add_transfer facts t)
+  held-push : {accounts accounts' : List (ℕ × Account)} {transfers transfers' : List (ℕ × Row)}
+      {indexed next : ℕ → ℕ → Bool} {places : Places} → AreHeld accounts transfers indexed facts
+      → Allow facts t places → Hold (add_transfer facts t) accounts' transfers' →
+      ((m p : ℕ) → next m p ≡ (its_pair facts t m p || indexed m p))
+      → AreHeld accounts' transfers' next (add_transfer facts t)
   held-push {indexed = indexed} {next = next} {places = places} held allow hold put = record {
     hold = hold;
     timed = λ m p has. grind (arith, pairs-push facts t m p, put m p, held.timed m p);
     sound = sound-push indexed next places allow held.sound put;
   }
 
-pub back : (facts : Facts) (t : TransferRecord) (places : Places) → before (Transfer places) (add_transfer facts t) ≡ facts
+pub back : (facts : Facts) (t : TransferRecord) (places : Places)
+    → before (Transfer places) (add_transfer facts t) ≡ facts
 back facts t places = ap (λ ts. record facts { transfers = ts }) (without_last-push facts.transfers t)
 
 -- where the index has the same pairs
-pub same-held : {accounts : List (ℕ × Account)} {transfers : List (ℕ × Row)} {indexed other : ℕ → ℕ → Bool} {facts : Facts} → ((m p : ℕ) → other m p ≡ indexed m p) → AreHeld accounts transfers indexed facts → AreHeld accounts transfers other facts
+pub same-held : {accounts : List (ℕ × Account)} {transfers : List (ℕ × Row)} {indexed other : ℕ → ℕ → Bool}
+    {facts : Facts} → ((m p : ℕ) → other m p ≡ indexed m p) → AreHeld accounts transfers indexed facts
+    → AreHeld accounts transfers other facts
 same-held same held = held-by held (λ m p has. sym (same m p) ∙ has) (λ m p needed was. same m p ∙ was)
 
 -- its row is there, and with the rest of it the maps are kept
 pub record IsPushed (old : Stored) (t : TransferRecord) (places : Places) (entries : List (ℕ × Row)) : Type 0 where
   pub step : Step t places
   pub before : IsBefore step old.accounts entries
-  pub stored : {accounts : List (ℕ × Account)} {transfers : List (ℕ × Row)} {next : ℕ → ℕ → Bool} → IsAfter step accounts transfers → ((m p : ℕ) → next m p ≡ (its_pair (facts_of old) t m p || old.is_indexed m p)) →
-      let new : Stored = record old { accounts = accounts; transfers = transfers; is_indexed = next } in IsKept new × (facts_of new ≡ add_transfer (facts_of old) t)
+  pub stored : {accounts : List (ℕ × Account)} {transfers : List (ℕ × Row)} {next : ℕ → ℕ → Bool}
+      → IsAfter step accounts transfers → ((m p : ℕ)
+      → next m p ≡ (its_pair (facts_of old) t m p || old.is_indexed m p)) →
+      let new : Stored = record old { accounts = accounts; transfers = transfers; is_indexed = next } in IsKept new
+      × (facts_of new ≡ add_transfer (facts_of old) t)
 
-pub pushed : (old : Stored) → IsKept old → (t : TransferRecord) (places : Places) → HavePlaces (facts_of old) t places → MayStore (facts_of old) t places.pending → {entries : List (ℕ × Row)} → entries ≡ old.transfers ++ (t.id, new_row t) ∷ [] → IsPushed old t places entries
+pub pushed : (old : Stored) → IsKept old → (t : TransferRecord) (places : Places)
+    → HavePlaces (facts_of old) t places → MayStore (facts_of old) t places.pending → {entries : List (ℕ × Row)}
+    → entries ≡ old.transfers ++ (t.id, new_row t) ∷ [] → IsPushed old t places entries
 pushed old kept t places at may is =
     let new : Facts = add_transfer (facts_of old) t in
-    let step : Step t places = record { facts = facts_of old; more = (t.id, new_row t) ∷ []; allow = allows old.is_indexed (facts_of old) t places kept.sound at.are_at may } in
+    let step : Step t places = record {
+      facts = facts_of old;
+      more = (t.id, new_row t) ∷ [];
+      allow = allows old.is_indexed (facts_of old) t places kept.sound at.are_at may;
+    } in
     record {
       step = step;
-      before = record { accounts_are = kept.hold.accounts_are; transfers_are = is ∙ ap (λ es. es ++ (t.id, new_row t) ∷ []) kept.hold.transfers_are };
+      before = record {
+        accounts_are = kept.hold.accounts_are;
+        transfers_are = is
+            ∙ ap (λ es. es ++ (t.id, new_row t) ∷ []) kept.hold.transfers_are;
+      };
       stored = λ after put. keeps new (held-push (facts_of old) t kept step.allow (record {
         accounts_are = after.accounts_are;
-        transfers_are = after.transfers_are ∙ ap (λ row. transfer_rows new (facts_of old).transfers ++ (t.id, row) ∷ []) (row-new step) ∙ sym (map_push (λ (x : TransferRecord). (x.id, row_in new x)) (facts_of old).transfers t);
+        transfers_are = after.transfers_are ∙ ap (λ row.
+            transfer_rows new (facts_of old).transfers ++ (t.id, row) ∷ []) (row-new step)
+            ∙ sym (map_push (λ (x : TransferRecord). (x.id, row_in new x)) (facts_of old).transfers t);
       }) put);
     }
 
 -- its pair put into the index and taken out again: it wasn't there
-pub refused : (old : Stored) → IsKept old → (t : TransferRecord) (m p : ℕ) → (not (its_pair (facts_of old) t m p) && (its_pair (facts_of old) t m p || old.is_indexed m p)) ≡ old.is_indexed m p
+pub refused : (old : Stored) → IsKept old → (t : TransferRecord) (m p : ℕ)
+    → (not (its_pair (facts_of old) t m p) && (its_pair (facts_of old) t m p || old.is_indexed m p))
+    ≡ old.is_indexed m p
 refused old kept t m p = grind (arith, nat_tests, kept.timed m p, slice_get_past (facts_of old).transfers p)
 
 -- ---- the last taken back
@@ -131,19 +187,43 @@ refused old kept t m p = grind (arith, nat_tests, kept.timed m p, slice_get_past
 pub record CanPop (old : Stored) (places : Places) (facts : Facts) : Type 0 where
   pub transfer : TransferRecord
   pub stored : IsStored facts transfer places old.accounts old.transfers
-  pub popped : {accounts : List (ℕ × Account)} {transfers : List (ℕ × Row)} {next : ℕ → ℕ → Bool} → Hold facts accounts transfers → ((m p : ℕ) → next m p ≡ (not (its_pair facts transfer m p) && old.is_indexed m p)) →
-      let new : Stored = record old { accounts = accounts; transfers = transfers; is_indexed = next } in IsKept new × (facts_of new ≡ facts) × KeepsPairs (length facts.transfers) old.is_indexed next
+  pub popped : {accounts : List (ℕ × Account)} {transfers : List (ℕ × Row)} {next : ℕ → ℕ → Bool}
+      → Hold facts accounts transfers → ((m p : ℕ) → next m p
+      ≡ (not (its_pair facts transfer m p) && old.is_indexed m p)) →
+      let new : Stored = record old { accounts = accounts; transfers = transfers; is_indexed = next } in IsKept new
+      × (facts_of new ≡ facts) × KeepsPairs (length facts.transfers) old.is_indexed next
 
-pub can-pop : (old : Stored) → IsKept old → (places : Places) → IsUndoable old.is_indexed (Transfer places) (facts_of old) → CanPop old places (before (Transfer places) (facts_of old))
+pub can-pop : (old : Stored) → IsKept old → (places : Places)
+    → IsUndoable old.is_indexed (Transfer places) (facts_of old)
+    → CanPop old places (before (Transfer places) (facts_of old))
 can-pop old kept places undoable =
     let facts : Facts = before (Transfer places) (facts_of old) in
     let t : TransferRecord = undoable.1.transfer in
     record {
       transfer = t;
-      stored = record { allow = undoable.1.allow; hold = subst (λ now. Hold now old.accounts old.transfers) undoable.1.stored kept.hold };
+      stored = record {
+        allow = undoable.1.allow;
+        hold = subst
+            (λ now. Hold now old.accounts old.transfers) undoable.1.stored kept.hold;
+      };
       popped = λ {accounts} {transfers} {next} hold took.
-          let others : KeepsPairs (length facts.transfers) old.is_indexed next = λ m p within has. grind (arith, nat_tests, took m p, has) in
-          let timed : (m p : ℕ) → next m p ≡ true → is_pair facts m p ≡ true = λ m p has. grind (arith, took m p, has, kept.timed m p, pairs-push facts t m p, ap (λ now. is_pair now m p) undoable.1.stored) in
-          let is = keeps facts (record { hold = hold; timed = timed; sound = sound-indexed old.is_indexed next (length facts.transfers) others facts (omega arith) undoable.0 }) in
+          let others : KeepsPairs (length facts.transfers) old.is_indexed next = λ m p within has.
+          grind (arith, nat_tests, took m p, has) in
+          let timed : (m p : ℕ) → next m p ≡ true → is_pair facts m p ≡ true = λ m p has.
+          grind (
+            arith,
+            took m p,
+            has,
+            kept.timed m p,
+            pairs-push facts t m p,
+            ap
+                (λ now. is_pair now m p) undoable.1.stored,
+          ) in
+          let is = keeps facts (record {
+            hold = hold;
+            timed = timed;
+            sound = sound-indexed old.is_indexed next (length facts.transfers) others facts
+                (omega arith) undoable.0;
+          }) in
           (is.0, is.1, others);
     }

@@ -16,29 +16,39 @@ map-same f g [] same = refl
 map-same f g (x ∷ xs) same = cc (same x, map-same f g xs same)
 
 -- what a row at a place was made of
-pub made-at : {X Y : Type 0} (f : X → Y) (xs : List X) (place : ℕ) (y : Y) → slice_get (map f xs) place ≡ Some y → (x : X) × (slice_get xs place ≡ Some x) × (f x ≡ y)
+pub made-at : {X Y : Type 0} (f : X → Y) (xs : List X) (place : ℕ) (y : Y) → slice_get (map f xs) place ≡ Some y
+    → (x : X) × (slice_get xs place ≡ Some x) × (f x ≡ y)
 made-at f [] place y at = cc
 made-at f (x ∷ xs) zero y at = (x, refl, cc)
 made-at f (x ∷ xs) (suc place) y at = made-at f xs place y at
 
 -- and what stands at a place of the rows
-pub row-placed : {X V : Type 0} (key : X → ℕ) (made : X → V) (xs : List X) {es : List (ℕ × V)} → es ≡ rows key made xs → (place : ℕ) {x : X} → slice_get xs place ≡ Some x → slice_get es place ≡ Some (key x, made x)
-row-placed key made xs is place at = ap (λ es. slice_get es place) is ∙ slice_get-map (λ x. (key x, made x)) xs place ∙ ap (option_map (λ x. (key x, made x))) at
+pub row-placed : {X V : Type 0} (key : X → ℕ) (made : X → V) (xs : List X) {es : List (ℕ × V)}
+    → es ≡ rows key made xs → (place : ℕ) {x : X} → slice_get xs place ≡ Some x
+    → slice_get es place ≡ Some (key x, made x)
+row-placed key made xs is place at =
+    ap (λ es. slice_get es place) is ∙ slice_get-map (λ x. (key x, made x)) xs place
+    ∙ ap (option_map (λ x. (key x, made x))) at
 
 keys-rows : {X V : Type 0} (key : X → ℕ) (made : X → V) (xs : List X) → keys_of (rows key made xs) ≡ map key xs
 keys-rows key made [] = refl
 keys-rows key made (x ∷ xs) = ap (λ ks. key x ∷ ks) (keys-rows key made xs)
 
 -- or under the key that stands at a place
-pub key-placed : {X V : Type 0} (key : X → ℕ) (made : X → V) (xs : List X) {es : List (ℕ × V)} → es ≡ rows key made xs → (place : ℕ) {id : ℕ} → slice_get (keys_of es) place ≡ Some id → (x : X) × (slice_get xs place ≡ Some x) × (key x ≡ id)
-key-placed key made xs is place {id} at = made-at key xs place id (sym (ap (λ ks. slice_get ks place) (ap keys_of is ∙ keys-rows key made xs)) ∙ at)
+pub key-placed : {X V : Type 0} (key : X → ℕ) (made : X → V) (xs : List X) {es : List (ℕ × V)}
+    → es ≡ rows key made xs → (place : ℕ) {id : ℕ} → slice_get (keys_of es) place ≡ Some id
+    → (x : X) × (slice_get xs place ≡ Some x) × (key x ≡ id)
+key-placed key made xs is place {id} at =
+    made-at key xs place id (sym (ap (λ ks. slice_get ks place) (ap keys_of is ∙ keys-rows key made xs)) ∙ at)
 
 -- where the first of a key stands, and what a look-up by key finds: the first of that key
-pub first-of-key : {X V : Type 0} (key : X → ℕ) (made : X → V) (id : ℕ) (xs : List X) → position_or_len (nat_eq id) (keys_of (rows key made xs)) ≡ position_or_len (λ x. key x == id) xs
+pub first-of-key : {X V : Type 0} (key : X → ℕ) (made : X → V) (id : ℕ) (xs : List X)
+    → position_or_len (nat_eq id) (keys_of (rows key made xs)) ≡ position_or_len (λ x. key x == id) xs
 first-of-key key made id [] = refl
 first-of-key key made id (x ∷ xs) = grind (arith, ==_swap id (key x), first-of-key key made id xs)
 
-pub lookup-rows : {X V : Type 0} (key : X → ℕ) (made : X → V) (id : ℕ) (xs : List X) → lookup (nat_eq id) (rows key made xs) ≡ option_map made (find (λ x. key x == id) xs)
+pub lookup-rows : {X V : Type 0} (key : X → ℕ) (made : X → V) (id : ℕ) (xs : List X)
+    → lookup (nat_eq id) (rows key made xs) ≡ option_map made (find (λ x. key x == id) xs)
 lookup-rows key made id [] = refl
 lookup-rows key made id (x ∷ xs) = grind (arith, ==_swap id (key x), lookup-rows key made id xs)
 
@@ -46,30 +56,44 @@ lookup-rows key made id (x ∷ xs) = grind (arith, ==_swap id (key x), lookup-ro
 
 module _ {X V : Type 0} (key : X → ℕ) (old new : X → V) (more : List (ℕ × V)) where
   -- a key that stands further back differs from the first
-  key-apart : (k : ℕ) (xs : List X) (place : ℕ) (x : X) → AllByRecursion (λ y. nat_eq k y ≡ false) (keys_of (rows key old xs ++ more)) → slice_get xs place ≡ Some x → (k == key x) ≡ false
+  key-apart : (k : ℕ) (xs : List X) (place : ℕ) (x : X)
+      → AllByRecursion (λ y. nat_eq k y ≡ false) (keys_of (rows key old xs ++ more))
+      → slice_get xs place ≡ Some x → (k == key x) ≡ false
   key-apart k [] place x all at = cc
   key-apart k (y ∷ xs) zero x all at = let same : y ≡ x = cc in ap (λ z. k == key z) (sym same) ∙ all.0
   key-apart k (y ∷ xs) (suc place) x all at = key-apart k xs place x all.1 at
 
-  others-same : (k : ℕ) (xs : List X) → AllByRecursion (λ y. nat_eq k y ≡ false) (keys_of (rows key old xs ++ more)) → ((y : X) → (key y == k) ≡ false → new y ≡ old y) → rows key old xs ++ more ≡ rows key new xs ++ more
+  others-same : (k : ℕ) (xs : List X) → AllByRecursion (λ y. nat_eq k y ≡ false) (keys_of (rows key old xs ++ more))
+      → ((y : X) → (key y == k) ≡ false → new y ≡ old y) → rows key old xs ++ more ≡ rows key new xs ++ more
   others-same k [] all same = refl
   others-same k (x ∷ xs) all same = cc (same x (==_swap (key x) k ∙ all.0), others-same k xs all.1 same)
 
-  row-set : (xs : List X) (place : ℕ) (x : X) → slice_get xs place ≡ Some x → IsDistinct nat_eq (keys_of (rows key old xs ++ more)) → ((y : X) → (key y == key x) ≡ false → new y ≡ old y) →
+  row-set : (xs : List X) (place : ℕ) (x : X) → slice_get xs place ≡ Some x
+      → IsDistinct nat_eq (keys_of (rows key old xs ++ more))
+      → ((y : X) → (key y == key x) ≡ false → new y ≡ old y) →
       set_value_at (rows key old xs ++ more) place (new x) ≡ rows key new xs ++ more
   row-set [] place x at apart same = cc
   row-set (y ∷ xs) zero x at apart same =
       let first : y ≡ x = cc in
-      let all = subst (λ z. AllByRecursion (λ k. nat_eq (key z) k ≡ false) (keys_of (rows key old xs ++ more))) first (IsDistinct-head nat_eq (key y) (keys_of (rows key old xs ++ more)) apart) in
+      let all = subst (λ z. AllByRecursion (λ k. nat_eq (key z) k ≡ false) (keys_of (rows key old xs ++ more)))
+      first (IsDistinct-head nat_eq (key y) (keys_of (rows key old xs ++ more)) apart) in
       cc (first, others-same (key x) xs all same)
   row-set (y ∷ xs) (suc place) x at apart same =
-      let differs = key-apart (key y) xs place x (IsDistinct-head nat_eq (key y) (keys_of (rows key old xs ++ more)) apart) at in
-      cc (same y differs, row-set xs place x at (IsDistinct-tail nat_eq (key y) (keys_of (rows key old xs ++ more)) apart) same)
+      let differs = key-apart (key y) xs place x (IsDistinct-head nat_eq (key y)
+      (keys_of (rows key old xs ++ more)) apart) at in
+      cc (
+        same y differs,
+        row-set xs place x at (IsDistinct-tail nat_eq (key y)
+            (keys_of (rows key old xs ++ more)) apart) same,
+      )
 
 -- as entries of a map, and with what is written given
-pub rows-set : {X V : Type 0} (key : X → ℕ) (old new : X → V) (more : List (ℕ × V)) {es : List (ℕ × V)} (xs : List X) (place : ℕ) (x : X) {v : V} → slice_get xs place ≡ Some x → v ≡ new x → ((y : X) → (key y == key x) ≡ false → new y ≡ old y) →
+pub rows-set : {X V : Type 0} (key : X → ℕ) (old new : X → V) (more : List (ℕ × V)) {es : List (ℕ × V)}
+    (xs : List X) (place : ℕ) (x : X) {v : V} → slice_get xs place ≡ Some x → v ≡ new x
+    → ((y : X) → (key y == key x) ≡ false → new y ≡ old y) →
     es ≡ rows key old xs ++ more → IsDistinct nat_eq (keys_of es) → set_value_at es place v ≡ rows key new xs ++ more
-rows-set key old new more xs place x at value same is apart = rw (is, value) (row-set key old new more xs place x at (rw is at apart) same)
+rows-set key old new more xs place x at value same is apart =
+    rw (is, value) (row-set key old new more xs place x at (rw is at apart) same)
 
 pub any-swap : (id : ℕ) (ids : List ℕ) → list_any (nat_eq id) ids ≡ list_any (λ other. other == id) ids
 any-swap id [] = refl
@@ -81,13 +105,15 @@ key-found : {X : Type 0} (id : ℕ) (es : List (ℕ × X)) (k : ℕ) → lookup_
 key-found id [] k e = cc
 key-found id (x ∷ es) k e = grind (arith, nat_tests, key-found id es k)
 
-pub key-of-position : {X : Type 0} (id : ℕ) (es : List (ℕ × X)) (i : ℕ) → position (nat_eq id) (keys_of es) ≡ Some i → slice_get (keys_of es) i ≡ Some id
+pub key-of-position : {X : Type 0} (id : ℕ) (es : List (ℕ × X)) (i : ℕ) → position (nat_eq id) (keys_of es) ≡ Some i
+    → slice_get (keys_of es) i ≡ Some id
 key-of-position id es i p =
     let f = Found-position (nat_eq id) es i p in
     let at = slice_get-get_or (keys_of es) i 0 (omega (arith, f.within, length-map es (λ e. e.0))) in
     at ∙ ap Some (key-found id es (get_or (keys_of es) i 0) (f.key ∙ at))
 
 -- an entry put in as it is
-pub kept-entry : {V : Type 0} (es : List (ℕ × V)) (id : ℕ) (value : V) → lookup (nat_eq id) es ≡ Some value → insert_entry nat_eq es id value ≡ es
+pub kept-entry : {V : Type 0} (es : List (ℕ × V)) (id : ℕ) (value : V) → lookup (nat_eq id) es ≡ Some value
+    → insert_entry nat_eq es id value ≡ es
 kept-entry [] id value found = cc
 kept-entry (e ∷ es) id value found = grind (arith, kept-entry es id value)

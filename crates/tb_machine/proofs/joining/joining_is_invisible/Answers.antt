@@ -6,10 +6,14 @@ use Rattle.tb_machine.proofs.Joined.{joining_group}
 use Rattle.tb_machine.proofs.joining.joining_is_invisible.Goals as goal
 
 pub returns-clause-accounts : goal.returns-clause-accounts
-returns-clause-accounts c = joining_group accounts_operation Accounts (record { outcome = λ state events. refl; after = λ state events. refl })
+returns-clause-accounts c =
+    joining_group accounts_operation Accounts (record
+    { outcome = λ state events. refl; after = λ state events. refl })
 
 pub returns-clause-transfers : goal.returns-clause-transfers
-returns-clause-transfers c = joining_group transfers_operation Transfers (record { outcome = λ state events. refl; after = λ state events. refl })
+returns-clause-transfers c =
+    joining_group transfers_operation Transfers (record
+    { outcome = λ state events. refl; after = λ state events. refl })
 
 pub returns-clause-lookup : goal.returns-clause-lookup
 returns-clause-lookup c state ids = record {

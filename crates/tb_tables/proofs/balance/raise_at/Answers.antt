@@ -8,4 +8,5 @@ returns c = λ sums rows account at is.
     let r = c.pair_mut-account in
     let entries = c.args.accounts.now.entries in
     ap (set_value_at entries c.args.place) c.raise_balance.ensures
-    ∙ rows-raised c.args.balance c.args.amount sums rows c.args.place account at entries (r.result.0.now, r.result.1.now) r.ensures.value r.ensures.unique is
+    ∙ rows-raised c.args.balance c.args.amount sums rows c.args.place account at entries
+    (r.result.0.now, r.result.1.now) r.ensures.value r.ensures.unique is

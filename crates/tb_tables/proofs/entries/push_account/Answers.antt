@@ -8,8 +8,10 @@ pub returns-in-Occupied-clause-same : goal.returns-in-Occupied-clause-same
 returns-in-Occupied-clause-same c = λ _.
     let a = c.args.account.now in
     let old = c.args.accounts.now in
-    let found : get nat_eq old a.id ≡ Some c.into_mut.result.now = sym (rw c.in-Occupied.is at c.in_ok-entry.ensures.value) ∙ c.into_mut.ensures.value in
-    (search rules) ∙ (rw c.in-Occupied.is at c.in_ok-entry.ensures.update).1 c.into_mut.result.now ∙ kept-entry old.entries a.id c.into_mut.result.now found
+    let found : get nat_eq old a.id ≡ Some c.into_mut.result.now = sym
+    (rw c.in-Occupied.is at c.in_ok-entry.ensures.value) ∙ c.into_mut.ensures.value in
+    (search rules) ∙ (rw c.in-Occupied.is at c.in_ok-entry.ensures.update).1 c.into_mut.result.now
+    ∙ kept-entry old.entries a.id c.into_mut.result.now found
 
 pub returns-in-Vacant-clause-added : goal.returns-in-Vacant-clause-added
 returns-in-Vacant-clause-added c = λ _.

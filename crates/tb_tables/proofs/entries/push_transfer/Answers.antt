@@ -9,12 +9,16 @@ pub returns-in-Occupied-clause-same : goal.returns-in-Occupied-clause-same
 returns-in-Occupied-clause-same c = λ _.
     let t = c.args.transfer.now in
     let old = c.args.transfers.now in
-    let found : get nat_eq old t.id ≡ Some c.into_mut.result.now = sym (rw c.in-Occupied.is at c.in_ok-entry.ensures.value) ∙ c.into_mut.ensures.value in
-    (search rules) ∙ (rw c.in-Occupied.is at c.in_ok-entry.ensures.update).1 c.into_mut.result.now ∙ kept-entry old.entries t.id c.into_mut.result.now found
+    let found : get nat_eq old t.id ≡ Some c.into_mut.result.now = sym
+    (rw c.in-Occupied.is at c.in_ok-entry.ensures.value) ∙ c.into_mut.ensures.value in
+    (search rules) ∙ (rw c.in-Occupied.is at c.in_ok-entry.ensures.update).1 c.into_mut.result.now
+    ∙ kept-entry old.entries t.id c.into_mut.result.now found
 
 pub returns-in-Vacant-clause-added : goal.returns-in-Vacant-clause-added
 returns-in-Vacant-clause-added c = λ _.
     let t = c.args.transfer.now in
     let old = c.args.transfers.now in
     let none : get nat_eq old t.id ≡ None = rw c.in-Vacant.is at c.in_ok-entry.ensures.found in
-    (search rules) ∙ (rw c.in-Vacant.is at c.in_ok-entry.ensures.update).1 c.new_row.result ∙ ap (λ row. insert_entry nat_eq old.entries t.id row) c.new_row.ensures ∙ insert_entry-new nat_eq old t.id (new_row t) none
+    (search rules) ∙ (rw c.in-Vacant.is at c.in_ok-entry.ensures.update).1 c.new_row.result
+    ∙ ap (λ row. insert_entry nat_eq old.entries t.id row) c.new_row.ensures
+    ∙ insert_entry-new nat_eq old t.id (new_row t) none

@@ -7,6 +7,7 @@ add_amount-requires c = rw c.phase_of.ensures (settling.can_add c.requires.0 c.i
 
 pub returns-in-None : goal.returns-in-None
 returns-in-None c = λ s is. record {
-  accounts_are = (rw c.phase_of.ensures at c.add_amount.ensures _ _ _ _ s.allow.are_at is.accounts_are) ∙ sym (settling.add-sums s c.in-None.is);
+  accounts_are = (rw c.phase_of.ensures at c.add_amount.ensures _ _ _ _ s.allow.are_at is.accounts_are)
+      ∙ sym (settling.add-sums s c.in-None.is);
   transfers_are = is.transfers_are ∙ ap (λ rows. rows ++ s.more) (sym (settling.rows-kept s c.in-None.is));
 }

@@ -11,7 +11,25 @@ expires_at-requires c =
     grind (arith, fits c.requires.2, same, c.is_spent.ensures, c.if-is_spent.true)
 
 pub returns-then-is_spent : goal.returns-then-is_spent
-returns-then-is_spent c = λ facts t can m p. grind (arith, spent-is can m p, c.row_at-row.ensures _ _ (row-there can), c.is_spent.ensures, c.if-is_spent.true, c.expires_at.ensures, c.take_out.ensures m p)
+returns-then-is_spent c =
+    λ facts t can m p. grind (
+      arith,
+      spent-is can m p,
+      c.row_at-row.ensures _ _
+          (row-there can),
+      c.is_spent.ensures,
+      c.if-is_spent.true,
+      c.expires_at.ensures,
+      c.take_out.ensures m p,
+    )
 
 pub returns-else-is_spent : goal.returns-else-is_spent
-returns-else-is_spent c = λ facts t can m p. grind (arith, spent-is can m p, c.row_at-row.ensures _ _ (row-there can), c.is_spent.ensures, c.if-is_spent.false)
+returns-else-is_spent c =
+    λ facts t can m p. grind (
+      arith,
+      spent-is can m p,
+      c.row_at-row.ensures _ _
+          (row-there can),
+      c.is_spent.ensures,
+      c.if-is_spent.false,
+    )

@@ -5,4 +5,5 @@ use Rattle.tb_tables.proofs.storing.forget_resolved.Given as goal
 abbrev pub invariant-loop-change : goal.invariant-loop-change
 invariant-loop-change l =
     (facts : Facts) → AllByRecursion (λ change. CanForget facts change l.transfers.entries) l.changes → (m p : ℕ)
-    → is_indexed l.expiries m p ≡ (not (is_resolved_at p (take l.change-index l.changes) && is_spent facts m p) && is_indexed l.fn.expiries m p)
+    → is_indexed l.expiries m p ≡ (not (is_resolved_at p (take l.change-index l.changes) && is_spent facts m p)
+    && is_indexed l.fn.expiries m p)

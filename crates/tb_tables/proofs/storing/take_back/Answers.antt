@@ -6,7 +6,8 @@ pub pop_transfer-transfer-requires : goal.pop_transfer-transfer-requires
 pop_transfer-transfer-requires c = settling.some-row c.requires.2
 
 pub forget-requires : goal.forget-requires
-forget-requires c = rw (settling.popped c.requires.2 c.pop_transfer-transfer.ensures).0 (settling.expiry-fits c.requires.2)
+forget-requires c =
+    rw (settling.popped c.requires.2 c.pop_transfer-transfer.ensures).0 (settling.expiry-fits c.requires.2)
 
 pub unapply-requires : goal.unapply-requires
 unapply-requires c =

@@ -12,22 +12,43 @@ row_at-requires c =
 pub expire-requires : goal.expire-requires
 expire-requires c =
     let due = c.loop-place.invariant c.requires.0 c.requires.1 in
-    let has = c.in-Some.ensures.due.2 in
-    (due.now, can-expire due.held has (grind (arith, c.row_at.ensures _ _ (pair-row due.held has), c.is_open.ensures, c.if-is_open.true)))
+    let has = c.in-Some.ensures.due.2 in (
+      due.now,
+      can-expire due.held has (grind (
+        arith,
+        c.row_at.ensures _ _
+            (pair-row due.held has),
+        c.is_open.ensures,
+        c.if-is_open.true,
+      )),
+    )
 
 pub loop-place-preserved-then-is_open : goal.loop-place-preserved-then-is_open
 loop-place-preserved-then-is_open c = λ facts held.
     let due = c.loop-place.invariant facts held in
     let d = c.in-Some.ensures.due in
-    let can = can-expire due.held d.2 (grind (arith, c.row_at.ensures _ _ (pair-row due.held d.2), c.is_open.ensures, c.if-is_open.true)) in
+    let can = can-expire due.held d.2 (grind (
+      arith,
+      c.row_at.ensures _ _
+          (pair-row due.held d.2),
+      c.is_open.ensures,
+      c.if-is_open.true,
+    )) in
     still-due due.held d.2 d.1 d.3 can due.same (c.expire.ensures due.now can)
 
 pub loop-place-preserved : goal.loop-place-preserved
 loop-place-preserved c = λ facts held.
     let due = c.loop-place.invariant facts held in
     let d = c.in-Some.ensures.due in
-    passed-over due.held d.2 d.1 d.3 (grind (arith, c.row_at.ensures _ _ (pair-row due.held d.2), c.is_open.ensures, c.if-is_open.false)) due.same
+    passed-over due.held d.2 d.1 d.3 (grind (
+      arith,
+      c.row_at.ensures _ _
+          (pair-row due.held d.2),
+      c.is_open.ensures,
+      c.if-is_open.false,
+    )) due.same
 
 pub returns : goal.returns
 returns c = λ facts held.
-    same-held (same-keys c.loop-place.expiries c.take_due.new.expiries c.in_default.ensures.none) (all-due (c.loop-place.invariant facts held) c.in_default.ensures.later)
+    same-held (same-keys c.loop-place.expiries c.take_due.new.expiries c.in_default.ensures.none)
+    (all-due (c.loop-place.invariant facts held) c.in_default.ensures.later)

@@ -3,4 +3,5 @@ use Rattle.tb_tables.proofs.Locating.{account-found}
 use Rattle.tb_tables.proofs.maps.Maps.account.Goals as goal
 
 pub returns : goal.returns
-returns c = rw (← c.self.view_is) (c.copied.ensures ∙ c.get.ensures.value ∙ account-found c.self.invariant.hold c.args.id)
+returns c =
+    rw (← c.self.view_is) (c.copied.ensures ∙ c.get.ensures.value ∙ account-found c.self.invariant.hold c.args.id)

@@ -5,22 +5,32 @@ use Rattle.tb_tables.proofs.Opening.{kept-account}
 use Rattle.tb_tables.proofs.maps.Maps.add_account.Goals as goal
 
 pub returns-then-not-branch-clause-new : goal.returns-then-not-branch-clause-new
-returns-then-not-branch-clause-new c = rw (← c.self.view_is) (sym c.if-not-branch.true ∙ c.in_ok-push_account.ensures.new ∙ told-new-account c.self.invariant.hold c.args.account.now.id)
+returns-then-not-branch-clause-new c =
+    rw (← c.self.view_is) (sym c.if-not-branch.true ∙ c.in_ok-push_account.ensures.new
+    ∙ told-new-account c.self.invariant.hold c.args.account.now.id)
 
 pub returns-clause-new : goal.returns-clause-new
-returns-clause-new c = rw (← c.self.view_is) (sym c.if-not-branch.false ∙ c.in_ok-push_account.ensures.new ∙ told-new-account c.self.invariant.hold c.args.account.now.id)
+returns-clause-new c =
+    rw (← c.self.view_is) (sym c.if-not-branch.false ∙ c.in_ok-push_account.ensures.new
+    ∙ told-new-account c.self.invariant.hold c.args.account.now.id)
 
 pub invariant_of-self-2 : goal.invariant_of-self-2
 invariant_of-self-2 c =
     let facts = facts_of (stored_in c.self.inside) in
     let a = c.args.account.now in
-    let none : account_with facts a.id ≡ None = none-there (account_with facts a.id) (sym (sym c.if-not-branch.false ∙ c.in_ok-push_account.ensures.new ∙ told-new-account c.self.invariant.hold a.id)) in
-    rw (c.in_ok-push_account.ensures.added (ap Ok c.if-not-branch.false)) (kept-account (stored_in c.self.inside) c.self.invariant a none c.requires).0
+    let none : account_with facts a.id ≡ None = none-there (account_with facts a.id)
+    (sym (sym c.if-not-branch.false ∙ c.in_ok-push_account.ensures.new
+    ∙ told-new-account c.self.invariant.hold a.id)) in
+    rw (c.in_ok-push_account.ensures.added (ap Ok c.if-not-branch.false))
+    (kept-account (stored_in c.self.inside) c.self.invariant a none c.requires).0
 
 pub returns-clause-added : goal.returns-clause-added
 returns-clause-added c = λ _.
     let facts = facts_of (stored_in c.self.inside) in
     let a = c.args.account.now in
-    let none : account_with facts a.id ≡ None = none-there (account_with facts a.id) (sym (sym c.if-not-branch.false ∙ c.in_ok-push_account.ensures.new ∙ told-new-account c.self.invariant.hold a.id)) in
+    let none : account_with facts a.id ≡ None = none-there (account_with facts a.id)
+    (sym (sym c.if-not-branch.false ∙ c.in_ok-push_account.ensures.new
+    ∙ told-new-account c.self.invariant.hold a.id)) in
     let is = kept-account (stored_in c.self.inside) c.self.invariant a none c.requires in
-    rw (← c.self.view_is, c.in_ok-push_account.ensures.added (ap Ok c.if-not-branch.false)) (λ i. record { facts = is.1 i; pairs = c.self.inside.expiries.keys })
+    rw (← c.self.view_is, c.in_ok-push_account.ensures.added (ap Ok c.if-not-branch.false))
+    (λ i. record { facts = is.1 i; pairs = c.self.inside.expiries.keys })

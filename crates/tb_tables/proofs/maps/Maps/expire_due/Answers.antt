@@ -6,7 +6,11 @@ pub expire_all-requires : goal.expire_all-requires
 expire_all-requires c = (facts_of (stored_in c.self.inside), c.self.invariant)
 
 pub invariant_of-self : goal.invariant_of-self
-invariant_of-self c = (keeps (expire_due c.args.clock (facts_of (stored_in c.self.inside))) (c.expire_all.ensures (facts_of (stored_in c.self.inside)) c.self.invariant)).0
+invariant_of-self c =
+    (keeps (expire_due c.args.clock (facts_of (stored_in c.self.inside)))
+    (c.expire_all.ensures (facts_of (stored_in c.self.inside)) c.self.invariant)).0
 
 pub returns : goal.returns
-returns c = rw (← c.self.view_is) (keeps (expire_due c.args.clock (facts_of (stored_in c.self.inside))) (c.expire_all.ensures (facts_of (stored_in c.self.inside)) c.self.invariant)).1
+returns c =
+    rw (← c.self.view_is) (keeps (expire_due c.args.clock (facts_of (stored_in c.self.inside)))
+    (c.expire_all.ensures (facts_of (stored_in c.self.inside)) c.self.invariant)).1

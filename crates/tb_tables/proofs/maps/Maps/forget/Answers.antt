@@ -11,7 +11,8 @@ pub invariant_of-self : goal.invariant_of-self
 invariant_of-self c =
     let old = stored_in c.self.inside in
     let can = can-forget old c.self.invariant c.args.changes.now (rw (← c.self.view_is) at c.requires) in
-    kept-now old c.self.invariant c.args.changes.now (is_indexed c.forget_resolved.new.expiries) (c.forget_resolved.ensures (facts_of old) can)
+    kept-now old c.self.invariant c.args.changes.now (is_indexed c.forget_resolved.new.expiries)
+    (c.forget_resolved.ensures (facts_of old) can)
 
 pub returns-clause-gone : goal.returns-clause-gone
 returns-clause-gone c = λ moment place.

@@ -12,4 +12,8 @@ place_of-requires-2 c =
     account-there c.self.invariant.hold c.args.transfer.now.credit_account_id may.credit_there
 
 pub returns-clause-at : goal.returns-clause-at
-returns-clause-at c = rw (← c.self.view_is) (record { are_at = are-at c.self.invariant.hold c.args.transfer.now _ c.place_of.ensures c.place_of-2.ensures })
+returns-clause-at c =
+    rw (← c.self.view_is) (record {
+      are_at = are-at c.self.invariant.hold c.args.transfer.now _
+          c.place_of.ensures c.place_of-2.ensures;
+    })

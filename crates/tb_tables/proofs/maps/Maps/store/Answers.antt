@@ -12,7 +12,8 @@ apply-requires c =
     let is = is-done _ c.push_transfer-added.result c.if-eq.ensures in
     let none = none-there (transfer_with (facts_of old) t.id) (sym (rw is at told)) in
     let r = rw (← c.self.view_is) at c.requires in
-    let pushed = stepping.pushed old c.self.invariant t c.args.places r.at (r.may none) (c.push_transfer-added.ensures.added is) in
+    let pushed = stepping.pushed old c.self.invariant t c.args.places r.at (r.may none)
+    (c.push_transfer-added.ensures.added is) in
     (pushed.step, pushed.before)
 
 pub invariant_of-self-then-eq : goal.invariant_of-self-then-eq
@@ -23,7 +24,8 @@ invariant_of-self-then-eq c =
     let is = is-done _ c.push_transfer-added.result c.if-eq.ensures in
     let none = none-there (transfer_with (facts_of old) t.id) (sym (rw is at told)) in
     let r = rw (← c.self.view_is) at c.requires in
-    let pushed = stepping.pushed old c.self.invariant t c.args.places r.at (r.may none) (c.push_transfer-added.ensures.added is) in
+    let pushed = stepping.pushed old c.self.invariant t c.args.places r.at (r.may none)
+    (c.push_transfer-added.ensures.added is) in
     let put = rw (c.len-place.ensures.len ∙ transfers-length c.self.invariant.hold) at c.in_ok-expect.ensures.ok in
     (pushed.stored (c.apply.ensures pushed.step pushed.before) put).0
 
@@ -34,10 +36,14 @@ invariant_of-self-else-eq c =
     let place = c.len-place.ensures.len ∙ transfers-length c.self.invariant.hold in
     let put = rw place at c.in_ok-expect.ensures.ok in
     let taken = rw place at c.forget.ensures in
-    rw (c.push_transfer-added.ensures.same (isn't-done _ c.push_transfer-added.result c.if-eq.ensures)) (stepping.same-held (λ m p. taken m p ∙ ap (λ b. not (its_pair (facts_of old) t m p) && b) (put m p) ∙ stepping.refused old c.self.invariant t m p) c.self.invariant)
+    rw (c.push_transfer-added.ensures.same (isn't-done _ c.push_transfer-added.result c.if-eq.ensures))
+    (stepping.same-held (λ m p. taken m p ∙ ap (λ b. not (its_pair (facts_of old) t m p) && b) (put m p)
+    ∙ stepping.refused old c.self.invariant t m p) c.self.invariant)
 
 pub returns-then-eq-clause-new : goal.returns-then-eq-clause-new
-returns-then-eq-clause-new c = rw (← c.self.view_is) (rw (told-new c.self.invariant.hold c.args.transfer.now.id) at c.push_transfer-added.ensures.new)
+returns-then-eq-clause-new c =
+    rw (← c.self.view_is) (rw (told-new c.self.invariant.hold c.args.transfer.now.id) at
+    c.push_transfer-added.ensures.new)
 
 pub returns-then-eq-clause-added : goal.returns-then-eq-clause-added
 returns-then-eq-clause-added c = λ _.
@@ -47,9 +53,12 @@ returns-then-eq-clause-added c = λ _.
     let is = is-done _ c.push_transfer-added.result c.if-eq.ensures in
     let none = none-there (transfer_with (facts_of old) t.id) (sym (rw is at told)) in
     let r = rw (← c.self.view_is) at c.requires in
-    let pushed = stepping.pushed old c.self.invariant t c.args.places r.at (r.may none) (c.push_transfer-added.ensures.added is) in
+    let pushed = stepping.pushed old c.self.invariant t c.args.places r.at (r.may none)
+    (c.push_transfer-added.ensures.added is) in
     let put = rw (c.len-place.ensures.len ∙ transfers-length c.self.invariant.hold) at c.in_ok-expect.ensures.ok in
     rw (← c.self.view_is) (pushed.stored (c.apply.ensures pushed.step pushed.before) put).1
 
 pub returns-else-eq-clause-new : goal.returns-else-eq-clause-new
-returns-else-eq-clause-new c = rw (← c.self.view_is) (rw (told-new c.self.invariant.hold c.args.transfer.now.id) at c.push_transfer-added.ensures.new)
+returns-else-eq-clause-new c =
+    rw (← c.self.view_is) (rw (told-new c.self.invariant.hold c.args.transfer.now.id) at
+    c.push_transfer-added.ensures.new)

@@ -3,4 +3,6 @@ use Rattle.tb_tables.proofs.Undoing.{names-all}
 use Rattle.tb_tables.proofs.tables.Tables.keep.Goals as goal
 
 pub forget-requires : goal.forget-requires
-forget-requires c = rw c.as_slice.ensures.value (names-all (has_pair c.self.inside.maps.pairs) c.self.inside.changes.items c.self.inside.maps.facts c.self.invariant)
+forget-requires c =
+    rw c.as_slice.ensures.value (names-all (has_pair c.self.inside.maps.pairs) c.self.inside.changes.items
+    c.self.inside.maps.facts c.self.invariant)
