@@ -33,7 +33,7 @@ impl Model for Batch {
 }
 
 impl Batch {
-    ghost use Rattle.tb_batch.specs.Batch.{body_of, operation_of, AreAdmitted, AreParts, IsLawful};
+    ghost use Rattle.tb_batch.specs.Batch.{body_of, operation_of, AreAdmitted, AreParts};
 
     /// The batch of these parts, as after a commit that was refused. Takes no memory.
     pub fn whole(parts: Parts) -> Batch

@@ -1,6 +1,6 @@
 //! The batcher.
 
-ghost use Rattle.std.specs.Prelude.{◌≡◌, ◌<◌, ◌≤◌, ◌==◌, ◌∷◌, [], length, IfOk, IfErr, IsOk, IfSome, IfNone, true, false};
+ghost use Rattle.std.specs.Prelude.{◌≡◌, ◌<◌, ◌≤◌, ◌==◌, [], length, IfOk, IfErr, IsOk, IfSome, IfNone, true, false};
 ghost use Rattle.tb_layout.specs.Limits.{batch_max};
 ghost use Rattle.tb_work.specs.declared.refusal.Refusal.TheVariants.{BadLimit};
 

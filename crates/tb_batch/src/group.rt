@@ -2,8 +2,7 @@
 
 ghost use Rattle.std.specs.Prelude.{◌≡◌, ◌<◌, ◌≤◌, ◌==◌, ◌++◌, ◌∷◌, [], length, IfOk, IfErr, OnOk, OnErr};
 ghost use Rattle.tb_layout.specs.Limits.{batch_max};
-ghost use Rattle.tb_work.specs.Admission.{count_of};
-ghost use Rattle.tb_work.specs.Job.{count_of_all, is_lookup};
+ghost use Rattle.tb_work.specs.Job.{count_of_all};
 ghost use Rattle.std.specs.Prelude.{true};
 ghost use Rattle.tb_batch.specs.Batch.{body_of};
 ghost use Rattle.tb_batch.specs.Grouping.{can_share};

@@ -1,6 +1,6 @@
 //! The ledger: the journal, and the machine that it gives.
 
-ghost use Rattle.std.specs.Prelude.{◌≡◌, ◌==◌, ◌<◌, ◌≤◌, ◌+◌, ◌^◌, ◌++◌, ◌∷◌, [], ℕ, List, Bool, false, true, length, map, vec_len, vec_capacity, OnOk, OnErr, IfOk, IfErr, nat_lt, ◌||◌};
+ghost use Rattle.std.specs.Prelude.{◌≡◌, ◌==◌, ◌<◌, ◌≤◌, ◌+◌, ◌^◌, ◌++◌, ◌∷◌, [], ℕ, List, Bool, false, true, length, map, vec_len, vec_capacity, OnOk, OnErr, IfOk, IfErr, ◌||◌};
 ghost use Rattle.tb_layout.specs.Events.{events_of};
 ghost use Rattle.tb_layout.specs.Limits.{clock_max};
 ghost use Rattle.tb_layout.specs.Work.{Work};
@@ -156,7 +156,7 @@ impl Ledger {
     ghost use Rattle.tb_core.specs.Grouping.{AreJoined, IsJoinedParcel};
     ghost use Rattle.tb_core.specs.Passage.{Passage};
     ghost use Rattle.tb_core.specs.Run.{Commits, HasPackets, replies_in};
-    ghost use Rattle.tb_core.specs.Ledger.{LedgerState, Applied, works, apply_result, with_stop, with_entry, must_stop, step_of_batch, apply_step};
+    ghost use Rattle.tb_core.specs.Ledger.{LedgerState, works, apply_result, must_stop, apply_step};
 
     /// A ledger without entries, whose clock starts at a number of nanoseconds, 0 to `CLOCK_MAX`. Takes no memory.
     pub fn new(alloc: Global, clock: u64) -> Ledger

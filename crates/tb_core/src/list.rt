@@ -5,7 +5,7 @@ ghost use Rattle.tb_layout.specs.Limits.{batch_max};
 ghost use Rattle.tb_layout.specs.Limits.{clock_max};
 ghost use Rattle.tb_work.specs.Queue.{ahead};
 ghost use Rattle.tb_work.specs.declared.item.Item.{Item as ItemValue};
-ghost use Rattle.tb_core.specs.Front.{held_by, all_passages_in, passages_in};
+ghost use Rattle.tb_core.specs.Front.{all_passages_in, passages_in};
 ghost use Rattle.tb_core.specs.Grouping.{AreWithin, IsGrouping, IsJoinedParcel, AreJoinedParcels};
 ghost use Rattle.tb_core.specs.Passage.{Passage};
 ghost use Rattle.tb_core.specs.Report.{IsListed};

@@ -1,12 +1,10 @@
 //! The lines of `list`.
 
-ghost use Rattle.std.specs.Prelude.{◌≡◌, ◌≤◌, ◌<◌, ◌^◌, ◌++◌, ◌∷◌, ℕ, IfSome, OnOk, List, Some, map, string_bytes};
-ghost use Rattle.std.specs.List.{flat_map};
-ghost use Rattle.tb_machine.specs.Replay.{balanced_accounts};
+ghost use Rattle.std.specs.Prelude.{◌≡◌, ◌<◌, ◌^◌, ◌++◌, ℕ, IfSome, OnOk, List, Some, map, string_bytes};
 ghost use Rattle.tb_core.specs.Report.{IsListed};
 ghost use Rattle.tb_list.specs.Halves.{line_of};
 ghost use Rattle.tb_text.specs.Plan.{Planned, queue_of};
-ghost use Rattle.tb_text.specs.Output.{account_line, reply_line, pulse_line, plan_text};
+ghost use Rattle.tb_text.specs.Output.{plan_text};
 ghost use Rattle.tb_list.specs.Printing.{one_further, first_text, behind_line, pending, text_from};
 
 use crate::plan::Line;

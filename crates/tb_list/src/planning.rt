@@ -2,7 +2,7 @@
 
 ghost use Rattle.std.specs.Prelude.{◌≡◌, ◌<◌, ◌≤◌, [], ℕ, get_or, OnOk, IfOk};
 ghost use Rattle.tb_layout.specs.Limits.{batch_max};
-ghost use Rattle.tb_text.specs.Plan.{Packet as PacketPlanned, Pulse as PulsePlanned, Close as ClosePlanned, RefusedPacket as RefusedPacketPlanned, RefusedPulse as RefusedPulsePlanned, number_in, pulse_as, planned_as, plan_behind};
+ghost use Rattle.tb_text.specs.Plan.{Packet as PacketPlanned, Close as ClosePlanned, number_in, pulse_as, planned_as, plan_behind};
 ghost use Rattle.tb_list.specs.Halves.{with_planned, halves_of};
 ghost use Rattle.tb_script.specs.declared.item.Item.TheVariants.{Packet as PacketItem};
 

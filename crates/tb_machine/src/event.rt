@@ -1,6 +1,6 @@
 //! What the two operations that change the facts make of their events.
 
-ghost use Rattle.std.specs.Prelude.{◌≡◌, ◌≢◌, ◌≤◌, ◌==◌, ℕ, List, None, Ok, IfOk, OnOk, OnErr, is_some, not, true};
+ghost use Rattle.std.specs.Prelude.{◌≡◌, ◌≢◌, ◌≤◌, ◌==◌, ℕ, List, None, Ok, IfOk, OnOk, is_some, not, true};
 ghost use Rattle.tb_layout.specs.Account.{account_of};
 ghost use Rattle.tb_layout.specs.Transfer.{transfer_of};
 ghost use Rattle.tb_layout.specs.AccountCode.{number_of as account_number};

@@ -1,6 +1,6 @@
 //! The machine.
 
-ghost use Rattle.std.specs.Prelude.{◌≡◌, ◌==◌, ◌||◌, ◌/◌, ◌%◌, ◌^◌, ◌≤◌, [], true, length, map, slice_get, vec_capacity, OnOk, OnErr};
+ghost use Rattle.std.specs.Prelude.{◌≡◌, ◌==◌, ◌||◌, ◌/◌, ◌%◌, ◌≤◌, [], true, length, map, slice_get, vec_capacity, OnOk, OnErr};
 ghost use Rattle.tb_layout.specs.Events.{events_of, ids_of, chunks};
 ghost use Rattle.tb_tables.specs.Facts.{transfer_with};
 ghost use Rattle.tb_tables.specs.Status.{status_with};

@@ -1,8 +1,8 @@
 //! The demultiplexer's stage: each reply into the ring of its submitter.
 
-ghost use Rattle.std.specs.Prelude.{◌≡◌, ℕ, ◌<◌, List, [], ◌∷◌, ◌++◌, true, length};
+ghost use Rattle.std.specs.Prelude.{◌≡◌, ◌<◌, [], ◌∷◌, true};
 ghost use Rattle.tb_core.specs.Run.{replies_in};
-ghost use Rattle.tb_rings.specs.Ends.{given, taken, SameInlet, SameOutlet};
+ghost use Rattle.tb_rings.specs.Ends.{taken, SameInlet};
 ghost use Rattle.tb_pipe.specs.Carried.{is_final, answers_in};
 ghost use Rattle.tb_pipe.specs.Outlets.{SameOutlets, AllGiven, AllMore, AllRouted};
 

@@ -1,6 +1,6 @@
 //! What a run reports.
 
-ghost use Rattle.std.specs.Prelude.{◌≡◌, ℕ, List, map, length, slice_index_or};
+ghost use Rattle.std.specs.Prelude.{◌≡◌, ℕ, map, length, slice_index_or};
 ghost use Rattle.tb_machine.specs.Replay.{replay};
 ghost use Rattle.tb_core.specs.Grouping.{IsGrouping};
 ghost use Rattle.tb_core.specs.Ledger.{works};

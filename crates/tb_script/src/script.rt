@@ -1,10 +1,10 @@
 //! A script, line after line.
 
-ghost use Rattle.std.specs.Prelude.{◌≡◌, ◌++◌, List, [], IfOk, OnOk};
+ghost use Rattle.std.specs.Prelude.{◌≡◌, [], IfOk, OnOk};
 ghost use Rattle.tb_script.specs.Text.{words_of};
-ghost use Rattle.tb_script.specs.Steps.{Gives, Tells, Leaves};
+ghost use Rattle.tb_script.specs.Steps.{Tells, Leaves};
 ghost use Rattle.tb_script.specs.Keyword.{no_word, one_word, two_words};
-ghost use Rattle.tb_script.specs.Script.{Said, nothing_said, items_of, has_begun, is_in_place, with_packet, with_pulse, with_close, with_bytes, with_event, set_to, packet_numbers, with_line, with_keyword, with_words, is_text as is_text_line, after_line, InBounds};
+ghost use Rattle.tb_script.specs.Script.{Said, nothing_said, items_of, has_begun, is_in_place, with_packet, with_pulse, with_close, with_bytes, with_event, packet_numbers, with_line, is_text as is_text_line, after_line, InBounds};
 
 use crate::bytes::Bytes;
 use crate::event::{Draft, Layout, assign_all, hex_bytes};

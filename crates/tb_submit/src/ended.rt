@@ -2,7 +2,6 @@
 
 ghost use Rattle.std.specs.Prelude.{◌≡◌, ◌<◌, [], ◌∷◌, ◌++◌, length, Some, IfSome, IfNone, IsSomeAnd};
 ghost use Rattle.tb_rings.specs.Ends.{given, outlet_ring};
-ghost use Rattle.tb_submit.specs.Inside.{ReaderState};
 ghost use Rattle.tb_submit.specs.Lists.{IsFiled};
 ghost use Rattle.tb_submit.specs.Rule.{entry};
 

@@ -1,6 +1,6 @@
 //! What a queue came to, once all its senders have ended.
 
-ghost use Rattle.std.specs.Prelude.{◌≡◌, ◌≤◌, ◌<◌, ◌++◌, ◌∷◌, [], ℕ, List, map, length, slice_index_or, true};
+ghost use Rattle.std.specs.Prelude.{◌≡◌, ◌≤◌, ◌<◌, ◌++◌, ℕ, map, length, slice_index_or, true};
 ghost use Rattle.std.specs.List.{list_any};
 ghost use Rattle.tb_rings.specs.Ends.{given};
 ghost use Rattle.tb_rings.specs.declared.Outlet.{Outlet as OutletValue};

@@ -1,7 +1,6 @@
 //! What stands under the id of a transfer.
 
 ghost use Rattle.std.specs.Prelude.{◌≡◌};
-ghost use Rattle.tb_layout.specs.declared.transfer.Transfer.{Transfer as TransferRecord};
 
 use crate::halves::Halves;
 use crate::status::Status;

@@ -1,7 +1,7 @@
 //! What a transfer changes beside its own row: balances, the status of what it names, and the index of
 //! expiries.
 
-ghost use Rattle.std.specs.Prelude.{◌≡◌, ℕ, List, not, ◌&&◌, ◌||◌, ◌<◌, ◌^◌, ◌==◌, OnOk, OnErr, true, Some, length};
+ghost use Rattle.std.specs.Prelude.{◌≡◌, ℕ, not, ◌&&◌, ◌||◌, ◌<◌, ◌^◌, ◌==◌, OnOk, OnErr, true, Some, length};
 ghost use Rattle.std.specs.List.{AllByRecursion};
 ghost use Rattle.tb_layout.specs.declared.transfer.Transfer.{Transfer as TransferRecord};
 ghost use Rattle.tb_layout.specs.Transfer.{is_pending};

@@ -1,6 +1,5 @@
 //! Pending transfers whose timeout is over.
 
-ghost use Rattle.std.specs.Prelude.{◌≡◌, ℕ};
 ghost use Rattle.tb_tables.specs.Facts.{Facts};
 ghost use Rattle.tb_tables.specs.Expiries.{is_indexed};
 ghost use Rattle.tb_tables.specs.Kept.{Hold, AreHeld};

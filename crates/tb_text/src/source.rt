@@ -1,6 +1,6 @@
 //! The script that a reader has.
 
-ghost use Rattle.std.specs.Prelude.{◌≡◌, ◌≢◌, ℕ, List, IfOk, IfErr, IfSome};
+ghost use Rattle.std.specs.Prelude.{◌≢◌, ℕ, List, IfOk, IfErr, IfSome};
 ghost use Rattle.tb_script.specs.Script.{script_of};
 ghost use Rattle.tb_text.specs.Output.{IsWhole};
 ghost use Rattle.tb_text.specs.Source.{IsSource, IsTold, IsFaultAt};

@@ -1,9 +1,6 @@
 //! The balances of an account, as sums over the transfers of some rows.
 
-ghost use Rattle.std.specs.Prelude.{◌≡◌, ◌==◌, ◌<◌, ◌+◌, ◌^◌, ◌&&◌, ℕ, List};
-ghost use Rattle.tb_layout.specs.declared.account.Account.{Account as AccountRecord};
-ghost use Rattle.tb_layout.specs.declared.transfer.Transfer.{Transfer as TransferRecord};
-ghost use Rattle.tb_tables.specs.Facts.{Facts};
+ghost use Rattle.std.specs.Prelude.{◌≡◌, ◌==◌, ◌<◌, ◌^◌, ◌&&◌};
 ghost use Rattle.tb_tables.specs.Lawful.{IsLawful};
 ghost use Rattle.tb_tables.specs.Balances.{is_posting as is_posting_of, debits_pending as debits_pending_of, debits_posted as debits_posted_of, credits_pending as credits_pending_of, credits_posted as credits_posted_of, with_balances as with_balances_of};
 ghost use Rattle.tb_tables_tests.specs.Plain.{facts_in};

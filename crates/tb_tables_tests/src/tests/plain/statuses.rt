@@ -1,6 +1,6 @@
 //! What became of the transfers of some rows.
 
-ghost use Rattle.std.specs.Prelude.{◌≡◌, ◌==◌, ◌<◌, ◌&&◌, ◌||◌, ℕ, not, List, find, length};
+ghost use Rattle.std.specs.Prelude.{◌≡◌, ◌==◌, ◌<◌, ◌&&◌, ◌||◌, find, length};
 ghost use Rattle.std.specs.List.{list_any};
 ghost use Rattle.tb_layout.specs.declared.transfer.Transfer.{Transfer as TransferRecord};
 ghost use Rattle.tb_layout.specs.Transfer.{is_post, is_void, is_resolving};
