@@ -4,6 +4,7 @@
 use std::alloc::{AllocError, Global};
 use std::sync::Wait;
 use std::test::Fail;
+use std::thread;
 use std::thread::Threads;
 use tb_drive::{Action, ControlLines, Driver, Finished, drive_all};
 use tb_pipe::open;
@@ -63,21 +64,24 @@ fn packet_of(alloc: Global, operation: u8, size: usize, user: u64) -> Result<Pac
     })
 }
 
-/// Takes its steps in turn and then ends, and notes what it sees. The user word of its packets is its own.
+/// Takes its steps in turn and then ends, and notes what it sees. The user word of its packets is its own. It may give way
+/// before each step, so that the replies which are to come are there by then.
 #[derive(Drop)]
 struct Noter {
     steps: &'static [Step],
     next: usize,
+    pause: u32,
     user: u64,
     saw: Vec<Saw>,
 }
 
 impl Noter {
     /// A driver that has seen nothing.
-    fn new(alloc: Global, steps: &'static [Step], user: u64) -> Noter {
+    fn new(alloc: Global, steps: &'static [Step], pause: u32, user: u64) -> Noter {
         Noter {
             steps,
             next: 0,
+            pause,
             user,
             saw: Vec::new(alloc),
         }
@@ -99,6 +103,9 @@ impl Noter {
 impl Driver for Noter {
     fn next(&mut self, alloc: Global) -> Action {
         self.note(Saw::Asked);
+        for _ in 0..self.pause {
+            thread::yield_now();
+        }
         match self.step() {
             None => Action::End,
             Some(Step::Receive) => Action::Receive,
@@ -188,8 +195,9 @@ fn run_one<R: Threads + Wait + Sync>(
     capacity: u32,
     credit: u32,
     steps: &'static [Step],
+    pause: u32,
 ) -> Result<Seen, Fail> {
-    let drivers = vec![in alloc; Noter::new(alloc, steps, 7)]?;
+    let drivers = vec![in alloc; Noter::new(alloc, steps, pause, 7)]?;
     let finished = run(rt, alloc, capacity, credit, drivers)?;
     let mut seen = seen_in(alloc, finished)?;
     Ok(seen.pop().ok_or("no submitter came back")?)

@@ -35,11 +35,14 @@ const WAITS_SEEN: [Saw; 15] = [
     Saw::Asked,
 ];
 
+/// Whether the reply is still to come, or both are there before the driver waits.
 #[test]
 fn receive_waits_for_one_reply(rt: HostRuntime) -> Result<(), Fail> {
-    let seen = run_one(&rt, rt.alloc(), 64, 16, &WAITS)?;
-    assert_eq!(rt; seen.by_driver.as_slice(), WAITS_SEEN.as_slice());
-    assert!(rt; seen.left.is_empty());
+    for pause in [0, 1000] {
+        let seen = run_one(&rt, rt.alloc(), 64, 16, &WAITS, pause)?;
+        assert_eq!(rt; seen.by_driver.as_slice(), WAITS_SEEN.as_slice());
+        assert!(rt; seen.left.is_empty());
+    }
     Ok(())
 }
 
@@ -67,10 +70,10 @@ fn is_two(seen: &Seen, submitter: u32, user: u64) -> bool {
 }
 
 /// Sixteen drivers, whose user words are 100 and more.
-fn sixteen(alloc: Global) -> Result<Vec<Noter>, AllocError> {
+fn sixteen(alloc: Global, steps: &'static [Step]) -> Result<Vec<Noter>, AllocError> {
     let mut drivers = Vec::new(alloc);
     for user in 100..116u64 {
-        drivers.push(Noter::new(alloc, &TWO, user))?;
+        drivers.push(Noter::new(alloc, steps, 0, user))?;
     }
     Ok(drivers)
 }
@@ -79,12 +82,35 @@ fn sixteen(alloc: Global) -> Result<Vec<Noter>, AllocError> {
 #[test]
 fn drivers_in_order(rt: HostRuntime) -> Result<(), Fail> {
     let alloc = rt.alloc();
-    let finished = run(&rt, alloc, 64, 16, sixteen(alloc)?)?;
+    let finished = run(&rt, alloc, 64, 16, sixteen(alloc, &TWO)?)?;
     let seen = seen_in(alloc, finished)?;
     assert_eq!(rt; seen.len(), 16);
     for (seen, submitter) in seen.iter().zip(0..16u32) {
         let user = u64::from(submitter).saturating_add(100);
         assert!(rt; is_two(seen, submitter, user), "submitter {submitter}");
+    }
+    Ok(())
+}
+
+/// The packet is queued, and its reply is given to the driver or left, as the submitter found room for its end or not.
+fn is_one(seen: &Seen, submitter: u32) -> bool {
+    let given = Saw::Given(submitter, 0, seen.user);
+    let front = [Saw::Asked, Saw::Told(Ok(0)), Saw::Asked];
+    let by_driver = seen.by_driver.as_slice();
+    if seen.left.is_empty() {
+        by_driver.len() == 4 && by_driver.starts_with(&front) && by_driver.ends_with(&[given])
+    } else {
+        by_driver == front.as_slice() && seen.left.as_slice() == [Some(given)].as_slice()
+    }
+}
+
+/// Sixteen packets for a queue of one place: no driver is told that it is full.
+#[test]
+fn not_told_of_a_full_queue(rt: HostRuntime) -> Result<(), Fail> {
+    let alloc = rt.alloc();
+    let finished = run(&rt, alloc, 1, 16, sixteen(alloc, &[SUBMIT])?)?;
+    for (seen, submitter) in seen_in(alloc, finished)?.iter().zip(0..16u32) {
+        assert!(rt; is_one(seen, submitter), "submitter {submitter}");
     }
     Ok(())
 }

@@ -27,7 +27,7 @@ const BAD_SEEN: [Saw; 9] = [
 /// A driver is told once why a packet is refused, and is asked again.
 #[test]
 fn told_why_it_is_refused(rt: HostRuntime) -> Result<(), Fail> {
-    let seen = run_one(&rt, rt.alloc(), 64, 16, &BAD)?;
+    let seen = run_one(&rt, rt.alloc(), 64, 16, &BAD, 0)?;
     assert_eq!(rt; seen.by_driver.as_slice(), BAD_SEEN.as_slice());
     assert_eq!(rt;
         seen.left.as_slice(),
@@ -58,7 +58,7 @@ const FOUR_SEEN: [Saw; 12] = [
 /// reply is read only where the queue was full as the submitter ended.
 #[test]
 fn not_told_of_a_used_up_credit(rt: HostRuntime) -> Result<(), Fail> {
-    let seen = run_one(&rt, rt.alloc(), 1, 1, &FOUR)?;
+    let seen = run_one(&rt, rt.alloc(), 1, 1, &FOUR, 0)?;
     let mut saw = seen.by_driver;
     if seen.left.is_empty() {
         assert_eq!(rt; saw.pop(), Some(Saw::Given(0, 3, 7)));

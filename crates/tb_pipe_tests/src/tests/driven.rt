@@ -4,9 +4,10 @@ ghost use Rattle.std.specs.Prelude.{◌≡◌, ◌++◌, ◌∷◌, [], map, IfO
 ghost use Rattle.tb_submit.specs.Ends.{origin_of, end_origin, control_seat};
 ghost use Rattle.tb_pipe_tests.specs.Together.{AreTogether, IsRun};
 
+use super::gates::Counted;
 use super::{
-    CREATE_ACCOUNTS, Lone, MOST_TURNS, Told, clock, end_all, opened, packet_of, put, submit,
-    told_by,
+    CREATE_ACCOUNTS, CREATE_TRANSFERS, Lone, MOST_TURNS, Told, clock, end_all, opened, packet_of,
+    put, queue, submit, told_by,
 };
 use std::alloc::Global;
 use std::process::Abort;
@@ -14,9 +15,12 @@ use std::snapshot::Snapshot;
 use std::sync::Wait;
 use std::thread;
 use std::thread::{Promise, Threads};
-use tb_pipe::{Open, Opened, Pipeline, Report, settle};
+use tb_pipe::{Opened, Pipeline, Report, settle};
 use tb_submit::{Control, ControlEnd, Ended, Submitter};
 use tb_work::{Packet, Refusal};
+
+/// How often a reply is looked for that the gate holds back.
+const HELD_TURNS: u32 = 10_000;
 
 /// What a driver does.
 #[derive(Clone, Copy)]
@@ -27,6 +31,9 @@ pub(super) enum Course {
     ReadTwo,
     /// Fifty packets, each tried again where the queue is full or a reply is still unread.
     Fifty,
+    /// Two packets whose batches the gate holds: each reply is looked for and doesn't come, then the gate lets that batch
+    /// through, and it comes.
+    Held,
 }
 
 /// What a driver saw.
@@ -36,6 +43,8 @@ pub(super) enum Saw {
     Replies(Option<Told>, Option<Told>, Option<Refusal>),
     /// So many replies, the first committed at place 0 and each of the others at the next place.
     Places(u64),
+    /// Of two batches: whether a reply came while it was held, and the reply that came then.
+    Held([(bool, Option<Told>); 2]),
 }
 
 /// The ends of one submitter and of the control, and what their driver saw.
@@ -95,17 +104,24 @@ fn end_control<R: Wait>(rt: &R, control: Control, shut: bool) -> ControlEnd
     unreachable!()
 }
 
-/// The next reply; None where it doesn't come in time.
-fn wait_for_reply(submitter: &mut Submitter) -> Option<Told>
+/// The next reply; None where it doesn't come in so many turns.
+fn reply_within(submitter: &mut Submitter, turns: u32) -> Option<Told>
     ensures { origin_of submitter.new ≡ origin_of submitter.old }
 {
-    for _ in 0..MOST_TURNS {
+    for _ in 0..turns {
         if let Some(reply) = submitter.reply() {
             return Some(told_by(reply));
         }
         thread::yield_now();
     }
     None
+}
+
+/// The next reply; None where it doesn't come in time.
+fn wait_for_reply(submitter: &mut Submitter) -> Option<Told>
+    ensures { origin_of submitter.new ≡ origin_of submitter.old }
+{
+    reply_within(submitter, MOST_TURNS)
 }
 
 /// Queues a packet with this account and waits for its reply.
@@ -235,12 +251,45 @@ fn drive_fifty<R: Wait + Abort>(
     }
 }
 
+/// Whether a reply comes while the gate holds a batch, and the next reply once it lets that through.
+fn hold(submitter: &mut Submitter, gate: &Counted, batch: u64) -> (bool, Option<Told>)
+    ensures { origin_of submitter.new ≡ origin_of submitter.old }
+{
+    gate.wait_until_asked(batch);
+    let early = reply_within(submitter, HELD_TURNS).is_some();
+    gate.let_through(batch);
+    (early, wait_for_reply(submitter))
+}
+
+fn drive_held<R: Wait + Abort>(
+    rt: &R,
+    alloc: Global,
+    submitter: Submitter,
+    control: Control,
+    gate: &Counted,
+) -> Driven
+    ensures { (end_origin result.ended ≡ origin_of submitter) × (result.control.seat ≡ control.seat) }
+{
+    let mut submitter = submitter;
+    queue(rt, alloc, &mut submitter, CREATE_ACCOUNTS, 1);
+    queue(rt, alloc, &mut submitter, CREATE_TRANSFERS, 0);
+    let first = hold(&mut submitter, gate, 0);
+    let second = hold(&mut submitter, gate, 1);
+    let control = end_control(rt, control, false);
+    Driven {
+        ended: end(rt, submitter),
+        control,
+        saw: Saw::Held([first, second]),
+    }
+}
+
 fn drive<R: Wait + Abort>(
     rt: &R,
     alloc: Global,
     submitter: Submitter,
     control: Control,
     course: Course,
+    gate: &Counted,
 ) -> Driven
     ensures { (end_origin result.ended ≡ origin_of submitter) × (result.control.seat ≡ control.seat) }
 {
@@ -248,6 +297,7 @@ fn drive<R: Wait + Abort>(
         Course::RoundClose => drive_round_close(rt, alloc, submitter, control),
         Course::ReadTwo => drive_read_two(rt, alloc, submitter, control),
         Course::Fifty => drive_fifty(rt, alloc, submitter, control),
+        Course::Held => drive_held(rt, alloc, submitter, control, gate),
     }
 }
 
@@ -268,6 +318,7 @@ pub(super) fn run<R: Threads + Wait + Sync + Abort>(
     alloc: Global,
     driving: Driving,
     course: Course,
+    gate: &Counted,
 ) -> Result<(Report, Saw), Refusal>
     requires own { map end_origin driving.ends.items ++ origin_of driving.last ∷ [] ≡ driving.pipeline.submitters }
     requires control { driving.control.seat ≡ control_seat driving.pipeline.intake }
@@ -298,13 +349,13 @@ pub(super) fn run<R: Threads + Wait + Sync + Abort>(
                 promise,
                 move || -> Driven
                     ensures { (end_origin result.ended ≡ origin_of last) × (result.control.seat ≡ control.seat) }
-                { drive(rt, alloc, last, control, course) },
+                { drive(rt, alloc, last, control, course, gate) },
             ) else {
                 drop(pipeline);
                 drop(ends);
                 return Err(Refusal::NoThread);
             };
-            let Ok(served) = pipeline.serve(rt, &Open) else {
+            let Ok(served) = pipeline.serve(rt, gate) else {
                 drop(ends);
                 return Err(Refusal::NoThread);
             };
@@ -364,7 +415,7 @@ fn opened_driving<R: Wait + Abort>(
     }
 }
 
-/// Compares what the driver saw, and the clock after the run.
+/// Compares what the driver saw, the clock after the run, and how many batches the gate was told of and let through.
 fn assert_driven<R: Threads + Wait + Sync + Abort>(
     rt: &R,
     alloc: Global,
@@ -372,14 +423,21 @@ fn assert_driven<R: Threads + Wait + Sync + Abort>(
     course: Course,
     wanted: Saw,
     wanted_clock: u64,
+    batches: u64,
 )
     requires own { map end_origin driving.ends.items ++ origin_of driving.last ∷ [] ≡ driving.pipeline.submitters }
     requires control { driving.control.seat ≡ control_seat driving.pipeline.intake }
 {
-    let (report, saw) = run(rt, alloc, driving, course)
+    let gate = Counted::new(if matches!(course, Course::Held) {
+        0
+    } else {
+        u64::MAX
+    });
+    let (report, saw) = run(rt, alloc, driving, course, &gate)
         .ok()
         .expect(rt, "threads can be started");
     assert_eq!(rt; (saw, clock(&report)), (wanted, wanted_clock));
+    assert_eq!(rt; gate.counts(), (batches, batches));
     drop(report);
 }
 
@@ -392,12 +450,25 @@ fn close_between_two_packets(rt: HostRuntime) {
     );
     for submitters in [1, 2, 16] {
         let driving = opened_driving(&rt, rt.alloc(), 64, 64, submitters);
-        assert_driven(&rt, rt.alloc(), driving, Course::RoundClose, wanted, 1);
+        assert_driven(&rt, rt.alloc(), driving, Course::RoundClose, wanted, 1, 1);
     }
 }
 
 #[test]
 fn one_place_one_credit(rt: HostRuntime) {
     let driving = opened_driving(&rt, rt.alloc(), 1, 1, 1);
-    assert_driven(&rt, rt.alloc(), driving, Course::Fifty, Saw::Places(50), 50);
+    let wanted = Saw::Places(50);
+    assert_driven(&rt, rt.alloc(), driving, Course::Fifty, wanted, 50, 50);
+}
+
+/// No batch is committed before the gate lets it through, however often it says no; the reply to the one before it comes
+/// meanwhile.
+#[test]
+fn held_by_the_gate(rt: HostRuntime) {
+    let driving = opened_driving(&rt, rt.alloc(), 64, 64, 1);
+    let wanted = Saw::Held([
+        (false, Some(Told::Committed(0))),
+        (false, Some(Told::Committed(1))),
+    ]);
+    assert_driven(&rt, rt.alloc(), driving, Course::Held, wanted, 1, 2);
 }

@@ -2,9 +2,13 @@
 
 use super::queued::{Step, run_queued};
 use super::{CREATE_ACCOUNTS, CREATE_TRANSFERS, MOST_TURNS, Told, assert_run};
+use std::alloc::Global;
+use std::process::Abort;
+use std::sync::Wait;
 use std::sync::atomic::Ordering::SeqCst;
 use std::sync::atomic::{AtomicBool, AtomicU64};
 use std::thread;
+use std::thread::Threads;
 use tb_pipe::Gate;
 
 /// Gives way until a counter has reached a number; false where it doesn't in time.
@@ -60,30 +64,30 @@ impl Gate for Meeting {
 }
 
 /// Notes the batches that were sealed, and those asked for, each as a digit after those before it: batch 0 as 1.
-/// Says yes once the note of those asked for has come to a number.
+/// Says yes at each so many-th time.
 #[derive(Drop)]
 struct Notes {
     sealed: AtomicU64,
     asked: AtomicU64,
-    opens_at: u64,
+    times: AtomicU64,
+    yes_at: u64,
 }
 
 impl Notes {
-    fn new(opens_at: u64) -> Notes {
+    fn new(yes_at: u64) -> Notes {
         Notes {
             sealed: AtomicU64::new(0),
             asked: AtomicU64::new(0),
-            opens_at,
+            times: AtomicU64::new(0),
+            yes_at,
         }
     }
 }
 
-/// The note with a batch after it. One thread alone writes each note.
-fn note(notes: &AtomicU64, batch: u64) -> u64 {
+/// Puts a batch behind a note. One thread alone writes each note.
+fn note(notes: &AtomicU64, batch: u64) {
     let noted = notes.load(SeqCst).wrapping_mul(10);
-    let noted = noted.wrapping_add(batch).wrapping_add(1);
-    notes.store(noted, SeqCst);
-    noted
+    notes.store(noted.wrapping_add(batch).wrapping_add(1), SeqCst);
 }
 
 impl Gate for Notes {
@@ -92,7 +96,73 @@ impl Gate for Notes {
     }
 
     fn may_commit(&self, batch: u64) -> bool {
-        note(&self.asked, batch) >= self.opens_at
+        note(&self.asked, batch);
+        let times = self.times.load(SeqCst).wrapping_add(1);
+        let yes = times == self.yes_at;
+        self.times.store(if yes { 0 } else { times }, SeqCst);
+        yes
+    }
+}
+
+/// Counts the batches that were sealed, and those that it let through, as long as each comes once and in order. It says yes
+/// to those below a number.
+#[derive(Drop)]
+pub(super) struct Counted {
+    sealed: AtomicU64,
+    passed: AtomicU64,
+    asked: AtomicU64,
+    below: AtomicU64,
+}
+
+impl Counted {
+    pub(super) fn new(below: u64) -> Counted {
+        Counted {
+            sealed: AtomicU64::new(0),
+            passed: AtomicU64::new(0),
+            asked: AtomicU64::new(0),
+            below: AtomicU64::new(below),
+        }
+    }
+
+    pub(super) fn wait_until_asked(&self, batch: u64) {
+        waits_for(&self.asked, batch.wrapping_add(1));
+    }
+
+    pub(super) fn let_through(&self, batch: u64) {
+        self.below.store(batch.wrapping_add(1), SeqCst);
+    }
+
+    /// How many batches were sealed, and how many were let through.
+    pub(super) fn counts(&self) -> (u64, u64) {
+        (self.sealed.load(SeqCst), self.passed.load(SeqCst))
+    }
+}
+
+/// Counts the next batch; any other spoils the count. One thread alone writes each count.
+fn count(counter: &AtomicU64, batch: u64) {
+    let is_next = counter.load(SeqCst) == batch;
+    counter.store(
+        if is_next {
+            batch.wrapping_add(1)
+        } else {
+            u64::MAX
+        },
+        SeqCst,
+    );
+}
+
+impl Gate for Counted {
+    fn sealed(&self, batch: u64) {
+        count(&self.sealed, batch);
+    }
+
+    fn may_commit(&self, batch: u64) -> bool {
+        self.asked.store(batch.wrapping_add(1), SeqCst);
+        let passes = batch < self.below.load(SeqCst);
+        if passes {
+            count(&self.passed, batch);
+        }
+        passes
     }
 }
 
@@ -128,42 +198,51 @@ fn twenty_places() -> [Told; 20] {
     told
 }
 
-#[test]
-fn six_batches_sealed_ahead(rt: HostRuntime) {
-    let gate = Meeting::new(6, false);
-    let report = run_queued(&rt, rt.alloc(), &twenty_in_turn(), false, &[], &gate);
+/// While batch 0 is held so many batches are sealed.
+fn assert_sealed_ahead<R: Threads + Wait + Sync + Abort>(rt: &R, alloc: Global, number: u64) {
+    let gate = Meeting::new(number, false);
+    let report = run_queued(rt, alloc, &twenty_in_turn(), false, &[], &gate);
     assert!(rt; !gate.marked.load(SeqCst));
-    assert_run(&rt, report, 0, &twenty_places());
+    assert_run(rt, report, 0, &twenty_places());
 }
 
-/// Batches 0 and 1 are told and asked for, each once and in order, and the pulse between them isn't.
 #[test]
-fn batches_counted_without_pulses(rt: HostRuntime) {
+fn six_batches_sealed_ahead(rt: HostRuntime) {
+    assert_sealed_ahead(&rt, rt.alloc(), 6);
+}
+
+/// The committer has one batch, and eight lie in the ring before it.
+#[test]
+fn nine_batches_sealed_ahead(rt: HostRuntime) {
+    assert_sealed_ahead(&rt, rt.alloc(), 9);
+}
+
+/// Two packets with a pulse between them: batches 0 and 1 are told, each once and in order, and asked for as noted.
+fn assert_asked<R: Threads + Wait + Sync + Abort>(rt: &R, alloc: Global, yes_at: u64, asked: u64) {
     let steps = [
         Step::Packet(CREATE_ACCOUNTS, 1),
         Step::Pulse(5),
         Step::Packet(CREATE_ACCOUNTS, 2),
     ];
-    let gate = Notes::new(0);
-    let report = run_queued(&rt, rt.alloc(), &steps, false, &[], &gate);
+    let gate = Notes::new(yes_at);
+    let report = run_queued(rt, alloc, &steps, false, &[], &gate);
     assert_eq!(rt;
         (gate.sealed.load(SeqCst), gate.asked.load(SeqCst)),
-        (12, 12)
+        (12, asked)
     );
-    assert_run(&rt, report, 6, &[Told::Committed(0), Told::Committed(2)]);
+    assert_run(rt, report, 6, &[Told::Committed(0), Told::Committed(2)]);
+}
+
+/// Each batch is asked for once, and the pulse isn't.
+#[test]
+fn batches_counted_without_pulses(rt: HostRuntime) {
+    assert_asked(&rt, rt.alloc(), 1, 12);
 }
 
 /// A gate that says no three times is asked a fourth time for the same batch.
 #[test]
 fn asked_until_it_says_yes(rt: HostRuntime) {
-    let steps = [Step::Packet(CREATE_ACCOUNTS, 1)];
-    let gate = Notes::new(1111);
-    let report = run_queued(&rt, rt.alloc(), &steps, false, &[], &gate);
-    assert_eq!(rt;
-        (gate.sealed.load(SeqCst), gate.asked.load(SeqCst)),
-        (1, 1111)
-    );
-    assert_run(&rt, report, 1, &[Told::Committed(0)]);
+    assert_asked(&rt, rt.alloc(), 4, 11_112_222);
 }
 
 /// A batch is told as sealed once the committer can take it.

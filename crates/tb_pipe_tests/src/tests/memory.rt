@@ -7,6 +7,7 @@ ghost use Rattle.tb_submit.specs.Ends.{control_seat, end_origin, origin_of};
 ghost use Rattle.tb_pipe_tests.specs.Together.{AreTogether};
 
 use super::driven::{Course, Driving, Saw, drive_lone, run};
+use super::gates::Counted;
 use super::{
     CREATE_ACCOUNTS, Ends, Lone, Told, clock, end_control, end_one, finish, next_told, opened_lone,
     packet_of, queue_pulse, room_for_ends, submit,
@@ -241,7 +242,7 @@ fn assert_first_commit<R: Threads + Wait + Sync + Abort + Print>(
     requires own { map end_origin driving.ends.items ++ origin_of driving.last ∷ [] ≡ driving.pipeline.submitters }
     requires control { driving.control.seat ≡ control_seat driving.pipeline.intake }
 {
-    match run(rt, alloc, driving, Course::ReadTwo) {
+    match run(rt, alloc, driving, Course::ReadTwo, &Counted::new(u64::MAX)) {
         Ok((report, saw)) => {
             if report.ledger.places() == 0 {
                 assert_eq!(rt; (saw, clock(&report)), (ALL_STOPPED, 0));

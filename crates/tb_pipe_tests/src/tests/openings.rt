@@ -1,11 +1,11 @@
 //! Openings and submissions that are refused, before anything is served.
 
-use super::{CREATE_ACCOUNTS, answer_to, look_of, open_lone, packet_of, submit};
+use super::{CREATE_ACCOUNTS, answer_to, look_of, open_lone, packet_of, queue_pulse, submit};
 use std::alloc::Global;
 use std::process::Abort;
 use std::sync::Wait;
 use tb_pipe::open;
-use tb_submit::Submitter;
+use tb_submit::{Control, Submitter};
 use tb_work::Refusal;
 
 /// Why an opening with a credit of 4 is refused.
@@ -47,6 +47,25 @@ fn full_queue_of_one(rt: HostRuntime) {
     );
     assert_full(&rt, rt.alloc(), submitter, 2);
     drop(lone);
+}
+
+/// So many pulses are queued, and one more is refused.
+fn fill<R: Wait + Abort>(rt: &R, control: &mut Control, places: u32) {
+    for moment in 0..places {
+        queue_pulse(rt, control, u64::from(moment));
+    }
+    assert!(rt; control.queued() < 1 << 56);
+    assert!(rt; control.pulse(rt, 0) == Err(Refusal::Full));
+}
+
+/// The queue has as many places as the capacity that was asked for.
+#[test]
+fn full_queues(rt: HostRuntime) {
+    for capacity in [1, 3, 100, 65_536] {
+        let mut lone = open_lone(&rt, rt.alloc(), capacity, 4);
+        fill(&rt, &mut lone.control, capacity);
+        drop(lone);
+    }
 }
 
 /// The credit is looked at after the packet's operation.

@@ -25,17 +25,22 @@ impl Read for FailsAtSecond {
     }
 }
 
-/// Gives the same byte again and again, so many in all, and at most so many with each read.
+/// Gives the same byte again and again, so many in all, and at most so many with each read. A read behind its end fails.
 #[derive(Drop)]
 struct Repeated {
     byte: u8,
     left: usize,
     at_once: usize,
+    ended: bool,
 }
 
 impl Read for Repeated {
     fn read(&mut self, buffer: &mut [u8]) -> io::Result<usize> {
+        if self.ended {
+            return Err(io::Error::other("read behind the end"));
+        }
         let count = buffer.len().min(self.left).min(self.at_once);
+        self.ended = count == 0;
         for place in 0..count {
             buffer[place] = self.byte;
         }
@@ -69,6 +74,54 @@ impl Write for FailsToFlush {
 
     fn flush(&mut self) -> io::Result<()> {
         Err(io::Error::other("full"))
+    }
+}
+
+/// Is interrupted at first, then takes a byte at a time, and notes how many it has taken as it is to hand them on.
+#[derive(Drop)]
+struct OneAtATime {
+    interrupted: bool,
+    taken: usize,
+    flushed: usize,
+}
+
+impl Write for OneAtATime {
+    fn write(&mut self, bytes: &[u8]) -> io::Result<usize> {
+        if !self.interrupted {
+            self.interrupted = true;
+            return Err(io::Error::from(io::ErrorKind::Interrupted));
+        }
+        let count = bytes.len().min(1);
+        self.taken = self.taken.wrapping_add(count);
+        Ok(count)
+    }
+
+    fn flush(&mut self) -> io::Result<()> {
+        self.flushed = self.taken;
+        Ok(())
+    }
+}
+
+/// A writer that has taken nothing.
+fn one_at_a_time() -> OneAtATime {
+    OneAtATime {
+        interrupted: false,
+        taken: 0,
+        flushed: 0,
+    }
+}
+
+/// All eight bytes of `clock 1` and its end are taken, and none behind the last flush.
+#[test]
+fn flush_behind_the_last_byte(rt: HostRuntime) {
+    let mut listed = one_at_a_time();
+    let answer = run_script(rt.alloc(), &mut "clock 1\n".as_bytes(), &mut listed);
+    assert!(rt; matches!(&answer, Ok(true)));
+    let mut ran = one_at_a_time();
+    let answer = run_threads(&rt, rt.alloc(), &mut "clock 1\n".as_bytes(), &mut ran);
+    assert!(rt; matches!(&answer, Ok(true)));
+    for writer in [listed, ran] {
+        assert_eq!(rt; (writer.taken, writer.flushed), (8, 8));
     }
 }
 
@@ -114,10 +167,12 @@ fn write_of_a_run_fails(rt: HostRuntime) {
     assert!(rt; matches!(&answer, Err(ProgramFault::Write)));
 }
 
-/// A byte, how often it stands in a script that has no other, and what is written for the script.
-const LENGTHS: [(u8, usize, &str); 3] = [
+/// A byte, how often it stands in a script that has no other, and what is written for the script. One that never ends
+/// isn't read to its end.
+const LENGTHS: [(u8, usize, &str); 4] = [
     (10, 16_777_216, "clock 0\n"),
     (10, 16_777_217, "fault 0 script too long\n"),
+    (10, usize::MAX, "fault 0 script too long\n"),
     (32, 16_777_216, "fault 1 line too long\n"),
 ];
 
@@ -137,6 +192,7 @@ fn script_lengths(rt: HostRuntime) {
             byte: *byte,
             left: *left,
             at_once: usize::MAX,
+            ended: false,
         };
         assert_output(&rt, script, output);
     }
@@ -148,6 +204,7 @@ fn longest_script_a_byte_at_a_time(rt: HostRuntime) {
         byte: 10,
         left: 16_777_216,
         at_once: 1,
+        ended: false,
     };
     assert_output(&rt, script, "clock 0\n");
 }

@@ -292,3 +292,55 @@ fn two_thousand_packets(rt: HostRuntime) {
     let wanted = wanted_of_two_thousand(&rt);
     assert_run(&rt, script.as_str(), wanted.as_str());
 }
+
+/// 200 packets of one submitter, each of which waits for the reply to the one before it, and a Close.
+fn of_one_by_one(rt: &(impl Abort + Alloc<A = Global>)) -> String {
+    let settings = "submitters 1\ncredit 1\nshut\n";
+    let mut script = String::from_str(rt.alloc(), settings).expect(rt, "memory");
+    for _ in 0..200 {
+        script
+            .push_str("packet 0 129\naccount id=0\n")
+            .expect(rt, "memory");
+    }
+    script
+}
+
+/// What is wanted of them where so many are ahead of the Close: the next one is shut down, and all others are refused since
+/// that was read.
+fn wanted_of_one_by_one(rt: &(impl Abort + Alloc<A = Global>), ahead: u32) -> String {
+    let mut wanted = String::new(rt.alloc());
+    for number in 0..200u32 {
+        if number < ahead {
+            write!(wanted, "packet 0 {number} committed {number} 0:6\n").expect(rt, "memory");
+        } else if number == ahead {
+            write!(wanted, "packet 0 {number} shutdown\n").expect(rt, "memory");
+        } else {
+            wanted
+                .push_str("packet 0 refused 7 Shutdown\n")
+                .expect(rt, "memory");
+        }
+    }
+    write!(wanted, "clock {ahead}\n").expect(rt, "memory");
+    wanted
+}
+
+/// How many lines of an output are those of committed packets.
+fn committed_in(output: &str) -> u32 {
+    let mut committed = 0u32;
+    for line in output.lines() {
+        if line.contains(" committed ") {
+            committed = committed.saturating_add(1);
+        }
+    }
+    committed
+}
+
+#[test]
+fn refused_behind_a_close(rt: HostRuntime) {
+    let script = of_one_by_one(&rt);
+    for _ in 0..TURNS {
+        let output = ran(&rt, script.as_str());
+        let wanted = wanted_of_one_by_one(&rt, committed_in(output.as_str()));
+        assert!(rt; output.as_str() == wanted.as_str(), "run wrote {output:?}");
+    }
+}

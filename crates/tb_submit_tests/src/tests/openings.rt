@@ -50,18 +50,22 @@ fn takes_reply(rt: &(impl Abort + Alloc<A = Global>), outlet: &mut Outlet<Reply>
     given.is_ok()
 }
 
-fn give_four(rt: &(impl Abort + Alloc<A = Global>), outlet: &mut Outlet<Reply>) {
-    for wanted in [true, true, true, false] {
-        assert_eq!(rt; takes_reply(rt, outlet), wanted);
+/// So many replies are taken, and no more.
+fn fill(rt: &(impl Abort + Alloc<A = Global>), outlet: &mut Outlet<Reply>, credit: u32) {
+    for _ in 0..credit {
+        assert!(rt; takes_reply(rt, outlet));
     }
+    assert!(rt; !takes_reply(rt, outlet));
 }
 
 /// An outlet takes as many unread replies as the credit, and no more.
 #[test]
 fn as_many_replies_as_the_credit(rt: HostRuntime) {
-    let (submitter, mut ends) = queue_of(&rt, 4, 8, 3);
-    assert!(rt; ends.outlets.len() == 1);
-    give_four(&rt, &mut ends.outlets[0]);
-    drop(submitter);
-    drop(ends);
+    for credit in [1, 3, 100, 65_536] {
+        let (submitter, mut ends) = queue_of(&rt, 4, 8, credit);
+        assert!(rt; ends.outlets.len() == 1);
+        fill(&rt, &mut ends.outlets[0], credit);
+        drop(submitter);
+        drop(ends);
+    }
 }

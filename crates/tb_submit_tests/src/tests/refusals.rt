@@ -141,11 +141,13 @@ fn fill(rt: &(impl Abort + Wait), control: &mut Control, places: u64) {
     assert_eq!(rt; pulse(rt, control, 0), Err(Refusal::Full));
 }
 
-/// The queue has as many places as were asked for, also where that is no power of two.
+/// The queue has as many places as were asked for, also where that is no power of two, or the most that there may be.
 #[test]
 fn full_queue_of_a_hundred(rt: HostRuntime) {
-    let (submitter, mut ends) = queue_of(&rt, 4, 100, 1);
-    fill(&rt, &mut ends.control, 100);
-    drop(submitter);
-    drop(ends);
+    for places in [100, 65_536] {
+        let (submitter, mut ends) = queue_of(&rt, 4, places, 1);
+        fill(&rt, &mut ends.control, u64::from(places));
+        drop(submitter);
+        drop(ends);
+    }
 }
