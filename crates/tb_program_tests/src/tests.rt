@@ -63,7 +63,7 @@ fn assert_both<R: Abort + Threads + Wait + Sync + Alloc<A = Global>>(
 }
 
 /// The line of a packet's bytes, each of which has these two digits, after other lines.
-fn bytes_behind(
+fn bytes_after(
     rt: &(impl Abort + Alloc<A = Global>),
     lines: &str,
     digits: &str,

@@ -84,7 +84,7 @@ impl Notes {
     }
 }
 
-/// Puts a batch behind a note. One thread alone writes each note.
+/// Puts a batch after a note. One thread alone writes each note.
 fn note(notes: &AtomicU64, batch: u64) {
     let noted = notes.load(SeqCst).wrapping_mul(10);
     notes.store(noted.wrapping_add(batch).wrapping_add(1), SeqCst);

@@ -1,4 +1,4 @@
-use super::{assert_both, assert_list, bytes_behind};
+use super::{assert_both, assert_list, bytes_after};
 use std::alloc::Global;
 use std::process::Abort;
 
@@ -124,7 +124,7 @@ fn bad_account_fields(rt: HostRuntime) {
 
 #[test]
 fn hostile_bytes(rt: HostRuntime) {
-    let script = bytes_behind(&rt, "limit 4\npacket 0 129\n", "fF", 256);
+    let script = bytes_after(&rt, "limit 4\npacket 0 129\n", "fF", 256);
     assert_both(
         &rt,
         script.as_str(),

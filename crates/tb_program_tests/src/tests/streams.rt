@@ -25,7 +25,7 @@ impl Read for FailsAtSecond {
     }
 }
 
-/// Gives the same byte again and again, so many in all, and at most so many with each read. A read behind its end fails.
+/// Gives the same byte again and again, so many in all, and at most so many with each read. A read after its end fails.
 #[derive(Drop)]
 struct Repeated {
     byte: u8,
@@ -37,7 +37,7 @@ struct Repeated {
 impl Read for Repeated {
     fn read(&mut self, buffer: &mut [u8]) -> io::Result<usize> {
         if self.ended {
-            return Err(io::Error::other("read behind the end"));
+            return Err(io::Error::other("read after the end"));
         }
         let count = buffer.len().min(self.left).min(self.at_once);
         self.ended = count == 0;
@@ -111,9 +111,9 @@ fn one_at_a_time() -> OneAtATime {
     }
 }
 
-/// All eight bytes of `clock 1` and its end are taken, and none behind the last flush.
+/// All eight bytes of `clock 1` and its end are taken, and none after the last flush.
 #[test]
-fn flush_behind_the_last_byte(rt: HostRuntime) {
+fn flush_after_the_last_byte(rt: HostRuntime) {
     let mut listed = one_at_a_time();
     let answer = run_script(rt.alloc(), &mut "clock 1\n".as_bytes(), &mut listed);
     assert!(rt; matches!(&answer, Ok(true)));

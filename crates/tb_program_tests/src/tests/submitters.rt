@@ -12,12 +12,12 @@ const TURNS: u32 = 10;
 /// The number that stands in a line where the wanted one has a `*`, or None where the wanted one has no `*` and is the
 /// line.
 fn number_in(rt: &impl Abort, line: &str, wanted: &str) -> Option<u64> {
-    let Some((front, behind)) = wanted.split_once('*') else {
+    let Some((front, end)) = wanted.split_once('*') else {
         assert!(rt; line == wanted, "{line} in place of {wanted}");
         return None;
     };
     let rest = line.strip_prefix(front).expect(rt, "the line's front");
-    let number = rest.strip_suffix(behind).expect(rt, "the line's end");
+    let number = rest.strip_suffix(end).expect(rt, "the line's end");
     Some(number.parse::<u64>().ok().expect(rt, "a number"))
 }
 

@@ -1,4 +1,4 @@
-use super::{assert_both, assert_list, bytes_behind};
+use super::{assert_both, assert_list, bytes_after};
 use std::alloc::Global;
 use std::process::Abort;
 use std::sync::Wait;
@@ -9,13 +9,13 @@ const TWO_ACCOUNTS: &str =
     "packet 0 129\naccount id=1 ledger=1 code=1\naccount id=2 ledger=1 code=1\n";
 
 /// As `assert_list`, for a script after the packet of accounts 1 and 2.
-fn assert_list_behind(rt: &(impl Abort + Alloc<A = Global>), script: &str, output: &str) {
+fn assert_list_after(rt: &(impl Abort + Alloc<A = Global>), script: &str, output: &str) {
     let text = format!(in rt.alloc(); "{TWO_ACCOUNTS}{script}").expect(rt, "memory");
     assert_list(rt, text.as_str(), output);
 }
 
 /// As `assert_both`, for a script after the packet of accounts 1 and 2.
-fn assert_both_behind<R: Abort + Threads + Wait + Sync + Alloc<A = Global>>(
+fn assert_both_after<R: Abort + Threads + Wait + Sync + Alloc<A = Global>>(
     rt: &R,
     script: &str,
     output: &str,
@@ -53,7 +53,7 @@ account 3 3 0 0 0 0
 
 #[test]
 fn post_then_void(rt: HostRuntime) {
-    assert_both_behind(
+    assert_both_after(
         &rt,
         "packet 0 130
 transfer id=1 debit_account_id=1 credit_account_id=2 amount=100 ledger=1 code=1 flags=2
@@ -83,7 +83,7 @@ transfer id=2 amount=340282366920938463463374607431768211455 pending_id=1 flags=
 #[test]
 fn late_post_then_pulse(rt: HostRuntime) {
     let script = format!(in rt.alloc(); "{LATE_POST}pulse 0\n").expect(&rt, "memory");
-    assert_list_behind(
+    assert_list_after(
         &rt,
         script.as_str(),
         "packet 0 0 committed 0
@@ -100,7 +100,7 @@ account 2 2 0 0 0 0
 
 #[test]
 fn late_post_without_the_last_pulse(rt: HostRuntime) {
-    assert_list_behind(
+    assert_list_after(
         &rt,
         LATE_POST,
         "packet 0 0 committed 0
@@ -116,7 +116,7 @@ account 2 2 0 0 100 0
 
 #[test]
 fn overflowing_pending_sums(rt: HostRuntime) {
-    assert_both_behind(
+    assert_both_after(
         &rt,
         "packet 0 130
 transfer id=1 debit_account_id=1 credit_account_id=2 amount=340282366920938463463374607431768211455 ledger=1 code=1 flags=2
@@ -134,7 +134,7 @@ account 2 2 0 0 340282366920938463463374607431768211455 0
 
 #[test]
 fn repeated_post(rt: HostRuntime) {
-    assert_both_behind(
+    assert_both_after(
         &rt,
         "packet 0 130
 transfer id=1 debit_account_id=1 credit_account_id=2 amount=100 ledger=1 code=1 flags=2
@@ -173,7 +173,7 @@ account 2 9223372036854775002 0 0 0 0
 
 #[test]
 fn transfer_refusals(rt: HostRuntime) {
-    assert_both_behind(
+    assert_both_after(
         &rt,
         "packet 0 130
 transfer id=1 debit_account_id=1 credit_account_id=2 amount=30 ledger=1 code=1
@@ -193,7 +193,7 @@ account 2 2 0 0 0 30
 
 #[test]
 fn expiry_void_and_untimed(rt: HostRuntime) {
-    assert_list_behind(
+    assert_list_after(
         &rt,
         "packet 0 130
 transfer id=1 debit_account_id=1 credit_account_id=2 amount=100 timeout=1 ledger=1 code=1 flags=2
@@ -226,7 +226,7 @@ pulse 1000000004
 
 #[test]
 fn expiry_order(rt: HostRuntime) {
-    assert_list_behind(
+    assert_list_after(
         &rt,
         EXPIRY_ORDER,
         "packet 0 0 committed 0
@@ -239,7 +239,7 @@ account 2 2 0 0 40 0
 ",
     );
     let script = format!(in rt.alloc(); "{EXPIRY_ORDER}pulse 1000000005\n").expect(&rt, "memory");
-    assert_list_behind(
+    assert_list_after(
         &rt,
         script.as_str(),
         "packet 0 0 committed 0
@@ -256,7 +256,7 @@ account 2 2 0 0 10 0
 
 #[test]
 fn id_already_failed(rt: HostRuntime) {
-    assert_both_behind(
+    assert_both_after(
         &rt,
         "packet 0 130
 transfer id=1 debit_account_id=1 credit_account_id=2 amount=5 ledger=1 code=1 flags=1
@@ -293,7 +293,7 @@ fn moment_too_large(rt: HostRuntime) {
 
 #[test]
 fn hostile_bytes_of_transfers(rt: HostRuntime) {
-    let script = bytes_behind(&rt, "packet 0 130\n", "ff", 256);
+    let script = bytes_after(&rt, "packet 0 130\n", "ff", 256);
     assert_both(
         &rt,
         script.as_str(),
