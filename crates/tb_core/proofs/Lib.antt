@@ -1,14 +1,13 @@
-mod Passing
-mod Accounting
+pub mod Passing
+pub mod Accounting
 mod Bodies
 mod Answering
 mod Committing
 mod Batches
 mod Recording
 mod Growing
-mod Committed
+pub mod Committed
 mod Grouped
-mod Runs
+pub mod Runs
 mod Listing
-mod orders
 mod Examples

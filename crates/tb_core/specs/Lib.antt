@@ -6,4 +6,3 @@ pub mod Ledger
 pub mod BatchAnswer
 pub mod Report
 pub mod Run
-pub mod world

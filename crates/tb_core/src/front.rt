@@ -125,7 +125,7 @@ impl Front {
     }
 
     /// Whether a group is held. Takes no memory.
-    pub(crate) fn is_holding(&self) -> bool
+    pub fn is_holding(&self) -> bool
         ensures { result ≡ not (length self.now.held == 0) }
     {
         !self.batcher.is_empty()
@@ -241,7 +241,7 @@ impl Front {
     /// Takes one ticket where its growth isn't refused, and puts what is handed on into the parcels. Where it is
     /// refused, the ticket and all else are as before. The ticket is lent: handing up what is as large, for each of
     /// them, would cost more than the rest.
-    pub(crate) fn try_take(
+    pub fn try_take(
         &mut self,
         parcels: &mut ArrayVec<Parcel, 2>,
         ticket: &mut Ticket,
@@ -263,7 +263,7 @@ impl Front {
     }
 
     /// Takes one ticket whose growth is refused, and puts what is handed on into the parcels.
-    pub(crate) fn step_refused(&mut self, parcels: &mut ArrayVec<Parcel, 2>, ticket: Ticket)
+    pub fn step_refused(&mut self, parcels: &mut ArrayVec<Parcel, 2>, ticket: Ticket)
         requires sender { ticket.sender ≤ self.old.submitters }
         requires empty { parcels.old.items ≡ [] }
         ensures took { take_result self.new parcels.new.items ≡ take_step true self.old ticket.sender ticket.item }

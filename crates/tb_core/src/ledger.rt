@@ -261,7 +261,7 @@ impl Ledger {
     }
 
     /// Applies one parcel where its growth isn't refused. Where it is, the parcel comes back, and nothing has changed.
-    pub(crate) fn try_apply(&mut self, parcel: Parcel) -> Result<Outcomes, Parcel>
+    pub fn try_apply(&mut self, parcel: Parcel) -> Result<Outcomes, Parcel>
         ensures ok { IfOk result (λ outcomes. apply_result self.new outcomes ≡ apply_step false self.old parcel) }
         ensures err { IfErr result (λ back. (back ≡ parcel) × (self.new ≡ self.old)) }
         ensures some { HasPackets parcel }

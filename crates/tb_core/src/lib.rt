@@ -27,7 +27,6 @@ mod ledger;
 mod list;
 mod outcomes;
 mod parcel;
-mod world;
 
 pub use front::Front;
 pub use journal::Entry;
@@ -36,4 +35,3 @@ pub use ledger::Ledger;
 pub use list::{Listed, run_list};
 pub use outcomes::Outcomes;
 pub use parcel::{Cause, Parcel};
-pub use world::{Event, World, run_world};

@@ -4,8 +4,8 @@ use super::made::{Made, item};
 use super::told::{Noted, Told, assert_noted, assert_told};
 use std::alloc::Global;
 use std::process::Abort;
-use tb_core::{Event, World};
 use tb_work::{Refusal, Ticket};
+use tb_world::{Event, World};
 
 mod answers;
 mod examples;

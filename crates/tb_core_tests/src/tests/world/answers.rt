@@ -5,9 +5,9 @@ use crate::tests::made::{Made, account, creating};
 use crate::tests::told::Noted;
 use std::alloc::Global;
 use std::process::Abort;
-use tb_core::{Event, World};
 use tb_layout::Account;
 use tb_work::{Item, Job, Ticket};
+use tb_world::{Event, World};
 
 const PUSHES: [(Step, bool); 15] = [
     // A stranger.

@@ -5,8 +5,8 @@ use crate::tests::made::Made;
 use crate::tests::told::{Noted, Told};
 use std::alloc::Global;
 use std::process::Abort;
-use tb_core::{Event, World, run_world};
 use tb_work::Refusal;
+use tb_world::{Event, World, run_world};
 
 const FIRST: Step = Step::Push(0, Made::Packet { number: 0, id: 1 });
 

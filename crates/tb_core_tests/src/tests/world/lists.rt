@@ -5,8 +5,9 @@ use crate::tests::made::Made;
 use crate::tests::told::{Told, told_by};
 use std::alloc::Global;
 use std::process::Abort;
-use tb_core::{Entry, World};
+use tb_core::Entry;
 use tb_work::{Reply, Stub};
+use tb_world::World;
 
 /// What was pushed, with the sender of a packet or an End.
 #[derive(Clone, Copy, PartialEq, Eq)]

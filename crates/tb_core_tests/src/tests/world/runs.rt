@@ -5,9 +5,9 @@ use crate::tests::made::{Made, account, creating, transfer, transferring};
 use crate::tests::told::{Noted, Told, assert_failures, assert_noted, assert_told};
 use std::alloc::Global;
 use std::process::Abort;
-use tb_core::{Event, World, run_world};
 use tb_layout::{Account, Failure, Transfer};
 use tb_work::{Item, Job, Refusal, Ticket};
+use tb_world::{Event, World, run_world};
 
 /// Puts an event after the others.
 fn add(events: &mut Vec<Event>, event: Event) -> Result<(), Refusal> {

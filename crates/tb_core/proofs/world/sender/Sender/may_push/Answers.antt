@@ -1,5 +1,0 @@
-use Rattle.std.proofs.Common.{rules}
-use Rattle.tb_core.proofs.world.sender.Sender.may_push.Goals as goal
-
-pub returns-then-from-self : goal.returns-then-from-self
-returns-then-from-self c = search rules

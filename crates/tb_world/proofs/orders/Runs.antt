@@ -1,0 +1,186 @@
+-- Every order of steps: what holds of a World after a list of events.
+use Rattle.std.proofs.Common.{refl, sym, ap, subst, ◌∙◌, arith, ◌≡◌, ℕ, ◌+◌, ◌^◌, ◌≤◌, Bool, true, false, List, [], ◌∷◌, ◌++◌, length, append_assoc, append-nil, length-append, replicate, None}
+use Rattle.std.specs.Prelude.{if◌then◌else◌}
+use Rattle.std.specs.List.{list_any}
+use Rattle.std.proofs.lemmas.List.{get_or-replicate, length-replicate, length-map}
+use Rattle.std.proofs.lemmas.Bool.{le-ltb, or_parts}
+use Rattle.tb_work.specs.Queue.{ahead, items_in}
+use Rattle.tb_work.specs.Work.{work_of}
+use Rattle.tb_work.specs.declared.item.Item.{Item}
+use Rattle.tb_work.specs.declared.item.Item.TheVariants as item
+use Rattle.tb_work.specs.declared.item.Ticket.{Ticket}
+use Rattle.tb_core.specs.declared.parcel.Parcel.{Parcel}
+use Rattle.tb_core.specs.declared.parcel.Parcel.TheVariants as parcel
+use Rattle.tb_world.specs.declared.event.Event.{Event}
+use Rattle.tb_world.specs.declared.event.Event.TheVariants.{Push, Pop, BatchPush, BatchPop, OutcomePush, OutcomePop, ReplyPush, ReplyPop}
+use Rattle.tb_core.specs.Due.{works_in}
+use Rattle.tb_core.specs.Front.{passages_in}
+use Rattle.tb_core.specs.Ledger.{LedgerState, Applied, works, must_stop, apply_step}
+use Rattle.tb_world.specs.Pushing.{newcomer}
+use Rattle.tb_world.specs.Shelf.{Shelf, empty_shelf, shelf_at}
+use Rattle.tb_world.specs.World.{WorldState, is_lawful, after_event, run, new_world}
+use Rattle.tb_world.specs.EveryOrder.{pushed_at, history, is_refused}
+use Rattle.tb_core.proofs.Committed.{works_in-append, works_in-admitted}
+use Rattle.tb_core.proofs.Runs.{so_far}
+use Rattle.tb_world.proofs.orders.Pushed.{none_pushed}
+use Rattle.tb_world.proofs.orders.Holding.{on_the_way, Holds, GoesOn, push_holds, pop_holds, batch_push_holds, batch_pop_holds, outcome_push_holds, outcome_pop_holds, reply_push_holds, reply_pop_holds}
+
+-- ---- where nothing was refused the next parcel is committed: there are fewer places than 2^63
+
+length-ahead : (items : List Item) → length (ahead items) ≤ length items
+length-ahead [] = omega arith
+length-ahead (item.Packet job ∷ items) = omega (arith, length-ahead items)
+length-ahead (x ∷ items) = omega (arith, length-ahead items)
+
+goes_on : (ledger : LedgerState) (p : Parcel) → ledger.stopped ≡ false
+    → length (works ledger) + length (works_in (passages_in p)) ≤ 2 ^ 63
+    → (apply_step false ledger p).ledger.stopped ≡ false
+goes_on ledger p goes room = by p room
+  where
+    committed : (count : ℕ) (x y : Applied) → length (works ledger) + count ≤ 2 ^ 63 → y.ledger.stopped ≡ false
+        → (if must_stop false ledger count then x else y).ledger.stopped ≡ false
+    committed count x y room on = rw (goes, le-ltb (2 ^ 63) (length (works ledger) + count) room) on
+
+    by : (p : Parcel) → length (works ledger) + length (works_in (passages_in p)) ≤ 2 ^ 63
+        → (apply_step false ledger p).ledger.stopped ≡ false
+    by (parcel.Batch jobs) room =
+        committed (length jobs) _ _ (omega (
+          arith,
+          room,
+          ap length
+              (works_in-admitted jobs),
+          length-map jobs work_of,
+        )) goes
+    by (parcel.Pulse moment) room = committed 1 _ _ room goes
+    by p room = goes
+
+pub parcel_goes : (Unrefused : Type 0) (refused : Bool) (clock n : ℕ) (pushed : List Ticket) (w : WorldState)
+    → (Unrefused → refused ≡ false) → length pushed ≤ 2 ^ 63 → Holds Unrefused clock n pushed w
+    → GoesOn Unrefused refused w
+parcel_goes Unrefused refused clock n pushed w u short h = λ is p batches e.
+    let on_way = on_the_way w.front w.parcels w.batches in
+    let rest = on_the_way w.front w.parcels batches in
+    let way : works_in on_way ≡ works_in (passages_in p)
+    ++ works_in rest =
+    rw e (ap works_in (append_assoc (passages_in p) _ _) ∙ works_in-append (passages_in p) rest) in
+    let far = so_far clock (items_in h.taken) w.front.closed w.front.stopped h.applied on_way w.ledger h.answers
+    h.sent.passes h.commits in
+    let all = far.whole (h.goes is).front (h.goes is).ledger in
+    let few : length (ahead (items_in h.taken)) ≤ length pushed = omega (
+      arith,
+      length-ahead (items_in h.taken),
+      length-map h.taken
+          (λ (ticket : Ticket). ticket.item),
+      ap length h.split,
+      length-append h.taken w.queue,
+    ) in
+    let sum = ap length way ∙ length-append (works_in (passages_in p)) (works_in rest) in
+    let room : length (works w.ledger) + length (works_in (passages_in p))
+    ≤ 2 ^ 63 =
+    omega (arith, short, few, sum, ap length all, length-append (works w.ledger) (works_in on_way)) in
+    subst (λ b. (apply_step b w.ledger p).ledger.stopped ≡ false) (sym (u is))
+    (goes_on w.ledger p (h.goes is).ledger room)
+
+-- ---- one event
+
+none_more : (Unrefused : Type 0) (clock n : ℕ) (pushed : List Ticket) (w : WorldState)
+    → Holds Unrefused clock n pushed w → Holds Unrefused clock n (pushed ++ []) w
+none_more Unrefused clock n pushed w h = subst (λ l. Holds Unrefused clock n l w) (sym (append-nil pushed)) h
+
+event_holds : (Unrefused : Type 0) (clock n : ℕ) (pushed : List Ticket) (w : WorldState) (e : Event)
+    → (Unrefused → is_refused e ≡ false) → length pushed ≤ 2 ^ 63 → Holds Unrefused clock n pushed w →
+    Holds Unrefused clock n (pushed ++ pushed_at w e) (after_event w e)
+event_holds U clock n pushed w (Push ticket) u short h =
+    push_holds U clock n pushed w ticket (is_lawful w ticket) refl h
+event_holds U clock n pushed w (Pop refused) u short h =
+    none_more U clock n pushed _ (pop_holds U refused clock n pushed w w.parcels w.queue refl refl u h)
+event_holds U clock n pushed w BatchPush u short h =
+    none_more U clock n pushed _ (batch_push_holds U clock n pushed w w.parcels w.front.held refl refl h)
+event_holds U clock n pushed w (BatchPop refused) u short h =
+    none_more U clock n pushed _ (batch_pop_holds U refused clock n pushed w w.outcome w.batches refl refl
+    (parcel_goes U refused clock n pushed w u short h) h)
+event_holds U clock n pushed w OutcomePush u short h =
+    none_more U clock n pushed _ (outcome_push_holds U clock n pushed w w.outcome refl h)
+event_holds U clock n pushed w OutcomePop u short h =
+    none_more U clock n pushed _ (outcome_pop_holds U clock n pushed w w.replies w.outcomes refl refl h)
+event_holds U clock n pushed w ReplyPush u short h =
+    none_more U clock n pushed _ (reply_push_holds U clock n pushed w w.replies refl h)
+event_holds U clock n pushed w (ReplyPop own) u short h =
+    none_more U clock n pushed _ (reply_pop_holds U clock n pushed w own (shelf_at w.shelves own).ring refl h)
+
+-- ---- a list of events
+
+run_holds : (U : Type 0) (clock n : ℕ) (pushed : List Ticket) (w : WorldState) (es : List Event)
+    → (U → list_any is_refused es ≡ false) → length (pushed ++ history w es) ≤ 2 ^ 63 → Holds U clock n pushed w →
+    Holds U clock n (pushed ++ history w es) (run w es)
+run_holds U clock n pushed w [] u short h = none_more U clock n pushed w h
+run_holds U clock n pushed w (e ∷ es) u short h =
+    let others = history (after_event w e) es in
+    let list : (pushed ++ pushed_at w e) ++ others
+    ≡ pushed ++ (pushed_at w e ++ others) = append_assoc pushed (pushed_at w e) others in
+    subst (λ l. Holds U clock n l (run (after_event w e) es)) list
+    (run_holds U clock n (pushed ++ pushed_at w e) (after_event w e) es
+    (λ is. (or_parts (is_refused e) (list_any is_refused es) (u is)).1)
+    (subst (λ l. length l ≤ 2 ^ 63) (sym list) short)
+    (event_holds U clock n pushed w e (λ is. (or_parts (is_refused e) (list_any is_refused es) (u is)).0)
+    (omega (arith, short, length-append pushed (pushed_at w e ++ others))) h))
+
+-- at most one ticket an event
+length-history : (w : WorldState) (es : List Event) → length (history w es) ≤ length es
+length-history w [] = omega arith
+length-history w (e ∷ es) =
+    omega (
+      arith,
+      length-append (pushed_at w e) (history (after_event w e) es),
+      length-history
+          (after_event w e) es,
+      one e,
+    )
+  where
+    by : (b : Bool) (ticket : Ticket) → length (if b then ticket ∷ [] else []) ≤ 1
+    by true ticket = omega arith
+    by false ticket = omega arith
+
+    one : (e : Event) → length (pushed_at w e) ≤ 1
+    one (Push ticket) = by (is_lawful w ticket) ticket
+    one e = omega arith
+
+opened_holds : (U : Type 0) (clock limit n : ℕ) → Holds U clock n [] (new_world clock limit n)
+opened_holds U clock limit n =
+    record {
+      taken = [];
+      applied = [];
+      answers = [];
+      split = refl;
+      counted = refl;
+      senders = none_pushed n (replicate (n + 1) newcomer) (length-replicate (n + 1) newcomer)
+          (λ sender among. get_or-replicate (n + 1) sender newcomer newcomer (omega (arith, among)));
+      sent = record {
+        passes = record { stop = None; all = refl; shut = refl; stops = refl; at_packet = tt };
+        clear = λ e. refl;
+        parcel_jobs = tt;
+        batch_jobs = tt;
+      };
+      commits = record {
+        from = refl;
+        behind = [];
+        committed = refl;
+        whole = λ any. refl;
+        unstopped = λ any. refl;
+        replied = refl;
+      };
+      routed = record {
+        long = length-replicate n empty_shelf;
+        each = λ submitter among. sym (ap (λ (shelf : Shelf). shelf.received ++ (shelf.ring ++ []))
+            (get_or-replicate n submitter empty_shelf empty_shelf among));
+      };
+      goes = λ is. record { front = refl; ledger = refl };
+    }
+
+pub all_holds : (clock limit n : ℕ) (es : List Event) → length es ≤ 2 ^ 63
+    → Holds (list_any is_refused es ≡ false) clock n (history (new_world clock limit n) es)
+    (run (new_world clock limit n) es)
+all_holds clock limit n es short =
+    run_holds (list_any is_refused es ≡ false) clock n [] (new_world clock limit n) es (λ is. is)
+    (omega (arith, short, length-history (new_world clock limit n) es))
+    (opened_holds (list_any is_refused es ≡ false) clock limit n)

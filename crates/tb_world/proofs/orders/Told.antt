@@ -1,0 +1,223 @@
+-- What a World's steps tell: so far, where nothing was refused, and at rest.
+use Rattle.std.proofs.Common.{refl, sym, ap, subst, ◌∙◌, ◌≡◌, ℕ, ◌^◌, ◌<◌, ◌≤◌, ◌==◌, Bool, false, List, [], ◌∷◌, ◌++◌, map, length, append_assoc, append-nil, Option, Some, None}
+use Rattle.std.specs.List.{list_any}
+use Rattle.std.proofs.lemmas.List.{map-append}
+use Rattle.std.proofs.lemmas.List.Elements.{filter-append}
+use Rattle.tb_layout.specs.Work.{Work}
+use Rattle.tb_work.specs.Job.{Numbered}
+use Rattle.tb_work.specs.Queue.{part, ahead, items_in}
+use Rattle.tb_work.specs.Reply.{Replied}
+use Rattle.tb_work.specs.declared.item.Item.{Item}
+use Rattle.tb_work.specs.declared.item.Ticket.{Ticket}
+use Rattle.tb_core.specs.declared.outcomes.Outcomes.{Outcomes}
+use Rattle.tb_core.specs.declared.parcel.Parcel.{Parcel}
+use Rattle.tb_world.specs.declared.event.Event.{Event}
+use Rattle.tb_world.specs.declared.event.Event.TheVariants.{Pop, BatchPush, BatchPop, OutcomePush, OutcomePop, ReplyPush, ReplyPop}
+use Rattle.tb_core.specs.Due.{outcome_at, reply_due, all_due_from, all_due, replies_to, works_in}
+use Rattle.tb_core.specs.Front.{all_passages_in, held_by}
+use Rattle.tb_core.specs.Ledger.{works}
+use Rattle.tb_core.specs.Passage.{Passage, Admitted, Place, Ahead, next_place, Passes}
+use Rattle.tb_core.specs.Run.{Ran}
+use Rattle.tb_world.specs.Shelf.{Shelf, shelf_at, after_pop_of}
+use Rattle.tb_world.specs.World.{WorldState, pop, batch_push, batch_pop, outcome_push, outcome_pop, reply_push, reply_pop, received_of, run, new_world}
+use Rattle.tb_world.specs.EveryOrder.{history, is_refused, IsAtRest, IsPrefix, IsLawfulSoFar, NoneStopped, Rests, HasRun}
+use Rattle.tb_core.proofs.Passing.{ahead-first}
+use Rattle.tb_core.proofs.Runs.{none_of_first, none_among, SoFar, so_far, run_is_lawful}
+use Rattle.tb_world.proofs.orders.Pushed.{numbered_by, queue_of_all}
+use Rattle.tb_world.proofs.orders.Holding.{on_the_way, unrouted, of_all, of_one, shelved, Holds, Goes}
+use Rattle.tb_world.proofs.orders.Runs.{all_holds}
+
+-- ---- prefixes
+
+due-prefix : (clock : ℕ) (journal : List Work) (place : Place) (items others : List Item)
+    → IsPrefix (all_due_from clock journal place items) (all_due_from clock journal place (items ++ others))
+due-prefix clock journal place [] others = (all_due_from clock journal place others, refl)
+due-prefix clock journal place (x ∷ items) others =
+    let first = reply_due (outcome_at clock journal place) x in
+    let more = due-prefix clock journal (next_place place x) items others in (
+      more.0,
+      append_assoc first (all_due_from clock journal (next_place place x) items) more.0
+          ∙ ap (λ rs. first ++ rs) more.1,
+    )
+
+through : {X : Type 0} (xs ys zs : List X) → IsPrefix xs ys → IsPrefix ys zs → IsPrefix xs zs
+through xs ys zs h g = (h.0 ++ g.0, sym (append_assoc xs h.0 g.0) ∙ ap (λ l. l ++ g.0) h.1 ∙ g.1)
+
+replies_to-prefix : (submitter : ℕ) (xs ys : List Replied) → IsPrefix xs ys
+    → IsPrefix (replies_to xs submitter) (replies_to ys submitter)
+replies_to-prefix submitter xs ys h =
+    let is_its : Replied → Bool = λ reply. reply.submitter == submitter in
+    (replies_to h.0 submitter, sym (filter-append is_its xs h.0) ∙ ap (λ rs. replies_to rs submitter) h.1)
+
+-- ---- so far
+
+module _ (U : Type 0) (clock n : ℕ) (pushed : List Ticket) (w : WorldState) (h : Holds U clock n pushed w) where
+  abbrev way : List Passage
+  way = on_the_way w.front w.parcels w.batches
+
+  far : SoFar clock (items_in h.taken) w.front.stopped w.ledger h.answers way
+  far = so_far clock (items_in h.taken) w.front.closed w.front.stopped h.applied way w.ledger
+      h.answers h.sent.passes h.commits
+
+  items_are : items_in pushed ≡ items_in h.taken ++ items_in w.queue
+  items_are = ap items_in h.split ∙ map-append (λ (ticket : Ticket). ticket.item) h.taken w.queue
+
+  is_lawful_so_far : IsLawfulSoFar clock n pushed w
+  is_lawful_so_far =
+      let before = items_in h.taken in
+      let after = items_in w.queue in
+      let journal = works w.ledger in
+      record {
+        submitted = h.senders.submitted;
+        numbered = numbered_by n pushed w.senders h.senders;
+        committed = rw items_are (through journal (ahead before) (ahead (before ++ after))
+            (far.behind, far.committed) (ahead-first before after));
+        received = λ submitter among.
+            let shelf = shelf_at w.shelves submitter in
+            let others = shelf.ring ++ replies_to (unrouted w.replies w.outcomes w.outcome) submitter in
+            let all = all_due clock (before ++ after) journal in
+            let answers = through h.answers (all_due clock before journal) all (far.later, far.due)
+            (due-prefix clock journal (Ahead 0) before after) in
+            rw items_are (through shelf.received (replies_to h.answers submitter) (replies_to all submitter)
+            (others, sym (h.routed.each submitter among)) (replies_to-prefix submitter h.answers all answers));
+      }
+
+  none_stopped : Goes w.front w.ledger → NoneStopped n w
+  none_stopped goes = λ submitter among.
+      let shelf = shelf_at w.shelves submitter in
+      let others = shelf.ring ++ replies_to (unrouted w.replies w.outcomes w.outcome) submitter in
+      none_of_first shelf.received others (replies_to h.answers submitter) (sym (h.routed.each submitter among))
+      (none_among (λ (reply : Replied). reply.submitter == submitter) h.answers
+      (far.untold goes.front goes.ledger))
+
+-- ---- at rest
+
+no_parcels : (w : WorldState) (parcels : List Parcel) (held : List Numbered) → batch_push w parcels held ≡ None
+    → (parcels ≡ []) × (held ≡ [])
+no_parcels w (p ∷ parcels) held h = cc
+no_parcels w [] (job ∷ jobs) h = cc
+no_parcels w [] [] h = (refl, refl)
+
+no_queue : (w : WorldState) (parcels : List Parcel) (queue : List Ticket) → parcels ≡ []
+    → pop false w parcels queue ≡ None → queue ≡ []
+no_queue w (p ∷ parcels) queue e h = cc
+no_queue w [] [] e h = refl
+no_queue w [] (ticket ∷ queue) e h = cc
+
+no_outcome : (w : WorldState) (outcome : Option Outcomes) → outcome_push w outcome ≡ None → outcome ≡ None
+no_outcome w None h = refl
+no_outcome w (Some outcome) h = cc
+
+no_batches : (w : WorldState) (outcome : Option Outcomes) (batches : List Parcel) → outcome ≡ None
+    → batch_pop false w outcome batches ≡ None → batches ≡ []
+no_batches w (Some outcome) batches e h = cc
+no_batches w None [] e h = refl
+no_batches w None (p ∷ batches) e h = cc
+
+no_replies : (w : WorldState) (replies : List Replied) → reply_push w replies ≡ None → replies ≡ []
+no_replies w [] h = refl
+no_replies w (reply ∷ replies) h = cc
+
+no_outcomes : (w : WorldState) (replies : List Replied) (outcomes : List Outcomes) → replies ≡ []
+    → outcome_pop w replies outcomes ≡ None → outcomes ≡ []
+no_outcomes w (reply ∷ replies) outcomes e h = cc
+no_outcomes w [] [] e h = refl
+no_outcomes w [] (outcome ∷ outcomes) e h = cc
+
+no_ring : (w : WorldState) (own : ℕ) (shelf : Shelf) (ring : List Replied)
+    → reply_pop w own (after_pop_of shelf ring) ≡ None → ring ≡ []
+no_ring w own shelf [] h = refl
+no_ring w own shelf (reply ∷ ring) h = cc
+
+-- stages, queue and rings are empty
+record IsEmpty (w : WorldState) : Type 0 where
+  queue : w.queue ≡ []
+  way : on_the_way w.front w.parcels w.batches ≡ []
+  unrouted : unrouted w.replies w.outcomes w.outcome ≡ []
+  rings : (own : ℕ) → (shelf_at w.shelves own).ring ≡ []
+
+empty_at_rest : (w : WorldState) → IsAtRest w → IsEmpty w
+empty_at_rest w rest =
+    let batcher = no_parcels w w.parcels w.front.held (rest BatchPush refl) in
+    let outcome = no_outcome w w.outcome (rest OutcomePush refl) in
+    let replies = no_replies w w.replies (rest ReplyPush refl) in
+    let batches = no_batches w w.outcome w.batches outcome (rest (BatchPop false) refl) in
+    let outcomes = no_outcomes w w.replies w.outcomes replies (rest OutcomePop refl) in
+    record {
+      queue = no_queue w w.parcels w.queue batcher.0 (rest (Pop false) refl);
+      way = ap (λ (l : List Parcel). all_passages_in l ++ (all_passages_in w.parcels ++ held_by w.front)) batches
+          ∙ ap (λ (l : List Parcel). all_passages_in l ++ held_by w.front) batcher.0
+          ∙ ap (λ (l : List Numbered). map Admitted l) batcher.1;
+      unrouted = ap (λ (l : List Replied). l ++ (of_all w.outcomes ++ of_one w.outcome)) replies
+          ∙ ap (λ (l : List Outcomes). of_all l ++ of_one w.outcome) outcomes ∙ ap of_one outcome;
+      rings = λ own. no_ring w own (shelf_at w.shelves own) (shelf_at w.shelves own).ring (rest (ReplyPop own) refl);
+    }
+
+module _ (U : Type 0) (clock n : ℕ) (pushed : List Ticket) (w : WorldState)
+    (h : Holds U clock n pushed w) (e : IsEmpty w) where
+  taken_all : h.taken ≡ pushed
+  taken_all = sym (h.split ∙ ap (λ l. h.taken ++ l) e.queue ∙ append-nil h.taken)
+
+  ran : Ran clock (items_in pushed) w.ledger h.answers
+  ran =
+      record {
+        closed = w.front.closed;
+        stopped = w.front.stopped;
+        passages = h.applied;
+        passed = subst (λ (queue : List Ticket). Passes
+            (items_in queue) w.front.closed w.front.stopped h.applied) taken_all
+            (subst (Passes (items_in h.taken) w.front.closed w.front.stopped)
+            (ap (λ l. h.applied ++ l) e.way ∙ append-nil h.applied) h.sent.passes);
+        commits = h.commits;
+      }
+
+  received_all : (submitter : ℕ) → submitter < n → received_of w submitter ≡ replies_to h.answers submitter
+  received_all submitter among =
+      let received = received_of w submitter in
+      sym (h.routed.each submitter among ∙ ap (λ (way : List Replied). shelved submitter w.shelves way) e.unrouted
+      ∙ ap (λ (ring : List Replied). received ++ (ring ++ [])) (e.rings submitter) ∙ append-nil received)
+
+  rests : Rests clock n pushed w
+  rests =
+      let all : h.answers ≡ all_due clock (items_in pushed) (works w.ledger) =
+      (far U clock n pushed w h).replied e.way ∙ ap
+      (λ (queue : List Ticket). all_due clock (items_in queue) (works w.ledger)) taken_all in
+      record {
+        received = λ submitter among. received_all submitter among ∙ ap (λ rs. replies_to rs submitter) all;
+        reports = λ over. run_is_lawful clock n pushed (λ sender. part sender pushed) w.ledger h.answers
+            (received_of w) (queue_of_all n pushed w.senders h.senders over) ran received_all;
+      }
+
+  whole : Goes w.front w.ledger → works w.ledger ≡ ahead (items_in pushed)
+  whole goes =
+      let is = far U clock n pushed w h in
+      sym (append-nil (works w.ledger)) ∙ ap (λ (l : List Passage). works w.ledger ++ works_in l) (sym e.way)
+      ∙ is.whole goes.front goes.ledger ∙ ap (λ (queue : List Ticket). ahead (items_in queue)) taken_all
+
+-- ---- a list of events
+
+pub has_run : (clock limit n : ℕ) (events : List Event) (world : WorldState) → length events ≤ 2 ^ 63
+    → world ≡ run (new_world clock limit n) events → HasRun clock limit n events world
+has_run clock limit n events world short is = subst (HasRun clock limit n events) (sym is) there
+  where
+    U : Type 0
+    U = list_any is_refused events ≡ false
+
+    pushed : List Ticket
+    pushed = history (new_world clock limit n) events
+
+    end : WorldState
+    end = run (new_world clock limit n) events
+
+    holds : Holds U clock n pushed end
+    holds = all_holds clock limit n events short
+
+    there : HasRun clock limit n events end
+    there =
+        record {
+          is = refl;
+          so_far = is_lawful_so_far U clock n pushed end holds;
+          untold = λ unrefused. none_stopped U clock n pushed end holds (holds.goes unrefused);
+          at_rest = λ rest. rests U clock n pushed end holds (empty_at_rest end rest);
+          whole = λ unrefused rest. whole U clock n pushed end holds (empty_at_rest end rest) (holds.goes unrefused);
+        }

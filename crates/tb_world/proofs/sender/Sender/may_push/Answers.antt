@@ -1,0 +1,5 @@
+use Rattle.std.proofs.Common.{rules}
+use Rattle.tb_world.proofs.sender.Sender.may_push.Goals as goal
+
+pub returns-then-from-self : goal.returns-then-from-self
+returns-then-from-self c = search rules

@@ -1,0 +1,55 @@
+use Rattle.std.proofs.Common.{◌≡◌, ◌≤◌, ◌∙◌, ℕ, List, ◌∷◌, Bool, true, false, ap, subst, All, arith, rules}
+use Rattle.std.proofs.lemmas.Grind.{common_steps}
+use Rattle.std.proofs.lemmas.List.Elements.{All-tail}
+use Rattle.tb_work.specs.declared.item.Ticket.{Ticket}
+use Rattle.tb_core.specs.declared.parcel.Parcel.{Parcel}
+use Rattle.tb_core.specs.Front.{FrontState, Taken, IsFront, take_result, take_step}
+use Rattle.tb_world.specs.declared.sender.Sender.{Sender}
+use Rattle.tb_world.specs.World.{IsWorld}
+use Rattle.tb_core.proofs.Accounting.{is_step}
+use Rattle.tb_world.proofs.world.World.pop.Goals as goal
+
+-- a ticket was taken off the queue
+taken_off : (refused : Bool) (submitters : ℕ) (old new : FrontState) (ticket : Ticket) (queue rest : List Ticket)
+    (senders : List Sender) (parcels : List Parcel) → IsWorld submitters old queue senders → IsFront old →
+    queue ≡ ticket ∷ rest → take_result new parcels ≡ take_step refused old ticket.sender ticket.item
+    → IsWorld submitters new rest senders
+taken_off refused submitters old new ticket queue rest senders parcels is front queue_is took =
+    let Among : Ticket → Type 0 = λ ticket. ticket.sender ≤ submitters in
+    let step = is_step (λ parcel. Unit {0}) (λ moment. tt) (λ job cause. tt) refused old ticket.sender ticket.item
+    (λ job jobs held. tt) front.clear in
+    record {
+      counted = ap (λ (taken : Taken). taken.front.submitters) took
+          ∙ ap (λ (front : FrontState). front.submitters) step.next ∙ is.counted;
+      queued = All-tail Among ticket rest (subst (All Among) queue_is is.queued);
+      all_senders = is.all_senders;
+    }
+
+pub invariant_of-self-then-refused : goal.invariant_of-self-then-refused
+invariant_of-self-then-refused c =
+    taken_off true c.self.inside.submitters c.self.inside.front c.step_refused.new.self c.in-Some.ticket
+    c.self.inside.queue.items c.pop_front.new.self.items c.self.inside.senders.items
+    c.step_refused.new.parcels.items
+    c.self.invariant c.step_refused.ensures.front c.in-Some.ensures.items c.step_refused.ensures.took
+
+pub invariant_of-self-in-Ok : goal.invariant_of-self-in-Ok
+invariant_of-self-in-Ok c =
+    taken_off false c.self.inside.submitters c.self.inside.front c.try_take.new.self c.in-Some.ticket
+    c.self.inside.queue.items c.pop_front.new.self.items c.self.inside.senders.items
+    c.try_take.new.parcels.items
+    c.self.invariant c.try_take.ensures.front c.in-Some.ensures.items c.in-Ok.ensures.ok
+
+pub returns-then-refused-clause-ok : goal.returns-then-refused-clause-ok
+returns-then-refused-clause-ok c = search rules
+
+pub returns-in-Ok-clause-ok : goal.returns-in-Ok-clause-ok
+returns-in-Ok-clause-ok c = search rules
+
+pub step_refused-requires-clause-empty : goal.step_refused-requires-clause-empty
+step_refused-requires-clause-empty c = grind (arith, common_steps)
+
+pub try_take-requires-clause-empty : goal.try_take-requires-clause-empty
+try_take-requires-clause-empty c = grind (arith, common_steps)
+
+pub returns-in-Err-clause-err : goal.returns-in-Err-clause-err
+returns-in-Err-clause-err c = grind (arith, common_steps)

@@ -1,0 +1,5 @@
+use Rattle.std.proofs.Common.{rules}
+use Rattle.tb_world.proofs.world.keep.Goals as goal
+
+pub returns : goal.returns
+returns c = search rules

@@ -1,0 +1,90 @@
+-- Every order of pushes and pops.
+use Rattle.std.specs.Prelude.{◌≡◌, ◌<◌, ◌≤◌, ℕ, Bool, true, false, if◌then◌else◌, List, [], ◌∷◌, ◌++◌, None}
+use Rattle.std.specs.List.{list_any}
+use Rattle.tb_machine.specs.Replay.{replay}
+use Rattle.tb_work.specs.Queue.{part, ahead, items_in, AreSubmitted, AreNumbered}
+use Rattle.tb_work.specs.declared.item.Ticket.{Ticket}
+use Rattle.tb_world.specs.declared.event.Event.{Event}
+use Rattle.tb_world.specs.declared.event.Event.TheVariants.{Push, Pop, BatchPush, BatchPop, OutcomePush, OutcomePop, ReplyPush, ReplyPop}
+use Rattle.tb_core.specs.Due.{due}
+use Rattle.tb_core.specs.Front.{HaveAllEnded}
+use Rattle.tb_core.specs.Ledger.{works}
+use Rattle.tb_core.specs.Report.{LawfulReport, tell_a_stop}
+use Rattle.tb_world.specs.World.{WorldState, is_lawful, received_of, moved, after_event, run, new_world}
+
+-- the ticket that an event pushes
+abbrev pub pushed_at : WorldState → Event → List Ticket
+pushed_at world (Push ticket) = if is_lawful world ticket then ticket ∷ [] else []
+pushed_at world (Pop refused) = []
+pushed_at world BatchPush = []
+pushed_at world (BatchPop refused) = []
+pushed_at world OutcomePush = []
+pushed_at world OutcomePop = []
+pushed_at world ReplyPush = []
+pushed_at world (ReplyPop submitter) = []
+
+-- all tickets that events push, in order
+abbrev pub history : WorldState → List Event → List Ticket
+history world [] = []
+history world (event ∷ events) = pushed_at world event ++ history (after_event world event) events
+
+abbrev pub is_push : Event → Bool
+is_push (Push ticket) = true
+is_push (Pop refused) = false
+is_push BatchPush = false
+is_push (BatchPop refused) = false
+is_push OutcomePush = false
+is_push OutcomePop = false
+is_push ReplyPush = false
+is_push (ReplyPop submitter) = false
+
+-- only a push can answer true
+abbrev pub IsAtRest : WorldState → Type 0
+IsAtRest world = (event : Event) → is_push event ≡ false → moved world event ≡ None
+
+abbrev pub is_refused : Event → Bool
+is_refused (Push ticket) = false
+is_refused (Pop refused) = refused
+is_refused BatchPush = false
+is_refused (BatchPop refused) = refused
+is_refused OutcomePush = false
+is_refused OutcomePop = false
+is_refused ReplyPush = false
+is_refused (ReplyPop submitter) = false
+
+abbrev pub IsPrefix : {A : Type 0} → List A → List A → Type 0
+IsPrefix {A} front all = (rest : List A) × (front ++ rest ≡ all)
+
+-- whatever happened: who pushed what, what was committed of it, and what each submitter received
+pub record IsLawfulSoFar (clock submitters : ℕ) (queue : List Ticket) (world : WorldState) : Type 0 where
+  pub submitted : AreSubmitted submitters queue
+  pub numbered : (sender : ℕ) → sender ≤ submitters → AreNumbered sender 0 (part sender queue)
+  pub committed : IsPrefix (works world.ledger) (ahead (items_in queue))
+  pub received : (submitter : ℕ) → submitter < submitters
+      → IsPrefix (received_of world submitter) (due clock queue (works world.ledger) submitter)
+
+-- no submitter was told of a stop
+abbrev pub NoneStopped : ℕ → WorldState → Type 0
+NoneStopped submitters world =
+    (submitter : ℕ) → submitter < submitters → tell_a_stop (received_of world submitter) ≡ false
+
+-- the report of a World: its senders queued what they pushed
+abbrev pub Reports : ℕ → ℕ → List Ticket → WorldState → Type 0
+Reports clock submitters queue world =
+    LawfulReport clock submitters queue (λ sender. part sender queue) (works world.ledger)
+    (replay world.ledger.opening (works world.ledger)) world.ledger.stopped (received_of world)
+
+-- a World at rest, of which so much was pushed
+pub record Rests (clock submitters : ℕ) (queue : List Ticket) (world : WorldState) : Type 0 where
+  pub received : (submitter : ℕ) → submitter < submitters
+      → received_of world submitter ≡ due clock queue (works world.ledger) submitter
+  pub reports : HaveAllEnded submitters queue → Reports clock submitters queue world
+
+-- A World after these events, whatever they are; and what is true besides where no growth was refused, and at rest.
+pub record HasRun (clock limit submitters : ℕ) (events : List Event) (world : WorldState) : Type 0 where
+  pub is : world ≡ run (new_world clock limit submitters) events
+  pub so_far : IsLawfulSoFar clock submitters (history (new_world clock limit submitters) events) world
+  pub untold : list_any is_refused events ≡ false → NoneStopped submitters world
+  pub at_rest : IsAtRest world → Rests clock submitters (history (new_world clock limit submitters) events) world
+  pub whole : list_any is_refused events ≡ false → IsAtRest world
+      → works world.ledger ≡ ahead (items_in (history (new_world clock limit submitters) events))

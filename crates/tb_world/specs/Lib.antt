@@ -1,0 +1,8 @@
+pub mod Pushing
+pub mod Shelf
+pub mod Left
+pub mod World
+pub mod EveryOrder
+pub use Rattle.tb_core.specs.Front
+pub use Rattle.tb_core.specs.Ledger
+pub use Rattle.tb_core.specs.Report

@@ -1,0 +1,102 @@
+//! What the demultiplexer has left to push.
+
+ghost use Rattle.std.specs.Prelude.{◌≡◌, [], false, IfOk, OnErr};
+ghost use Rattle.tb_core.specs.Run.{replies_in};
+ghost use Rattle.tb_world.specs.Left.{IsGiven, is_none};
+
+use crate::shelf::Shelves;
+use std::marker::Model;
+use std::mem;
+use tb_core::Outcomes;
+use tb_demux::Cutter;
+use tb_layout::NoMemory;
+use tb_work::Reply;
+
+/// The next reply, and the cutter that has those after it.
+#[derive(Drop)]
+pub struct Left {
+    next: Option<Reply>,
+    cutter: Option<Cutter>,
+}
+
+impl Model for Left {
+    ghost use Rattle.std.specs.Prelude.{◌≡◌, List, [], ◌++◌, option_to_list, None};
+    ghost use Rattle.tb_work.specs.Reply.{Replied};
+    ghost use Rattle.tb_world.specs.Left.{replies_of};
+
+    ghost Value = { List Replied };
+
+    ghost view = { λ left. option_to_list left.next ++ replies_of left.cutter };
+
+    ghost invariant = { λ left. left.next ≡ None → replies_of left.cutter ≡ [] };
+}
+
+impl Left {
+    /// No reply is left.
+    pub(crate) fn nothing() -> Left
+        ensures { result ≡ [] }
+    {
+        Left {
+            next: None,
+            cutter: None,
+        }
+    }
+
+    /// Puts the replies of an outcome in place of what was left.
+    pub(crate) fn fill(&mut self, outcomes: Outcomes)
+        ensures { self.new ≡ replies_in outcomes }
+    {
+        // A drop by name is proved once, and one by assignment at each place.
+        drop(mem::replace(self, Left::of(outcomes)));
+    }
+
+    fn of(outcomes: Outcomes) -> Left
+        ensures { result ≡ replies_in outcomes }
+    {
+        match outcomes {
+            Outcomes::Cut(mut cutter) => {
+                let next = cutter.next();
+                Left {
+                    next,
+                    cutter: Some(cutter),
+                }
+            }
+            Outcomes::One(reply) => Left {
+                next: Some(reply),
+                cutter: None,
+            },
+            Outcomes::Nothing | Outcomes::Last => Left::nothing(),
+        }
+    }
+
+    /// Whether no reply is left.
+    pub(crate) fn is_empty(&self) -> bool
+        ensures { result ≡ is_none self.now }
+    {
+        self.next.is_none()
+    }
+
+    /// Gives the next reply, where there is one, to its submitter.
+    pub(crate) fn give(&mut self, shelves: &mut Shelves) -> Result<bool, NoMemory>
+        ensures ok { IfOk result (λ moves. IsGiven moves self.old self.new shelves.old shelves.new) }
+        ensures err { OnErr result ((is_none self.old ≡ false) × (self.new ≡ self.old) × (shelves.new ≡ shelves.old)) }
+    {
+        let Some(reply) = self.next.take() else {
+            return Ok(false);
+        };
+        match shelves.give(reply) {
+            Ok(()) => {
+                let next = match &mut self.cutter {
+                    Some(cutter) => cutter.next(),
+                    None => None,
+                };
+                drop(mem::replace(&mut self.next, next));
+                Ok(true)
+            }
+            Err(reply) => {
+                drop(mem::replace(&mut self.next, Some(reply)));
+                Err(NoMemory)
+            }
+        }
+    }
+}

@@ -1,0 +1,55 @@
+//! What a World knows of a sender.
+
+ghost use Rattle.std.specs.Prelude.{◌≡◌, ℕ, true};
+ghost use Rattle.tb_world.specs.Pushing.{may_push, sender_after};
+
+use tb_work::Item;
+
+/// How many packets a sender has pushed, which may be one more than the greatest number of a packet, and whether
+/// it ended.
+#[derive(Clone, Copy)]
+pub struct Sender {
+    pub pushed: u128,
+    pub ended: bool,
+}
+
+impl Sender {
+    /// Whether sender `number` of so many submitters, the control being the one after them, may push an item.
+    pub(crate) fn may_push(self, limit: u32, submitters: u32, number: u32, item: &Item) -> bool
+        ensures { result ≡ may_push limit submitters number self item.now }
+    {
+        if self.ended {
+            return false;
+        }
+        match item {
+            Item::Packet(job) => {
+                let stub = job.stub();
+                number < submitters
+                    && stub.submitter == number
+                    && u128::from(stub.number) == self.pushed
+                    && stub.count <= limit
+            }
+            Item::Pulse(_) | Item::Close => number == submitters,
+            Item::End => number <= submitters,
+        }
+    }
+
+    /// The sender after an item that it may push.
+    pub(crate) fn after(self, item: &Item) -> Sender
+        requires { (limit : ℕ) × (submitters : ℕ) × (number : ℕ)
+            × (may_push limit submitters number self item.now ≡ true) }
+        ensures { result ≡ sender_after self item.now }
+    {
+        match item {
+            Item::Packet(job) => Sender {
+                pushed: u128::from(job.stub().number) + 1,
+                ended: self.ended,
+            },
+            Item::Pulse(_) => self,
+            Item::End | Item::Close => Sender {
+                pushed: self.pushed,
+                ended: true,
+            },
+        }
+    }
+}

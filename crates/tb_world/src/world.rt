@@ -1,0 +1,382 @@
+//! The stages in one thread, in any order of their steps.
+
+ghost use Rattle.std.specs.Prelude.{◌≡◌, ◌≤◌, ◌<◌, ◌+◌, ◌⊎◌, true, replicate, Some, None, IfOk, OnOk, IfErr, OnErr, is_some};
+ghost use Rattle.tb_layout.specs.Limits.{clock_max, submitters_max};
+ghost use Rattle.tb_work.specs.declared.refusal.Refusal.TheVariants.{NoMemory as NoMemoryRefusal};
+ghost use Rattle.tb_core.specs.Front.{opening_refusal};
+ghost use Rattle.tb_world.specs.Pushing.{newcomer};
+ghost use Rattle.tb_world.specs.Shelf.{empty_shelf};
+ghost use Rattle.tb_world.specs.World.{left_by, new_world, IsMove, batch_push};
+
+use crate::event::Event;
+use crate::left::Left;
+use crate::sender::Sender;
+use crate::shelf::Shelves;
+use arrayvec::ArrayVec;
+use std::alloc::Global;
+use std::collections::VecDeque;
+use std::marker::Model;
+use std::mem;
+use tb_core::{Front, Ledger, Outcomes, Parcel};
+use tb_layout::NoMemory;
+use tb_work::{Refusal, Reply, Ticket};
+
+/// A queue, a front, a ledger and a cutter, with rings between them that have no bound. Each of its steps is one push
+/// or one pop, and they come in any order: whoever drives the stages in one thread, or tests a schedule, takes this.
+pub struct World {
+    limit: u32,
+    submitters: u32,
+    senders: Vec<Sender>,
+    queue: VecDeque<Ticket>,
+    front: Front,
+    parcels: ArrayVec<Parcel, 2>,
+    last_sent: bool,
+    batches: VecDeque<Parcel>,
+    ledger: Ledger,
+    outcome: Option<Outcomes>,
+    outcomes: VecDeque<Outcomes>,
+    left: Left,
+    shelves: Shelves,
+}
+
+impl Drop for World {
+    /// Lets all that is held go in one call, so that no owner's proof goes through it.
+    fn drop(self) {
+        let World {
+            limit: _,
+            submitters: _,
+            senders,
+            queue,
+            front,
+            parcels,
+            last_sent: _,
+            batches,
+            ledger,
+            outcome,
+            outcomes,
+            left,
+            shelves,
+        } = self;
+        drop(senders);
+        drop(queue);
+        drop(front);
+        drop(parcels);
+        drop(batches);
+        drop(ledger);
+        drop(outcome);
+        drop(outcomes);
+        drop(left);
+        drop(shelves);
+    }
+}
+
+impl Model for World {
+    ghost use Rattle.tb_world.specs.World.{WorldState, IsWorld};
+
+    ghost Value = { WorldState };
+
+    ghost view = { λ world. record {
+      limit = world.limit;
+      submitters = world.submitters;
+      senders = world.senders.items;
+      queue = world.queue.items;
+      front = world.front;
+      parcels = world.parcels.items;
+      last_sent = world.last_sent;
+      batches = world.batches.items;
+      ledger = world.ledger;
+      outcome = world.outcome;
+      outcomes = world.outcomes.items;
+      replies = world.left;
+      shelves = world.shelves;
+    } };
+
+    ghost invariant = { λ world. IsWorld world.submitters world.front world.queue.items world.senders.items };
+}
+
+/// The submitters and the control, none of which pushed anything.
+fn newcomers(alloc: Global, submitters: u32) -> Result<Vec<Sender>, NoMemory>
+    requires { submitters ≤ submitters_max }
+    ensures { IfOk result (λ senders. senders.items ≡ replicate (submitters + 1) newcomer) }
+{
+    let mut senders = Vec::new(alloc);
+    let newcomer = Sender {
+        pushed: 0,
+        ended: false,
+    };
+    senders.resize(submitters as usize + 1, newcomer)?;
+    Ok(senders)
+}
+
+/// The senders, and the submitters' rings.
+fn sides(alloc: Global, submitters: u32) -> Result<(Vec<Sender>, Shelves), NoMemory>
+    requires { submitters ≤ submitters_max }
+    ensures senders { IfOk result (λ sides. sides.0.items ≡ replicate (submitters + 1) newcomer) }
+    ensures shelves { IfOk result (λ sides. sides.1 ≡ replicate submitters empty_shelf) }
+{
+    let senders = newcomers(alloc, submitters)?;
+    let shelves = Shelves::new(alloc, submitters)?;
+    Ok((senders, shelves))
+}
+
+/// Keeps what a parcel came to. A pulse leaves no outcome.
+fn keep(outcome: &mut Option<Outcomes>, outcomes: Outcomes)
+    ensures { outcome.new ≡ left_by outcomes }
+{
+    let left = match outcomes {
+        Outcomes::Nothing => None,
+        outcomes => Some(outcomes),
+    };
+    // A drop by name is proved once, and one by assignment at each place.
+    drop(mem::replace(outcome, left));
+}
+
+impl World {
+    ghost use Rattle.tb_world.specs.World.{received_of, moved};
+    ghost use Rattle.tb_world.specs.declared.event.Event.TheVariants as event;
+
+    /// A World in which nothing happened, whose clock starts at a number of nanoseconds, 0 to `CLOCK_MAX`. The limit is
+    /// 1 to 8190 events, and there are 1 to 16 submitters; the limit is looked at first, and memory last.
+    pub fn new(alloc: Global, clock: u64, limit: u32, submitters: u32) -> Result<World, Refusal>
+        requires { clock ≤ clock_max }
+        ensures world { IfOk result (λ world. world ≡ new_world clock limit submitters) }
+        ensures opens { OnOk result (opening_refusal limit submitters ≡ None) }
+        ensures refusal { IfErr result (λ refusal. (opening_refusal limit submitters ≡ Some refusal)
+            ⊎ ((opening_refusal limit submitters ≡ None) × (refusal ≡ NoMemoryRefusal))) }
+    {
+        let front = Front::new(alloc, limit, submitters)?;
+        let Ok((senders, shelves)) = sides(alloc, submitters) else {
+            drop(front);
+            return Err(Refusal::NoMemory);
+        };
+        Ok(World {
+            limit,
+            submitters,
+            senders,
+            queue: VecDeque::new(alloc),
+            front,
+            parcels: ArrayVec::new(),
+            last_sent: false,
+            batches: VecDeque::new(alloc),
+            ledger: Ledger::new(alloc, clock),
+            outcome: None,
+            outcomes: VecDeque::new(alloc),
+            left: Left::nothing(),
+            shelves,
+        })
+    }
+
+    /// What a submitter received, in order; nothing where there is no such submitter.
+    pub fn received(&self, sender: u32) -> &[Reply]
+        ensures { result.now ≡ received_of self.now sender }
+    {
+        self.shelves.received(sender)
+    }
+
+    /// The ledger, by which journal and machine are read.
+    pub fn ledger(&self) -> &Ledger
+        ensures { result.now ≡ self.now.ledger }
+    {
+        &self.ledger
+    }
+
+    /// Puts a ticket at the end of the queue, where its sender may push it. Where memory is refused it comes back.
+    fn push(&mut self, ticket: Ticket) -> Result<bool, Ticket>
+        ensures ok { IfOk result (λ moves. IsMove self.old (event.Push ticket) moves self.new) }
+        ensures err { IfErr result (λ back. (is_some (moved self.old (event.Push ticket)) ≡ true) × (back ≡ ticket)
+            × (self.new ≡ self.old)) }
+    {
+        let number = ticket.sender as usize;
+        if number >= self.senders.len() {
+            drop(ticket);
+            return Ok(false);
+        }
+        let sender = self.senders[number];
+        if !sender.may_push(self.limit, self.submitters, ticket.sender, &ticket.item) {
+            drop(ticket);
+            return Ok(false);
+        }
+        let next = sender.after(&ticket.item);
+        match self.queue.push_back(ticket) {
+            Ok(()) => {
+                self.senders[number] = next;
+                Ok(true)
+            }
+            Err(failed) => Err(failed.value),
+        }
+    }
+
+    /// Takes the queue's first ticket through the front, where no parcel is left to push.
+    fn pop(&mut self, refused: bool) -> Result<bool, NoMemory>
+        ensures ok { IfOk result (λ moves. IsMove self.old (event.Pop refused) moves self.new) }
+        ensures err { OnErr result ((is_some (moved self.old (event.Pop refused)) ≡ true) × (self.new ≡ self.old)) }
+    {
+        if !self.parcels.is_empty() {
+            return Ok(false);
+        }
+        let Some(mut ticket) = self.queue.pop_front() else {
+            return Ok(false);
+        };
+        if refused {
+            self.front.step_refused(&mut self.parcels, ticket);
+            return Ok(true);
+        }
+        match self.front.try_take(&mut self.parcels, &mut ticket) {
+            Ok(()) => {
+                drop(ticket);
+                Ok(true)
+            }
+            Err(refused) => {
+                self.queue.push_front_reserved(ticket);
+                Err(refused)
+            }
+        }
+    }
+
+    /// Whether the batcher has a parcel, a group, or Last to push.
+    fn has_parcel(&self) -> bool
+        ensures { result ≡ is_some (batch_push self.now self.now.parcels self.now.front.held) }
+    {
+        !self.parcels.is_empty()
+            || self.front.is_holding()
+            || (self.front.finished() && !self.last_sent)
+    }
+
+    /// Puts one parcel into the batch ring: the first that is left, else the group held, else, once all have ended,
+    /// Last.
+    fn batch_push(&mut self) -> Result<bool, NoMemory>
+        ensures ok { IfOk result (λ moves. IsMove self.old event.BatchPush moves self.new) }
+        ensures err { OnErr result ((is_some (moved self.old event.BatchPush) ≡ true) × (self.new ≡ self.old)) }
+    {
+        if !self.has_parcel() {
+            return Ok(false);
+        }
+        self.batches.reserve(1)?;
+        if let Some(parcel) = self.parcels.pop_at(0) {
+            self.batches.push_back_reserved(parcel);
+            return Ok(true);
+        }
+        if let Some(batch) = self.front.idle() {
+            self.batches.push_back_reserved(Parcel::Batch(batch));
+            return Ok(true);
+        }
+        self.last_sent = true;
+        self.batches.push_back_reserved(Parcel::Last);
+        Ok(true)
+    }
+
+    /// Applies the batch ring's first parcel to the ledger, where no outcome is left to push.
+    fn batch_pop(&mut self, refused: bool) -> Result<bool, NoMemory>
+        ensures ok { IfOk result (λ moves. IsMove self.old (event.BatchPop refused) moves self.new) }
+        ensures err { OnErr result ((is_some (moved self.old (event.BatchPop refused)) ≡ true)
+            × (self.new ≡ self.old)) }
+    {
+        if self.outcome.is_some() {
+            return Ok(false);
+        }
+        let Some(parcel) = self.batches.pop_front() else {
+            return Ok(false);
+        };
+        if refused {
+            keep(&mut self.outcome, self.ledger.apply_as_refused(parcel));
+            return Ok(true);
+        }
+        match self.ledger.try_apply(parcel) {
+            Ok(outcomes) => {
+                keep(&mut self.outcome, outcomes);
+                Ok(true)
+            }
+            Err(parcel) => {
+                self.batches.push_front_reserved(parcel);
+                Err(NoMemory)
+            }
+        }
+    }
+
+    /// Puts the outcome that is left into the outcome ring.
+    fn outcome_push(&mut self) -> Result<bool, NoMemory>
+        ensures ok { IfOk result (λ moves. IsMove self.old event.OutcomePush moves self.new) }
+        ensures err { OnErr result ((is_some (moved self.old event.OutcomePush) ≡ true) × (self.new ≡ self.old)) }
+    {
+        if self.outcome.is_none() {
+            return Ok(false);
+        }
+        self.outcomes.reserve(1)?;
+        if let Some(outcome) = self.outcome.take() {
+            self.outcomes.push_back_reserved(outcome);
+        }
+        Ok(true)
+    }
+
+    /// Takes the outcome ring's first outcome apart into replies, where no reply is left to push.
+    fn outcome_pop(&mut self) -> bool
+        ensures { IsMove self.old event.OutcomePop result self.new }
+    {
+        if !self.left.is_empty() {
+            return false;
+        }
+        match self.outcomes.pop_front() {
+            Some(outcomes) => {
+                self.left.fill(outcomes);
+                true
+            }
+            None => false,
+        }
+    }
+
+    /// Puts the next reply that is left into its submitter's ring.
+    fn reply_push(&mut self) -> Result<bool, NoMemory>
+        ensures ok { IfOk result (λ moves. IsMove self.old event.ReplyPush moves self.new) }
+        ensures err { OnErr result ((is_some (moved self.old event.ReplyPush) ≡ true) × (self.new ≡ self.old)) }
+    {
+        self.left.give(&mut self.shelves)
+    }
+
+    /// Lets a submitter receive the first reply of its ring.
+    fn reply_pop(&mut self, sender: u32) -> Result<bool, NoMemory>
+        ensures ok { IfOk result (λ moves. IsMove self.old (event.ReplyPop sender) moves self.new) }
+        ensures err { OnErr result ((is_some (moved self.old (event.ReplyPop sender)) ≡ true) × (self.new ≡ self.old)) }
+    {
+        self.shelves.take(sender)
+    }
+
+    /// Takes one event. Answers true where it may happen, and the World then moves as its table says; false changes
+    /// nothing. Where it may happen and a growth is really refused, the event comes back and nothing has changed.
+    pub fn step(&mut self, event: Event) -> Result<bool, (Event, NoMemory)>
+        ensures ok { IfOk result (λ moves. IsMove self.old event moves self.new) }
+        ensures err { IfErr result (λ back. (is_some (moved self.old event) ≡ true) × (back.0 ≡ event)
+            × (self.new ≡ self.old)) }
+    {
+        match event {
+            Event::Push(ticket) => match self.push(ticket) {
+                Ok(moves) => Ok(moves),
+                Err(ticket) => Err((Event::Push(ticket), NoMemory)),
+            },
+            Event::Pop { refused } => match self.pop(refused) {
+                Ok(moves) => Ok(moves),
+                Err(_) => Err((Event::Pop { refused }, NoMemory)),
+            },
+            Event::BatchPush => match self.batch_push() {
+                Ok(moves) => Ok(moves),
+                Err(_) => Err((Event::BatchPush, NoMemory)),
+            },
+            Event::BatchPop { refused } => match self.batch_pop(refused) {
+                Ok(moves) => Ok(moves),
+                Err(_) => Err((Event::BatchPop { refused }, NoMemory)),
+            },
+            Event::OutcomePush => match self.outcome_push() {
+                Ok(moves) => Ok(moves),
+                Err(_) => Err((Event::OutcomePush, NoMemory)),
+            },
+            Event::OutcomePop => Ok(self.outcome_pop()),
+            Event::ReplyPush => match self.reply_push() {
+                Ok(moves) => Ok(moves),
+                Err(_) => Err((Event::ReplyPush, NoMemory)),
+            },
+            Event::ReplyPop { sender } => match self.reply_pop(sender) {
+                Ok(moves) => Ok(moves),
+                Err(_) => Err((Event::ReplyPop { sender }, NoMemory)),
+            },
+        }
+    }
+}
