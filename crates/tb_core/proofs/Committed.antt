@@ -1,6 +1,6 @@
 -- What a ledger made of passages, and of one parcel more.
 use Rattle.std.proofs.Common.{refl, sym, ap, ◌∙◌, arith, ◌≡◌, ◌<◌, ◌≤◌, ℕ, zero, suc, ◌+◌, Bool, true, false, List, [], ◌∷◌, ◌++◌, map, length, length-append, append_assoc, append-nil, Some}
-use Rattle.std.specs.Prelude.{slice_get}
+use Rattle.std.specs.Prelude.{fold, slice_get}
 use Rattle.std.specs.List.{AllByRecursion}
 use Rattle.std.proofs.Math.Seq.{take-append_seam}
 use Rattle.std.proofs.lemmas.Bool.{cond_both, or_parts}
@@ -129,14 +129,15 @@ replies_from-answers clock place state journal before (job ∷ jobs) all place_i
 
 -- a batch that the machine took, and the journal has as one entry, is applied
 pub batch_applied : (ledger : LedgerState) (state : State) (places : ℕ) (groups : List (List Work))
-    (jobs batch : List Numbered) (replies : List Replied) → IsLedger ledger state places →
-    groups ≡ ledger.groups ++ map work_of jobs ∷ [] → jobs ≡ batch
+    (jobs batch : List Numbered) (replies : List Replied) → IsLedger ledger places →
+    groups ≡ ledger.groups ++ map work_of jobs ∷ [] → state ≡ fold after_work ledger.state (map work_of jobs)
+    → jobs ≡ batch
     → replies ≡ replies_from ledger.opening (works ledger ++ map work_of jobs) places (map Admitted jobs)
     → must_stop false ledger (length batch) ≡ false →
-    apply_result (record { opening = ledger.opening; groups = groups; stopped = ledger.stopped }) (Cut replies)
-    ≡ apply_step false ledger (parcel.Batch batch)
-batch_applied ledger state places groups jobs batch replies is groups_is same replies_is goes =
-    rw (goes, groups_is, replies_is, is.counted, same, works-more ledger.groups (map work_of batch)) refl
+    apply_result (record { opening = ledger.opening; groups = groups; state = state; stopped = ledger.stopped })
+    (Cut replies) ≡ apply_step false ledger (parcel.Batch batch)
+batch_applied ledger state places groups jobs batch replies is groups_is state_is same replies_is goes =
+    rw (goes, groups_is, state_is, replies_is, is.counted, same, works-more ledger.groups (map work_of batch)) refl
 
 -- ---- a parcel more
 
@@ -178,6 +179,9 @@ module _ (clock : ℕ) (sent : List Passage) (ledger : LedgerState) (replies : L
             ∙ ap (λ ws. works_in sent ++ ws) (sym group_is) ∙ sym (works_in-append sent passages);
         whole = λ any. refl;
         unstopped = λ any. goes;
+        state = ap (λ s. fold after_work s group) is.state
+            ∙ sym (fold-append after_work (opening clock) journal group)
+            ∙ ap (replay clock) (sym longer);
         replied = rw (
           replies_from-append clock (works (with_entry ledger group)) 0 sent passages,
           count,
@@ -203,6 +207,7 @@ module _ (clock : ℕ) (sent : List Passage) (ledger : LedgerState) (replies : L
             ∙ ap (λ ws. ws ++ works_in passages) is.committed ∙ sym (works_in-append sent passages);
         whole = λ on. (let both = goes on in ap (λ ws. ws ++ works_in passages) (is.whole both.0) ∙ both.1);
         unstopped = stays;
+        state = is.state;
         replied = ap (λ rs. rs ++ answers) is.replied ∙ ap (λ rs. replies_from clock journal 0 sent ++ rs) after
             ∙ sym (replies_from-append clock journal 0 sent passages);
       }

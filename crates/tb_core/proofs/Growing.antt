@@ -34,7 +34,7 @@ jobs_after state [] = refl
 jobs_after state (job ∷ jobs) = jobs_after (after_packet state (events_in job.packet)) jobs
 
 -- the state after a batch
-batch_state : (law : JoinInvisibly) (state : State) (parts : Parts) → AreAnswered state parts →
+pub batch_state : (law : JoinInvisibly) (state : State) (parts : Parts) → AreAnswered state parts →
     after_packet state (events_of parts.operation parts.body.items)
     ≡ fold after_work state (map work_of parts.jobs.items)
 batch_state law state parts answered =
@@ -49,20 +49,20 @@ batch_state law state parts answered =
         ∙ (gives_one 0 parts.operation state parts.jobs.items answered.lawful is).states
     by false is = (gives_each law 0 parts.operation state parts.jobs.items answered.in_range answered.lawful is).states
 
-pub batch_entered : (law : JoinInvisibly) (ledger : LedgerState) (state next : State) (places : ℕ)
-    (groups : List (List Work)) (parts : Parts) (count : ℕ) → IsLedger ledger state places
-    → AreAnswered state parts →
-    next ≡ after_packet state (events_of parts.operation parts.body.items)
+pub batch_entered : (law : JoinInvisibly) (ledger : LedgerState) (next : State) (places : ℕ)
+    (groups : List (List Work)) (parts : Parts) (count : ℕ) → IsLedger ledger places
+    → AreAnswered ledger.state parts →
+    next ≡ after_packet ledger.state (events_of parts.operation parts.body.items)
     → groups ≡ ledger.groups ++ map work_of parts.jobs.items ∷ [] → count ≡ length parts.jobs.items
     → must_stop false ledger count ≡ false →
-    IsLedger (record ledger { groups = groups }) next (places + count)
-batch_entered law ledger state next places groups parts count is answered next_is groups_is count_is goes =
+    IsLedger (record ledger { groups = groups; state = next }) (places + count)
+batch_entered law ledger next places groups parts count is answered next_is groups_is count_is goes =
     let group = map work_of parts.jobs.items in
     let all : flat_map (λ g. g) groups ≡ works ledger ++ group = ap (flat_map (λ g. g)) groups_is
     ∙ works-more ledger.groups group in
     let room = ltb-false (2 ^ 63) (length (works ledger) + count) (or_parts ledger.stopped _ goes).1 in
     record {
-      machine = next_is ∙ batch_state law state parts answered ∙ ap (λ s. fold after_work s group) is.machine
+      machine = next_is ∙ batch_state law ledger.state parts answered ∙ ap (λ s. fold after_work s group) is.machine
           ∙ sym (fold-append after_work (opening ledger.opening) (works ledger) group)
           ∙ ap (fold after_work (opening ledger.opening)) (sym all);
       counted = omega (

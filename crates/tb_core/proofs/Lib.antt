@@ -9,5 +9,6 @@ mod Growing
 pub mod Committed
 mod Grouped
 pub mod Runs
+mod HeadlineLemmas
 mod Listing
 mod Examples

@@ -3,7 +3,7 @@ use Rattle.std.proofs.Common.{refl, sym, ap, subst, ◌∙◌, arith, ◌≡◌,
 use Rattle.std.specs.Prelude.{◌==◌, slice_get, is_some, IfSome, filter, if◌then◌else◌}
 use Rattle.std.specs.List.{AllByRecursion}
 use Rattle.std.proofs.lemmas.Bool.{le-leb, lt-leb, eq-eqb, cond_both, both_ways, or_parts, or_from, or_right}
-use Rattle.std.proofs.lemmas.List.{take-append-drop, drop_all}
+use Rattle.std.proofs.lemmas.List.{take-append-drop, drop_all, nil_from_length}
 use Rattle.std.proofs.lemmas.List.Folds.{list_any-append}
 use Rattle.tb_layout.specs.Work.{Work}
 use Rattle.tb_layout.specs.Work as work
@@ -18,7 +18,7 @@ use Rattle.tb_work.specs.declared.item.Ticket.{Ticket}
 use Rattle.tb_core.specs.Due.{outcome_at, reply_due, all_due_from, all_due, replies_to, works_in, replies_from}
 use Rattle.tb_core.specs.Ledger.{LedgerState, works}
 use Rattle.tb_core.specs.Passage.{Passage, Place, Ahead, Behind, next_place, passages_from, passages_of, IsPacket, Passes}
-use Rattle.tb_core.specs.Report.{is_stopped, tell_a_stop, IsListed}
+use Rattle.tb_core.specs.Report.{is_stopped, any_stopped, committed_in, IsListed}
 use Rattle.tb_core.specs.Run.{Commits, Ran, RunIsLawful}
 use Rattle.tb_core.proofs.Committed.{outcome_past, outcome_here, works_in-append, replies_from-append, replies_from-longer}
 use Rattle.tb_core.proofs.Passing.{never_stops}
@@ -98,14 +98,14 @@ passed_through clock (Some through) journal items far =
 -- ---- who is told that the pipeline stopped
 
 none_behind : (clock : ℕ) (journal : List Work) (items : List Item)
-    → tell_a_stop (all_due_from clock journal Behind items) ≡ false
+    → any_stopped (all_due_from clock journal Behind items) ≡ false
 none_behind clock journal [] = refl
 none_behind clock journal (item.Packet job ∷ items) = none_behind clock journal items
 none_behind clock journal (x ∷ items) = none_behind clock journal items
 
 -- nobody, where the journal has all that is ahead
 none_told : (clock k : ℕ) (journal before : List Work) (items : List Item) → journal ≡ before ++ ahead items
-    → k ≡ length before → tell_a_stop (all_due_from clock journal (Ahead k) items) ≡ false
+    → k ≡ length before → any_stopped (all_due_from clock journal (Ahead k) items) ≡ false
 none_told clock k journal before [] all k_is = refl
 none_told clock k journal before (item.Packet job ∷ items) all k_is =
     let one = work_of job ∷ [] in
@@ -122,7 +122,7 @@ none_told clock k journal before (item.Close ∷ items) all k_is = none_behind c
 
 -- somebody, where the journal ends in front of a packet that is ahead
 one_told : (clock k left : ℕ) (journal : List Work) (items : List Item) → length journal ≤ k + left
-    → IsPacket (slice_get (ahead items) left) → tell_a_stop (all_due_from clock journal (Ahead k) items) ≡ true
+    → IsPacket (slice_get (ahead items) left) → any_stopped (all_due_from clock journal (Ahead k) items) ≡ true
 one_told clock k left journal [] far packet = absurd packet
 one_told clock k zero journal (item.Packet job ∷ items) far packet =
     rw (outcome_past clock k journal (omega (arith, far))) refl
@@ -135,21 +135,21 @@ one_told clock k left journal (item.End ∷ items) far packet = one_told clock k
 one_told clock k left journal (item.Close ∷ items) far packet = absurd packet
 
 -- nobody of the first of them
-pub none_of_first : (replies others all : List Replied) → replies ++ others ≡ all → tell_a_stop all ≡ false
-    → tell_a_stop replies ≡ false
+pub none_of_first : (replies others all : List Replied) → replies ++ others ≡ all → any_stopped all ≡ false
+    → any_stopped replies ≡ false
 none_of_first replies others all is none =
-    (or_parts (tell_a_stop replies) (tell_a_stop others)
+    (or_parts (any_stopped replies) (any_stopped others)
     (sym (list_any-append (λ (reply : Replied). is_stopped reply.outcome) replies others)
-    ∙ ap tell_a_stop is ∙ none)).0
+    ∙ ap any_stopped is ∙ none)).0
 
 -- nobody of some
-pub none_among : (q : Replied → Bool) (replies : List Replied) → tell_a_stop replies ≡ false
-    → tell_a_stop (filter q replies) ≡ false
+pub none_among : (q : Replied → Bool) (replies : List Replied) → any_stopped replies ≡ false
+    → any_stopped (filter q replies) ≡ false
 none_among q [] none = refl
 none_among q (reply ∷ replies) none =
-    let parts = or_parts (is_stopped reply.outcome) (tell_a_stop replies) none in
+    let parts = or_parts (is_stopped reply.outcome) (any_stopped replies) none in
     let others = none_among q replies parts.1 in
-    cond_both (q reply) _ _ (λ rs. tell_a_stop rs ≡ false)
+    cond_both (q reply) _ _ (λ rs. any_stopped rs ≡ false)
     (λ taken. or_from (is_stopped reply.outcome) _ parts.0 others) (λ left. others)
 
 abbrev AreAmong : ℕ → List Replied → Type 0
@@ -171,22 +171,22 @@ due_among clock submitters journal place (ticket ∷ queue) all =
 
 -- where none of the submitters is told, nobody is
 none_at_all : (submitters : ℕ) (replies : List Replied) → AreAmong submitters replies
-    → ((submitter : ℕ) → submitter < submitters → tell_a_stop (replies_to replies submitter) ≡ false)
-    → tell_a_stop replies ≡ false
+    → ((submitter : ℕ) → submitter < submitters → any_stopped (replies_to replies submitter) ≡ false)
+    → any_stopped replies ≡ false
 none_at_all submitters [] all none = refl
 none_at_all submitters (reply ∷ replies) all none =
-    or_from (is_stopped reply.outcome) (tell_a_stop replies) (own (none reply.submitter all.0))
+    or_from (is_stopped reply.outcome) (any_stopped replies) (own (none reply.submitter all.0))
     (none_at_all submitters replies all.1 (λ submitter below.
     others submitter (reply.submitter == submitter) (none submitter below)))
   where
-    own : tell_a_stop (replies_to (reply ∷ replies) reply.submitter) ≡ false → is_stopped reply.outcome ≡ false
+    own : any_stopped (replies_to (reply ∷ replies) reply.submitter) ≡ false → is_stopped reply.outcome ≡ false
     own h =
         let its : (reply.submitter == reply.submitter) ≡ true = eq-eqb reply.submitter reply.submitter refl in
         (or_parts (is_stopped reply.outcome) _ (rw its at h)).0
 
-    others : (submitter : ℕ) (b : Bool) → tell_a_stop
+    others : (submitter : ℕ) (b : Bool) → any_stopped
         (if b then reply ∷ replies_to replies submitter else replies_to replies submitter) ≡ false
-        → tell_a_stop (replies_to replies submitter) ≡ false
+        → any_stopped (replies_to replies submitter) ≡ false
     others submitter true h = (or_parts (is_stopped reply.outcome) _ h).1
     others submitter false h = h
 
@@ -206,10 +206,10 @@ pub record SoFar (clock : ℕ) (items : List Item) (stopped : Bool) (ledger : Le
   pub replied : way ≡ [] → answers ≡ all_due clock items (works ledger)
   -- all of it is committed or on the way where neither stopped, and then nobody is told of a stop
   pub whole : stopped ≡ false → ledger.stopped ≡ false → works ledger ++ works_in way ≡ ahead items
-  pub untold : stopped ≡ false → ledger.stopped ≡ false → tell_a_stop answers ≡ false
+  pub untold : stopped ≡ false → ledger.stopped ≡ false → any_stopped answers ≡ false
   -- with nothing on the way, nothing is left exactly where the ledger goes on and nobody is told of a stop
-  pub nothing_behind : way ≡ [] → ledger.stopped ≡ false → tell_a_stop answers ≡ false → behind ≡ []
-  pub nothing_stopped : behind ≡ [] → (ledger.stopped ≡ false) × (tell_a_stop answers ≡ false)
+  pub nothing_behind : way ≡ [] → ledger.stopped ≡ false → any_stopped answers ≡ false → behind ≡ []
+  pub nothing_stopped : behind ≡ [] → (ledger.stopped ≡ false) × (any_stopped answers ≡ false)
 
 pub so_far : (clock : ℕ) (items : List Item) (closed stopped : Bool) (applied way : List Passage)
     (ledger : LedgerState) (answers : List Replied) → Passes items closed stopped (applied ++ way)
@@ -286,11 +286,11 @@ so_far clock items closed stopped applied way ledger answers passes commits =
 
     -- a front that stopped left a packet that is ahead, and that packet is told
     left : (stop : Option ℕ) → passes.stop ≡ stop → IfSome stop (λ k. IsPacket (slice_get (ahead items) k))
-        → way ≡ [] → tell_a_stop answers ≡ false → rest ≡ []
+        → way ≡ [] → any_stopped answers ≡ false → rest ≡ []
     left None is packet none untold = rest_is None is refl
     left (Some k) is packet none untold =
-        absurd (both_ways (tell_a_stop answers) untold
-        (ap tell_a_stop (replied none) ∙ one_told clock 0 k journal items
+        absurd (both_ways (any_stopped answers) untold
+        (ap any_stopped (replied none) ∙ one_told clock 0 k journal items
         (omega (arith, short, ap (λ stop. most_of stop items) is)) packet))
 
     journal_is : commits.behind ≡ [] → journal ≡ works_in applied
@@ -302,7 +302,7 @@ so_far clock items closed stopped applied way ledger answers passes commits =
         ∙ ap (λ ws. works_in (applied ++ way) ++ ws) (sym none) ∙ parts
 
     -- what is on the way doesn't change what was answered
-    told : journal ≡ works_in applied → journal ++ works_in way ≡ ahead items → tell_a_stop answers ≡ false
+    told : journal ≡ works_in applied → journal ++ works_in way ≡ ahead items → any_stopped answers ≡ false
     told is all_is =
         let now = journal ++ works_in way in
         let same : answers ≡ replies_from clock now 0 applied = commits.replied
@@ -323,25 +323,32 @@ run_so_far clock items ledger answers run =
     so_far clock items run.closed run.stopped run.passages [] ledger answers
     (subst (Passes items run.closed run.stopped) (sym (append-nil run.passages)) run.passed) run.commits
 
+none_after : {X : Type 0} (front rest : List X) → front ++ rest ≡ front → rest ≡ []
+none_after front rest is = nil_from_length rest (omega (arith, ap length is, length-append front rest))
+
 pub run_is_lawful : RunIsLawful
-run_is_lawful clock submitters queue queued ledger answers replies filled run theirs =
-    let far = run_so_far clock (items_in queue) ledger answers run in
-    let among = subst (AreAmong submitters) (sym (far.replied refl))
-    (due_among clock submitters (works ledger) (Ahead 0) queue filled.submitted) in
+run_is_lawful run answers filled ran theirs =
+    let far = run_so_far run.clock (items_in run.queue) run.ledger answers ran in
+    let is_due : answers ≡ all_due run.clock (items_in run.queue) (committed_in run) = far.replied refl in
+    let among = subst (AreAmong run.submitters) (sym is_due)
+    (due_among run.clock run.submitters (committed_in run) (Ahead 0) run.queue filled.submitted) in
     record {
       filled = filled;
-      behind = far.behind;
-      committed = far.committed;
-      whole = λ nothing. far.nothing_behind refl nothing.unmarked
-          (none_at_all submitters answers among (λ submitter below. sym (ap tell_a_stop (theirs submitter below))
-          ∙ nothing.untold submitter below));
-      unstopped = λ none. record {
-        unmarked = (far.nothing_stopped none).0;
-        untold = λ submitter below. ap tell_a_stop (theirs submitter below)
-            ∙ none_among (λ (reply : Replied). reply.submitter == submitter) answers (far.nothing_stopped none).1;
-      };
-      state_is = ap (λ start. replay start (works ledger)) run.commits.from;
-      replied = λ submitter below. theirs submitter below ∙ ap (λ rs. replies_to rs submitter) (far.replied refl);
+      committed = (far.behind, far.committed);
+      complete = (
+        λ nothing. let none = far.nothing_behind refl nothing.ledger
+            (none_at_all run.submitters answers among (λ submitter below. sym (ap any_stopped (theirs submitter below))
+            ∙ nothing.replies submitter below)) in
+            sym (append-nil (committed_in run)) ∙ ap (λ rest. committed_in run ++ rest) (sym none) ∙ far.committed,
+        λ all. let none = none_after (committed_in run) far.behind (far.committed ∙ sym all) in
+            record {
+              ledger = (far.nothing_stopped none).0;
+              replies = λ submitter below. ap any_stopped (theirs submitter below)
+                  ∙ none_among (λ (reply : Replied). reply.submitter == submitter) answers (far.nothing_stopped none).1;
+            },
+      );
+      state = ran.commits.state;
+      replied = λ submitter below. theirs submitter below ∙ ap (λ rs. replies_to rs submitter) is_due;
     }
 
 -- where neither stopped, a list has been run whole

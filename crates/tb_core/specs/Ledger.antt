@@ -1,10 +1,10 @@
 -- What a ledger makes of one parcel.
-use Rattle.std.specs.Prelude.{◌≡◌, ◌≤◌, ℕ, ◌+◌, ◌*◌, ◌^◌, Bool, true, ◌||◌, nat_lt, List, [], ◌∷◌, ◌++◌, length, map, take, drop, unwrap_or, if◌then◌else◌}
+use Rattle.std.specs.Prelude.{◌≡◌, ◌≤◌, ℕ, ◌+◌, ◌*◌, ◌^◌, Bool, true, false, ◌||◌, fold, nat_lt, List, [], ◌∷◌, ◌++◌, length, map, take, drop, unwrap_or, if◌then◌else◌}
 use Rattle.std.specs.List.{flat_map}
 use Rattle.tb_layout.specs.Events.{events_of}
 use Rattle.tb_layout.specs.Work.{Work, Packet, Pulse}
 use Rattle.tb_layout.specs.Limits.{clock_max}
-use Rattle.tb_machine.specs.Replay.{State, replay}
+use Rattle.tb_machine.specs.Replay.{State, replay, after_work, opening as no_work}
 use Rattle.tb_work.specs.Admission.{event_size}
 use Rattle.tb_work.specs.Job.{Numbered}
 use Rattle.tb_work.specs.Reply.{reply_with}
@@ -38,19 +38,24 @@ abbrev pub group_of : Entry → List Work
 group_of (entry.Batch operation body stubs) = packets_of operation body.items stubs.items
 group_of (entry.Pulse moment) = Pulse moment ∷ []
 
--- its opening clock, the packets or the pulse of each entry of its journal, and whether it stopped
+-- its opening clock, the packets or the pulse of each entry of its journal, its machine's state, and whether it stopped
 pub record LedgerState : Type 0 where
   pub opening : ℕ
   pub groups : List (List Work)
+  pub state : State
   pub stopped : Bool
+
+-- a ledger with an empty journal
+abbrev pub new_ledger : ℕ → LedgerState
+new_ledger clock = record { opening = clock; groups = []; state = no_work clock; stopped = false }
 
 -- the packets and pulses of the journal
 abbrev pub works : LedgerState → List Work
 works ledger = flat_map (λ group. group) ledger.groups
 
 -- its machine is what its journal gives from its opening clock, and its places are counted
-pub record IsLedger (ledger : LedgerState) (state : State) (places : ℕ) : Type 0 where
-  pub machine : state ≡ replay ledger.opening (works ledger)
+pub record IsLedger (ledger : LedgerState) (places : ℕ) : Type 0 where
+  pub machine : ledger.state ≡ replay ledger.opening (works ledger)
   pub counted : places ≡ length (works ledger)
   pub few : places ≤ 2 ^ 63
   pub opening : ledger.opening ≤ clock_max
@@ -69,7 +74,8 @@ abbrev pub with_stop : LedgerState → LedgerState
 with_stop ledger = record ledger { stopped = true }
 
 abbrev pub with_entry : LedgerState → List Work → LedgerState
-with_entry ledger group = record ledger { groups = ledger.groups ++ group ∷ [] }
+with_entry ledger group =
+    record ledger { groups = ledger.groups ++ group ∷ []; state = fold after_work ledger.state group }
 
 -- whether so many packets or pulses are not committed: it had stopped, their growth is refused, or there are no places
 abbrev pub must_stop : Bool → LedgerState → ℕ → Bool

@@ -5,4 +5,5 @@ pub mod Grouping
 pub mod Ledger
 pub mod BatchAnswer
 pub mod Report
+pub mod Headline
 pub mod Run

@@ -1,8 +1,8 @@
--- What a run that has ended reports: it is said of single packets and pulses, and no batch is in it.
-use Rattle.std.specs.Prelude.{◌≡◌, ℕ, ◌<◌, Bool, true, false, List, [], ◌++◌}
+-- What a run reports once its threads have ended. No definition here mentions a batch.
+use Rattle.std.specs.Prelude.{◌≡◌, ◌↔◌, ℕ, ◌<◌, Bool, true, false, List, [], ◌++◌}
 use Rattle.std.specs.List.{list_any}
 use Rattle.tb_layout.specs.Work.{Work}
-use Rattle.tb_machine.specs.Replay.{State, replay}
+use Rattle.tb_machine.specs.Replay.{replay}
 use Rattle.tb_work.specs.Queue.{ahead, items_in, IsQueueOf}
 use Rattle.tb_work.specs.Reply.{Replied}
 use Rattle.tb_work.specs.declared.outcome.Outcome.{Outcome}
@@ -12,31 +12,50 @@ use Rattle.tb_work.specs.declared.item.Ticket.{Ticket}
 use Rattle.tb_core.specs.Due.{all_due, due}
 use Rattle.tb_core.specs.Ledger.{LedgerState, works}
 
+-- A run: what it was opened with; the queue, as the intake popped it; what each sender queued itself; the ledger at the
+-- end; and the replies to each submitter.
+pub record Run : Type 0 where
+  pub clock : ℕ
+  pub limit : ℕ
+  pub submitters : ℕ
+  pub queue : List Ticket
+  pub queued : ℕ → List Item
+  pub ledger : LedgerState
+  pub replies : ℕ → List Replied
+
+-- the packets and pulses that were committed, in order
+abbrev pub committed_in : Run → List Work
+committed_in run = works run.ledger
+
+-- the packets and pulses that were queued ahead of the Close, in order
+abbrev pub ahead_in : Run → List Work
+ahead_in run = ahead (items_in run.queue)
+
+abbrev pub IsPrefix : {A : Type 0} → List A → List A → Type 0
+IsPrefix {A} front all = (rest : List A) × (front ++ rest ≡ all)
+
 abbrev pub is_stopped : Outcome → Bool
 is_stopped (Committed place answer) = false
 is_stopped Shutdown = false
 is_stopped Stopped = true
 
--- one of the replies tells that the pipeline stopped
-abbrev pub tell_a_stop : List Replied → Bool
-tell_a_stop replies = list_any (λ (reply : Replied). is_stopped reply.outcome) replies
+abbrev pub any_stopped : List Replied → Bool
+any_stopped replies = list_any (λ (reply : Replied). is_stopped reply.outcome) replies
 
--- the ledger isn't marked, and no submitter's reply is Stopped
-pub record NothingStopped (submitters : ℕ) (stopped : Bool) (replies : ℕ → List Replied) : Type 0 where
-  pub unmarked : stopped ≡ false
-  pub untold : (submitter : ℕ) → submitter < submitters → tell_a_stop (replies submitter) ≡ false
+-- the ledger didn't stop, and no reply is Stopped
+pub record NothingStopped (run : Run) : Type 0 where
+  pub ledger : run.ledger.stopped ≡ false
+  pub replies : (submitter : ℕ) → submitter < run.submitters → any_stopped (run.replies submitter) ≡ false
 
--- From a clock on these packets and pulses were committed of a queue that its senders filled so; the machine has this
--- state, the ledger this mark, and each of so many submitters got these replies.
-pub record LawfulReport (clock submitters : ℕ) (queue : List Ticket) (queued : ℕ → List Item) (works : List Work)
-    (state : State) (stopped : Bool) (replies : ℕ → List Replied) : Type 0 where
-  pub filled : IsQueueOf submitters queue queued
-  pub behind : List Work
-  pub committed : works ++ behind ≡ ahead (items_in queue)
-  pub whole : NothingStopped submitters stopped replies → behind ≡ []
-  pub unstopped : behind ≡ [] → NothingStopped submitters stopped replies
-  pub state_is : state ≡ replay clock works
-  pub replied : (submitter : ℕ) → submitter < submitters → replies submitter ≡ due clock queue works submitter
+-- The queue is as its senders filled it. What was committed is a prefix of what was queued ahead of the Close, and all
+-- of it exactly if nothing stopped. The machine's state is the replay of it, and each submitter's replies are those due.
+pub record LawfulReport (run : Run) : Type 0 where
+  pub filled : IsQueueOf run.submitters run.queue run.queued
+  pub committed : IsPrefix (committed_in run) (ahead_in run)
+  pub complete : NothingStopped run ↔ (committed_in run ≡ ahead_in run)
+  pub state : run.ledger.state ≡ replay run.clock (committed_in run)
+  pub replied : (submitter : ℕ) → submitter < run.submitters
+      → run.replies submitter ≡ due run.clock run.queue (committed_in run) submitter
 
 -- ---- a list in one thread
 

@@ -16,7 +16,7 @@ use Rattle.tb_core.specs.Front.{FrontState, held_by}
 use Rattle.tb_core.specs.Grouping.{AreJoined}
 use Rattle.tb_core.specs.Ledger.{LedgerState, works}
 use Rattle.tb_core.specs.Passage.{Passage, Passes}
-use Rattle.tb_core.specs.Report.{LawfulReport}
+use Rattle.tb_core.specs.Report.{Run, LawfulReport}
 
 -- the replies that a parcel comes to
 abbrev pub replies_in : Outcomes → List Replied
@@ -40,6 +40,7 @@ pub record Commits (clock : ℕ) (passages : List Passage) (ledger : LedgerState
   pub committed : works ledger ++ behind ≡ works_in passages
   pub whole : ledger.stopped ≡ false → behind ≡ []
   pub unstopped : behind ≡ [] → ledger.stopped ≡ false
+  pub state : ledger.state ≡ replay clock (works ledger)
   pub replied : replies ≡ replies_from clock (works ledger) 0 passages
 
 -- a front took these items and a ledger all that the front handed on; these are the replies, in order
@@ -74,13 +75,11 @@ pub record IsThrough (clock limit : ℕ) (items : List Item) (ledger : LedgerSta
   pub unstopped : ran.stopped ≡ false
   pub joined : AreJoined limit ledger.groups
 
--- Where a front and a ledger took a queue as its senders filled it, and each submitter got the replies that carry its
--- number, the report is lawful.
+-- If a front and a ledger took all of a run's queue, and each submitter got the replies with its number, the report on
+-- the run is lawful, also if an allocation failed.
 abbrev pub RunIsLawful : Type 0
 RunIsLawful =
-    (clock submitters : ℕ) (queue : List Ticket) (queued : ℕ → List Item) (ledger : LedgerState)
-    (answers : List Replied) (replies : ℕ → List Replied) →
-    IsQueueOf submitters queue queued → Ran clock (items_in queue) ledger answers
-    → ((submitter : ℕ) → submitter < submitters → replies submitter ≡ replies_to answers submitter) →
-    LawfulReport clock submitters queue queued (works ledger)
-    (replay ledger.opening (works ledger)) ledger.stopped replies
+    (run : Run) (answers : List Replied) → IsQueueOf run.submitters run.queue run.queued →
+    Ran run.clock (items_in run.queue) run.ledger answers
+    → ((submitter : ℕ) → submitter < run.submitters → run.replies submitter ≡ replies_to answers submitter)
+    → LawfulReport run

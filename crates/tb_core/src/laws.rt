@@ -1,9 +1,16 @@
-//! What a run reports.
+//! Laws on what a run reports, each the clause of a function that does nothing: a crate above knows a law once it called
+//! the function.
 
+ghost use Rattle.tb_core.specs.Headline.{ReportsHeadline};
 ghost use Rattle.tb_core.specs.Run.{RunIsLawful};
 
-/// Where a front and a ledger took all of a queue, and each submitter got the replies that carry its number, the
-/// report on it is lawful, also where a growth was refused.
+/// Establishes that the report on a run is lawful, also if an allocation failed: a front and a ledger took all of its
+/// queue, and each submitter got the replies with its number.
 pub fn run_is_lawful()
     ensures { RunIsLawful }
+{}
+
+/// Establishes that a lawful report says of each submitter what the headline says.
+pub fn headline()
+    ensures { ReportsHeadline }
 {}

@@ -61,14 +61,16 @@ impl Model for Ledger {
     ghost view = { λ ledger. record {
       opening = ledger.opening;
       groups = map group_of ledger.entries.items;
+      state = ledger.machine;
       stopped = ledger.stopped;
     } };
 
     ghost invariant = { λ ledger. IsLedger (record {
       opening = ledger.opening;
       groups = map group_of ledger.entries.items;
+      state = ledger.machine;
       stopped = ledger.stopped;
-    }) ledger.machine ledger.places };
+    }) ledger.places };
 }
 
 /// Lets the machine take a batch. Where memory is refused, it and the parts are as before.
@@ -156,12 +158,12 @@ impl Ledger {
     ghost use Rattle.tb_core.specs.Grouping.{AreJoined, IsJoinedParcel};
     ghost use Rattle.tb_core.specs.Passage.{Passage};
     ghost use Rattle.tb_core.specs.Run.{Commits, HasPackets, replies_in};
-    ghost use Rattle.tb_core.specs.Ledger.{LedgerState, works, apply_result, must_stop, apply_step};
+    ghost use Rattle.tb_core.specs.Ledger.{LedgerState, new_ledger, works, apply_result, must_stop, apply_step};
 
     /// A ledger without entries, whose clock starts at a number of nanoseconds, 0 to `CLOCK_MAX`. Takes no memory.
     pub fn new(alloc: Global, clock: u64) -> Ledger
         requires { clock ≤ clock_max }
-        ensures ledger { result ≡ record { opening = clock; groups = []; stopped = false } }
+        ensures ledger { result ≡ new_ledger clock }
         ensures commits { Commits clock [] result [] }
     {
         Ledger {
@@ -196,7 +198,8 @@ impl Ledger {
 
     /// The machine, in the state that the journal gives.
     pub fn machine(&self) -> &Machine
-        ensures { result.now ≡ replay self.now.opening (works self.now) }
+        ensures own { result.now ≡ self.now.state }
+        ensures replayed { result.now ≡ replay self.now.opening (works self.now) }
     {
         &self.machine
     }

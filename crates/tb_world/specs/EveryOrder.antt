@@ -9,7 +9,7 @@ use Rattle.tb_world.specs.declared.event.Event.TheVariants.{Push, Pop, BatchPush
 use Rattle.tb_core.specs.Due.{due}
 use Rattle.tb_core.specs.Front.{HaveAllEnded}
 use Rattle.tb_core.specs.Ledger.{works}
-use Rattle.tb_core.specs.Report.{LawfulReport, tell_a_stop}
+use Rattle.tb_core.specs.Report.{LawfulReport, any_stopped}
 use Rattle.tb_world.specs.World.{WorldState, is_lawful, received_of, moved, after_event, run, new_world}
 
 -- the ticket that an event pushes
@@ -66,7 +66,7 @@ pub record IsLawfulSoFar (clock submitters : ℕ) (queue : List Ticket) (world :
 -- no submitter was told of a stop
 abbrev pub NoneStopped : ℕ → WorldState → Type 0
 NoneStopped submitters world =
-    (submitter : ℕ) → submitter < submitters → tell_a_stop (received_of world submitter) ≡ false
+    (submitter : ℕ) → submitter < submitters → any_stopped (received_of world submitter) ≡ false
 
 -- the report of a World: its senders queued what they pushed
 abbrev pub Reports : ℕ → ℕ → List Ticket → WorldState → Type 0

@@ -5,7 +5,7 @@ use Rattle.tb_core.specs.BatchAnswer.{AreAnswered}
 use Rattle.tb_core.specs.Ledger.{LedgerState, group_of, must_stop, apply_step, works}
 use Rattle.tb_core.proofs.Batches.{JoinInvisibly}
 use Rattle.tb_core.proofs.Committed.{batch_applied}
-use Rattle.tb_core.proofs.Growing.{given, batch_entered}
+use Rattle.tb_core.proofs.Growing.{given, batch_state, batch_entered}
 use Rattle.tb_core.proofs.ledger.Ledger.commit.Goals as goal
 
 pub invariant_of-self-2 : goal.invariant_of-self-2
@@ -14,6 +14,7 @@ invariant_of-self-2 c =
     let ledger : LedgerState = record {
       opening = inside.opening;
       groups = map group_of inside.entries.items;
+      state = inside.machine;
       stopped = inside.stopped;
     } in
     let parts = c.take_batch.new.parts in
@@ -30,7 +31,7 @@ invariant_of-self-2 c =
       accounts = c.joining_is_invisible.ensures.accounts;
       transfers = c.joining_is_invisible.ensures.transfers;
     } in
-    batch_entered law ledger inside.machine c.take_batch.new.machine inside.places
+    batch_entered law ledger c.take_batch.new.machine inside.places
     (map group_of c.record-replies.new.entries.items) parts
     (length c.jobs-count.result.now) c.self.invariant answered next groups count goes
 
@@ -40,20 +41,26 @@ returns-clause-ok c =
     let ledger : LedgerState = record {
       opening = inside.opening;
       groups = map group_of inside.entries.items;
+      state = inside.machine;
       stopped = inside.stopped;
     } in
     let parts = c.take_batch.new.parts in
     let ok = sym c.is_err-2.ensures.value ∙ c.if-is_err-2.false in
     let answered = given c.take_batch.result _ ok c.take_batch.ensures.answered in
+    let next = given c.take_batch.result _ ok c.take_batch.ensures.state in
+    let law : JoinInvisibly = record {
+      accounts = c.joining_is_invisible.ensures.accounts;
+      transfers = c.joining_is_invisible.ensures.transfers;
+    } in
     let groups = c.record-replies.ensures.entry ∙ ap
     (λ items. map group_of items ++ map work_of parts.jobs.items ∷ []) c.reserve.ensures.items in
     let same = c.take_batch.ensures.jobs ∙ c.into_parts-parts.ensures.jobs in
     let goes = ap (λ (l : LedgerState). must_stop false l (length c.args.batch)) c.self.view_is
     ∙ ap (λ jobs. must_stop false c.args.self.now (length jobs)) (sym c.jobs-count.ensures.jobs)
     ∙ sym c.halts_at.ensures ∙ c.if-halts_at.false in
-    batch_applied ledger inside.machine inside.places
+    batch_applied ledger c.take_batch.new.machine inside.places
     (map group_of c.record-replies.new.entries.items) parts.jobs.items c.args.batch c.record-replies.result
-    c.self.invariant groups same
+    c.self.invariant groups (next ∙ batch_state law inside.machine parts answered) same
     (c.record-replies.ensures.replies inside.opening (works ledger) c.self.invariant.counted
     (subst (λ state. AreAnswered state parts) c.self.invariant.machine answered)) goes
     ∙ ap (λ (l : LedgerState). apply_step false l (parcel.Batch c.args.batch)) c.self.view_is

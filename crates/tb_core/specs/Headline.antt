@@ -1,0 +1,78 @@
+-- The headline: what a lawful report says of each submitter, in the words of the README.
+use Rattle.std.specs.Prelude.{◌≡◌, ◌<◌, ℕ, ◌==◌, Bool, false, List, [], ◌∷◌, map, filter, take, slice_get, Some}
+use Rattle.tb_layout.specs.declared.answer.Answer.{Answer}
+use Rattle.tb_layout.specs.Work.{Work, Packet, Pulse}
+use Rattle.tb_machine.specs.Replay.{replay, answer_of}
+use Rattle.tb_work.specs.Job.{Numbered, events_in}
+use Rattle.tb_work.specs.Reply.{Replied}
+use Rattle.tb_work.specs.Work.{work_of}
+use Rattle.tb_work.specs.declared.item.Item.{Item}
+use Rattle.tb_work.specs.declared.item.Item.TheVariants as item
+use Rattle.tb_work.specs.declared.outcome.Outcome.TheVariants.{Committed}
+use Rattle.tb_core.specs.Report.{Run, committed_in, ahead_in, IsPrefix, NothingStopped, LawfulReport}
+
+-- ---- the packets and the pulses of a list
+
+abbrev pub is_packet_of : ℕ → Work → Bool
+is_packet_of submitter (Packet its_submitter number events) = its_submitter == submitter
+is_packet_of submitter (Pulse moment) = false
+
+-- a submitter's packets, in order
+abbrev pub packets_of : ℕ → List Work → List Work
+packets_of submitter works = filter (is_packet_of submitter) works
+
+-- the moments of the pulses, in order
+abbrev pub moments_in : List Work → List ℕ
+moments_in [] = []
+moments_in (Packet submitter number events ∷ works) = moments_in works
+moments_in (Pulse moment ∷ works) = moment ∷ moments_in works
+
+-- the packets that a sender queued, in order
+abbrev pub packets_queued : List Item → List Numbered
+packets_queued [] = []
+packets_queued (item.Packet packet ∷ items) = packet ∷ packets_queued items
+packets_queued (item.Pulse moment ∷ items) = packets_queued items
+packets_queued (item.End ∷ items) = packets_queued items
+packets_queued (item.Close ∷ items) = packets_queued items
+
+-- the moments of the pulses that a sender queued, in order
+abbrev pub moments_queued : List Item → List ℕ
+moments_queued [] = []
+moments_queued (item.Packet packet ∷ items) = moments_queued items
+moments_queued (item.Pulse moment ∷ items) = moment ∷ moments_queued items
+moments_queued (item.End ∷ items) = moments_queued items
+moments_queued (item.Close ∷ items) = moments_queued items
+
+-- the packet that a reply gives back, with its submitter and number
+abbrev pub packet_of : Replied → Numbered
+packet_of reply = record { submitter = reply.submitter; number = reply.number; packet = reply.packet }
+
+-- the packet of this reply has this place, and this is the state machine's answer to it alone, in the state that the
+-- packets and pulses before it left
+pub record IsAnsweredAt (run : Run) (place : ℕ) (reply : Replied) (answer : Answer) : Type 0 where
+  pub stands : slice_get (committed_in run) place ≡ Some (work_of (packet_of reply))
+  pub alone : answer ≡ answer_of (replay run.clock (take place (committed_in run))) (events_in reply.packet)
+
+-- ---- the headline
+
+-- The packets committed of each submitter are, in order and each once, a prefix of those ahead of the Close; those are a
+-- prefix of what it queued; all of them are committed unless the pipeline stopped. Its replies are one per queued packet,
+-- in order. A committed one names the packet's place, and is what the state machine answers to that packet alone, in the
+-- state that the packets and pulses before it left. Committed pulses are a prefix of those that the control queued.
+pub record Headline (run : Run) : Type 0 where
+  pub committed : (submitter : ℕ) → submitter < run.submitters
+      → IsPrefix (packets_of submitter (committed_in run)) (packets_of submitter (ahead_in run))
+  pub queued : (submitter : ℕ) → submitter < run.submitters
+      → IsPrefix (packets_of submitter (ahead_in run)) (map work_of (packets_queued (run.queued submitter)))
+  pub all : NothingStopped run → (submitter : ℕ) → submitter < run.submitters
+      → packets_of submitter (committed_in run) ≡ packets_of submitter (ahead_in run)
+  pub replied : (submitter : ℕ) → submitter < run.submitters
+      → map packet_of (run.replies submitter) ≡ packets_queued (run.queued submitter)
+  pub answered : (submitter index place : ℕ) (reply : Replied) (answer : Answer) → submitter < run.submitters
+      → slice_get (run.replies submitter) index ≡ Some reply → reply.outcome ≡ Committed place answer
+      → IsAnsweredAt run place reply answer
+  pub pulses : IsPrefix (moments_in (committed_in run)) (moments_queued (run.queued run.submitters))
+
+-- a lawful report has all that the headline says
+abbrev pub ReportsHeadline : Type 0
+ReportsHeadline = (run : Run) → LawfulReport run → Headline run
