@@ -1,8 +1,9 @@
 -- What is known of a batch that the machine takes.
-use Rattle.std.proofs.Common.{refl, sym, ap, subst, ◌∙◌, arith, ◌≡◌, ◌≤◌, ℕ, append-nil, ◌*◌, ◌/◌, ◌%◌, Bool, true, false, not, List, [], ◌∷◌, ◌++◌, map, length, length-append, Option, Some, None}
+use Rattle.std.proofs.Common.{refl, sym, ap, subst, ◌∙◌, arith, ◌≡◌, ◌≤◌, ℕ, append-nil, ◌+◌, ◌*◌, ◌/◌, ◌%◌, Bool, true, false, not, List, [], ◌∷◌, ◌++◌, map, length, length-append, Option, Some, None}
 use Rattle.std.specs.Prelude.{◌==◌, ◌||◌, fold, IsOk, if◌then◌else◌}
 use Rattle.std.specs.List.{list_all, filter_map, cons_option}
 use Rattle.std.proofs.lemmas.List.{length-map}
+use Rattle.std.proofs.lemmas.List.Sums.{sum_by-cons}
 use Rattle.std.proofs.lemmas.Bool.{and_parts, both_ways, eqb-true, not-true}
 use Rattle.tb_layout.specs.Account.{account_of, is_linked as is_linked_account}
 use Rattle.tb_layout.specs.Transfer.{transfer_of, is_linked as is_linked_transfer}
@@ -17,11 +18,12 @@ use Rattle.tb_work.specs.declared.outcome.Outcome.TheVariants.{Committed}
 use Rattle.tb_work.specs.Admission.{event_size, admission_of_size, count_of, count_of_size}
 use Rattle.tb_work.specs.Job.{Numbered, events_in, count_of_all, is_lookup, stub_of, is_open as is_open_packet}
 use Rattle.tb_work.specs.Reply.{reply_with}
+use Rattle.tb_work.specs.declared.stub.Stub.{Stub}
 use Rattle.tb_work.specs.Work.{work_of}
 use Rattle.tb_batch.specs.Grouping.{can_share, are_of}
 use Rattle.tb_batch.specs.Batch.{body_of, IsLawful, AreAdmitted}
 use Rattle.tb_core.proofs.Answering.{answers_from}
-use Rattle.tb_core.specs.Ledger.{packets_of}
+use Rattle.tb_core.specs.Ledger.{packets_of, count_of_stubs, IsBatchEntry}
 use Rattle.tb_core.proofs.Bodies.{first_is, whole_events, packets_of-jobs}
 use Rattle.tb_core.proofs.Committing.{length-chunks, GivesEach, gives}
 
@@ -184,6 +186,32 @@ gives_one place operation state (job ∷ next ∷ jobs) lawful lookup =
     absurd (both_ways (is_lookup job.packet) (not-true (is_lookup job.packet) other.1) lookups)
 
 -- ---- what its journal entry has
+
+stubs_count : (jobs : List Numbered) → count_of_stubs (map stub_of jobs) ≡ count_of_all jobs
+stubs_count [] = refl
+stubs_count (job ∷ jobs) =
+    sum_by-cons (λ (stub : Stub). stub.count) (stub_of job) (map stub_of jobs)
+    ∙ ap (λ n. count_of job.packet + n) (stubs_count jobs)
+
+-- the entry is whole
+pub entry_is : (operation : ℕ) (jobs : List Numbered) → IsLawful operation jobs
+    → IsBatchEntry operation (body_of jobs) (map stub_of jobs)
+entry_is operation jobs lawful = by operation (kind_of_batch operation jobs lawful) lawful.one_operation
+  where
+    sized : (op size : ℕ) → event_size op ≡ Some size → are_of op jobs ≡ true → IsBatchEntry op (body_of jobs)
+        (map stub_of jobs)
+    sized op size is one =
+        record {
+          known = rw is refl;
+          whole = body_size op size jobs is one lawful.all_admitted
+              ∙ rw (stubs_count jobs, is) refl;
+          few = rw (stubs_count jobs) lawful.few;
+        }
+
+    by : (op : ℕ) → Kind op → are_of op jobs ≡ true → IsBatchEntry op (body_of jobs) (map stub_of jobs)
+    by op OfAccounts one = sized 129 128 refl one
+    by op OfTransfers one = sized 130 128 refl one
+    by op OfIds one = sized 131 16 refl one
 
 pub entry_has : (operation : ℕ) (jobs : List Numbered) → IsLawful operation jobs
     → packets_of operation (body_of jobs) (map stub_of jobs) ≡ map work_of jobs

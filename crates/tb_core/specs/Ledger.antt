@@ -1,9 +1,9 @@
 -- What a ledger makes of one parcel.
-use Rattle.std.specs.Prelude.{◌≡◌, ◌≤◌, ℕ, ◌+◌, ◌*◌, ◌^◌, Bool, true, false, ◌||◌, fold, nat_lt, List, [], ◌∷◌, ◌++◌, length, map, take, drop, unwrap_or, if◌then◌else◌}
-use Rattle.std.specs.List.{flat_map}
+use Rattle.std.specs.Prelude.{◌≡◌, ◌≤◌, ℕ, ◌+◌, ◌*◌, ◌^◌, Bool, true, false, ◌||◌, fold, nat_lt, List, [], ◌∷◌, ◌++◌, length, map, take, drop, unwrap_or, IsSome, if◌then◌else◌}
+use Rattle.std.specs.List.{flat_map, sum_by, AllByRecursion}
 use Rattle.tb_layout.specs.Events.{events_of}
 use Rattle.tb_layout.specs.Work.{Work, Packet, Pulse}
-use Rattle.tb_layout.specs.Limits.{clock_max}
+use Rattle.tb_layout.specs.Limits.{batch_max, clock_max}
 use Rattle.tb_machine.specs.Replay.{State, replay, after_work, opening as no_work}
 use Rattle.tb_work.specs.Admission.{event_size}
 use Rattle.tb_work.specs.Job.{Numbered}
@@ -38,6 +38,24 @@ abbrev pub group_of : Entry → List Work
 group_of (entry.Batch operation body stubs) = packets_of operation body.items stubs.items
 group_of (entry.Pulse moment) = Pulse moment ∷ []
 
+-- how many events the packets of these stubs have together
+abbrev pub count_of_stubs : List Stub → ℕ
+count_of_stubs stubs = sum_by (λ (stub : Stub). stub.count) stubs
+
+-- a batch as the journal keeps it: its operation is one of the three, and its body holds the events of its packets, at
+-- most 8190, and no byte more
+pub record IsBatchEntry (operation : ℕ) (body : List ℕ) (stubs : List Stub) : Type 0 where
+  pub known : IsSome (event_size operation)
+  pub whole : length body ≡ count_of_stubs stubs * size_of operation
+  pub few : count_of_stubs stubs ≤ batch_max
+
+abbrev pub IsEntry : Entry → Type 0
+IsEntry (entry.Batch operation body stubs) = IsBatchEntry operation body.items stubs.items
+IsEntry (entry.Pulse moment) = Unit {0}
+
+abbrev pub AreEntries : List Entry → Type 0
+AreEntries entries = AllByRecursion IsEntry entries
+
 -- its opening clock, the packets or the pulse of each entry of its journal, its machine's state, and whether it stopped
 pub record LedgerState : Type 0 where
   pub opening : ℕ
@@ -53,12 +71,13 @@ new_ledger clock = record { opening = clock; groups = []; state = no_work clock;
 abbrev pub works : LedgerState → List Work
 works ledger = flat_map (λ group. group) ledger.groups
 
--- its machine is what its journal gives from its opening clock, and its places are counted
-pub record IsLedger (ledger : LedgerState) (places : ℕ) : Type 0 where
+-- its machine is what its journal gives from its opening clock, its places are counted, and each entry is whole
+pub record IsLedger (ledger : LedgerState) (entries : List Entry) (places : ℕ) : Type 0 where
   pub machine : ledger.state ≡ replay ledger.opening (works ledger)
   pub counted : places ≡ length (works ledger)
   pub few : places ≤ 2 ^ 63
   pub opening : ledger.opening ≤ clock_max
+  pub whole : AreEntries entries
 
 -- ---- one parcel
 

@@ -12,7 +12,7 @@ ghost use Rattle.tb_core.specs.BatchAnswer.{AreAnswered, answer_in};
 ghost use Rattle.tb_work.specs.declared.outcome.Outcome.TheVariants.{Stopped as StoppedOutcome};
 ghost use Rattle.tb_core.specs.Due.{outcome_of, replies_from};
 ghost use Rattle.tb_core.specs.Passage.{Admitted};
-ghost use Rattle.tb_core.specs.Ledger.{group_of};
+ghost use Rattle.tb_core.specs.Ledger.{group_of, AreEntries};
 
 use crate::journal::Entry;
 use crate::outcomes::Outcomes;
@@ -70,7 +70,7 @@ impl Model for Ledger {
       groups = map group_of ledger.entries.items;
       state = ledger.machine;
       stopped = ledger.stopped;
-    }) ledger.places };
+    }) ledger.entries.items ledger.places };
 }
 
 /// Lets the machine take a batch. Where memory is refused, it and the parts are as before.
@@ -110,6 +110,7 @@ fn record(entries: &mut Vec<Entry>, place: u64, parts: Parts) -> Cutter
     requires fits { place + length parts.jobs.items ≤ 2 ^ 63 }
     ensures entry { map group_of entries.new.items
         ≡ map group_of entries.old.items ++ map work_of parts.jobs.items ∷ [] }
+    ensures whole { AreEntries entries.old.items → AreEntries entries.new.items }
     ensures replies { (clock : ℕ) (before : List Work) → place ≡ length before → AreAnswered (replay clock before) parts
         → result ≡ replies_from clock (before ++ map work_of parts.jobs.items) place (map Admitted parts.jobs.items) }
 {
@@ -204,9 +205,11 @@ impl Ledger {
         &self.machine
     }
 
-    /// The entries of the journal, in order.
+    /// Returns the journal's entries, in order. They are exactly what was committed: one packet for each stub, with that
+    /// stub's count of the body's events, and a body without any other byte.
     pub fn journal(&self) -> &[Entry]
-        ensures { map group_of result.now ≡ self.now.groups }
+        ensures groups { map group_of result.now ≡ self.now.groups }
+        ensures whole { AreEntries result.now }
     {
         self.entries.as_slice()
     }

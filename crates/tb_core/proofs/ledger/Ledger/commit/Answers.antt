@@ -2,7 +2,7 @@ use Rattle.std.proofs.Common.{◌∙◌, ap, sym, subst, false, map, length, ◌
 use Rattle.tb_work.specs.Work.{work_of}
 use Rattle.tb_core.specs.declared.parcel.Parcel.TheVariants as parcel
 use Rattle.tb_core.specs.BatchAnswer.{AreAnswered}
-use Rattle.tb_core.specs.Ledger.{LedgerState, group_of, must_stop, apply_step, works}
+use Rattle.tb_core.specs.Ledger.{LedgerState, AreEntries, group_of, must_stop, apply_step, works}
 use Rattle.tb_core.proofs.Batches.{JoinInvisibly}
 use Rattle.tb_core.proofs.Committed.{batch_applied}
 use Rattle.tb_core.proofs.Growing.{given, batch_state, batch_entered}
@@ -31,9 +31,11 @@ invariant_of-self-2 c =
       accounts = c.joining_is_invisible.ensures.accounts;
       transfers = c.joining_is_invisible.ensures.transfers;
     } in
+    let whole = c.record-replies.ensures.whole
+    (subst AreEntries (sym c.reserve.ensures.items) c.self.invariant.whole) in
     batch_entered law ledger c.take_batch.new.machine inside.places
-    (map group_of c.record-replies.new.entries.items) parts
-    (length c.jobs-count.result.now) c.self.invariant answered next groups count goes
+    (map group_of c.record-replies.new.entries.items) inside.entries.items c.record-replies.new.entries.items parts
+    (length c.jobs-count.result.now) c.self.invariant whole answered next groups count goes
 
 pub returns-clause-ok : goal.returns-clause-ok
 returns-clause-ok c =
@@ -59,7 +61,8 @@ returns-clause-ok c =
     ∙ ap (λ jobs. must_stop false c.args.self.now (length jobs)) (sym c.jobs-count.ensures.jobs)
     ∙ sym c.halts_at.ensures ∙ c.if-halts_at.false in
     batch_applied ledger c.take_batch.new.machine inside.places
-    (map group_of c.record-replies.new.entries.items) parts.jobs.items c.args.batch c.record-replies.result
+    (map group_of c.record-replies.new.entries.items) inside.entries.items parts.jobs.items c.args.batch
+    c.record-replies.result
     c.self.invariant groups (next ∙ batch_state law inside.machine parts answered) same
     (c.record-replies.ensures.replies inside.opening (works ledger) c.self.invariant.counted
     (subst (λ state. AreAnswered state parts) c.self.invariant.machine answered)) goes
