@@ -24,10 +24,10 @@ use Rattle.tb_core.specs.Report.{Run, committed_in, ahead_in, IsPrefix, LawfulRe
 
 -- ---- prefixes
 
-is-prefix-trans : {X : Type 0} (xs ys zs : List X) → IsPrefix xs ys → IsPrefix ys zs → IsPrefix xs zs
+pub is-prefix-trans : {X : Type 0} (xs ys zs : List X) → IsPrefix xs ys → IsPrefix ys zs → IsPrefix xs zs
 is-prefix-trans xs ys zs (a, is) (b, more) = (a ++ b, sym (append_assoc xs a b) ∙ ap (λ l. l ++ b) is ∙ more)
 
-prefix-filter : {X : Type 0} (p : X → Bool) (front all : List X) → IsPrefix front all
+pub prefix-filter : {X : Type 0} (p : X → Bool) (front all : List X) → IsPrefix front all
     → IsPrefix (filter p front) (filter p all)
 prefix-filter p front all (rest, is) = (filter p rest, sym (filter-append p front rest) ∙ ap (filter p) is)
 

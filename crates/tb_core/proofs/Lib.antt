@@ -9,6 +9,6 @@ mod Growing
 pub mod Committed
 mod Grouped
 pub mod Runs
-mod HeadlineLemmas
+pub mod HeadlineLemmas
 mod Listing
 mod Examples

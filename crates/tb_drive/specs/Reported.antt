@@ -1,9 +1,9 @@
 -- A pipeline that was driven until all of its senders had ended.
 use Rattle.std.specs.Prelude.{◌≡◌, ℕ, List, Some, map, length, slice_get}
 use Rattle.tb_core.specs.Grouping.{IsGrouping}
+use Rattle.tb_core.specs.Headline.{moments_in, moments_queued}
 use Rattle.tb_core.specs.Ledger.{LedgerState, works}
-use Rattle.tb_core.specs.Report.{LawfulReport}
-use Rattle.tb_machine.specs.Replay.{replay}
+use Rattle.tb_core.specs.Report.{IsPrefix, LawfulReport}
 use Rattle.tb_submit.specs.Ends.{EndedState, IntakeState, SubmitterState, SenderState, origin_of, control_seat, replies_of}
 use Rattle.tb_work.specs.Job.{Numbered}
 use Rattle.tb_work.specs.Reply.{Replied}
@@ -11,7 +11,6 @@ use Rattle.tb_work.specs.declared.item.Item.{Item}
 use Rattle.tb_work.specs.declared.item.Ticket.{Ticket}
 use Rattle.tb_drive.specs.Seen.{jobs_in}
 use Rattle.tb_drive.specs.declared.driving.Finished.{Finished}
-use Rattle.tb_pipe.specs.Pulses.{IsPrefixOf, moments_committed, moments_queued}
 use Rattle.tb_pipe.specs.Run.{PipelineState}
 
 -- the submitters and the control are a pipeline's own, by rising number, and there are as many as its queue has
@@ -28,10 +27,17 @@ pub record HasReported {D : Type 0} (has_seen : D → List Numbered → List Rep
   pub queue : List Ticket
   pub queued : ℕ → List Item
   pub control : queued submitters ≡ controlled
-  pub report : LawfulReport clock submitters queue queued (works ledger)
-      (replay ledger.opening (works ledger)) ledger.stopped (replies_of ends)
+  pub report : LawfulReport (record {
+    clock = clock;
+    limit = limit;
+    submitters = submitters;
+    queue = queue;
+    queued = queued;
+    ledger = ledger;
+    replies = replies_of ends;
+  })
   pub grouping : IsGrouping limit ledger.groups
-  pub pulses : IsPrefixOf (moments_committed (works ledger)) (moments_queued controlled)
+  pub pulses : IsPrefix (moments_in (works ledger)) (moments_queued controlled)
   pub number : length ends ≡ submitters
   pub driven : length drivers ≡ submitters
   pub seen : (k : ℕ) (driver : D) (ended : EndedState) → slice_get drivers k ≡ Some driver

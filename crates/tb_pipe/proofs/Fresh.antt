@@ -6,7 +6,7 @@ use Rattle.tb_core.specs.declared.parcel.Parcel.{Parcel}
 use Rattle.tb_core.specs.declared.outcomes.Outcomes.{Outcomes}
 use Rattle.tb_core.specs.Front.{FrontState, held_by, KnowsEnds}
 use Rattle.tb_core.specs.Grouping.{AreJoined}
-use Rattle.tb_core.specs.Ledger.{LedgerState}
+use Rattle.tb_core.specs.Ledger.{LedgerState, new_ledger}
 use Rattle.tb_core.specs.Passage.{Passes}
 use Rattle.tb_core.specs.Run.{Commits}
 use Rattle.tb_rings.specs.Ends.{given}
@@ -24,7 +24,7 @@ fresh_batched limit submitters queue front given under among passes knows no_que
     (record { under = under; among = among; passes = passes; joined = tt; unended = refl; knows = knows }))
 
 pub fresh_committed : (clock : ℕ) (taken : List Parcel) (ledger : LedgerState) (given : List Outcomes)
-    → ledger ≡ record { opening = clock; groups = []; stopped = false } → Commits clock [] ledger []
+    → ledger ≡ new_ledger clock → Commits clock [] ledger []
     → taken ≡ [] → given ≡ [] →
     IsCommitted ledger.opening taken ledger given
 fresh_committed clock taken ledger given new commits no_parcels none =

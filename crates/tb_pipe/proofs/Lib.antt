@@ -4,4 +4,3 @@ pub mod Commits
 pub mod Drained
 pub mod Fresh
 pub mod Origins
-pub mod Moments

@@ -2,4 +2,3 @@ pub mod Carried
 pub mod Outlets
 pub mod Stages
 pub mod Run
-pub mod Pulses

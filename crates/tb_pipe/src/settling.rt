@@ -1,17 +1,16 @@
 //! What a run reports.
 
 ghost use Rattle.std.specs.Prelude.{◌≡◌, ℕ, map, length, slice_index_or};
-ghost use Rattle.tb_machine.specs.Replay.{replay};
 ghost use Rattle.tb_core.specs.Grouping.{IsGrouping};
+ghost use Rattle.tb_core.specs.Headline.{Headline, moments_in, moments_queued};
 ghost use Rattle.tb_core.specs.Ledger.{works};
-ghost use Rattle.tb_core.specs.Report.{LawfulReport};
-ghost use Rattle.tb_submit.specs.Ends.{EndedState, control_seat, end_origin, origins, queued_by, replies_of};
-ghost use Rattle.tb_pipe.specs.Pulses.{IsPrefixOf, moments_committed, moments_queued};
-ghost use Rattle.tb_pipe.specs.Run.{IsServed};
+ghost use Rattle.tb_core.specs.Report.{IsPrefix, LawfulReport};
+ghost use Rattle.tb_submit.specs.Ends.{EndedState, control_seat, end_origin, origins};
+ghost use Rattle.tb_pipe.specs.Run.{IsServed, run_of};
 
 use crate::serving::Served;
 use crate::stages::Remains;
-use tb_core::{Ledger, run_is_lawful};
+use tb_core::{Ledger, headline, run_is_lawful};
 use tb_submit::{ControlEnd, Ended, settle_queue};
 
 /// What became of all that was queued: the ledger with its journal and its machine, and each submitter's end, in
@@ -27,17 +26,19 @@ fn settle_remains(remains: Remains, ends: Vec<Ended>, control: ControlEnd) -> Re
     requires served { IsServed remains }
     requires ends { map end_origin ends.items ≡ origins remains.intake remains.routed.outlets.items }
     requires control { control.seat ≡ control_seat remains.intake }
-    ensures report { LawfulReport remains.committed.ledger.opening remains.intake.submitters remains.intake.taken
-        (queued_by ends.items control) (works result.ledger)
-        (replay result.ledger.opening (works result.ledger)) result.ledger.stopped (replies_of result.ends.items) }
+    ensures report { LawfulReport (run_of remains.committed.ledger.opening remains.intake ends.items control
+        result.ledger result.ends.items) }
+    ensures headline { Headline (run_of remains.committed.ledger.opening remains.intake ends.items control
+        result.ledger result.ends.items) }
     ensures grouping { IsGrouping remains.intake.limit result.ledger.groups }
-    ensures pulses { IsPrefixOf (moments_committed (works result.ledger)) (moments_queued control.queued) }
+    ensures pulses { IsPrefix (moments_in (works result.ledger)) (moments_queued control.queued) }
     ensures ledger { result.ledger ≡ remains.committed.ledger }
     ensures long { length result.ends.items ≡ remains.intake.submitters }
     ensures read { (k : ℕ) (d : EndedState) → (slice_index_or result.ends.items k d).read
         ≡ (slice_index_or ends.items k d).read }
 {
     run_is_lawful();
+    headline();
     let Remains {
         intake,
         mut batches,
@@ -53,17 +54,18 @@ fn settle_remains(remains: Remains, ends: Vec<Ended>, control: ControlEnd) -> Re
     }
 }
 
-/// The report on a run. The ends are those of the submitters that were opened with the pipeline, by rising number, and
-/// the control's is its control's. Takes no memory, and waits for nobody. Once it is there, `reply` on an end gives all
-/// replies that are left, and None only after them.
+/// Returns the report on a run. `ends` are those of the submitters that were opened with the pipeline, by rising number,
+/// and `control` is the end of its control. Allocates nothing and doesn't wait. After it, `reply` on an end returns the
+/// replies that are left, in order, and then `None`.
 pub fn settle(served: Served, ends: Vec<Ended>, control: ControlEnd) -> Report
     requires ends { map end_origin ends.items ≡ served.submitters }
     requires control { control.seat ≡ control_seat served.intake }
-    ensures report { LawfulReport served.clock served.intake.submitters served.intake.taken
-        (queued_by ends.items control) (works result.ledger)
-        (replay result.ledger.opening (works result.ledger)) result.ledger.stopped (replies_of result.ends.items) }
+    ensures report { LawfulReport (run_of served.clock served.intake ends.items control
+        result.ledger result.ends.items) }
+    ensures headline { Headline (run_of served.clock served.intake ends.items control
+        result.ledger result.ends.items) }
     ensures grouping { IsGrouping served.intake.limit result.ledger.groups }
-    ensures pulses { IsPrefixOf (moments_committed (works result.ledger)) (moments_queued control.queued) }
+    ensures pulses { IsPrefix (moments_in (works result.ledger)) (moments_queued control.queued) }
     ensures ledger { result.ledger ≡ served.ledger }
     ensures long { length result.ends.items ≡ served.intake.submitters }
     ensures read { (k : ℕ) (d : EndedState) → (slice_index_or result.ends.items k d).read

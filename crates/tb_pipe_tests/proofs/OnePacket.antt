@@ -126,9 +126,9 @@ pub is_reply : (clock : ℕ) (packet : Packet) (ledger : LedgerState) (ends : Li
     → IsRunOfOne clock packet ledger ends → IsReplyToOne clock packet (one_reply clock (works ledger) packet)
 is_reply clock packet ledger ends run =
     let first : part 0 run.queue ≡ one_and_end packet = run.lawful.filled.parts 0 (omega arith) ∙ run.submitted in
-    reply_where clock packet (works ledger) (front_of_one (works ledger) run.lawful.behind
+    reply_where clock packet (works ledger) (front_of_one (works ledger) run.lawful.committed.0
     (work_of (numbered_packet 0 0 packet))
-    (run.lawful.committed ∙ ahead_of_first run.queue (others_end clock packet ledger ends run) ∙ ap ahead first))
+    (run.lawful.committed.1 ∙ ahead_of_first run.queue (others_end clock packet ledger ends run) ∙ ap ahead first))
 
 -- the one end has the reply still to read
 pub lies_for_one : (clock : ℕ) (packet : Packet) (ledger : LedgerState) (ends front : List EndedState)

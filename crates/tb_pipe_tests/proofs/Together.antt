@@ -1,30 +1,27 @@
 -- A run from opening to the report, put together from what the calls say.
 use Rattle.std.proofs.Common.{◌≡◌, ℕ, List, ap, subst}
 use Rattle.tb_core.specs.Grouping.{IsGrouping}
-use Rattle.tb_core.specs.Ledger.{LedgerState, works}
+use Rattle.tb_core.specs.Ledger.{LedgerState}
 use Rattle.tb_core.specs.Report.{LawfulReport}
-use Rattle.tb_machine.specs.Replay.{replay}
-use Rattle.tb_submit.specs.Ends.{EndedState, IntakeState, replies_of}
+use Rattle.tb_submit.specs.Ends.{EndedState, IntakeState}
 use Rattle.tb_work.specs.declared.item.Item.{Item}
 use Rattle.tb_pipe.specs.Run.{PipelineState, ServedState}
-use Rattle.tb_pipe_tests.specs.Together.{IsOpenedAs, IsRun}
+use Rattle.tb_pipe_tests.specs.Together.{IsOpenedAs, IsRun, run_with}
 
 -- what serving leaves of a pipeline, settled
 pub is_run : (pipeline : PipelineState) (served : ServedState) (queued : ℕ → List Item) (ledger : LedgerState)
     (ends : List EndedState) → served.clock ≡ pipeline.clock
     → served.intake ≡ record pipeline.intake { taken = served.intake.taken } →
-    LawfulReport served.clock served.intake.submitters served.intake.taken queued (works ledger)
-    (replay ledger.opening (works ledger)) ledger.stopped (replies_of ends)
-    → IsGrouping served.intake.limit ledger.groups →
+    LawfulReport (run_with served.clock served.intake.limit served.intake.submitters served.intake.taken queued ledger
+    ends) → IsGrouping served.intake.limit ledger.groups →
     IsRun pipeline.clock pipeline.intake.limit pipeline.intake.submitters ledger ends
 is_run pipeline served queued ledger ends clock intake lawful grouping = (
   served.intake.taken,
   queued,
-  subst (λ n. LawfulReport n pipeline.intake.submitters served.intake.taken queued (works ledger)
-      (replay ledger.opening (works ledger)) ledger.stopped (replies_of ends)) clock
-      (subst (λ n. LawfulReport served.clock n served.intake.taken queued (works ledger)
-      (replay ledger.opening (works ledger)) ledger.stopped (replies_of ends))
-      (ap (λ (i : IntakeState). i.submitters) intake) lawful),
+  subst (λ n. LawfulReport (run_with n pipeline.intake.limit pipeline.intake.submitters served.intake.taken queued
+      ledger ends)) clock
+      (subst (λ (i : IntakeState). LawfulReport (run_with served.clock i.limit i.submitters served.intake.taken queued
+      ledger ends)) intake lawful),
   subst (λ n. IsGrouping n ledger.groups) (ap (λ (i : IntakeState). i.limit) intake) grouping,
 )
 

@@ -1,9 +1,10 @@
 -- A run with one packet, from opening to its reply.
 use Rattle.std.specs.Prelude.{◌≡◌, ℕ, List, [], ◌∷◌, ◌⊎◌, length, slice_index_or}
-use Rattle.tb_core.specs.Ledger.{LedgerState, works}
+use Rattle.tb_core.specs.Ledger.{LedgerState}
 use Rattle.tb_core.specs.Report.{LawfulReport}
-use Rattle.tb_machine.specs.Replay.{answer_of, opening, replay}
-use Rattle.tb_submit.specs.Ends.{EndedState, replies_of}
+use Rattle.tb_machine.specs.Replay.{answer_of, opening}
+use Rattle.tb_submit.specs.Ends.{EndedState}
+use Rattle.tb_pipe_tests.specs.Together.{run_with}
 use Rattle.tb_work.specs.Job.{events_in, numbered_packet}
 use Rattle.tb_work.specs.Reply.{Replied, reply_with}
 use Rattle.tb_work.specs.declared.item.Item.{Item}
@@ -18,14 +19,14 @@ one_and_end packet = item.Packet (numbered_packet 0 0 packet) ∷ item.End ∷ [
 
 -- the report is lawful of a queue that one submitter filled so; the control only ended, and no reply was read yet
 pub record IsRunOfOne (clock : ℕ) (packet : Packet) (ledger : LedgerState) (ends : List EndedState) : Type 0 where
+  pub limit : ℕ
   pub queue : List Ticket
   pub queued : ℕ → List Item
   pub submitted : queued 0 ≡ one_and_end packet
   pub controlled : queued 1 ≡ item.End ∷ []
   pub long : length ends ≡ 1
   pub unread : (d : EndedState) → (slice_index_or ends 0 d).read ≡ []
-  pub lawful : LawfulReport clock 1 queue queued (works ledger)
-      (replay ledger.opening (works ledger)) ledger.stopped (replies_of ends)
+  pub lawful : LawfulReport (run_with clock limit 1 queue queued ledger ends)
 
 -- the packet as it was handed in, Stopped, or committed at place 0 and answered by the state that was opened
 abbrev pub IsReplyToOne : ℕ → Packet → Replied → Type 0

@@ -1,9 +1,8 @@
 -- Ends that were opened together, and a run from opening to the report.
 use Rattle.std.specs.Prelude.{◌≡◌, ℕ, List, map}
 use Rattle.tb_core.specs.Grouping.{IsGrouping}
-use Rattle.tb_core.specs.Ledger.{LedgerState, works}
-use Rattle.tb_core.specs.Report.{LawfulReport}
-use Rattle.tb_machine.specs.Replay.{replay}
+use Rattle.tb_core.specs.Ledger.{LedgerState}
+use Rattle.tb_core.specs.Report.{Run, LawfulReport}
 use Rattle.tb_submit.specs.Ends.{EndedState, SubmitterState, SenderState, origin_of, control_seat, replies_of}
 use Rattle.tb_work.specs.declared.item.Item.{Item}
 use Rattle.tb_work.specs.declared.item.Ticket.{Ticket}
@@ -19,9 +18,20 @@ abbrev pub IsOpenedAs : ℕ → ℕ → ℕ → PipelineState → Type 0
 IsOpenedAs clock limit submitters pipeline =
     (pipeline.clock ≡ clock) × (pipeline.intake.limit ≡ limit) × (pipeline.intake.submitters ≡ submitters)
 
+abbrev pub run_with : ℕ → ℕ → ℕ → List Ticket → (ℕ → List Item) → LedgerState → List EndedState → Run
+run_with clock limit submitters queue queued ledger ends =
+    record {
+      clock = clock;
+      limit = limit;
+      submitters = submitters;
+      queue = queue;
+      queued = queued;
+      ledger = ledger;
+      replies = replies_of ends;
+    }
+
 -- of some queue that its senders filled, the report is lawful, and the journal's groups are lawful under the limit
 abbrev pub IsRun : ℕ → ℕ → ℕ → LedgerState → List EndedState → Type 0
 IsRun clock limit submitters ledger ends =
     (queue : List Ticket) × (queued : ℕ → List Item)
-    × LawfulReport clock submitters queue queued (works ledger)
-    (replay ledger.opening (works ledger)) ledger.stopped (replies_of ends) × IsGrouping limit ledger.groups
+    × LawfulReport (run_with clock limit submitters queue queued ledger ends) × IsGrouping limit ledger.groups

@@ -1,17 +1,15 @@
 -- What is printed of a run.
 use Rattle.std.specs.Prelude.{◌≡◌, ℕ, ◌+◌, zero, suc, Bool, List, [], ◌∷◌, ◌++◌, Ok, Some, length, slice_get}
-use Rattle.std.specs.List.{flat_map}
 use Rattle.tb_core.specs.Grouping.{IsGrouping}
-use Rattle.tb_core.specs.Report.{LawfulReport}
+use Rattle.tb_core.specs.Headline.{moments_in as moments_committed, moments_queued}
+use Rattle.tb_core.specs.Report.{Run, committed_in, IsPrefix, LawfulReport}
 use Rattle.tb_layout.specs.Work.{Work, Packet, Pulse}
 use Rattle.tb_machine.specs.Replay.{State}
 use Rattle.tb_work.specs.Reply.{Replied}
 use Rattle.tb_work.specs.declared.item.Item.{Item}
-use Rattle.tb_work.specs.declared.item.Ticket.{Ticket}
 use Rattle.tb_work.specs.declared.packet.Packet as packets
 use Rattle.tb_drive.specs.Lines.{lines_of, refused_of}
 use Rattle.tb_drive.specs.Seen.{jobs_in}
-use Rattle.tb_pipe.specs.Pulses.{IsPrefixOf, moments_committed, moments_queued}
 use Rattle.tb_script.specs.Script.{Said, clock_of, limit_of, submitters_of, items_of, script_of}
 use Rattle.tb_program.specs.Noting.{IsHandedIn}
 use Rattle.tb_text.specs.Output.{reply_line, refused_line, pulse_line, refused_pulse_line, state_text}
@@ -63,9 +61,6 @@ ledger_text works refused_pulses state = pulses_text 0 works ++ refused_pulses_t
 
 -- ---- the whole
 
-abbrev pub works_of : List (List Work) → List Work
-works_of groups = flat_map (λ group. group) groups
-
 abbrev pub run_text : List (List Told) → (ℕ → List Replied) → List Work → ℕ → State → List ℕ
 run_text told replies works refused_pulses state = packets_text 0 told replies ++ ledger_text works refused_pulses state
 
@@ -82,20 +77,17 @@ AreHandedIn shares told queued =
 -- left open.
 pub record IsRunText (clock limit : ℕ) (shares : List (List packets.Packet)) (controlled : List Item)
     (refused_pulses : ℕ) (text : List ℕ) : Type 0 where
-  pub queue : List Ticket
-  pub queued : ℕ → List Item
-  pub groups : List (List Work)
-  pub state : State
-  pub stopped : Bool
-  pub replies : ℕ → List Replied
+  pub run : Run
   pub told : List (List Told)
-  pub report : LawfulReport clock (length shares) queue queued (works_of groups) state stopped replies
-  pub grouping : IsGrouping limit groups
-  pub control : queued (length shares) ≡ controlled
-  pub pulses : IsPrefixOf (moments_committed (works_of groups)) (moments_queued controlled)
+  pub clock_is : run.clock ≡ clock
+  pub submitters_are : run.submitters ≡ length shares
+  pub report : LawfulReport run
+  pub grouping : IsGrouping limit run.ledger.groups
+  pub control : run.queued run.submitters ≡ controlled
+  pub pulses : IsPrefix (moments_committed (committed_in run)) (moments_queued controlled)
   pub number : length told ≡ length shares
-  pub handed : AreHandedIn shares told queued
-  pub printed : text ≡ run_text told replies (works_of groups) refused_pulses state
+  pub handed : AreHandedIn shares told run.queued
+  pub printed : text ≡ run_text told run.replies (committed_in run) refused_pulses run.ledger.state
 
 -- of what a script says: each submitter's share is its packets, and the control queues the pulses and the Close, or its
 -- end

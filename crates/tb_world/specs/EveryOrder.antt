@@ -1,7 +1,6 @@
 -- Every order of pushes and pops.
 use Rattle.std.specs.Prelude.{◌≡◌, ◌<◌, ◌≤◌, ℕ, Bool, true, false, if◌then◌else◌, List, [], ◌∷◌, ◌++◌, None}
 use Rattle.std.specs.List.{list_any}
-use Rattle.tb_machine.specs.Replay.{replay}
 use Rattle.tb_work.specs.Queue.{part, ahead, items_in, AreSubmitted, AreNumbered}
 use Rattle.tb_work.specs.declared.item.Ticket.{Ticket}
 use Rattle.tb_world.specs.declared.event.Event.{Event}
@@ -9,7 +8,7 @@ use Rattle.tb_world.specs.declared.event.Event.TheVariants.{Push, Pop, BatchPush
 use Rattle.tb_core.specs.Due.{due}
 use Rattle.tb_core.specs.Front.{HaveAllEnded}
 use Rattle.tb_core.specs.Ledger.{works}
-use Rattle.tb_core.specs.Report.{LawfulReport, any_stopped}
+use Rattle.tb_core.specs.Report.{IsPrefix, LawfulReport, any_stopped}
 use Rattle.tb_world.specs.World.{WorldState, is_lawful, received_of, moved, after_event, run, new_world}
 
 -- the ticket that an event pushes
@@ -52,9 +51,6 @@ is_refused OutcomePop = false
 is_refused ReplyPush = false
 is_refused (ReplyPop submitter) = false
 
-abbrev pub IsPrefix : {A : Type 0} → List A → List A → Type 0
-IsPrefix {A} front all = (rest : List A) × (front ++ rest ≡ all)
-
 -- whatever happened: who pushed what, what was committed of it, and what each submitter received
 pub record IsLawfulSoFar (clock submitters : ℕ) (queue : List Ticket) (world : WorldState) : Type 0 where
   pub submitted : AreSubmitted submitters queue
@@ -71,8 +67,15 @@ NoneStopped submitters world =
 -- the report of a World: its senders queued what they pushed
 abbrev pub Reports : ℕ → ℕ → List Ticket → WorldState → Type 0
 Reports clock submitters queue world =
-    LawfulReport clock submitters queue (λ sender. part sender queue) (works world.ledger)
-    (replay world.ledger.opening (works world.ledger)) world.ledger.stopped (received_of world)
+    LawfulReport (record {
+      clock = clock;
+      limit = world.limit;
+      submitters = submitters;
+      queue = queue;
+      queued = λ sender. part sender queue;
+      ledger = world.ledger;
+      replies = received_of world;
+    })
 
 -- a World at rest, of which so much was pushed
 pub record Rests (clock submitters : ℕ) (queue : List Ticket) (world : WorldState) : Type 0 where

@@ -11,7 +11,7 @@ use Rattle.tb_world.specs.declared.event.Event.{Event}
 use Rattle.tb_world.specs.declared.event.Event.TheVariants.{Push, Pop, BatchPush, BatchPop, OutcomePush, OutcomePop, ReplyPush, ReplyPop}
 use Rattle.tb_world.specs.declared.sender.Sender.{Sender}
 use Rattle.tb_core.specs.Front.{FrontState, take_step, with_group, all_ended}
-use Rattle.tb_core.specs.Ledger.{LedgerState, apply_step}
+use Rattle.tb_core.specs.Ledger.{LedgerState, new_ledger, apply_step}
 use Rattle.tb_core.specs.Run.{replies_in}
 use Rattle.tb_world.specs.Pushing.{newcomer, may_push, sender_after}
 use Rattle.tb_world.specs.Shelf.{Shelf, empty_shelf, shelf_at, shelves_with, after_pop}
@@ -161,7 +161,7 @@ new_world clock limit submitters =
       parcels = [];
       last_sent = false;
       batches = [];
-      ledger = record { opening = clock; groups = []; stopped = false };
+      ledger = new_ledger clock;
       outcome = None;
       outcomes = [];
       replies = [];

@@ -180,7 +180,7 @@ fn put_refused_pulses(out: &mut String, count: u64) -> Result<(), AllocError>
 fn put_ledger(out: &mut String, ledger: &Ledger, refused_pulses: u64) -> Result<(), NoMemory>
     requires { length (works ledger.now) < 2 ^ 64 }
     ensures { OnOk result (string_bytes out.new ≡ string_bytes out.old
-        ++ ledger_text (works ledger.now) refused_pulses (replay ledger.now.opening (works ledger.now))) }
+        ++ ledger_text (works ledger.now) refused_pulses ledger.now.state) }
 {
     put_pulses(out, ledger.journal())?;
     put_refused_pulses(out, refused_pulses)?;
@@ -203,7 +203,7 @@ fn put_run(
     ensures done { OnOk result (AreAllDone drivers.items) }
     ensures text { OnOk result (string_bytes out.new
         ≡ string_bytes out.old ++ run_text (map told_of drivers.items) (replies_of ends.items)
-        (works ledger.now) refused_pulses (replay ledger.now.opening (works ledger.now))) }
+        (works ledger.now) refused_pulses ledger.now.state) }
 {
     put_all_packets(out, drivers, ends)?;
     put_ledger(out, ledger, refused_pulses)
@@ -226,7 +226,7 @@ fn with_run(text: String, finished: Finished<ScriptDriver>) -> Result<String, No
     ensures text { IfOk result (λ all. string_bytes all
         ≡ string_bytes text ++ run_text (map told_of finished.drivers.items) (replies_of finished.report.ends.items)
         (works finished.report.ledger) finished.refused_pulses
-        (replay finished.report.ledger.opening (works finished.report.ledger))) }
+        finished.report.ledger.state) }
 {
     let Finished {
         report,
@@ -251,7 +251,7 @@ pub fn text_of(alloc: Global, finished: Finished<ScriptDriver>) -> Result<String
     ensures text { IfOk result (λ text. string_bytes text
         ≡ run_text (map told_of finished.drivers.items) (replies_of finished.report.ends.items)
         (works finished.report.ledger) finished.refused_pulses
-        (replay finished.report.ledger.opening (works finished.report.ledger))) }
+        finished.report.ledger.state) }
 {
     match text_with_room(alloc, &finished.report.ledger) {
         Ok(text) => with_run(text, finished),

@@ -167,6 +167,7 @@ opened_holds U clock limit n =
         committed = refl;
         whole = λ any. refl;
         unstopped = λ any. refl;
+        state = refl;
         replied = refl;
       };
       routed = record {

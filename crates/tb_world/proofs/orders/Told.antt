@@ -20,7 +20,9 @@ use Rattle.tb_core.specs.Passage.{Passage, Admitted, Place, Ahead, next_place, P
 use Rattle.tb_core.specs.Run.{Ran}
 use Rattle.tb_world.specs.Shelf.{Shelf, shelf_at, after_pop_of}
 use Rattle.tb_world.specs.World.{WorldState, pop, batch_push, batch_pop, outcome_push, outcome_pop, reply_push, reply_pop, received_of, run, new_world}
-use Rattle.tb_world.specs.EveryOrder.{history, is_refused, IsAtRest, IsPrefix, IsLawfulSoFar, NoneStopped, Rests, HasRun}
+use Rattle.tb_core.specs.Report.{IsPrefix}
+use Rattle.tb_world.specs.EveryOrder.{history, is_refused, IsAtRest, IsLawfulSoFar, NoneStopped, Rests, HasRun}
+use Rattle.tb_core.proofs.HeadlineLemmas.{is-prefix-trans, prefix-filter}
 use Rattle.tb_core.proofs.Passing.{ahead-first}
 use Rattle.tb_core.proofs.Runs.{none_of_first, none_among, SoFar, so_far, run_is_lawful}
 use Rattle.tb_world.proofs.orders.Pushed.{numbered_by, queue_of_all}
@@ -39,15 +41,6 @@ due-prefix clock journal place (x ∷ items) others =
       append_assoc first (all_due_from clock journal (next_place place x) items) more.0
           ∙ ap (λ rs. first ++ rs) more.1,
     )
-
-through : {X : Type 0} (xs ys zs : List X) → IsPrefix xs ys → IsPrefix ys zs → IsPrefix xs zs
-through xs ys zs h g = (h.0 ++ g.0, sym (append_assoc xs h.0 g.0) ∙ ap (λ l. l ++ g.0) h.1 ∙ g.1)
-
-replies_to-prefix : (submitter : ℕ) (xs ys : List Replied) → IsPrefix xs ys
-    → IsPrefix (replies_to xs submitter) (replies_to ys submitter)
-replies_to-prefix submitter xs ys h =
-    let is_its : Replied → Bool = λ reply. reply.submitter == submitter in
-    (replies_to h.0 submitter, sym (filter-append is_its xs h.0) ∙ ap (λ rs. replies_to rs submitter) h.1)
 
 -- ---- so far
 
@@ -70,16 +63,16 @@ module _ (U : Type 0) (clock n : ℕ) (pushed : List Ticket) (w : WorldState) (h
       record {
         submitted = h.senders.submitted;
         numbered = numbered_by n pushed w.senders h.senders;
-        committed = rw items_are (through journal (ahead before) (ahead (before ++ after))
+        committed = rw items_are (is-prefix-trans journal (ahead before) (ahead (before ++ after))
             (far.behind, far.committed) (ahead-first before after));
         received = λ submitter among.
             let shelf = shelf_at w.shelves submitter in
             let others = shelf.ring ++ replies_to (unrouted w.replies w.outcomes w.outcome) submitter in
             let all = all_due clock (before ++ after) journal in
-            let answers = through h.answers (all_due clock before journal) all (far.later, far.due)
+            let answers = is-prefix-trans h.answers (all_due clock before journal) all (far.later, far.due)
             (due-prefix clock journal (Ahead 0) before after) in
-            rw items_are (through shelf.received (replies_to h.answers submitter) (replies_to all submitter)
-            (others, sym (h.routed.each submitter among)) (replies_to-prefix submitter h.answers all answers));
+            rw items_are (is-prefix-trans shelf.received (replies_to h.answers submitter) (replies_to all submitter)
+            (others, sym (h.routed.each submitter among)) (prefix-filter (λ (reply : Replied). reply.submitter == submitter) h.answers all answers));
       }
 
   none_stopped : Goes w.front w.ledger → NoneStopped n w
@@ -184,8 +177,7 @@ module _ (U : Type 0) (clock n : ℕ) (pushed : List Ticket) (w : WorldState)
       (λ (queue : List Ticket). all_due clock (items_in queue) (works w.ledger)) taken_all in
       record {
         received = λ submitter among. received_all submitter among ∙ ap (λ rs. replies_to rs submitter) all;
-        reports = λ over. run_is_lawful clock n pushed (λ sender. part sender pushed) w.ledger h.answers
-            (received_of w) (queue_of_all n pushed w.senders h.senders over) ran received_all;
+        reports = λ over. run_is_lawful _ h.answers (queue_of_all n pushed w.senders h.senders over) ran received_all;
       }
 
   whole : Goes w.front w.ledger → works w.ledger ≡ ahead (items_in pushed)

@@ -12,3 +12,6 @@ returns-clause-grouping c = rw c.into_remains.ensures.same c.settle_remains.ensu
 
 pub returns-clause-read : goal.returns-clause-read
 returns-clause-read c = search rules
+
+pub returns-clause-headline : goal.returns-clause-headline
+returns-clause-headline c = search rules

@@ -1,13 +1,13 @@
-use Rattle.std.proofs.Common.{◌≡◌, ◌∙◌, sym, ap, arith, ◌<◌, ◌++◌, length}
+use Rattle.std.proofs.Common.{◌≡◌, ◌∙◌, sym, ap, subst, arith, ◌<◌, ℕ, zero, suc, List, [], ◌∷◌, ◌++◌, length}
+use Rattle.tb_core.specs.Headline.{moments_in, moments_queued}
 use Rattle.tb_core.specs.Ledger.{works}
-use Rattle.tb_core.specs.Report.{LawfulReport}
-use Rattle.tb_machine.specs.Replay.{replay}
+use Rattle.tb_core.specs.Report.{IsPrefix, LawfulReport}
 use Rattle.tb_rings.specs.Ends.{given, taken, lies}
 use Rattle.std.proofs.lemmas.List.{length-map}
-use Rattle.tb_submit.specs.Ends.{end_origin, queued_by, replies_of, seat_at}
-use Rattle.tb_pipe.proofs.Moments.{first_moments}
+use Rattle.tb_submit.specs.Ends.{EndedState, SenderState, end_origin, queued_by, replies_of, seat_at}
 use Rattle.tb_pipe.proofs.Origins.{length-origins}
 use Rattle.tb_pipe.specs.Carried.{answers_in}
+use Rattle.tb_pipe.specs.Run.{run_of}
 use Rattle.tb_pipe.proofs.Drained.{HasRun, drained, grouped, some_of}
 use Rattle.tb_pipe.proofs.settling.settle_remains.Goals as goal
 
@@ -28,19 +28,13 @@ run c =
     (given remains.committed.outlet) (taken remains.routed.inlet)
     (lies c.lying-2.new.self) is.batched is.committed parcels outs is.routed.ended
 
-report : (c : goal.After-drop-batches) → LawfulReport c.args.remains.committed.ledger.opening
-    c.args.remains.intake.submitters c.args.remains.intake.taken (queued_by c.args.ends.items c.args.control)
-    (works c.args.remains.committed.ledger)
-    (replay c.args.remains.committed.ledger.opening (works c.args.remains.committed.ledger))
-    c.args.remains.committed.ledger.stopped (replies_of c.settle_queue-ends.result.items)
+report : (c : goal.After-drop-batches) → LawfulReport (run_of c.args.remains.committed.ledger.opening
+    c.args.remains.intake c.args.ends.items c.args.control c.args.remains.committed.ledger
+    c.settle_queue-ends.result.items)
 report c =
     let remains = c.args.remains in
     let is = c.requires.served in
-    let answers = answers_in (taken remains.routed.inlet) in
-    c.run_is_lawful.ensures remains.committed.ledger.opening remains.intake.submitters remains.intake.taken
-    (queued_by c.args.ends.items c.args.control) remains.committed.ledger answers
-    (replies_of c.settle_queue-ends.result.items)
-    c.settle_queue-ends.ensures.queue (run c).ran
+    c.run_is_lawful.ensures _ (answers_in (taken remains.routed.inlet)) c.settle_queue-ends.ensures.queue (run c).ran
     (λ submitter below.
     let within : submitter < length remains.routed.outlets.items = omega (arith, below, is.number) in
     let outlet = some_of submitter remains.routed.outlets.items within in
@@ -49,11 +43,22 @@ report c =
 pub returns-clause-report : goal.returns-clause-report
 returns-clause-report c = report c
 
+pub returns-clause-headline : goal.returns-clause-headline
+returns-clause-headline c = c.headline.ensures _ (report c)
+
 pub returns-clause-grouping : goal.returns-clause-grouping
 returns-clause-grouping c =
     let remains = c.args.remains in
-    grouped remains.intake.limit remains.intake.taken remains.committed.ledger (report c).behind
-    (run c).joined c.settle_queue-ends.ensures.within (report c).committed
+    grouped remains.intake.limit remains.intake.taken remains.committed.ledger (report c).committed.0
+    (run c).joined c.settle_queue-ends.ensures.within (report c).committed.1
+
+-- the control is the sender after the submitters
+last_is_control : (ends : List EndedState) (control : SenderState) (n : ℕ) → length ends ≡ n
+    → queued_by ends control n ≡ control.queued
+last_is_control [] control zero long = cc
+last_is_control [] control (suc n) long = absurd (omega (arith, long))
+last_is_control (ended ∷ ends) control zero long = absurd (omega (arith, long))
+last_is_control (ended ∷ ends) control (suc n) long = last_is_control ends control n (omega (arith, long))
 
 pub returns-clause-pulses : goal.returns-clause-pulses
 returns-clause-pulses c =
@@ -62,7 +67,6 @@ returns-clause-pulses c =
     =
     sym (length-map c.args.ends.items end_origin) ∙ ap length c.requires.ends
     ∙ length-origins (seat_at remains.intake) 0 remains.routed.outlets.items ∙ c.requires.served.number in
-    first_moments remains.intake.submitters remains.intake.taken c.args.ends.items c.args.control
-    (works remains.committed.ledger) (report c).behind long
-    (report c).committed c.settle_queue-ends.ensures.queue.submitted
-    (c.settle_queue-ends.ensures.queue.parts remains.intake.submitters (omega arith))
+    subst (λ items. IsPrefix (moments_in (works remains.committed.ledger)) (moments_queued items))
+    (last_is_control c.args.ends.items c.args.control remains.intake.submitters long)
+    (c.headline.ensures _ (report c)).pulses

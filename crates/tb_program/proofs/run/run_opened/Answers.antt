@@ -1,11 +1,10 @@
-use Rattle.std.proofs.Common.{◌≡◌, ◌∙◌, ◌++◌, List, [], length, map, string_bytes, ap, sym, subst}
+use Rattle.std.proofs.Common.{refl, ◌≡◌, ◌∙◌, ◌++◌, List, [], length, map, string_bytes, ap, sym, subst}
 use Rattle.std.proofs.lemmas.List.{length-map}
 use Rattle.tb_core.specs.Ledger.{works}
-use Rattle.tb_core.specs.Report.{LawfulReport}
+use Rattle.tb_core.specs.Headline.{moments_in, moments_queued}
+use Rattle.tb_core.specs.Report.{IsPrefix}
 use Rattle.tb_drive.specs.Lines.{lines_of}
 use Rattle.tb_drive.specs.Seen.{jobs_in}
-use Rattle.tb_machine.specs.Replay.{replay}
-use Rattle.tb_pipe.specs.Pulses.{IsPrefixOf, moments_committed, moments_queued}
 use Rattle.tb_submit.specs.Ends.{replies_of}
 use Rattle.tb_work.specs.Reply.{Replied}
 use Rattle.tb_work.specs.declared.item.Item.{Item}
@@ -32,28 +31,31 @@ returns-in_ok-text_of-in-Ok g c =
     let drivers = finished.drivers.items in
     let told = map told_of drivers in
     let lines = lines_of c.args.lines.moments.items c.args.lines.shuts in
-    let state = replay ledger.opening (works ledger) in
     let replies = replies_of finished.report.ends.items in
     let shares : map share_of drivers ≡ map share_of c.args.drivers.items = c.in-Ok.ensures.shares in
     let long = length-map c.args.drivers.items share_of ∙ c.requires.number ∙ c.requires.together.2 in
     record {
-      queue = reported.queue;
-      queued = reported.queued;
-      groups = ledger.groups;
-      state = state;
-      stopped = ledger.stopped;
-      replies = replies;
+      run = record {
+        clock = opened.pipeline.clock;
+        limit = opened.pipeline.intake.limit;
+        submitters = opened.pipeline.intake.submitters;
+        queue = reported.queue;
+        queued = reported.queued;
+        ledger = ledger;
+        replies = replies;
+      };
       told = told;
-      report = subst (λ n. LawfulReport opened.pipeline.clock n reported.queue reported.queued
-          (works ledger) state ledger.stopped replies) (sym long) reported.report;
+      clock_is = refl;
+      submitters_are = sym long;
+      report = reported.report;
       grouping = reported.grouping;
-      control = ap reported.queued long ∙ reported.control ∙ ap (λ queued. queued ++ lines) c.requires.silent;
-      pulses = subst (λ queued. IsPrefixOf (moments_committed (works ledger)) (moments_queued (queued ++ lines)))
+      control = reported.control ∙ ap (λ queued. queued ++ lines) c.requires.silent;
+      pulses = subst (λ queued. IsPrefix (moments_in (works ledger)) (moments_queued (queued ++ lines)))
           c.requires.silent reported.pulses;
       number = length-map drivers told_of ∙ sym (length-map drivers share_of) ∙ ap length shares;
       handed = subst (λ all. AreHandedIn all told reported.queued) shares
           (all_handed_in reported c.in_ok-text_of-in-Ok.ensures.done);
       printed = subst (λ refused. string_bytes c.in_ok-text_of-in-Ok.field-0
-          ≡ run_text told replies (works ledger) refused state) c.in-Ok.ensures.refused
+          ≡ run_text told replies (works ledger) refused ledger.state) c.in-Ok.ensures.refused
           c.in_ok-text_of-in-Ok.ensures.text;
     }

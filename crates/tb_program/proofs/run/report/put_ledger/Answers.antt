@@ -22,4 +22,4 @@ returns c =
     (c.in_ok-put_pulses.ensures ∙ ap (λ ws. out ++ pulses_text 0 ws)
     (of_entries c.journal.result.now c.args.ledger.now c.journal.ensures)))
     ∙ ap (λ t. t ++ state) (append_assoc out pulses refused) ∙ append_assoc out (pulses ++ refused) state
-    ∙ ap (λ (s : State). out ++ (pulses ++ refused ++ state_text s)) c.machine.ensures
+    ∙ ap (λ (s : State). out ++ (pulses ++ refused ++ state_text s)) c.machine.ensures.own
