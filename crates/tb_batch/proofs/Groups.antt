@@ -9,7 +9,8 @@ use Rattle.std.proofs.lemmas.List.{map-append}
 use Rattle.std.proofs.lemmas.List.Folds.{list_all-append}
 use Rattle.std.proofs.lemmas.Grind.{flat_map-append}
 use Rattle.tb_work.specs.Admission.{count_of, admission_of}
-use Rattle.tb_work.specs.Job.{Numbered, count_of_all, stub_of}
+use Rattle.tb_work.specs.Packet.{Numbered}
+use Rattle.tb_work.specs.Job.{count_of_all, stub_of}
 use Rattle.tb_batch.specs.declared.parts.Parts.{Parts}
 use Rattle.tb_batch.specs.Grouping.{can_share, are_of, joins, is_taken, join_in_turn, IsGroup}
 use Rattle.tb_batch.specs.declared.offered.Offered.{Offered}

@@ -7,7 +7,8 @@ use Rattle.tb_layout.specs.Operation.{lookup_accounts}
 use Rattle.tb_layout.specs.declared.account.Account.{Account}
 use Rattle.tb_layout.specs.declared.failure.Failure.{Failure}
 use Rattle.tb_work.specs.Admission.{admission_of}
-use Rattle.tb_work.specs.Job.{Numbered, count_of_all, stub_of}
+use Rattle.tb_work.specs.Packet.{Numbered}
+use Rattle.tb_work.specs.Job.{count_of_all, stub_of}
 use Rattle.tb_batch.specs.declared.parts.Parts.{Parts}
 use Rattle.tb_batch.specs.Grouping.{can_share, are_of}
 

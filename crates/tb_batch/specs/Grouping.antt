@@ -2,7 +2,8 @@
 use Rattle.std.specs.Prelude.{◌≡◌, ℕ, ◌+◌, ◌==◌, Bool, true, ◌&&◌, not, nat_le, List, [], ◌∷◌, ◌++◌}
 use Rattle.std.specs.List.{list_all}
 use Rattle.tb_work.specs.Admission.{count_of}
-use Rattle.tb_work.specs.Job.{Numbered, count_of_all, is_open, is_lookup}
+use Rattle.tb_work.specs.Packet.{Numbered}
+use Rattle.tb_work.specs.Job.{count_of_all, is_open, is_lookup}
 
 -- a packet that is neither open nor a lookup
 abbrev pub can_share : Numbered → Bool

@@ -1,7 +1,7 @@
 -- A batcher's value: its limit, and the group that it holds.
 use Rattle.std.specs.Prelude.{◌≤◌, ℕ, List, [], Option, Some, None}
 use Rattle.tb_layout.specs.Limits.{batch_max}
-use Rattle.tb_work.specs.Job.{Numbered}
+use Rattle.tb_work.specs.Packet.{Numbered}
 use Rattle.tb_batch.specs.Grouping.{IsGroup}
 
 pub record Held : Type 0 where

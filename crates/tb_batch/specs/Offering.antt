@@ -1,6 +1,6 @@
 -- What an offer does.
 use Rattle.std.specs.Prelude.{◌≡◌, true, false, List, [], ◌∷◌, ◌++◌}
-use Rattle.tb_work.specs.Job.{Numbered}
+use Rattle.tb_work.specs.Packet.{Numbered}
 use Rattle.tb_batch.specs.declared.offered.Offered.{Offered}
 use Rattle.tb_batch.specs.declared.offered.Offered.TheVariants.{Joined, Sealed, Refused}
 use Rattle.tb_batch.specs.Held.{Held}

@@ -22,7 +22,7 @@ impl Drop for Batch {
 
 impl Model for Batch {
     ghost use Rattle.std.specs.Prelude.{List};
-    ghost use Rattle.tb_work.specs.Job.{Numbered};
+    ghost use Rattle.tb_work.specs.Packet.{Numbered};
     ghost use Rattle.tb_batch.specs.Batch.{AreParts};
 
     ghost Value = { List Numbered };

@@ -5,8 +5,7 @@ ghost use Rattle.tb_layout.specs.Limits.{batch_max};
 ghost use Rattle.tb_work.specs.Job.{count_of_all};
 ghost use Rattle.std.specs.Prelude.{true};
 ghost use Rattle.tb_batch.specs.Batch.{body_of};
-ghost use Rattle.tb_batch.specs.Grouping.{can_share};
-ghost use Rattle.tb_batch.specs.Grouping.{is_taken};
+ghost use Rattle.tb_batch.specs.Grouping.{can_share, is_taken};
 
 use crate::batch::Batch;
 use crate::parts::Parts;
@@ -26,7 +25,7 @@ pub(crate) struct Group {
 
 impl Model for Group {
     ghost use Rattle.std.specs.Prelude.{List};
-    ghost use Rattle.tb_work.specs.Job.{Numbered};
+    ghost use Rattle.tb_work.specs.Packet.{Numbered};
     ghost use Rattle.tb_batch.specs.Batch.{IsGroupOf};
 
     ghost Value = { List Numbered };

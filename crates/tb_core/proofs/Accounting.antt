@@ -9,7 +9,7 @@ use Rattle.std.proofs.lemmas.List.{map-append, get_or-set_same, get_or-set_other
 use Rattle.std.proofs.lemmas.List.Elements.{filter-append}
 use Rattle.std.proofs.lemmas.List.Folds.{list_any-append}
 use Rattle.std.proofs.lemmas.Grind.{flat_map-append}
-use Rattle.tb_work.specs.Job.{Numbered}
+use Rattle.tb_work.specs.Packet.{Numbered}
 use Rattle.tb_work.specs.Queue.{part, is_end}
 use Rattle.tb_work.specs.declared.item.Item.{Item}
 use Rattle.tb_work.specs.declared.item.Ticket.{Ticket}
@@ -19,7 +19,7 @@ use Rattle.tb_core.specs.declared.parcel.Cause.{Cause}
 use Rattle.tb_core.specs.declared.parcel.Cause.TheVariants.{Shutdown, Stopped}
 use Rattle.tb_core.specs.declared.parcel.Parcel.{Parcel}
 use Rattle.tb_core.specs.declared.parcel.Parcel.TheVariants.{Batch, Pulse, Return}
-use Rattle.tb_core.specs.Passage.{Passage, Admitted, Returned, passages_of_item, Passes}
+use Rattle.tb_core.specs.inside.Passage.{Passage, Admitted, Returned, passages_of_item, Passes}
 use Rattle.tb_core.specs.Front.{FrontState, Taken, IsFront, take_result, with_group, group_as_batch, with_end, all_ended, ends_after, KnowsEnds, take_step, step_of_packet, step_of_pulse, all_passages_in, passages_in, held_by}
 use Rattle.tb_core.specs.Grouping.{IsJoinedParcel, AreJoinedParcels}
 use Rattle.tb_core.proofs.Passing.{Goes, Stays, Stops, closed_after, passes_more}

@@ -16,10 +16,9 @@ use Rattle.tb_machine.specs.Replay.{State, accounts_found, answer_of, after_pack
 use Rattle.tb_layout.specs.declared.answer.Answer.TheVariants.{Accounts as Looked_up}
 use Rattle.tb_work.specs.declared.outcome.Outcome.TheVariants.{Committed}
 use Rattle.tb_work.specs.Admission.{event_size, admission_of_size, count_of, count_of_size}
-use Rattle.tb_work.specs.Job.{Numbered, events_in, count_of_all, is_lookup, stub_of, is_open as is_open_packet}
-use Rattle.tb_work.specs.Reply.{reply_with}
+use Rattle.tb_work.specs.Packet.{Numbered, events_in, reply_with, work_of}
+use Rattle.tb_work.specs.Job.{count_of_all, is_lookup, stub_of, is_open as is_open_packet}
 use Rattle.tb_work.specs.declared.stub.Stub.{Stub}
-use Rattle.tb_work.specs.Work.{work_of}
 use Rattle.tb_batch.specs.Grouping.{can_share, are_of}
 use Rattle.tb_batch.specs.Batch.{body_of, IsLawful, AreAdmitted}
 use Rattle.tb_core.proofs.Answering.{answers_from}

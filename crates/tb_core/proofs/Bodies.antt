@@ -8,8 +8,8 @@ use Rattle.std.proofs.Math.Seq.{take-append_seam, drop-append_seam}
 use Rattle.std.proofs.lemmas.Bool.{eqb-true, and_parts}
 use Rattle.tb_layout.specs.Events.{chunks}
 use Rattle.tb_work.specs.Admission.{event_size, admission_of, admission_of_size, count_of, count_of_size}
-use Rattle.tb_work.specs.Job.{Numbered, stub_of}
-use Rattle.tb_work.specs.Work.{work_of}
+use Rattle.tb_work.specs.Packet.{Numbered, work_of}
+use Rattle.tb_work.specs.Job.{stub_of}
 use Rattle.tb_work.specs.declared.packet.Packet.{Packet}
 use Rattle.tb_work.specs.declared.refusal.Refusal.{Refusal}
 use Rattle.tb_work.specs.declared.refusal.Refusal.TheVariants.{InvalidDataSize}

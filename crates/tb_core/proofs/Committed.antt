@@ -10,19 +10,18 @@ use Rattle.std.proofs.lemmas.Option.{slice_get_past}
 use Rattle.tb_layout.specs.Work.{Work}
 use Rattle.tb_layout.specs.Work as work
 use Rattle.tb_machine.specs.Replay.{State, opening, answer_of, replay, after_work, after_packet}
-use Rattle.tb_work.specs.Job.{Numbered, events_in}
-use Rattle.tb_work.specs.Reply.{Replied, reply_with}
-use Rattle.tb_work.specs.Work.{work_of}
+use Rattle.tb_work.specs.Packet.{Numbered, events_in, Replied, reply_with, work_of}
 use Rattle.tb_work.specs.declared.outcome.Outcome.TheVariants as outcome
 use Rattle.tb_core.specs.declared.parcel.Parcel.{Parcel}
 use Rattle.tb_core.specs.declared.parcel.Parcel.TheVariants as parcel
 use Rattle.tb_core.specs.declared.outcomes.Outcomes.TheVariants.{Cut}
 use Rattle.tb_core.specs.declared.journal.Entry.{Entry}
 use Rattle.tb_core.proofs.Answering.{answers_from}
-use Rattle.tb_core.specs.Due.{outcome_at, outcome_of, works_in, replies_from}
+use Rattle.tb_core.specs.Due.{outcome_at, Ahead}
+use Rattle.tb_core.specs.inside.Passage.{outcome_of, works_in, replies_from, Passage, Admitted, Pulsed, Returned}
 use Rattle.tb_core.specs.Front.{passages_in}
-use Rattle.tb_core.specs.Ledger.{LedgerState, IsLedger, Applied, apply_result, works, must_stop, with_stop, with_entry, step_of_batch, apply_step}
-use Rattle.tb_core.specs.Passage.{Passage, Admitted, Pulsed, Returned, Ahead}
+use Rattle.tb_core.specs.Journal.{LedgerState, works}
+use Rattle.tb_core.specs.Ledger.{IsLedger, Applied, apply_result, must_stop, with_stop, with_entry, step_of_batch, apply_step}
 use Rattle.tb_core.specs.Run.{replies_in, Commits}
 use Rattle.tb_core.proofs.Growing.{works-more}
 

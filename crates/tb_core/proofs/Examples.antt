@@ -7,10 +7,9 @@ use Rattle.tb_work.specs.declared.outcome.Outcome.TheVariants.{Committed, Shutdo
 use Rattle.tb_work.specs.declared.item.Item.{Item}
 use Rattle.tb_work.specs.declared.item.Item.TheVariants as item
 use Rattle.tb_work.specs.declared.item.Ticket.{Ticket}
-use Rattle.tb_work.specs.Job.{Numbered, numbered_packet}
+use Rattle.tb_work.specs.Packet.{Numbered, Replied, work_of}
+use Rattle.tb_work.specs.Job.{numbered_packet}
 use Rattle.tb_work.specs.Queue.{ahead}
-use Rattle.tb_work.specs.Reply.{Replied}
-use Rattle.tb_work.specs.Work.{work_of}
 use Rattle.tb_machine.specs.Replay.{replay}
 use Rattle.tb_core.specs.Due.{due}
 

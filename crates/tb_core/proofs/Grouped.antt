@@ -10,17 +10,17 @@ use Rattle.tb_layout.specs.Bytes.{little_endian}
 use Rattle.tb_layout.specs.Events.{events_of, chunks, is_open, count_of as count_of_events}
 use Rattle.tb_layout.specs.Work.{Pulse}
 use Rattle.tb_work.specs.Admission.{admission_of, count_of_size, event_size}
-use Rattle.tb_work.specs.Job.{Numbered, events_in, count_of_all}
-use Rattle.tb_work.specs.Reply.{Replied}
-use Rattle.tb_work.specs.Work.{work_of}
+use Rattle.tb_work.specs.Packet.{Numbered, events_in, Replied, work_of}
+use Rattle.tb_work.specs.Job.{count_of_all}
 use Rattle.tb_batch.specs.Batch.{AreAdmitted}
 use Rattle.tb_batch.specs.Grouping.{can_share, are_of, joins, join_in_turn, IsGroup}
 use Rattle.tb_core.specs.declared.parcel.Parcel.{Parcel}
 use Rattle.tb_core.specs.declared.parcel.Parcel.TheVariants as parcel
 use Rattle.tb_core.specs.Grouping.{operation_of, can_join, can_stand_with, events_together, joins_group, join_one_by_one, IsJoined, AreJoined, IsJoinedParcel}
-use Rattle.tb_core.specs.Ledger.{LedgerState, Applied, must_stop, apply_step}
+use Rattle.tb_core.specs.Journal.{LedgerState}
+use Rattle.tb_core.specs.Ledger.{Applied, must_stop, apply_step}
 use Rattle.tb_core.specs.Front.{passages_in}
-use Rattle.tb_core.specs.Passage.{Passage}
+use Rattle.tb_core.specs.inside.Passage.{Passage}
 use Rattle.tb_core.specs.Run.{Commits, HasPackets, replies_in}
 use Rattle.tb_core.proofs.Committed.{all-push, HasJobs, commits_more}
 use Rattle.tb_core.proofs.Batches.{Kind, OfAccounts, OfTransfers, OfIds, kind_of}

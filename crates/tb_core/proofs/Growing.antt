@@ -7,14 +7,14 @@ use Rattle.std.proofs.lemmas.Grind.{flat_map-append, fold-append}
 use Rattle.std.proofs.lemmas.Bool.{eqb-true, ltb-false, or_parts}
 use Rattle.tb_layout.specs.Events.{events_of}
 use Rattle.tb_machine.specs.Replay.{State, after_packet, after_work, opening}
-use Rattle.tb_work.specs.Job.{Numbered, events_in}
+use Rattle.tb_work.specs.Packet.{Numbered, events_in, work_of}
 use Rattle.tb_layout.specs.Work.{Work}
-use Rattle.tb_work.specs.Work.{work_of}
 use Rattle.tb_batch.specs.Batch.{body_of}
 use Rattle.tb_batch.specs.declared.parts.Parts.{Parts}
-use Rattle.tb_core.specs.BatchAnswer.{AreAnswered}
+use Rattle.tb_core.specs.inside.BatchAnswer.{AreAnswered}
 use Rattle.tb_core.specs.declared.journal.Entry.{Entry}
-use Rattle.tb_core.specs.Ledger.{LedgerState, IsLedger, AreEntries, works, must_stop}
+use Rattle.tb_core.specs.Journal.{LedgerState, works}
+use Rattle.tb_core.specs.Ledger.{IsLedger, AreEntries, must_stop}
 use Rattle.tb_core.proofs.Batches.{JoinInvisibly, gives_each, gives_one}
 
 -- what holds of a call that succeeded

@@ -1,12 +1,12 @@
 -- A list of items on its way through a front and a ledger.
 use Rattle.std.specs.Prelude.{◌≡◌, ℕ, List, ◌++◌}
-use Rattle.tb_work.specs.Reply.{Replied}
+use Rattle.tb_work.specs.Packet.{Replied}
 use Rattle.tb_work.specs.declared.item.Item.{Item}
 use Rattle.tb_core.specs.declared.parcel.Parcel.{Parcel}
 use Rattle.tb_core.specs.Front.{FrontState, all_passages_in, held_by}
 use Rattle.tb_core.specs.Grouping.{AreJoinedParcels}
-use Rattle.tb_core.specs.Ledger.{LedgerState}
-use Rattle.tb_core.specs.Passage.{Passage}
+use Rattle.tb_core.specs.Journal.{LedgerState}
+use Rattle.tb_core.specs.inside.Passage.{Passage}
 use Rattle.tb_core.specs.Run.{GoesOn, IsRunning, IsThrough}
 
 -- of parcels that come to these passages all in front of the rest were applied

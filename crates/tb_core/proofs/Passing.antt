@@ -4,13 +4,13 @@ use Rattle.std.specs.Prelude.{is_some, IfSome, slice_get}
 use Rattle.std.proofs.lemmas.Bool.{le-leb, lt-leb}
 use Rattle.tb_layout.specs.Work.{Work}
 use Rattle.tb_layout.specs.Work as work
-use Rattle.tb_work.specs.Job.{Numbered}
+use Rattle.tb_work.specs.Packet.{Numbered, work_of}
 use Rattle.tb_work.specs.Queue.{ahead}
-use Rattle.tb_work.specs.Work.{work_of}
 use Rattle.tb_work.specs.declared.item.Item.{Item}
 use Rattle.tb_work.specs.declared.item.Item.TheVariants as item
 use Rattle.tb_core.specs.declared.parcel.Cause.TheVariants.{Shutdown}
-use Rattle.tb_core.specs.Passage.{Passage, Admitted, Pulsed, Returned, passages_of_item, Place, Ahead, Behind, is_behind, next_place, place_behind, passages_at, passages_from, passages_of, IsPacket, Passes}
+use Rattle.tb_core.specs.inside.Passage.{Passage, Admitted, Pulsed, Returned, passages_of_item, is_behind, place_behind, passages_at, passages_from, passages_of, IsPacket, Passes}
+use Rattle.tb_core.specs.Due.{Place, Ahead, Behind, next_place}
 
 -- ---- one item more, at the place after the others
 

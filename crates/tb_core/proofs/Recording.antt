@@ -8,12 +8,12 @@ use Rattle.tb_machine.specs.Replay.{State, failures_of, accounts_found}
 use Rattle.tb_layout.specs.declared.answer.Answer.TheVariants.{Accounts}
 use Rattle.tb_work.specs.declared.outcome.Outcome.TheVariants.{Committed}
 use Rattle.tb_work.specs.Admission.{count_of}
-use Rattle.tb_work.specs.Job.{Numbered, is_lookup, count_of_all}
-use Rattle.tb_work.specs.Reply.{reply_with}
+use Rattle.tb_work.specs.Packet.{Numbered, reply_with}
+use Rattle.tb_work.specs.Job.{is_lookup, count_of_all}
 use Rattle.tb_batch.specs.Grouping.{are_of}
 use Rattle.tb_batch.specs.declared.parts.Parts.{Parts}
 use Rattle.tb_demux.specs.Cutting.{replies_to, replies_from, IsOutcomeOfAll}
-use Rattle.tb_core.specs.BatchAnswer.{AreAnswered, answer_in}
+use Rattle.tb_core.specs.inside.BatchAnswer.{AreAnswered, answer_in}
 use Rattle.tb_core.proofs.Answering.{answers_from}
 use Rattle.tb_core.proofs.Bodies.{first_is}
 use Rattle.tb_core.proofs.Batches.{JoinInvisibly, gives_each, gives_one}

@@ -9,17 +9,16 @@ use Rattle.tb_layout.specs.Work.{Work}
 use Rattle.tb_layout.specs.Work as work
 use Rattle.tb_machine.specs.Replay.{replay}
 use Rattle.tb_work.specs.Queue.{ahead, items_in, IsSubmitted, AreSubmitted}
-use Rattle.tb_work.specs.Reply.{Replied, reply_with}
-use Rattle.tb_work.specs.Work.{work_of}
+use Rattle.tb_work.specs.Packet.{Replied, reply_with, work_of}
 use Rattle.tb_work.specs.declared.outcome.Outcome.TheVariants as outcome
 use Rattle.tb_work.specs.declared.item.Item.{Item}
 use Rattle.tb_work.specs.declared.item.Item.TheVariants as item
 use Rattle.tb_work.specs.declared.item.Ticket.{Ticket}
-use Rattle.tb_core.specs.Due.{outcome_at, reply_due, all_due_from, all_due, replies_to, works_in, replies_from}
-use Rattle.tb_core.specs.Ledger.{LedgerState, works}
-use Rattle.tb_core.specs.Passage.{Passage, Place, Ahead, Behind, next_place, passages_from, passages_of, IsPacket, Passes}
-use Rattle.tb_core.specs.Report.{is_stopped, any_stopped, committed_in, IsListed}
-use Rattle.tb_core.specs.Run.{Commits, Ran, RunIsLawful}
+use Rattle.tb_core.specs.Due.{outcome_at, reply_due, all_due_from, all_due, replies_to, Place, Ahead, Behind, next_place}
+use Rattle.tb_core.specs.inside.Passage.{works_in, replies_from, Passage, passages_from, passages_of, IsPacket, Passes}
+use Rattle.tb_core.specs.Journal.{LedgerState, works}
+use Rattle.tb_core.specs.Report.{is_stopped, any_stopped, committed_in}
+use Rattle.tb_core.specs.Run.{IsListed, Commits, Ran, RunIsLawful}
 use Rattle.tb_core.proofs.Committed.{outcome_past, outcome_here, works_in-append, replies_from-append, replies_from-longer}
 use Rattle.tb_core.proofs.Passing.{never_stops}
 

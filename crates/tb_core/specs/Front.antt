@@ -2,7 +2,7 @@
 use Rattle.std.specs.Prelude.{◌≡◌, ℕ, ◌+◌, ◌≤◌, Bool, true, false, ◌||◌, if◌then◌else◌, List, [], ◌∷◌, ◌++◌, length, map, take, slice_set, get_or, nat_lt, Option, Some, None}
 use Rattle.std.specs.List.{list_all, list_any, flat_map}
 use Rattle.tb_layout.specs.Limits.{batch_max, submitters_max}
-use Rattle.tb_work.specs.Job.{Numbered}
+use Rattle.tb_work.specs.Packet.{Numbered}
 use Rattle.tb_work.specs.Queue.{part, is_end}
 use Rattle.tb_work.specs.declared.item.Ticket.{Ticket}
 use Rattle.tb_work.specs.declared.item.Item.{Item}
@@ -13,7 +13,7 @@ use Rattle.tb_batch.specs.Grouping.{is_taken, IsGroup}
 use Rattle.tb_core.specs.declared.parcel.Cause.TheVariants.{Shutdown, Stopped}
 use Rattle.tb_core.specs.declared.parcel.Parcel.{Parcel}
 use Rattle.tb_core.specs.declared.parcel.Parcel.TheVariants.{Batch, Pulse, Return, Last}
-use Rattle.tb_core.specs.Passage.{Passage, Admitted, Pulsed, Returned}
+use Rattle.tb_core.specs.inside.Passage.{Passage, Admitted, Pulsed, Returned}
 
 -- its limit and how many submitters there are, the group held, whether a Close was taken, whether a growth was refused,
 -- and of each sender whether its End or Close was taken

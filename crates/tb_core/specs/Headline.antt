@@ -3,9 +3,7 @@ use Rattle.std.specs.Prelude.{◌≡◌, ◌<◌, ℕ, ◌==◌, Bool, false, Li
 use Rattle.tb_layout.specs.declared.answer.Answer.{Answer}
 use Rattle.tb_layout.specs.Work.{Work, Packet, Pulse}
 use Rattle.tb_machine.specs.Replay.{replay, answer_of}
-use Rattle.tb_work.specs.Job.{Numbered, events_in}
-use Rattle.tb_work.specs.Reply.{Replied}
-use Rattle.tb_work.specs.Work.{work_of}
+use Rattle.tb_work.specs.Packet.{Numbered, events_in, Replied, work_of}
 use Rattle.tb_work.specs.declared.item.Item.{Item}
 use Rattle.tb_work.specs.declared.item.Item.TheVariants as item
 use Rattle.tb_work.specs.declared.outcome.Outcome.TheVariants.{Committed}

@@ -1,14 +1,12 @@
 -- What a ledger makes of one parcel.
 use Rattle.std.specs.Prelude.{◌≡◌, ◌≤◌, ℕ, ◌+◌, ◌*◌, ◌^◌, Bool, true, false, ◌||◌, fold, nat_lt, List, [], ◌∷◌, ◌++◌, length, map, take, drop, unwrap_or, IsSome, if◌then◌else◌}
-use Rattle.std.specs.List.{flat_map, sum_by, AllByRecursion}
+use Rattle.std.specs.List.{sum_by, AllByRecursion}
 use Rattle.tb_layout.specs.Events.{events_of}
 use Rattle.tb_layout.specs.Work.{Work, Packet, Pulse}
 use Rattle.tb_layout.specs.Limits.{batch_max, clock_max}
-use Rattle.tb_machine.specs.Replay.{State, replay, after_work, opening as no_work}
+use Rattle.tb_machine.specs.Replay.{replay, after_work}
 use Rattle.tb_work.specs.Admission.{event_size}
-use Rattle.tb_work.specs.Job.{Numbered}
-use Rattle.tb_work.specs.Reply.{reply_with}
-use Rattle.tb_work.specs.Work.{work_of}
+use Rattle.tb_work.specs.Packet.{Numbered, reply_with, work_of}
 use Rattle.tb_work.specs.declared.stub.Stub.{Stub}
 use Rattle.tb_work.specs.declared.outcome.Outcome.TheVariants as outcome
 use Rattle.tb_core.specs.declared.parcel.Parcel.{Parcel}
@@ -17,8 +15,8 @@ use Rattle.tb_core.specs.declared.journal.Entry.{Entry}
 use Rattle.tb_core.specs.declared.journal.Entry.TheVariants as entry
 use Rattle.tb_core.specs.declared.outcomes.Outcomes.{Outcomes}
 use Rattle.tb_core.specs.declared.outcomes.Outcomes.TheVariants.{Cut, One, Nothing, Last}
-use Rattle.tb_core.specs.Due.{outcome_of, replies_from}
-use Rattle.tb_core.specs.Passage.{Admitted}
+use Rattle.tb_core.specs.Journal.{LedgerState, works}
+use Rattle.tb_core.specs.inside.Passage.{outcome_of, replies_from, Admitted}
 
 -- ---- the journal
 
@@ -55,21 +53,6 @@ IsEntry (entry.Pulse moment) = Unit {0}
 
 abbrev pub AreEntries : List Entry → Type 0
 AreEntries entries = AllByRecursion IsEntry entries
-
--- its opening clock, the packets or the pulse of each entry of its journal, its machine's state, and whether it stopped
-pub record LedgerState : Type 0 where
-  pub opening : ℕ
-  pub groups : List (List Work)
-  pub state : State
-  pub stopped : Bool
-
--- a ledger with an empty journal
-abbrev pub new_ledger : ℕ → LedgerState
-new_ledger clock = record { opening = clock; groups = []; state = no_work clock; stopped = false }
-
--- the packets and pulses of the journal
-abbrev pub works : LedgerState → List Work
-works ledger = flat_map (λ group. group) ledger.groups
 
 -- its machine is what its journal gives from its opening clock, its places are counted, and each entry is whole
 pub record IsLedger (ledger : LedgerState) (entries : List Entry) (places : ℕ) : Type 0 where

@@ -1,9 +1,9 @@
-pub mod Passage
 pub mod Due
+pub mod Journal
+pub mod Report
+pub mod Headline
 pub mod Front
 pub mod Grouping
 pub mod Ledger
-pub mod BatchAnswer
-pub mod Report
-pub mod Headline
 pub mod Run
+pub mod inside

@@ -4,13 +4,13 @@ use Rattle.std.specs.List.{list_any}
 use Rattle.tb_layout.specs.Work.{Work}
 use Rattle.tb_machine.specs.Replay.{replay}
 use Rattle.tb_work.specs.Queue.{ahead, items_in, IsQueueOf}
-use Rattle.tb_work.specs.Reply.{Replied}
+use Rattle.tb_work.specs.Packet.{Replied}
 use Rattle.tb_work.specs.declared.outcome.Outcome.{Outcome}
 use Rattle.tb_work.specs.declared.outcome.Outcome.TheVariants.{Committed, Shutdown, Stopped}
 use Rattle.tb_work.specs.declared.item.Item.{Item}
 use Rattle.tb_work.specs.declared.item.Ticket.{Ticket}
-use Rattle.tb_core.specs.Due.{all_due, due}
-use Rattle.tb_core.specs.Ledger.{LedgerState, works}
+use Rattle.tb_core.specs.Due.{due}
+use Rattle.tb_core.specs.Journal.{LedgerState, works}
 
 -- A run: what it was opened with; the queue, as the intake popped it; what each sender queued itself; the ledger at the
 -- end; and the replies to each submitter.
@@ -56,12 +56,3 @@ pub record LawfulReport (run : Run) : Type 0 where
   pub state : run.ledger.state ≡ replay run.clock (committed_in run)
   pub replied : (submitter : ℕ) → submitter < run.submitters
       → run.replies submitter ≡ due run.clock run.queue (committed_in run) submitter
-
--- ---- a list in one thread
-
--- From a clock on all packets and pulses ahead of the Close were committed, and each packet has its reply, in order.
-pub record IsListed (clock : ℕ) (items : List Item) (ledger : LedgerState) (replies : List Replied) : Type 0 where
-  pub from : ledger.opening ≡ clock
-  pub goes_on : ledger.stopped ≡ false
-  pub committed : works ledger ≡ ahead items
-  pub replied : replies ≡ all_due clock items (ahead items)

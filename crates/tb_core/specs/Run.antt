@@ -2,8 +2,8 @@
 use Rattle.std.specs.Prelude.{◌≡◌, ◌<◌, ℕ, Bool, false, List, [], ◌∷◌, ◌++◌, length}
 use Rattle.tb_layout.specs.Work.{Work}
 use Rattle.tb_machine.specs.Replay.{replay}
-use Rattle.tb_work.specs.Queue.{IsQueueOf, items_in}
-use Rattle.tb_work.specs.Reply.{Replied}
+use Rattle.tb_work.specs.Queue.{IsQueueOf, ahead, items_in}
+use Rattle.tb_work.specs.Packet.{Replied}
 use Rattle.tb_work.specs.declared.item.Item.{Item}
 use Rattle.tb_work.specs.declared.item.Ticket.{Ticket}
 use Rattle.tb_batch.specs.Batch.{AreAdmitted}
@@ -11,11 +11,11 @@ use Rattle.tb_core.specs.declared.outcomes.Outcomes.{Outcomes}
 use Rattle.tb_core.specs.declared.outcomes.Outcomes.TheVariants.{Cut, One, Nothing, Last}
 use Rattle.tb_core.specs.declared.parcel.Parcel.{Parcel}
 use Rattle.tb_core.specs.declared.parcel.Parcel.TheVariants as parcel
-use Rattle.tb_core.specs.Due.{works_in, replies_from, replies_to}
+use Rattle.tb_core.specs.inside.Passage.{works_in, replies_from, Passage, Passes}
+use Rattle.tb_core.specs.Due.{all_due, replies_to}
 use Rattle.tb_core.specs.Front.{FrontState, held_by}
 use Rattle.tb_core.specs.Grouping.{AreJoined}
-use Rattle.tb_core.specs.Ledger.{LedgerState, works}
-use Rattle.tb_core.specs.Passage.{Passage, Passes}
+use Rattle.tb_core.specs.Journal.{LedgerState, works}
 use Rattle.tb_core.specs.Report.{Run, LawfulReport}
 
 -- the replies that a parcel comes to
@@ -83,3 +83,10 @@ RunIsLawful =
     Ran run.clock (items_in run.queue) run.ledger answers
     → ((submitter : ℕ) → submitter < run.submitters → run.replies submitter ≡ replies_to answers submitter)
     → LawfulReport run
+
+-- From a clock on all packets and pulses ahead of the Close were committed, and each packet has its reply, in order.
+pub record IsListed (clock : ℕ) (items : List Item) (ledger : LedgerState) (replies : List Replied) : Type 0 where
+  pub from : ledger.opening ≡ clock
+  pub goes_on : ledger.stopped ≡ false
+  pub committed : works ledger ≡ ahead items
+  pub replied : replies ≡ all_due clock items (ahead items)

@@ -67,7 +67,7 @@ impl Front {
     ghost use Rattle.tb_work.specs.declared.item.Ticket.{Ticket as TicketValue};
     ghost use Rattle.tb_core.specs.declared.parcel.Parcel.TheVariants as parcel;
     ghost use Rattle.tb_core.specs.Grouping.{AreJoinedParcels};
-    ghost use Rattle.tb_core.specs.Passage.{Passage, Passes, passages_of_item};
+    ghost use Rattle.tb_core.specs.inside.Passage.{Passage, Passes, passages_of_item};
     ghost use Rattle.tb_core.specs.Front.{FrontState, IsFront, opening_refusal, take_result, with_group, group_as_batch, all_ended, take_step, step_of_packet, step_of_pulse, step_of_end, step_of_close, all_passages_in, passages_in_batch, held_by, KnowsEnds, HaveAllEnded};
 
     /// A front that took nothing. The limit is 1 to 8190 events, else it is refused as `BadLimit`, and then there are 1

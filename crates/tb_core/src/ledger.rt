@@ -6,12 +6,10 @@ ghost use Rattle.tb_layout.specs.Limits.{clock_max};
 ghost use Rattle.tb_layout.specs.Work.{Work};
 ghost use Rattle.tb_machine.specs.Replay.{State, after_packet, replay};
 ghost use Rattle.tb_batch.specs.Batch.{AreAdmitted, AreParts};
-ghost use Rattle.tb_work.specs.Reply.{reply_with};
-ghost use Rattle.tb_work.specs.Work.{work_of};
-ghost use Rattle.tb_core.specs.BatchAnswer.{AreAnswered, answer_in};
+ghost use Rattle.tb_work.specs.Packet.{reply_with, work_of};
+ghost use Rattle.tb_core.specs.inside.BatchAnswer.{AreAnswered, answer_in};
 ghost use Rattle.tb_work.specs.declared.outcome.Outcome.TheVariants.{Stopped as StoppedOutcome};
-ghost use Rattle.tb_core.specs.Due.{outcome_of, replies_from};
-ghost use Rattle.tb_core.specs.Passage.{Admitted};
+ghost use Rattle.tb_core.specs.inside.Passage.{outcome_of, replies_from, Admitted};
 ghost use Rattle.tb_core.specs.Ledger.{group_of, AreEntries};
 
 use crate::journal::Entry;
@@ -54,7 +52,8 @@ impl Drop for Ledger {
 
 impl Model for Ledger {
     ghost use Rattle.std.specs.Prelude.{map};
-    ghost use Rattle.tb_core.specs.Ledger.{LedgerState, IsLedger, group_of};
+    ghost use Rattle.tb_core.specs.Journal.{LedgerState};
+    ghost use Rattle.tb_core.specs.Ledger.{IsLedger, group_of};
 
     ghost Value = { LedgerState };
 
@@ -154,12 +153,13 @@ fn returned(job: Job, cause: Cause) -> Reply
 impl Ledger {
     ghost use Rattle.tb_core.specs.declared.parcel.Parcel.TheVariants as parcel;
     ghost use Rattle.tb_core.specs.declared.outcomes.Outcomes.TheVariants.{Nothing as NothingComes};
-    ghost use Rattle.tb_work.specs.Reply.{Replied};
+    ghost use Rattle.tb_work.specs.Packet.{Replied};
     ghost use Rattle.tb_core.specs.Front.{passages_in};
     ghost use Rattle.tb_core.specs.Grouping.{AreJoined, IsJoinedParcel};
-    ghost use Rattle.tb_core.specs.Passage.{Passage};
+    ghost use Rattle.tb_core.specs.inside.Passage.{Passage};
     ghost use Rattle.tb_core.specs.Run.{Commits, HasPackets, replies_in};
-    ghost use Rattle.tb_core.specs.Ledger.{LedgerState, new_ledger, works, apply_result, must_stop, apply_step};
+    ghost use Rattle.tb_core.specs.Journal.{LedgerState, new_ledger, works};
+    ghost use Rattle.tb_core.specs.Ledger.{apply_result, must_stop, apply_step};
 
     /// A ledger without entries, whose clock starts at a number of nanoseconds, 0 to `CLOCK_MAX`. Takes no memory.
     pub fn new(alloc: Global, clock: u64) -> Ledger

@@ -1,15 +1,13 @@
 //! A list of items through the front and the ledger, in one thread.
 
 ghost use Rattle.std.specs.Prelude.{◌≡◌, ◌≤◌, ◌++◌, ◌∷◌, [], ℕ, List, IfOk, OnOk};
-ghost use Rattle.tb_layout.specs.Limits.{batch_max};
-ghost use Rattle.tb_layout.specs.Limits.{clock_max};
+ghost use Rattle.tb_layout.specs.Limits.{batch_max, clock_max};
 ghost use Rattle.tb_work.specs.Queue.{ahead};
 ghost use Rattle.tb_work.specs.declared.item.Item.{Item as ItemValue};
 ghost use Rattle.tb_core.specs.Front.{all_passages_in, passages_in};
 ghost use Rattle.tb_core.specs.Grouping.{AreWithin, IsGrouping, IsJoinedParcel, AreJoinedParcels};
-ghost use Rattle.tb_core.specs.Passage.{Passage};
-ghost use Rattle.tb_core.specs.Report.{IsListed};
-ghost use Rattle.tb_core.specs.Run.{GoesOn, IsRunning, IsThrough, Ran, replies_in};
+ghost use Rattle.tb_core.specs.inside.Passage.{Passage};
+ghost use Rattle.tb_core.specs.Run.{IsListed, GoesOn, IsRunning, IsThrough, Ran, replies_in};
 
 use crate::front::Front;
 use crate::ledger::Ledger;

@@ -6,8 +6,8 @@ use Rattle.tb_layout.specs.Failures.{RiseWithin}
 use Rattle.tb_work.specs.declared.outcome.Outcome.{Outcome}
 use Rattle.tb_work.specs.declared.outcome.Outcome.TheVariants.{Shutdown as ShutdownOutcome, Stopped as StoppedOutcome}
 use Rattle.tb_work.specs.Answer.{IsOutcomeOf}
-use Rattle.tb_work.specs.Job.{Numbered, count_of_all, is_lookup}
-use Rattle.tb_work.specs.Reply.{Replied, reply_with}
+use Rattle.tb_work.specs.Packet.{Numbered, Replied, reply_with}
+use Rattle.tb_work.specs.Job.{count_of_all, is_lookup}
 use Rattle.tb_demux.specs.declared.uncut.Uncut.{Uncut}
 use Rattle.tb_demux.specs.declared.source.Source.{Source}
 use Rattle.tb_demux.specs.declared.source.Source.TheVariants.{Failures, Lookup, Shutdown, Stopped}

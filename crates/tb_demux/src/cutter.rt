@@ -28,7 +28,7 @@ impl Drop for Cutter {
 impl Model for Cutter {
     ghost use Rattle.std.specs.Prelude.{List};
     ghost use Rattle.std.specs.Vec.Iter.{into_iter_items};
-    ghost use Rattle.tb_work.specs.Reply.{Replied};
+    ghost use Rattle.tb_work.specs.Packet.{Replied};
     ghost use Rattle.tb_demux.specs.Left.{replies_left, IsSourceOf};
 
     ghost Value = { List Replied };

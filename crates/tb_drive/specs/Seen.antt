@@ -2,8 +2,7 @@
 use Rattle.std.specs.Prelude.{◌≡◌, ℕ, List, [], ◌∷◌, Some, slice_get}
 use Rattle.std.specs.List.{flat_map}
 use Rattle.tb_submit.specs.Ends.{SubmitterState, EndedState}
-use Rattle.tb_work.specs.Job.{Numbered}
-use Rattle.tb_work.specs.Reply.{Replied}
+use Rattle.tb_work.specs.Packet.{Numbered, Replied}
 use Rattle.tb_work.specs.declared.item.Item.{Item}
 use Rattle.tb_work.specs.declared.item.Item.TheVariants.{Packet, Pulse, End, Close}
 use Rattle.tb_work.specs.declared.packet.Packet as packets

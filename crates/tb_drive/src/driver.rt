@@ -1,8 +1,7 @@
 //! What an application says of a submitter.
 
 ghost use Rattle.std.specs.Prelude.{◌≡◌, List, [], ◌∷◌, ◌++◌, Ok, IsErr, ⊤};
-ghost use Rattle.tb_work.specs.Job.{Numbered};
-ghost use Rattle.tb_work.specs.Reply.{Replied};
+ghost use Rattle.tb_work.specs.Packet.{Numbered, Replied};
 ghost use Rattle.tb_work.specs.declared.packet.Packet as packets;
 ghost use Rattle.tb_drive.specs.Actions.{GoesOn};
 

@@ -4,14 +4,13 @@ use Rattle.std.specs.Prelude.{Result, Ok, Err, OnOk, IsOk, codes}
 use Rattle.tb_machine.specs.Replay.{State, replay}
 use Rattle.tb_work.specs.Job.{numbered_packet}
 use Rattle.tb_work.specs.Queue.{ahead}
-use Rattle.tb_work.specs.Reply.{Replied, reply_with}
+use Rattle.tb_work.specs.Packet.{Replied, reply_with}
 use Rattle.tb_layout.specs.Work.{Work}
 use Rattle.tb_work.specs.declared.item.Item as work
 use Rattle.tb_work.specs.declared.refusal.Refusal.{Refusal}
-use Rattle.tb_core.specs.Due.{all_due_from, outcome_at}
-use Rattle.tb_core.specs.Ledger.{LedgerState, works}
-use Rattle.tb_core.specs.Passage.{Ahead, Behind}
-use Rattle.tb_core.specs.Report.{IsListed}
+use Rattle.tb_core.specs.Due.{all_due_from, outcome_at, Ahead, Behind}
+use Rattle.tb_core.specs.Journal.{LedgerState, works}
+use Rattle.tb_core.specs.Run.{IsListed}
 use Rattle.tb_script.specs.declared.item.Submission.{Submission}
 use Rattle.tb_list.specs.declared.plan.Line.{Line}
 use Rattle.tb_text.specs.Plan.{Planned, Packet, Pulse, Close, RefusedPacket, RefusedPulse, queue_of, number_in, packet_of, packet_as}

@@ -1,7 +1,7 @@
 -- The lines of a plan, printed from its two halves.
 use Rattle.std.specs.Prelude.{ℕ, ◌+◌, List, [], ◌∷◌, ◌++◌, Option, Some, None, codes}
-use Rattle.tb_work.specs.Reply.{Replied}
-use Rattle.tb_core.specs.Passage.{Place, Ahead, Behind}
+use Rattle.tb_work.specs.Packet.{Replied}
+use Rattle.tb_core.specs.Due.{Place, Ahead, Behind}
 use Rattle.tb_list.specs.declared.plan.Line.{Line}
 use Rattle.tb_list.specs.declared.plan.Line.TheVariants.{Packet, Pulse, Shut, RefusedPacket, RefusedPulse}
 use Rattle.tb_text.specs.Output.{reply_line, pulse_line, refused_line, refused_pulse_line}

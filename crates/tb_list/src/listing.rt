@@ -1,7 +1,7 @@
 //! The lines of `list`.
 
 ghost use Rattle.std.specs.Prelude.{◌≡◌, ◌<◌, ◌^◌, ◌++◌, ℕ, IfSome, OnOk, List, Some, map, string_bytes};
-ghost use Rattle.tb_core.specs.Report.{IsListed};
+ghost use Rattle.tb_core.specs.Run.{IsListed};
 ghost use Rattle.tb_list.specs.Halves.{line_of};
 ghost use Rattle.tb_text.specs.Plan.{Planned, queue_of};
 ghost use Rattle.tb_text.specs.Output.{plan_text};

@@ -3,7 +3,7 @@ use Rattle.std.proofs.Common.{refl, sym, ap, subst, ◌∙◌, ◌≡◌, ℕ, B
 use Rattle.std.specs.Prelude.{◌||◌}
 use Rattle.std.proofs.lemmas.List.{map-append}
 use Rattle.std.proofs.lemmas.Grind.{flat_map-append}
-use Rattle.tb_work.specs.Job.{Numbered}
+use Rattle.tb_work.specs.Packet.{Numbered}
 use Rattle.tb_work.specs.Queue.{items_in}
 use Rattle.tb_work.specs.declared.item.Item.{Item}
 use Rattle.tb_work.specs.declared.item.Item.TheVariants as item
@@ -13,7 +13,7 @@ use Rattle.tb_core.specs.declared.parcel.Parcel.{Parcel}
 use Rattle.tb_core.specs.declared.parcel.Parcel.TheVariants as parcel
 use Rattle.tb_core.specs.Front.{FrontState, Taken, take_result, with_group, group_as_batch, with_end, all_ended, take_step, all_passages_in, passages_in, held_by, KnowsEnds, HaveAllEnded}
 use Rattle.tb_core.specs.Grouping.{AreJoinedParcels, IsJoinedParcel}
-use Rattle.tb_core.specs.Passage.{Passage, Admitted, Passes}
+use Rattle.tb_core.specs.inside.Passage.{Passage, Admitted, Passes}
 use Rattle.tb_submit.specs.Ends.{IntakeState, with_taken}
 use Rattle.tb_pipe.specs.Carried.{is_last, has_last, IsBatched, AllBatched}
 use Rattle.tb_pipe.proofs.Lists.{either_same, none_more, all_more}

@@ -11,9 +11,8 @@ use Rattle.tb_layout.specs.Bytes.{little_endian}
 use Rattle.tb_layout.specs.Transfer.{transfer_of}
 use Rattle.tb_layout.specs.Events.{Accounts, Transfers, Ids, accounts_of, transfers_of, ids_of, chunks, count_of}
 use Rattle.tb_work.specs.Admission.{admission_of, admission_of_size}
-use Rattle.tb_work.specs.Job.{events_in}
+use Rattle.tb_work.specs.Packet.{events_in, Replied}
 use Rattle.tb_work.specs.Queue.{ahead, ahead_of, items_in}
-use Rattle.tb_work.specs.Reply.{Replied}
 use Rattle.tb_work.specs.declared.item.Item.{Item}
 use Rattle.tb_work.specs.declared.item.Item.TheVariants as item
 use Rattle.tb_work.specs.declared.item.Ticket.{Ticket}
@@ -26,7 +25,7 @@ use Rattle.tb_core.specs.declared.outcomes.Outcomes.{Outcomes}
 use Rattle.tb_core.specs.declared.outcomes.Outcomes.TheVariants as outcomes
 use Rattle.tb_core.specs.Front.{all_passages_in, passages_in}
 use Rattle.tb_core.specs.Grouping.{AreJoined, AreJoinedParcels, IsJoinedParcel, IsGrouping, IsWithin as IsWorkWithin, AreWithin as AreWorksWithin}
-use Rattle.tb_core.specs.Ledger.{LedgerState, works}
+use Rattle.tb_core.specs.Journal.{LedgerState, works}
 use Rattle.tb_core.specs.Run.{Commits, Ran, replies_in}
 use Rattle.tb_rings.specs.declared.Outlet.{Outlet}
 use Rattle.tb_submit.specs.Lists.{IsWithin, AreWithin}

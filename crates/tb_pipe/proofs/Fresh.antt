@@ -1,13 +1,13 @@
 -- Stages that took nothing.
 use Rattle.std.proofs.Common.{refl, sym, ap, subst, ◌≡◌, ℕ, false, List, [], All}
-use Rattle.tb_work.specs.Reply.{Replied}
+use Rattle.tb_work.specs.Packet.{Replied}
 use Rattle.tb_work.specs.declared.item.Ticket.{Ticket}
 use Rattle.tb_core.specs.declared.parcel.Parcel.{Parcel}
 use Rattle.tb_core.specs.declared.outcomes.Outcomes.{Outcomes}
 use Rattle.tb_core.specs.Front.{FrontState, held_by, KnowsEnds}
 use Rattle.tb_core.specs.Grouping.{AreJoined}
-use Rattle.tb_core.specs.Ledger.{LedgerState, new_ledger}
-use Rattle.tb_core.specs.Passage.{Passes}
+use Rattle.tb_core.specs.Journal.{LedgerState, new_ledger}
+use Rattle.tb_core.specs.inside.Passage.{Passes}
 use Rattle.tb_core.specs.Run.{Commits}
 use Rattle.tb_rings.specs.Ends.{given}
 use Rattle.tb_rings.specs.declared.Outlet.{Outlet}

@@ -1,6 +1,6 @@
 -- Rings and origins that stay the same while the stages run.
 use Rattle.std.proofs.Common.{refl, sym, ap, subst, ◌∙◌, arith, ◌≡◌, ◌<◌, ℕ, zero, suc, ◌+◌, get_or, List, [], ◌∷◌, length}
-use Rattle.tb_work.specs.Reply.{Replied}
+use Rattle.tb_work.specs.Packet.{Replied}
 use Rattle.tb_rings.specs.Ends.{given, taken, outlet_ring}
 use Rattle.tb_rings.specs.declared.Outlet.{Outlet}
 use Rattle.tb_submit.specs.Ends.{IntakeState, Origin, Seat, origins, origins_from, seat_at}

@@ -2,7 +2,7 @@
 use Rattle.std.specs.Prelude.{◌≡◌, ℕ, Bool, true, false, List, [], ◌∷◌, ◌++◌}
 use Rattle.std.specs.List.{flat_map, list_any}
 use Rattle.tb_work.specs.Queue.{items_in}
-use Rattle.tb_work.specs.Reply.{Replied}
+use Rattle.tb_work.specs.Packet.{Replied}
 use Rattle.tb_work.specs.declared.item.Ticket.{Ticket}
 use Rattle.tb_core.specs.declared.parcel.Parcel.{Parcel}
 use Rattle.tb_core.specs.declared.parcel.Parcel.TheVariants as parcel
@@ -10,8 +10,8 @@ use Rattle.tb_core.specs.declared.outcomes.Outcomes.{Outcomes}
 use Rattle.tb_core.specs.declared.outcomes.Outcomes.TheVariants as outcomes
 use Rattle.tb_core.specs.Front.{FrontState, all_passages_in, held_by, KnowsEnds, HaveAllEnded}
 use Rattle.tb_core.specs.Grouping.{AreJoined, AreJoinedParcels}
-use Rattle.tb_core.specs.Ledger.{LedgerState}
-use Rattle.tb_core.specs.Passage.{Passes}
+use Rattle.tb_core.specs.Journal.{LedgerState}
+use Rattle.tb_core.specs.inside.Passage.{Passes}
 use Rattle.tb_core.specs.Run.{Commits, replies_in}
 
 abbrev pub is_last : Parcel → Bool

@@ -4,7 +4,7 @@ use Rattle.tb_core.specs.Due.{replies_to}
 use Rattle.tb_core.specs.declared.outcomes.Outcomes.{Outcomes}
 use Rattle.tb_rings.specs.Ends.{given, SameOutlet}
 use Rattle.tb_rings.specs.declared.Outlet.{Outlet}
-use Rattle.tb_work.specs.Reply.{Replied}
+use Rattle.tb_work.specs.Packet.{Replied}
 use Rattle.tb_pipe.specs.Carried.{answers_in, has_final}
 
 -- the same rings in the same order

@@ -3,7 +3,7 @@
 ghost use Rattle.std.specs.Prelude.{◌≡◌, ℕ, map, length, slice_index_or};
 ghost use Rattle.tb_core.specs.Grouping.{IsGrouping};
 ghost use Rattle.tb_core.specs.Headline.{Headline, moments_in, moments_queued};
-ghost use Rattle.tb_core.specs.Ledger.{works};
+ghost use Rattle.tb_core.specs.Journal.{works};
 ghost use Rattle.tb_core.specs.Report.{IsPrefix, LawfulReport};
 ghost use Rattle.tb_submit.specs.Ends.{EndedState, control_seat, end_origin, origins};
 ghost use Rattle.tb_pipe.specs.Run.{IsServed, run_of};

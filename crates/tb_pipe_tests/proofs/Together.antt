@@ -1,7 +1,7 @@
 -- A run from opening to the report, put together from what the calls say.
 use Rattle.std.proofs.Common.{◌≡◌, ℕ, List, ap, subst}
 use Rattle.tb_core.specs.Grouping.{IsGrouping}
-use Rattle.tb_core.specs.Ledger.{LedgerState}
+use Rattle.tb_core.specs.Journal.{LedgerState}
 use Rattle.tb_core.specs.Report.{LawfulReport}
 use Rattle.tb_submit.specs.Ends.{EndedState, IntakeState}
 use Rattle.tb_work.specs.declared.item.Item.{Item}

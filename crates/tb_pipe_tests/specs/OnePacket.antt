@@ -1,12 +1,12 @@
 -- A run with one packet, from opening to its reply.
 use Rattle.std.specs.Prelude.{◌≡◌, ℕ, List, [], ◌∷◌, ◌⊎◌, length, slice_index_or}
-use Rattle.tb_core.specs.Ledger.{LedgerState}
+use Rattle.tb_core.specs.Journal.{LedgerState}
 use Rattle.tb_core.specs.Report.{LawfulReport}
 use Rattle.tb_machine.specs.Replay.{answer_of, opening}
 use Rattle.tb_submit.specs.Ends.{EndedState}
 use Rattle.tb_pipe_tests.specs.Together.{run_with}
-use Rattle.tb_work.specs.Job.{events_in, numbered_packet}
-use Rattle.tb_work.specs.Reply.{Replied, reply_with}
+use Rattle.tb_work.specs.Packet.{events_in, Replied, reply_with}
+use Rattle.tb_work.specs.Job.{numbered_packet}
 use Rattle.tb_work.specs.declared.item.Item.{Item}
 use Rattle.tb_work.specs.declared.item.Item.TheVariants as item
 use Rattle.tb_work.specs.declared.item.Ticket.{Ticket}

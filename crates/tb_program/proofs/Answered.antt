@@ -2,9 +2,8 @@
 use Rattle.std.proofs.Common.{◌≡◌, ◌∙◌, ◌<◌, ℕ, zero, suc, Bool, true, false, List, [], ◌∷◌, ◌++◌, length, map, Some, refl, ap, sym, subst, arith}
 use Rattle.std.specs.Prelude.{◌==◌, slice_get, if◌then◌else◌}
 use Rattle.std.proofs.lemmas.Option.{slice_get_within}
-use Rattle.tb_core.specs.Due.{outcome_at, reply_due, all_due_from, replies_to}
-use Rattle.tb_core.specs.Ledger.{LedgerState, works}
-use Rattle.tb_core.specs.Passage.{Place, Ahead, next_place}
+use Rattle.tb_core.specs.Due.{outcome_at, reply_due, all_due_from, replies_to, Place, Ahead, next_place}
+use Rattle.tb_core.specs.Journal.{LedgerState, works}
 use Rattle.tb_layout.specs.Work.{Work}
 use Rattle.tb_submit.specs.Ends.{EndedState, replies_of}
 use Rattle.tb_work.specs.Queue.{AreSubmitted, IsSubmitted, items_in, part}

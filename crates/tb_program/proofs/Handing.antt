@@ -1,7 +1,7 @@
 -- Packets handed in one after another, and of each what was told.
 use Rattle.std.proofs.Common.{◌≡◌, ◌∙◌, suc, List, [], ◌∷◌, ◌++◌, append_assoc, length, refl, ap, sym, subst, arith}
 use Rattle.std.proofs.lemmas.List.{append-nil, length-append, length-map, map-append}
-use Rattle.tb_work.specs.Job.{Numbered}
+use Rattle.tb_work.specs.Packet.{Numbered}
 use Rattle.tb_work.specs.declared.packet.Packet.{Packet}
 use Rattle.tb_work.specs.declared.refusal.Refusal.{Refusal as Cause}
 use Rattle.tb_program.specs.Answering.{queued_among}

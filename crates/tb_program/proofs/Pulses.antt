@@ -3,7 +3,8 @@ use Rattle.std.proofs.Common.{◌≡◌, ◌∙◌, ◌+◌, ◌*◌, ℕ, suc, 
 use Rattle.tb_layout.specs.Work.{Work, Packet, Pulse}
 use Rattle.std.specs.List.{flat_map}
 use Rattle.std.proofs.lemmas.List.Folds.{flat_map-map}
-use Rattle.tb_core.specs.Ledger.{LedgerState, group_of, packets_of, size_of, works}
+use Rattle.tb_core.specs.Journal.{LedgerState, works}
+use Rattle.tb_core.specs.Ledger.{group_of, packets_of, size_of}
 use Rattle.tb_core.specs.declared.journal.Entry.{Entry}
 use Rattle.tb_work.specs.declared.stub.Stub.{Stub}
 use Rattle.tb_text.specs.Output.{pulse_line}

@@ -1,8 +1,7 @@
 -- Drivers whose submitters have ended, and the replies to what they queued.
 use Rattle.std.specs.Prelude.{◌≡◌, ℕ, suc, List, [], ◌∷◌, ◌++◌, Some, length, slice_get}
 use Rattle.tb_submit.specs.Ends.{EndedState}
-use Rattle.tb_work.specs.Job.{Numbered}
-use Rattle.tb_work.specs.Reply.{Replied}
+use Rattle.tb_work.specs.Packet.{Numbered, Replied}
 use Rattle.tb_program.specs.Drivers.{HasSeenOf, IsDone}
 use Rattle.tb_program.specs.declared.run.driver.ScriptDriver.{ScriptDriver}
 use Rattle.tb_program.specs.declared.run.notes.Told.{Told}

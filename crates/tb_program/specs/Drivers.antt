@@ -2,8 +2,7 @@
 use Rattle.std.specs.Prelude.{◌≡◌, ℕ, true, List, [], ◌∷◌, Some, Vec, map, slice_get}
 use Rattle.std.specs.Vec.Iter.{into_iter_items}
 use Rattle.std.specs.declared.alloc.Global.{Global}
-use Rattle.tb_work.specs.Job.{Numbered}
-use Rattle.tb_work.specs.Reply.{Replied}
+use Rattle.tb_work.specs.Packet.{Numbered, Replied}
 use Rattle.tb_work.specs.declared.packet.Packet.{Packet}
 use Rattle.tb_program.specs.Noting.{HasNoted}
 use Rattle.tb_program.specs.declared.run.driver.ScriptDriver.{ScriptDriver}

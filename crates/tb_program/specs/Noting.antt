@@ -1,8 +1,7 @@
 -- What the drivers of a script note.
 use Rattle.std.specs.Prelude.{◌≡◌, ℕ, true, List, [], ◌∷◌, ◌++◌, Some, length, map, slice_get}
 use Rattle.tb_submit.specs.Ends.{SubmitterState}
-use Rattle.tb_work.specs.Job.{Numbered}
-use Rattle.tb_work.specs.Reply.{Replied}
+use Rattle.tb_work.specs.Packet.{Numbered, Replied}
 use Rattle.tb_work.specs.declared.packet.Packet.{Packet}
 use Rattle.tb_program.specs.declared.run.notes.Notes.{Notes}
 use Rattle.tb_program.specs.declared.run.notes.Told.{Told}

@@ -5,7 +5,7 @@ use Rattle.tb_core.specs.Headline.{moments_in as moments_committed, moments_queu
 use Rattle.tb_core.specs.Report.{Run, committed_in, IsPrefix, LawfulReport}
 use Rattle.tb_layout.specs.Work.{Work, Packet, Pulse}
 use Rattle.tb_machine.specs.Replay.{State}
-use Rattle.tb_work.specs.Reply.{Replied}
+use Rattle.tb_work.specs.Packet.{Replied}
 use Rattle.tb_work.specs.declared.item.Item.{Item}
 use Rattle.tb_work.specs.declared.packet.Packet as packets
 use Rattle.tb_drive.specs.Lines.{lines_of, refused_of}

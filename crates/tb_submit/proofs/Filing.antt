@@ -3,7 +3,8 @@ use Rattle.std.proofs.Common.{◌≡◌, ◌<◌, ℕ, ◌+◌, true, List, [], 
 use Rattle.std.specs.Prelude.{IsOk}
 use Rattle.std.specs.List.{AllByRecursion}
 use Rattle.tb_work.specs.Admission.{admission_of}
-use Rattle.tb_work.specs.Job.{Numbered, numbered_packet}
+use Rattle.tb_work.specs.Packet.{Numbered}
+use Rattle.tb_work.specs.Job.{numbered_packet}
 use Rattle.tb_work.specs.Queue.{is_end, IsUnended, IsSubmitted, AreNumbered}
 use Rattle.tb_work.specs.declared.item.Item.{Item}
 use Rattle.tb_work.specs.declared.item.Item.TheVariants.{Packet, Pulse, End, Close}

@@ -1,7 +1,7 @@
 -- The submitters of a queue, one after the other.
 use Rattle.std.proofs.Common.{◌≡◌, ◌<◌, ℕ, zero, suc, ◌+◌, List, [], ◌∷◌, ◌++◌, map, length, get_or, sym, refl, ap, ◌∙◌, arith}
 use Rattle.std.proofs.lemmas.List.{map-append}
-use Rattle.tb_work.specs.Reply.{Replied}
+use Rattle.tb_work.specs.Packet.{Replied}
 use Rattle.tb_rings.specs.Ends.{outlet_ring}
 use Rattle.tb_rings.specs.declared.Outlet.{Outlet}
 use Rattle.tb_submit.specs.Ends.{EndedState, Origin, Seat, SubmitterState, end_origin, new_submitter, origin_of, origins_from}

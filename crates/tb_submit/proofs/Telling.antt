@@ -1,6 +1,6 @@
 -- What replies tell, one after the other.
 use Rattle.std.proofs.Common.{◌≡◌, List, [], ◌∷◌, ◌++◌, sym, refl, ap, ◌∙◌, Some, None, Option}
-use Rattle.tb_work.specs.Reply.{Replied}
+use Rattle.tb_work.specs.Packet.{Replied}
 use Rattle.tb_work.specs.declared.refusal.Refusal.{Refusal}
 use Rattle.tb_submit.specs.Refusals.{or_else, told_by, told_in}
 

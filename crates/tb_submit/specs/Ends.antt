@@ -3,7 +3,7 @@ use Rattle.std.specs.Prelude.{ℕ, zero, suc, List, [], ◌∷◌, ◌++◌, Opt
 use Rattle.atomic_table.specs.Seated.{TableId}
 use Rattle.tb_rings.specs.Ends.{RingId, outlet_ring}
 use Rattle.tb_rings.specs.declared.Outlet.{Outlet}
-use Rattle.tb_work.specs.Reply.{Replied}
+use Rattle.tb_work.specs.Packet.{Replied}
 use Rattle.tb_work.specs.declared.item.Item.{Item}
 use Rattle.tb_work.specs.declared.item.Ticket.{Ticket}
 

@@ -8,7 +8,7 @@ ghost use Rattle.tb_submit.specs.Ends.{EndedState, IntakeState, control_seat, en
 ghost use Rattle.tb_submit.specs.Inside.{entry_of};
 ghost use Rattle.tb_submit.specs.Lists.{AreWithin, IsFiled};
 ghost use Rattle.tb_work.specs.Queue.{IsQueueOf, is_end, part};
-ghost use Rattle.tb_work.specs.Reply.{Replied};
+ghost use Rattle.tb_work.specs.Packet.{Replied};
 
 use crate::control::ControlEnd;
 use crate::ended::Ended;

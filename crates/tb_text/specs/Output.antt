@@ -6,15 +6,15 @@ use Rattle.tb_layout.specs.declared.failure.Failure.{Failure}
 use Rattle.tb_machine.specs.Replay.{State, replay, balanced_accounts}
 use Rattle.tb_work.specs.Queue.{ahead}
 use Rattle.tb_work.specs.Refusal.{number_of, name_of}
-use Rattle.tb_work.specs.Reply.{Replied, reply_with}
+use Rattle.tb_work.specs.Packet.{Replied, reply_with}
 use Rattle.tb_layout.specs.Work.{Work}
 use Rattle.tb_layout.specs.declared.answer.Answer.{Answer}
 use Rattle.tb_layout.specs.declared.answer.Answer.TheVariants.{Failures, Accounts}
 use Rattle.tb_work.specs.declared.outcome.Outcome.{Outcome}
 use Rattle.tb_work.specs.declared.outcome.Outcome.TheVariants.{Committed, Shutdown, Stopped}
 use Rattle.tb_work.specs.declared.refusal.Refusal.{Refusal}
-use Rattle.tb_core.specs.Passage.{Place, Ahead, Behind, place_behind}
-use Rattle.tb_core.specs.Due.{outcome_at}
+use Rattle.tb_core.specs.Due.{Place, Ahead, Behind, outcome_at}
+use Rattle.tb_core.specs.inside.Passage.{place_behind}
 use Rattle.tb_script.specs.declared.fault.Fault.{Fault}
 use Rattle.tb_script.specs.Fault.{fault_text}
 use Rattle.tb_script.specs.Script.{Said, items_of, clock_of, limit_of, script_of}

@@ -3,7 +3,8 @@
 use Rattle.std.specs.Prelude.{ℕ, ◌==◌, ◌^◌, nat_lt, Bool, false, List, [], ◌∷◌, ◌++◌, count_by, Result, Ok, Err, if◌then◌else◌}
 use Rattle.std.specs.List.{flat_map}
 use Rattle.tb_work.specs.Admission.{admission_of}
-use Rattle.tb_work.specs.Job.{Numbered, numbered_packet}
+use Rattle.tb_work.specs.Packet.{Numbered}
+use Rattle.tb_work.specs.Job.{numbered_packet}
 use Rattle.tb_work.specs.declared.item.Item as work
 use Rattle.tb_work.specs.declared.item.Item.TheVariants as queue
 use Rattle.tb_work.specs.declared.packet.Packet as packets

@@ -10,12 +10,7 @@ use Rattle.tb_layout.specs.Transfer.{transfer_of, is_linked as is_linked_transfe
 use Rattle.tb_work.specs.declared.packet.Packet.{Packet}
 use Rattle.tb_work.specs.declared.stub.Stub.{Stub}
 use Rattle.tb_work.specs.Admission.{admission_of, count_of}
-
--- a packet with its submitter, and its number among that submitter's queued packets
-pub record Numbered : Type 0 where
-  pub submitter : ℕ
-  pub number : ℕ
-  pub packet : Packet
+use Rattle.tb_work.specs.Packet.{Numbered, events_in}
 
 abbrev pub stub_of : Numbered → Stub
 stub_of job = record { submitter = job.submitter; number = job.number; count = count_of job.packet }
@@ -24,9 +19,6 @@ stub_of job = record { submitter = job.submitter; number = job.number; count = c
 abbrev pub count_of_all : List Numbered → ℕ
 count_of_all [] = 0
 count_of_all (job ∷ jobs) = count_of job.packet + count_of_all jobs
-
-abbrev pub events_in : Packet → Events
-events_in packet = events_of packet.operation packet.bytes
 
 -- whether its last event is linked
 abbrev pub is_open : Packet → Bool

@@ -1,7 +1,6 @@
 pub mod Refusal
 pub mod Admission
+pub mod Packet
 pub mod Job
 pub mod Answer
-pub mod Reply
-pub mod Work
 pub mod Queue

@@ -5,7 +5,7 @@ use Rattle.tb_work.specs.declared.item.Item.{Item}
 use Rattle.tb_work.specs.declared.item.Item.TheVariants.{Packet, Pulse, End, Close}
 use Rattle.tb_work.specs.declared.item.Ticket.{Ticket}
 use Rattle.tb_layout.specs.Work.{Work}
-use Rattle.tb_work.specs.Work.{work_of}
+use Rattle.tb_work.specs.Packet.{work_of}
 use Rattle.tb_layout.specs.Work as work
 
 -- what a sender has in a queue, in order

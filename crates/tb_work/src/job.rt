@@ -40,7 +40,8 @@ impl Drop for Job {
 }
 
 impl Model for Job {
-    ghost use Rattle.tb_work.specs.Job.{Numbered, IsJob};
+    ghost use Rattle.tb_work.specs.Packet.{Numbered};
+    ghost use Rattle.tb_work.specs.Job.{IsJob};
 
     ghost Value = { Numbered };
 

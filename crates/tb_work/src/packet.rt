@@ -71,7 +71,7 @@ fn lay_transfers(alloc: Global, transfers: &[Transfer]) -> Result<Vec<u8>, NoMem
 
 impl Packet {
     ghost use Rattle.tb_layout.specs.Events.{Accounts, Transfers};
-    ghost use Rattle.tb_work.specs.Job.{events_in};
+    ghost use Rattle.tb_work.specs.Packet.{events_in};
 
     /// A packet that makes these accounts, in their order, with a user word. Takes 128 bytes of memory an account, at
     /// once. How many a packet may have is its pipeline's limit, 8190 at most, and isn't looked at here.

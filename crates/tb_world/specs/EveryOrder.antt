@@ -7,7 +7,7 @@ use Rattle.tb_world.specs.declared.event.Event.{Event}
 use Rattle.tb_world.specs.declared.event.Event.TheVariants.{Push, Pop, BatchPush, BatchPop, OutcomePush, OutcomePop, ReplyPush, ReplyPop}
 use Rattle.tb_core.specs.Due.{due}
 use Rattle.tb_core.specs.Front.{HaveAllEnded}
-use Rattle.tb_core.specs.Ledger.{works}
+use Rattle.tb_core.specs.Journal.{works}
 use Rattle.tb_core.specs.Report.{IsPrefix, LawfulReport, any_stopped}
 use Rattle.tb_world.specs.World.{WorldState, is_lawful, received_of, moved, after_event, run, new_world}
 

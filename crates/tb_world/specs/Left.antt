@@ -1,6 +1,6 @@
 -- What the demultiplexer has left to push.
 use Rattle.std.specs.Prelude.{◌≡◌, Bool, true, false, List, [], ◌∷◌, Option, Some, None}
-use Rattle.tb_work.specs.Reply.{Replied}
+use Rattle.tb_work.specs.Packet.{Replied}
 use Rattle.tb_world.specs.Shelf.{Shelf, shelves_with}
 
 abbrev pub replies_of : Option (List Replied) → List Replied

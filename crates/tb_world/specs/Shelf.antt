@@ -1,6 +1,6 @@
 -- A submitter's reply ring, and what it received.
 use Rattle.std.specs.Prelude.{ℕ, List, [], ◌∷◌, ◌++◌, Option, Some, None, slice_index_or, slice_set}
-use Rattle.tb_work.specs.Reply.{Replied}
+use Rattle.tb_work.specs.Packet.{Replied}
 
 -- the ring, and what was taken from it
 pub record Shelf : Type 0 where

@@ -1,7 +1,6 @@
 -- The World as one record of lists, and the table of its steps.
 use Rattle.std.specs.Prelude.{◌≡◌, ◌≤◌, ℕ, ◌+◌, Bool, true, false, not, ◌&&◌, if◌then◌else◌, List, [], ◌∷◌, ◌++◌, length, All, Option, Some, None, is_some, slice_index_or, slice_set, unwrap_or, replicate}
-use Rattle.tb_work.specs.Job.{Numbered}
-use Rattle.tb_work.specs.Reply.{Replied}
+use Rattle.tb_work.specs.Packet.{Numbered, Replied}
 use Rattle.tb_work.specs.declared.item.Ticket.{Ticket}
 use Rattle.tb_core.specs.declared.outcomes.Outcomes.{Outcomes}
 use Rattle.tb_core.specs.declared.outcomes.Outcomes.TheVariants as outcomes
@@ -11,7 +10,8 @@ use Rattle.tb_world.specs.declared.event.Event.{Event}
 use Rattle.tb_world.specs.declared.event.Event.TheVariants.{Push, Pop, BatchPush, BatchPop, OutcomePush, OutcomePop, ReplyPush, ReplyPop}
 use Rattle.tb_world.specs.declared.sender.Sender.{Sender}
 use Rattle.tb_core.specs.Front.{FrontState, take_step, with_group, all_ended}
-use Rattle.tb_core.specs.Ledger.{LedgerState, new_ledger, apply_step}
+use Rattle.tb_core.specs.Journal.{LedgerState, new_ledger}
+use Rattle.tb_core.specs.Ledger.{apply_step}
 use Rattle.tb_core.specs.Run.{replies_in}
 use Rattle.tb_world.specs.Pushing.{newcomer, may_push, sender_after}
 use Rattle.tb_world.specs.Shelf.{Shelf, empty_shelf, shelf_at, shelves_with, after_pop}

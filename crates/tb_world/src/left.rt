@@ -21,7 +21,7 @@ pub struct Left {
 
 impl Model for Left {
     ghost use Rattle.std.specs.Prelude.{◌≡◌, List, [], ◌++◌, option_to_list, None};
-    ghost use Rattle.tb_work.specs.Reply.{Replied};
+    ghost use Rattle.tb_work.specs.Packet.{Replied};
     ghost use Rattle.tb_world.specs.Left.{replies_of};
 
     ghost Value = { List Replied };

@@ -2,7 +2,8 @@
 
 ghost use Rattle.std.specs.Prelude.{◌≡◌, ◌<◌, ◌≤◌, ◌+◌, ◌^◌, ◌++◌, ◌∷◌, [], length, map, IfOk, IsSomeAnd, OnOk, string_bytes};
 ghost use Rattle.std.specs.List.{flat_map};
-ghost use Rattle.tb_core.specs.Ledger.{group_of, works};
+ghost use Rattle.tb_core.specs.Ledger.{group_of};
+ghost use Rattle.tb_core.specs.Journal.{works};
 ghost use Rattle.tb_layout.specs.Limits.{submitters_max};
 ghost use Rattle.tb_machine.specs.Replay.{replay};
 ghost use Rattle.tb_submit.specs.Ends.{replies_of};
@@ -38,7 +39,7 @@ struct Replies {
 impl Model for Replies {
     ghost use Rattle.std.specs.Prelude.{List, ◌++◌};
     ghost use Rattle.std.specs.Vec.Iter.{into_iter_items};
-    ghost use Rattle.tb_work.specs.Reply.{Replied};
+    ghost use Rattle.tb_work.specs.Packet.{Replied};
 
     ghost Value = { List Replied };
 

@@ -6,17 +6,17 @@ use Rattle.std.proofs.lemmas.List.{get_or-set_same, map-append}
 use Rattle.std.proofs.lemmas.List.Elements.{filter-append}
 use Rattle.std.proofs.lemmas.Grind.{flat_map-append}
 use Rattle.std.proofs.lemmas.Bool.{cases_eq, eq-eqb, ne_eqb}
-use Rattle.tb_work.specs.Job.{Numbered}
+use Rattle.tb_work.specs.Packet.{Numbered, Replied}
 use Rattle.tb_work.specs.Queue.{items_in}
-use Rattle.tb_work.specs.Reply.{Replied}
 use Rattle.tb_work.specs.declared.item.Ticket.{Ticket}
 use Rattle.tb_core.specs.declared.outcomes.Outcomes.{Outcomes}
 use Rattle.tb_core.specs.declared.outcomes.Outcomes.TheVariants as outcomes
 use Rattle.tb_core.specs.declared.parcel.Parcel.{Parcel}
 use Rattle.tb_core.specs.declared.parcel.Parcel.TheVariants as parcel
-use Rattle.tb_core.specs.Passage.{Passage, Admitted, Passes}
+use Rattle.tb_core.specs.inside.Passage.{Passage, Admitted, Passes}
 use Rattle.tb_core.specs.Front.{FrontState, take_step, with_group, all_ended, all_passages_in, passages_in, held_by}
-use Rattle.tb_core.specs.Ledger.{LedgerState, apply_step}
+use Rattle.tb_core.specs.Journal.{LedgerState}
+use Rattle.tb_core.specs.Ledger.{apply_step}
 use Rattle.tb_core.specs.Due.{replies_to}
 use Rattle.tb_core.specs.Run.{Commits, replies_in}
 use Rattle.tb_world.specs.Shelf.{Shelf, empty_shelf, shelf_at, with_reply, shelves_with, after_pop_of}

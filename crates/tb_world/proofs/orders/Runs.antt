@@ -5,7 +5,7 @@ use Rattle.std.specs.List.{list_any}
 use Rattle.std.proofs.lemmas.List.{get_or-replicate, length-replicate, length-map}
 use Rattle.std.proofs.lemmas.Bool.{le-ltb, or_parts}
 use Rattle.tb_work.specs.Queue.{ahead, items_in}
-use Rattle.tb_work.specs.Work.{work_of}
+use Rattle.tb_work.specs.Packet.{work_of}
 use Rattle.tb_work.specs.declared.item.Item.{Item}
 use Rattle.tb_work.specs.declared.item.Item.TheVariants as item
 use Rattle.tb_work.specs.declared.item.Ticket.{Ticket}
@@ -13,9 +13,10 @@ use Rattle.tb_core.specs.declared.parcel.Parcel.{Parcel}
 use Rattle.tb_core.specs.declared.parcel.Parcel.TheVariants as parcel
 use Rattle.tb_world.specs.declared.event.Event.{Event}
 use Rattle.tb_world.specs.declared.event.Event.TheVariants.{Push, Pop, BatchPush, BatchPop, OutcomePush, OutcomePop, ReplyPush, ReplyPop}
-use Rattle.tb_core.specs.Due.{works_in}
+use Rattle.tb_core.specs.inside.Passage.{works_in}
 use Rattle.tb_core.specs.Front.{passages_in}
-use Rattle.tb_core.specs.Ledger.{LedgerState, Applied, works, must_stop, apply_step}
+use Rattle.tb_core.specs.Journal.{LedgerState, works}
+use Rattle.tb_core.specs.Ledger.{Applied, must_stop, apply_step}
 use Rattle.tb_world.specs.Pushing.{newcomer}
 use Rattle.tb_world.specs.Shelf.{Shelf, empty_shelf, shelf_at}
 use Rattle.tb_world.specs.World.{WorldState, is_lawful, after_event, run, new_world}

@@ -4,19 +4,18 @@ use Rattle.std.specs.List.{list_any}
 use Rattle.std.proofs.lemmas.List.{map-append}
 use Rattle.std.proofs.lemmas.List.Elements.{filter-append}
 use Rattle.tb_layout.specs.Work.{Work}
-use Rattle.tb_work.specs.Job.{Numbered}
+use Rattle.tb_work.specs.Packet.{Numbered, Replied}
 use Rattle.tb_work.specs.Queue.{part, ahead, items_in}
-use Rattle.tb_work.specs.Reply.{Replied}
 use Rattle.tb_work.specs.declared.item.Item.{Item}
 use Rattle.tb_work.specs.declared.item.Ticket.{Ticket}
 use Rattle.tb_core.specs.declared.outcomes.Outcomes.{Outcomes}
 use Rattle.tb_core.specs.declared.parcel.Parcel.{Parcel}
 use Rattle.tb_world.specs.declared.event.Event.{Event}
 use Rattle.tb_world.specs.declared.event.Event.TheVariants.{Pop, BatchPush, BatchPop, OutcomePush, OutcomePop, ReplyPush, ReplyPop}
-use Rattle.tb_core.specs.Due.{outcome_at, reply_due, all_due_from, all_due, replies_to, works_in}
+use Rattle.tb_core.specs.Due.{outcome_at, reply_due, all_due_from, all_due, replies_to, Place, Ahead, next_place}
+use Rattle.tb_core.specs.inside.Passage.{works_in, Passage, Admitted, Passes}
 use Rattle.tb_core.specs.Front.{all_passages_in, held_by}
-use Rattle.tb_core.specs.Ledger.{works}
-use Rattle.tb_core.specs.Passage.{Passage, Admitted, Place, Ahead, next_place, Passes}
+use Rattle.tb_core.specs.Journal.{works}
 use Rattle.tb_core.specs.Run.{Ran}
 use Rattle.tb_world.specs.Shelf.{Shelf, shelf_at, after_pop_of}
 use Rattle.tb_world.specs.World.{WorldState, pop, batch_push, batch_pop, outcome_push, outcome_pop, reply_push, reply_pop, received_of, run, new_world}

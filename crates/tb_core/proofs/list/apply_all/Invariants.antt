@@ -1,7 +1,7 @@
 use Rattle.std.proofs.Common.{ℕ, List, ◌++◌, length}
 use Rattle.tb_core.specs.Front.{all_passages_in}
 use Rattle.tb_core.specs.Grouping.{AreJoinedParcels}
-use Rattle.tb_core.specs.Passage.{Passage}
+use Rattle.tb_core.specs.inside.Passage.{Passage}
 use Rattle.tb_core.specs.Run.{GoesOn}
 use Rattle.tb_core.proofs.Listing.{AreApplied}
 use Rattle.tb_core.proofs.list.apply_all.Given as goal

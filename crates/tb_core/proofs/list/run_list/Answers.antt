@@ -1,9 +1,8 @@
 use Rattle.std.proofs.Common.{ap, sym, subst, []}
 use Rattle.tb_core.specs.Front.{FrontState}
 use Rattle.tb_core.specs.Grouping.{AreWithin}
-use Rattle.tb_core.specs.Ledger.{LedgerState}
-use Rattle.tb_core.specs.Report.{IsListed}
-use Rattle.tb_core.specs.Run.{Commits, IsThrough}
+use Rattle.tb_core.specs.Journal.{LedgerState}
+use Rattle.tb_core.specs.Run.{IsListed, Commits, IsThrough}
 use Rattle.tb_core.proofs.Runs.{run_is_listed}
 use Rattle.tb_core.proofs.list.run_list.Goals as goal
 

@@ -1,6 +1,6 @@
 use Rattle.std.proofs.Common.{◌≡◌, ◌∙◌, sym, ap, subst, arith, ◌<◌, ℕ, zero, suc, List, [], ◌∷◌, ◌++◌, length}
 use Rattle.tb_core.specs.Headline.{moments_in, moments_queued}
-use Rattle.tb_core.specs.Ledger.{works}
+use Rattle.tb_core.specs.Journal.{works}
 use Rattle.tb_core.specs.Report.{IsPrefix, LawfulReport}
 use Rattle.tb_rings.specs.Ends.{given, taken, lies}
 use Rattle.std.proofs.lemmas.List.{length-map}

@@ -1,12 +1,12 @@
 use Rattle.std.proofs.Common.{refl, ◌≡◌, ◌∙◌, ◌++◌, List, [], length, map, string_bytes, ap, sym, subst}
 use Rattle.std.proofs.lemmas.List.{length-map}
-use Rattle.tb_core.specs.Ledger.{works}
+use Rattle.tb_core.specs.Journal.{works}
 use Rattle.tb_core.specs.Headline.{moments_in, moments_queued}
 use Rattle.tb_core.specs.Report.{IsPrefix}
 use Rattle.tb_drive.specs.Lines.{lines_of}
 use Rattle.tb_drive.specs.Seen.{jobs_in}
 use Rattle.tb_submit.specs.Ends.{replies_of}
-use Rattle.tb_work.specs.Reply.{Replied}
+use Rattle.tb_work.specs.Packet.{Replied}
 use Rattle.tb_work.specs.declared.item.Item.{Item}
 use Rattle.tb_program.specs.Drivers.{HasSeenOf, share_of, told_of}
 use Rattle.tb_program.specs.RunText.{AreHandedIn, run_text}

@@ -1,6 +1,6 @@
 use Rattle.std.proofs.Common.{◌≡◌, ◌+◌, ◌∷◌, [], map, ap, sym, ◌∙◌, arith, length, length-append, Some}
 use Rattle.std.proofs.lemmas.List.Elements.{All-push}
-use Rattle.tb_work.specs.Reply.{Replied}
+use Rattle.tb_work.specs.Packet.{Replied}
 use Rattle.tb_rings.specs.Ends.{given, slots}
 use Rattle.tb_rings.specs.declared.Outlet.{Outlet}
 use Rattle.tb_submit.specs.Ends.{SenderState, new_submitter, new_intake, origins_from, seat_at}

@@ -1,8 +1,9 @@
 use Rattle.std.proofs.Common.{◌∙◌, ap, sym, subst, false, map, length, ◌++◌, ◌∷◌, []}
-use Rattle.tb_work.specs.Work.{work_of}
+use Rattle.tb_work.specs.Packet.{work_of}
 use Rattle.tb_core.specs.declared.parcel.Parcel.TheVariants as parcel
-use Rattle.tb_core.specs.BatchAnswer.{AreAnswered}
-use Rattle.tb_core.specs.Ledger.{LedgerState, AreEntries, group_of, must_stop, apply_step, works}
+use Rattle.tb_core.specs.inside.BatchAnswer.{AreAnswered}
+use Rattle.tb_core.specs.Journal.{LedgerState, works}
+use Rattle.tb_core.specs.Ledger.{AreEntries, group_of, must_stop, apply_step}
 use Rattle.tb_core.proofs.Batches.{JoinInvisibly}
 use Rattle.tb_core.proofs.Committed.{batch_applied}
 use Rattle.tb_core.proofs.Growing.{given, batch_state, batch_entered}

@@ -1,7 +1,7 @@
 use Rattle.std.proofs.Common.{sym, subst, ◌++◌, map, append-nil}
 use Rattle.std.proofs.lemmas.Result.{on_ok_weaker}
 use Rattle.tb_batch.specs.Grouping.{IsGroup}
-use Rattle.tb_core.specs.Passage.{Admitted}
+use Rattle.tb_core.specs.inside.Passage.{Admitted}
 use Rattle.tb_core.specs.Run.{GoesOn}
 use Rattle.tb_core.proofs.Listing.{through}
 use Rattle.tb_core.proofs.list.Listing.finish.Goals as goal

@@ -1,5 +1,5 @@
 use Rattle.std.proofs.Common.{◌<◌, ◌∙◌, ◌^◌, ◌++◌, append_assoc, length, ap, subst, string_bytes, sym}
-use Rattle.tb_core.specs.Ledger.{works}
+use Rattle.tb_core.specs.Journal.{works}
 use Rattle.tb_machine.specs.Replay.{State}
 use Rattle.tb_text.specs.Output.{state_text}
 use Rattle.tb_program.specs.RunText.{pulses_text, refused_pulses_text}

@@ -1,5 +1,5 @@
 use Rattle.std.proofs.Common.{ap, sym, subst, ◌∙◌}
-use Rattle.tb_work.specs.Reply.{Replied}
+use Rattle.tb_work.specs.Packet.{Replied}
 use Rattle.tb_submit.specs.Inside.{IsSubmitter}
 use Rattle.tb_submit.specs.Refusals.{told_by}
 use Rattle.tb_submit.proofs.Submitting.{counts_reply, else_none, else_some}

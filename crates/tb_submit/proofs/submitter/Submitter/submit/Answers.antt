@@ -1,6 +1,6 @@
 use Rattle.std.proofs.Common.{◌≡◌, ◌<◌, ◌≤◌, ◌+◌, None, ap, sym, subst, ◌∙◌}
 use Rattle.tb_work.specs.Admission.{admission_of}
-use Rattle.tb_work.specs.Job.{Numbered}
+use Rattle.tb_work.specs.Packet.{Numbered}
 use Rattle.tb_rings.specs.Ends.{taken}
 use Rattle.std.specs.Prelude.{IsOk}
 use Rattle.tb_submit.specs.Ends.{SenderState, SubmitterState}

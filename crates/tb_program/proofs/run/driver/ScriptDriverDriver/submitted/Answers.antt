@@ -1,7 +1,7 @@
 use Rattle.std.proofs.Common.{◌∙◌, ◌∷◌, ◌++◌, [], Vec, refl, ap, sym, subst}
 use Rattle.std.specs.declared.alloc.Global.{Global}
 use Rattle.std.specs.Vec.Iter.{into_iter_items}
-use Rattle.tb_work.specs.Reply.{Replied}
+use Rattle.tb_work.specs.Packet.{Replied}
 use Rattle.tb_program.specs.Drivers.{share_of, told_of}
 use Rattle.tb_program.specs.Noting.{IsHandedIn}
 use Rattle.tb_program.proofs.Handing.{one_queued, one_refused}

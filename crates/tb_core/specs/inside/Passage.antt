@@ -2,10 +2,13 @@
 use Rattle.std.specs.Prelude.{◌≡◌, ℕ, ◌+◌, Bool, true, false, ◌||◌, nat_le, List, [], ◌∷◌, ◌++◌, slice_get, Option, Some, None, is_some, IfSome, if◌then◌else◌}
 use Rattle.tb_layout.specs.Work.{Work}
 use Rattle.tb_layout.specs.Work as work
-use Rattle.tb_work.specs.Job.{Numbered}
+use Rattle.tb_work.specs.Packet.{Numbered, Replied, reply_with, work_of}
 use Rattle.tb_work.specs.Queue.{ahead}
 use Rattle.tb_work.specs.declared.item.Item.{Item}
 use Rattle.tb_work.specs.declared.item.Item.TheVariants as item
+use Rattle.tb_work.specs.declared.outcome.Outcome.{Outcome}
+use Rattle.tb_work.specs.declared.outcome.Outcome.TheVariants as outcome
+use Rattle.tb_core.specs.Due.{Place, Ahead, Behind, next_place, outcome_at}
 use Rattle.tb_core.specs.declared.parcel.Cause.{Cause}
 use Rattle.tb_core.specs.declared.parcel.Cause.TheVariants.{Shutdown, Stopped}
 
@@ -27,22 +30,9 @@ passages_of_item closed stopped item.Close = []
 
 -- ---- a queue
 
--- where an item stands: with so many packets and pulses in front of it, or behind the Close
-pub data Place : Type 0 where
-  Ahead : ℕ → Place
-  Behind : Place
-
 abbrev pub is_behind : Place → Bool
 is_behind (Ahead k) = false
 is_behind Behind = true
-
--- the place after an item
-abbrev pub next_place : Place → Item → Place
-next_place Behind item = Behind
-next_place (Ahead k) (item.Packet job) = Ahead (k + 1)
-next_place (Ahead k) (item.Pulse moment) = Ahead (k + 1)
-next_place (Ahead k) item.End = Ahead k
-next_place (Ahead k) item.Close = Behind
 
 abbrev pub place_behind : Place → List Item → Place
 place_behind place [] = place
@@ -80,3 +70,25 @@ pub record Passes (items : List Item) (closed stopped : Bool) (passages : List P
   pub shut : closed ≡ is_behind (place_behind (Ahead 0) items)
   pub stops : stopped ≡ is_some stop
   pub at_packet : IfSome stop (λ through. IsPacket (slice_get (ahead items) through))
+
+-- ---- by what was let through
+
+-- the packets and pulses that are to be committed
+abbrev pub works_in : List Passage → List Work
+works_in [] = []
+works_in (Admitted job ∷ passages) = work_of job ∷ works_in passages
+works_in (Pulsed moment ∷ passages) = work.Pulse moment ∷ works_in passages
+works_in (Returned job cause ∷ passages) = works_in passages
+
+abbrev pub outcome_of : Cause → Outcome
+outcome_of Shutdown = outcome.Shutdown
+outcome_of Stopped = outcome.Stopped
+
+-- the replies from a place on, with these packets and pulses committed from a clock on
+abbrev pub replies_from : ℕ → List Work → ℕ → List Passage → List Replied
+replies_from clock works place [] = []
+replies_from clock works place (Admitted job ∷ passages) =
+    reply_with (outcome_at clock works (Ahead place)) job ∷ replies_from clock works (place + 1) passages
+replies_from clock works place (Pulsed moment ∷ passages) = replies_from clock works (place + 1) passages
+replies_from clock works place (Returned job cause ∷ passages) =
+    reply_with (outcome_of cause) job ∷ replies_from clock works place passages

@@ -1,0 +1,3 @@
+-- What proofs need and the claim doesn't mention.
+pub mod Passage
+pub mod BatchAnswer

@@ -1,0 +1,32 @@
+-- A packet as definitions see it: with its submitter and its number, with what the state machine works on, and with its
+-- outcome.
+use Rattle.std.specs.Prelude.{ℕ}
+use Rattle.tb_layout.specs.Events.{Events, events_of}
+use Rattle.tb_layout.specs.Work as work
+use Rattle.tb_layout.specs.Work.{Work}
+use Rattle.tb_work.specs.declared.outcome.Outcome.{Outcome}
+use Rattle.tb_work.specs.declared.packet.Packet.{Packet}
+
+-- a packet with its submitter, and its number among that submitter's queued packets
+pub record Numbered : Type 0 where
+  pub submitter : ℕ
+  pub number : ℕ
+  pub packet : Packet
+
+abbrev pub events_in : Packet → Events
+events_in packet = events_of packet.operation packet.bytes
+
+-- what the state machine sees of a packet: neither its user word nor its buffer
+abbrev pub work_of : Numbered → Work
+work_of job = work.Packet job.submitter job.number (events_in job.packet)
+
+-- a packet as it was handed in, with its outcome
+pub record Replied : Type 0 where
+  pub submitter : ℕ
+  pub number : ℕ
+  pub packet : Packet
+  pub outcome : Outcome
+
+abbrev pub reply_with : Outcome → Numbered → Replied
+reply_with outcome job =
+    record { submitter = job.submitter; number = job.number; packet = job.packet; outcome = outcome }
