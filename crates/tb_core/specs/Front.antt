@@ -1,5 +1,5 @@
 -- What a front makes of one ticket.
-use Rattle.std.specs.Prelude.{◌≡◌, ℕ, ◌+◌, ◌≤◌, Bool, true, false, ◌||◌, if◌then◌else◌, List, [], ◌∷◌, ◌++◌, length, map, take, slice_set, get_or, nat_lt, Option, Some, None}
+use Rattle.std.specs.Prelude.{◌≡◌, ℕ, ◌+◌, ◌≤◌, Bool, true, false, not, ◌||◌, if◌then◌else◌, List, [], ◌∷◌, ◌++◌, length, map, take, slice_set, get_or, nat_lt, Option, Some, None}
 use Rattle.std.specs.List.{list_all, list_any, flat_map}
 use Rattle.tb_layout.specs.Limits.{batch_max, submitters_max}
 use Rattle.tb_work.specs.Packet.{Numbered}
@@ -87,6 +87,13 @@ take_step refused front sender (item.Packet job) = step_of_packet refused front 
 take_step refused front sender (item.Pulse moment) = step_of_pulse front moment
 take_step refused front sender item.End = step_of_end front sender
 take_step refused front sender item.Close = step_of_close front sender
+
+-- whether a ticket takes memory: a packet that is returned takes none
+abbrev pub takes_memory : FrontState → Item → Bool
+takes_memory front (item.Packet job) = not (front.closed || front.stopped)
+takes_memory front (item.Pulse moment) = false
+takes_memory front item.End = false
+takes_memory front item.Close = false
 
 -- ---- without batches
 

@@ -1,5 +1,5 @@
 -- What a ledger makes of one parcel.
-use Rattle.std.specs.Prelude.{◌≡◌, ◌≤◌, ℕ, ◌+◌, ◌*◌, ◌^◌, Bool, true, false, ◌||◌, fold, nat_lt, List, [], ◌∷◌, ◌++◌, length, map, take, drop, unwrap_or, IsSome, if◌then◌else◌}
+use Rattle.std.specs.Prelude.{◌≡◌, ◌≤◌, ℕ, ◌+◌, ◌*◌, ◌^◌, Bool, true, false, ◌||◌, fold, nat_lt, List, [], ◌∷◌, ◌++◌, length, map, take, drop, unwrap_or, IsSome, if◌then◌else◌, not}
 use Rattle.std.specs.List.{sum_by, AllByRecursion}
 use Rattle.tb_layout.specs.Events.{events_of}
 use Rattle.tb_layout.specs.Work.{Work, Packet, Pulse}
@@ -100,3 +100,10 @@ apply_step refused ledger (parcel.Pulse moment) =
     else apply_result (with_entry ledger (Pulse moment ∷ [])) Nothing
 apply_step refused ledger (parcel.Return job cause) = apply_result ledger (One (reply_with (outcome_of cause) job))
 apply_step refused ledger parcel.Last = apply_result ledger Last
+
+-- whether a parcel takes memory: what must be stopped, however much there is, takes none
+abbrev pub takes_memory : LedgerState → Parcel → Bool
+takes_memory ledger (parcel.Batch jobs) = not (must_stop false ledger (length jobs))
+takes_memory ledger (parcel.Pulse moment) = not (must_stop false ledger 1)
+takes_memory ledger (parcel.Return job cause) = false
+takes_memory ledger parcel.Last = false

@@ -68,7 +68,7 @@ impl Front {
     ghost use Rattle.tb_core.specs.declared.parcel.Parcel.TheVariants as parcel;
     ghost use Rattle.tb_core.specs.Grouping.{AreJoinedParcels};
     ghost use Rattle.tb_core.specs.inside.Passage.{Passage, Passes, passages_of_item};
-    ghost use Rattle.tb_core.specs.Front.{FrontState, IsFront, opening_refusal, take_result, with_group, group_as_batch, all_ended, take_step, step_of_packet, step_of_pulse, step_of_end, step_of_close, all_passages_in, passages_in_batch, held_by, KnowsEnds, HaveAllEnded};
+    ghost use Rattle.tb_core.specs.Front.{FrontState, IsFront, opening_refusal, take_result, with_group, group_as_batch, all_ended, take_step, step_of_packet, step_of_pulse, step_of_end, step_of_close, all_passages_in, passages_in_batch, held_by, KnowsEnds, HaveAllEnded, takes_memory};
 
     /// A front that took nothing. The limit is 1 to 8190 events, else it is refused as `BadLimit`, and then there are 1
     /// to 16 submitters, else as `BadSubmitters`. Takes no memory.
@@ -162,6 +162,7 @@ impl Front {
         requires { parcels.old.items ≡ [] }
         ensures ok { OnOk result (take_result self.new parcels.new.items ≡ step_of_packet false self.old job) }
         ensures err { OnErr result ((back.new ≡ PacketItem job) × (self.new ≡ self.old) × (parcels.new.items ≡ [])) }
+        ensures memory { OnErr result (takes_memory self.old (PacketItem job) ≡ true) }
         ensures front { IsFront self.old }
     {
         if self.closed {
@@ -239,8 +240,8 @@ impl Front {
     }
 
     /// Takes one ticket where its growth isn't refused, and puts what is handed on into the parcels. Where it is
-    /// refused, the ticket and all else are as before. The ticket is lent: handing up what is as large, for each of
-    /// them, would cost more than the rest.
+    /// refused, the ticket and all else are as before; only a packet that would be taken is ever refused. The ticket is
+    /// lent: handing up what is as large, for each of them, would cost more than the rest.
     pub fn try_take(
         &mut self,
         parcels: &mut ArrayVec<Parcel, 2>,
@@ -251,6 +252,7 @@ impl Front {
         ensures ok { OnOk result (take_result self.new parcels.new.items
             ≡ take_step false self.old ticket.old.sender ticket.old.item) }
         ensures err { OnErr result ((ticket.new ≡ ticket.old) × (self.new ≡ self.old) × (parcels.new.items ≡ [])) }
+        ensures memory { OnErr result (takes_memory self.old ticket.old.item ≡ true) }
         ensures front { IsFront self.old }
     {
         let sender = ticket.sender;

@@ -159,7 +159,7 @@ impl Ledger {
     ghost use Rattle.tb_core.specs.inside.Passage.{Passage};
     ghost use Rattle.tb_core.specs.Run.{Commits, HasPackets, replies_in};
     ghost use Rattle.tb_core.specs.Journal.{LedgerState, new_ledger, works};
-    ghost use Rattle.tb_core.specs.Ledger.{apply_result, must_stop, apply_step};
+    ghost use Rattle.tb_core.specs.Ledger.{apply_result, must_stop, apply_step, takes_memory};
 
     /// A ledger without entries, whose clock starts at a number of nanoseconds, 0 to `CLOCK_MAX`. Takes no memory.
     pub fn new(alloc: Global, clock: u64) -> Ledger
@@ -227,6 +227,7 @@ impl Ledger {
         ensures ok { IfOk result (λ outcomes. apply_result self.new outcomes
             ≡ apply_step false self.old (parcel.Batch batch)) }
         ensures err { IfErr result (λ back. (back ≡ batch) × (self.new ≡ self.old)) }
+        ensures memory { OnErr result (must_stop false self.old (length batch) ≡ false) }
         ensures some { (0 < length batch) × AreAdmitted batch }
     {
         let count = batch.jobs().len();
@@ -254,6 +255,7 @@ impl Ledger {
         ensures ok { OnOk result (apply_result self.new NothingComes
             ≡ apply_step false self.old (parcel.Pulse moment)) }
         ensures err { OnErr result (self.new ≡ self.old) }
+        ensures memory { OnErr result (must_stop false self.old 1 ≡ false) }
     {
         if self.halts_at(1) {
             self.stopped = true;
@@ -266,10 +268,12 @@ impl Ledger {
         Ok(())
     }
 
-    /// Applies one parcel where its growth isn't refused. Where it is, the parcel comes back, and nothing has changed.
+    /// Applies one parcel where its growth isn't refused. Where it is, the parcel comes back, and nothing has changed;
+    /// what must be stopped anyway never comes back.
     pub fn try_apply(&mut self, parcel: Parcel) -> Result<Outcomes, Parcel>
         ensures ok { IfOk result (λ outcomes. apply_result self.new outcomes ≡ apply_step false self.old parcel) }
         ensures err { IfErr result (λ back. (back ≡ parcel) × (self.new ≡ self.old)) }
+        ensures memory { OnErr result (takes_memory self.old parcel ≡ true) }
         ensures some { HasPackets parcel }
     {
         match parcel {
