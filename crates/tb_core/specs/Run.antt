@@ -2,7 +2,7 @@
 use Rattle.std.specs.Prelude.{◌≡◌, ◌<◌, ℕ, Bool, false, List, [], ◌∷◌, ◌++◌, length}
 use Rattle.tb_layout.specs.Work.{Work}
 use Rattle.tb_machine.specs.Replay.{replay}
-use Rattle.tb_work.specs.Queue.{IsQueueOf, items_in}
+use Rattle.tb_work.specs.Queue.{IsQueueOf, ahead, items_in}
 use Rattle.tb_work.specs.Reply.{Replied}
 use Rattle.tb_work.specs.declared.item.Item.{Item}
 use Rattle.tb_work.specs.declared.item.Ticket.{Ticket}
@@ -11,7 +11,7 @@ use Rattle.tb_core.specs.declared.outcomes.Outcomes.{Outcomes}
 use Rattle.tb_core.specs.declared.outcomes.Outcomes.TheVariants.{Cut, One, Nothing, Last}
 use Rattle.tb_core.specs.declared.parcel.Parcel.{Parcel}
 use Rattle.tb_core.specs.declared.parcel.Parcel.TheVariants as parcel
-use Rattle.tb_core.specs.Due.{works_in, replies_from, replies_to}
+use Rattle.tb_core.specs.Due.{all_due, works_in, replies_from, replies_to}
 use Rattle.tb_core.specs.Front.{FrontState, held_by}
 use Rattle.tb_core.specs.Grouping.{AreJoined}
 use Rattle.tb_core.specs.Ledger.{LedgerState, works}
@@ -84,3 +84,22 @@ RunIsLawful =
     → ((submitter : ℕ) → submitter < submitters → replies submitter ≡ replies_to answers submitter) →
     LawfulReport clock submitters queue queued (works ledger)
     (replay ledger.opening (works ledger)) ledger.stopped replies
+
+-- A front made passages of these items, a ledger took the first of them, and the rest is on the way. What was committed is
+-- the first of what is ahead, and the replies are the first of those due: all of them when nothing is on the way. Unless
+-- one of both stopped, all that is ahead is committed or on the way.
+pub record IsPartial (clock : ℕ) (items : List Item) (stopped : Bool) (ledger : LedgerState) (answers : List Replied)
+    (way : List Passage) : Type 0 where
+  pub behind : List Work
+  pub committed : works ledger ++ behind ≡ ahead items
+  pub later : List Replied
+  pub due : answers ++ later ≡ all_due clock items (works ledger)
+  pub replied : way ≡ [] → answers ≡ all_due clock items (works ledger)
+  pub whole : stopped ≡ false → ledger.stopped ≡ false → works ledger ++ works_in way ≡ ahead items
+
+-- Whatever a front made of some items, and whatever part of that a ledger took.
+abbrev pub EachPartIsLawful : Type 0
+EachPartIsLawful =
+    (clock : ℕ) (items : List Item) (closed stopped : Bool) (applied way : List Passage) (ledger : LedgerState)
+    (answers : List Replied) → Passes items closed stopped (applied ++ way) → Commits clock applied ledger answers →
+    IsPartial clock items stopped ledger answers way
