@@ -16,7 +16,7 @@ use Rattle.tb_core.specs.Due.{all_due, replies_to}
 use Rattle.tb_core.specs.Front.{FrontState, held_by}
 use Rattle.tb_core.specs.Grouping.{AreJoined}
 use Rattle.tb_core.specs.Journal.{LedgerState, works}
-use Rattle.tb_core.specs.Report.{Run, LawfulReport}
+use Rattle.tb_core.specs.Report.{Run, IsPrefix, LawfulReport}
 
 -- the replies that a parcel comes to
 abbrev pub replies_in : Outcomes → List Replied
@@ -90,3 +90,20 @@ pub record IsListed (clock : ℕ) (items : List Item) (ledger : LedgerState) (re
   pub goes_on : ledger.stopped ≡ false
   pub committed : works ledger ≡ ahead items
   pub replied : replies ≡ all_due clock items (ahead items)
+
+-- A front made passages of these items, a ledger took the first of them, and the rest is on the way. What was committed is
+-- a prefix of what is ahead, and the replies are a prefix of those due: all of them if nothing is on the way. Unless one of
+-- both stopped, all that is ahead is committed or on the way.
+pub record IsPartial (clock : ℕ) (items : List Item) (stopped : Bool) (ledger : LedgerState) (answers : List Replied)
+    (way : List Passage) : Type 0 where
+  pub committed : IsPrefix (works ledger) (ahead items)
+  pub due : IsPrefix answers (all_due clock items (works ledger))
+  pub replied : way ≡ [] → answers ≡ all_due clock items (works ledger)
+  pub whole : stopped ≡ false → ledger.stopped ≡ false → works ledger ++ works_in way ≡ ahead items
+
+-- Whatever a front made of some items, and whatever part of that a ledger took.
+abbrev pub EachPartIsLawful : Type 0
+EachPartIsLawful =
+    (clock : ℕ) (items : List Item) (closed stopped : Bool) (applied way : List Passage) (ledger : LedgerState)
+    (answers : List Replied) → Passes items closed stopped (applied ++ way) → Commits clock applied ledger answers →
+    IsPartial clock items stopped ledger answers way

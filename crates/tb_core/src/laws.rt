@@ -2,7 +2,7 @@
 //! the function.
 
 ghost use Rattle.tb_core.specs.Headline.{ReportsHeadline};
-ghost use Rattle.tb_core.specs.Run.{RunIsLawful};
+ghost use Rattle.tb_core.specs.Run.{EachPartIsLawful, RunIsLawful};
 
 /// Establishes that the report on a run is lawful, also if an allocation failed: a front and a ledger took all of its
 /// queue, and each submitter got the replies with its number.
@@ -13,4 +13,10 @@ pub fn run_is_lawful()
 /// Establishes that a lawful report says of each submitter what the headline says.
 pub fn headline()
     ensures { ReportsHeadline }
+{}
+
+/// Establishes what holds while a front still holds packets, or its passages are on the way to the ledger: what was
+/// committed is a prefix of what is ahead of the Close, and the replies are a prefix of those due.
+pub fn each_part_is_lawful()
+    ensures { EachPartIsLawful }
 {}

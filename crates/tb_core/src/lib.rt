@@ -30,7 +30,7 @@ mod parcel;
 
 pub use front::Front;
 pub use journal::Entry;
-pub use laws::{headline, run_is_lawful};
+pub use laws::{each_part_is_lawful, headline, run_is_lawful};
 pub use ledger::Ledger;
 pub use list::{Listed, run_list};
 pub use outcomes::Outcomes;

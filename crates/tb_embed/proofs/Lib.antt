@@ -1,0 +1,3 @@
+mod Queued
+mod Parcels
+mod Serving

@@ -1,0 +1,24 @@
+-- Parcels that are applied one by one, and the replies that they add.
+use Rattle.std.proofs.Common.{◌≡◌, refl, sym, ap, ◌∙◌, ℕ, List, [], ◌∷◌, ◌++◌, arith, remove, slice_get, Some, None, Option, option_to_list}
+use Rattle.tb_work.specs.Packet.{Replied}
+use Rattle.tb_core.specs.declared.parcel.Parcel.{Parcel}
+use Rattle.tb_core.specs.Front.{all_passages_in}
+use Rattle.tb_core.specs.Journal.{LedgerState}
+use Rattle.tb_core.specs.inside.Passage.{Passage}
+use Rattle.tb_core.specs.Run.{Commits}
+
+-- all parcels in front of the rest were applied
+pub record AreApplied (clock : ℕ) (passages : List Passage) (rest : List Parcel) (ledger : LedgerState)
+    (replies : List Replied) : Type 0 where
+  pub done : List Passage
+  pub parts : done ++ all_passages_in rest ≡ passages
+  pub commits : Commits clock done ledger replies
+
+pub first_out : (parcels rest : List Parcel) (parcel : Parcel) → Some parcel ≡ slice_get parcels 0
+    → rest ≡ remove parcels 0 → parcels ≡ parcel ∷ rest
+first_out [] rest parcel is rest_is = grind arith
+first_out (first ∷ others) rest parcel is rest_is = grind arith
+
+pub none_left : (parcels : List Parcel) → None ≡ slice_get parcels 0 → parcels ≡ []
+none_left [] is = refl
+none_left (first ∷ others) is = grind arith

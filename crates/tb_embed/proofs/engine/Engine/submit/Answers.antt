@@ -1,0 +1,27 @@
+use Rattle.std.proofs.Common.{refl, sym, subst, ap, ◌∙◌, arith, ◌+◌, ◌≤◌, get_or, length}
+use Rattle.std.specs.Prelude.{slice_set}
+use Rattle.tb_work.specs.Packet.{Numbered}
+use Rattle.tb_work.specs.declared.item.Item.TheVariants as item
+use Rattle.tb_embed.specs.Engine.{EngineState, Queues}
+use Rattle.tb_embed.specs.Queued.{packet_ticket}
+use Rattle.tb_embed.proofs.Serving.{Takes, packet_serves, is_among}
+use Rattle.tb_embed.proofs.engine.Engine.submit.Goals as goal
+
+pub returns-in-Ok-clause-ok : goal.returns-in-Ok-clause-ok
+returns-in-Ok-clause-ok c =
+    let old = c.args.self.now in
+    let new = c.take.new.self in
+    let submitter = c.args.submitter in
+    let number = get_or c.self.inside.numbers submitter 0 in
+    let same = c.in-Ok.ensures.same in
+    let known = c.self.invariant in
+    subst (λ (s : EngineState). Queues old (packet_ticket submitter number c.args.packet)
+    (record s { numbers = slice_set s.numbers submitter (number + 1) }))
+    (sym c.self-2.view_is)
+    (packet_serves old new submitter number c.args.packet
+    (ap (λ (s : EngineState). get_or s.numbers submitter 0) (sym c.self.view_is))
+    (subst (λ (job : Numbered). Takes old (item.Packet job) new) c.in_ok-job.ensures.job c.in-Ok.ensures.taken)
+    same.0 same.1 same.3
+    (is_among old submitter (sym c.refusal.ensures ∙ c.in_default.is))
+    (subst (λ (s : EngineState). s.front.submitters ≤ length s.numbers) c.self.view_is
+    (omega (arith, known.counted, known.among, known.each))))

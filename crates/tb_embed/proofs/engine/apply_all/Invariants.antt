@@ -1,0 +1,20 @@
+use Rattle.std.proofs.Common.{ℕ, List, ◌≤◌, ◌++◌, length}
+use Rattle.tb_work.specs.Packet.{Replied}
+use Rattle.tb_core.specs.Front.{all_passages_in}
+use Rattle.tb_core.specs.Grouping.{AreJoined, AreJoinedParcels}
+use Rattle.tb_core.specs.inside.Passage.{Passage}
+use Rattle.tb_core.specs.Run.{Commits}
+use Rattle.tb_embed.proofs.Parcels.{AreApplied}
+use Rattle.tb_embed.proofs.engine.apply_all.Given as goal
+
+abbrev pub invariant-loop-parcel : goal.invariant-loop-parcel
+invariant-loop-parcel l =
+    (length l.parcels.items ≤ l.unread.room)
+    × ((clock : ℕ) (sent : List Passage) (read : List Replied)
+    → Commits clock sent l.fn.ledger (read ++ l.fn.unread.replies) →
+    AreApplied clock (sent ++ all_passages_in l.fn.parcels.items) l.parcels.items l.ledger (read ++ l.unread.replies))
+    × ((limit : ℕ) → AreJoinedParcels limit l.fn.parcels.items → AreJoined limit l.fn.ledger.groups →
+    AreJoinedParcels limit l.parcels.items × AreJoined limit l.ledger.groups)
+
+abbrev pub decreases-loop-parcel : goal.decreases-loop-parcel
+decreases-loop-parcel l = length l.parcels.items

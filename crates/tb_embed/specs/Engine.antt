@@ -1,0 +1,142 @@
+-- An engine: what was queued in it, which replies were read, and what follows. No batch is in it.
+use Rattle.std.specs.Prelude.{◌≡◌, ◌≤◌, ◌==◌, ◌⊎◌, ◌^◌, ◌-◌, ℕ, Bool, false, nat_lt, nat_le, if◌then◌else◌, List, [], ◌∷◌, ◌++◌, length, get_or, Option, Some, None, Result, Ok, Err}
+use Rattle.tb_layout.specs.Limits.{batch_max, moment_max, submitters_max}
+use Rattle.tb_layout.specs.Work.{Work}
+use Rattle.tb_machine.specs.Replay.{State}
+use Rattle.tb_work.specs.Admission.{admission_of}
+use Rattle.tb_work.specs.Queue.{part, ahead, items_in}
+use Rattle.tb_work.specs.Packet.{Replied}
+use Rattle.tb_work.specs.declared.item.Item.{Item}
+use Rattle.tb_work.specs.declared.item.Ticket.{Ticket}
+use Rattle.tb_work.specs.declared.packet.Packet.{Packet}
+use Rattle.tb_work.specs.declared.refusal.Refusal.{Refusal}
+use Rattle.tb_work.specs.declared.refusal.Refusal.TheVariants.{BadSubmitters, Full, MomentTooLarge, NoMemory, Shutdown}
+use Rattle.tb_core.specs.Due.{all_due, replies_to}
+use Rattle.tb_core.specs.inside.Passage.{works_in, Passage, Passes}
+use Rattle.tb_core.specs.Front.{FrontState, held_by}
+use Rattle.tb_core.specs.Grouping.{AreJoined}
+use Rattle.tb_core.specs.Journal.{LedgerState, works}
+use Rattle.tb_core.specs.Report.{Run, IsPrefix, LawfulReport}
+use Rattle.tb_core.specs.Run.{Commits}
+use Rattle.tb_embed.specs.Queued.{AreQueued, ended_queue}
+
+-- the front, the ledger, the replies that are not read, of each submitter the number of its next packet, and whether
+-- the Close was queued
+pub record EngineState : Type 0 where
+  pub front : FrontState
+  pub ledger : LedgerState
+  pub unread : List Replied
+  pub numbers : List ℕ
+  pub shut : Bool
+
+-- the limit and the number of submitters are those of the front
+pub record IsEngine (limit submitters : ℕ) (front : FrontState) (numbers : List ℕ) : Type 0 where
+  pub limited : front.limit ≡ limit
+  pub counted : front.submitters ≡ submitters
+  pub few : limit ≤ batch_max
+  pub among : submitters ≤ submitters_max
+  pub each : length numbers ≡ 16
+
+-- the state of the machine
+abbrev pub state_of : EngineState → State
+state_of engine = engine.ledger.state
+
+-- ---- what a call adds to the run so far
+
+-- from a clock on a front took these items and a ledger all that the front passed on; these are the replies
+pub record HasTaken (clock : ℕ) (items : List Item) (replies : List Replied) (front : FrontState)
+    (ledger : LedgerState) : Type 0 where
+  pub sent : List Passage
+  pub passed : Passes items front.closed front.stopped (sent ++ held_by front)
+  pub commits : Commits clock sent ledger replies
+  pub joined : AreJoined front.limit ledger.groups
+
+-- from a clock on this is what was queued in the engine, and these replies were read
+pub record Serves (clock : ℕ) (queue : List Ticket) (read : List Replied) (engine : EngineState) : Type 0 where
+  pub taken : HasTaken clock (items_in queue) (read ++ engine.unread) engine.front engine.ledger
+  pub queued : AreQueued engine.front.submitters queue engine.numbers engine.shut
+
+-- the call added this ticket to what was queued
+abbrev pub Queues : EngineState → Ticket → EngineState → Type 0
+Queues old ticket new =
+    (clock : ℕ) (queue : List Ticket) (read : List Replied) → Serves clock queue read old
+    → Serves clock (queue ++ ticket ∷ []) read new
+
+-- the call added this reply to those that were read
+abbrev pub Reads : EngineState → Replied → EngineState → Type 0
+Reads old reply new =
+    (clock : ℕ) (queue : List Ticket) (read : List Replied) → Serves clock queue read old
+    → Serves clock queue (read ++ reply ∷ []) new
+
+-- the call added nothing
+abbrev pub Continues : EngineState → EngineState → Type 0
+Continues old new =
+    (clock : ℕ) (queue : List Ticket) (read : List Replied) → Serves clock queue read old → Serves clock queue read new
+
+-- ---- refusals
+
+abbrev pub either : Option Refusal → Option Refusal → Option Refusal
+either (Some refusal) other = Some refusal
+either None other = other
+
+abbrev pub refusal_in : Result ℕ Refusal → Option Refusal
+refusal_in (Ok count) = None
+refusal_in (Err refusal) = Some refusal
+
+-- why no packet of a submitter is queued: there is no such submitter, or it has no number left
+abbrev pub sender_refusal : EngineState → ℕ → Option Refusal
+sender_refusal engine submitter =
+    if nat_le engine.front.submitters submitter then Some BadSubmitters
+    else if get_or engine.numbers submitter 0 == 2 ^ 64 - 1 then Some Full else None
+
+-- why a packet isn't queued, if memory is there: its submitter's refusal, or that of its admission
+abbrev pub submit_refusal : EngineState → ℕ → Packet → Option Refusal
+submit_refusal engine submitter packet =
+    either (sender_refusal engine submitter) (refusal_in (admission_of engine.front.limit packet))
+
+-- why a pulse isn't queued, if memory is there
+abbrev pub pulse_refusal : EngineState → ℕ → Option Refusal
+pulse_refusal engine moment =
+    if nat_lt moment_max moment then Some MomentTooLarge else if engine.shut then Some Shutdown else None
+
+-- why the Close isn't queued, if memory is there
+abbrev pub shut_refusal : EngineState → Option Refusal
+shut_refusal engine = if engine.shut then Some Shutdown else None
+
+-- the first refusal that applies, else that memory ran out
+abbrev pub IsRefusal : Option Refusal → Refusal → Type 0
+IsRefusal first refusal = (first ≡ Some refusal) ⊎ ((first ≡ None) × (refusal ≡ NoMemory))
+
+-- ---- what follows
+
+-- the run that ends here: each sender's end is queued after all that it queued
+abbrev pub run_of : ℕ → List Ticket → List Replied → EngineState → Run
+run_of clock queue read engine =
+    let whole = ended_queue engine.front.submitters engine.shut queue in
+    record {
+      clock = clock;
+      limit = engine.front.limit;
+      submitters = engine.front.submitters;
+      queue = whole;
+      queued = λ sender. part sender whole;
+      ledger = engine.ledger;
+      replies = replies_to read;
+    }
+
+-- What was committed is a prefix of what was queued ahead of the Close, and the replies, read and unread, are a prefix of
+-- those due. Unless something stopped, what is ahead is committed or held. When nothing is held and all replies are read,
+-- the report on the run that ends here is lawful.
+pub record IsServed (clock : ℕ) (queue : List Ticket) (read : List Replied) (engine : EngineState) : Type 0 where
+  pub committed : IsPrefix (works engine.ledger) (ahead (items_in queue))
+  pub due : IsPrefix (read ++ engine.unread) (all_due clock (items_in queue) (works engine.ledger))
+  pub replied : engine.front.held ≡ [] → read ++ engine.unread ≡ all_due clock (items_in queue) (works engine.ledger)
+  pub whole : engine.front.stopped ≡ false → engine.ledger.stopped ≡ false
+      → works engine.ledger ++ works_in (held_by engine.front) ≡ ahead (items_in queue)
+  pub report : engine.front.held ≡ [] → engine.unread ≡ [] →
+      LawfulReport (run_of clock queue read engine)
+
+-- Whatever was queued and read, in any order of calls.
+abbrev pub ServingIsLawful : Type 0
+ServingIsLawful =
+    (clock : ℕ) (queue : List Ticket) (read : List Replied) (engine : EngineState) → Serves clock queue read engine
+    → IsServed clock queue read engine

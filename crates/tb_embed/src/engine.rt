@@ -1,0 +1,304 @@
+//! The engine.
+
+ghost use Rattle.std.specs.Prelude.{◌≡◌, ◌<◌, ◌≤◌, ◌+◌, ◌++◌, ◌∷◌, [], ℕ, List, Some, None, true, length, IfOk, IfErr, OnOk, OnErr, IfSome, IfNone, option_to_list, get_or, slice_get, slice_set};
+ghost use Rattle.std.specs.Option.{option_copied};
+ghost use Rattle.std.specs.List.{flat_map};
+ghost use Rattle.tb_layout.specs.Limits.{clock_max};
+ghost use Rattle.tb_tables.specs.Balances.{balanced_account};
+ghost use Rattle.tb_work.specs.Packet.{Replied};
+ghost use Rattle.tb_work.specs.declared.item.Item.{Item as ItemValue};
+ghost use Rattle.tb_work.specs.declared.item.Item.TheVariants as item;
+ghost use Rattle.tb_work.specs.declared.refusal.Refusal.TheVariants.{NoMemory as NoMemoryRefusal};
+ghost use Rattle.tb_core.specs.Front.{opening_refusal, all_passages_in};
+ghost use Rattle.tb_core.specs.Grouping.{AreJoined, AreJoinedParcels};
+ghost use Rattle.tb_core.specs.inside.Passage.{Passage};
+ghost use Rattle.tb_core.specs.Run.{Commits};
+ghost use Rattle.tb_embed.specs.Engine.{HasTaken, Serves, Queues, Reads, Continues, IsRefusal, sender_refusal, submit_refusal, pulse_refusal, shut_refusal, state_of};
+ghost use Rattle.tb_embed.specs.Queued.{ticket_of, packet_ticket};
+
+use crate::unread::Unread;
+use arrayvec::ArrayVec;
+use std::alloc::Global;
+use std::marker::Model;
+use tb_core::{Front, Ledger, Parcel};
+use tb_layout::{Account, MOMENT_MAX};
+use tb_work::{Item, Job, Moment, Packet, Refusal, Reply, Ticket};
+
+/// A ledger with its front and cutter, driven by its caller one call at a time.
+pub struct Engine {
+    limit: u32,
+    submitters: u32,
+    shut: bool,
+    front: Front,
+    ledger: Ledger,
+    unread: Unread,
+    numbers: [u64; 16],
+}
+
+impl Drop for Engine {
+    /// Frees all that is held in one call, so that no owner's proof goes through it.
+    fn drop(self) {
+        let Engine {
+            limit: _,
+            submitters: _,
+            shut: _,
+            front,
+            ledger,
+            unread,
+            numbers: _,
+        } = self;
+        drop(front);
+        drop(ledger);
+        drop(unread);
+    }
+}
+
+impl Model for Engine {
+    ghost use Rattle.tb_embed.specs.Engine.{EngineState, IsEngine};
+
+    ghost Value = { EngineState };
+
+    ghost view = { λ engine. record {
+      front = engine.front;
+      ledger = engine.ledger;
+      unread = engine.unread.replies;
+      numbers = engine.numbers;
+      shut = engine.shut;
+    } };
+
+    ghost invariant = { λ engine. IsEngine engine.limit engine.submitters engine.front engine.numbers };
+}
+
+/// Applies parcels in order, for whose outcomes there is capacity.
+fn apply_all(ledger: &mut Ledger, unread: &mut Unread, parcels: &mut ArrayVec<Parcel, 2>)
+    requires room { length parcels.old.items ≤ unread.old.room }
+    ensures commits { (clock : ℕ) (sent : List Passage) (read : List Replied)
+        → Commits clock sent ledger.old (read ++ unread.old.replies)
+        → Commits clock (sent ++ all_passages_in parcels.old.items) ledger.new (read ++ unread.new.replies) }
+    ensures joined { (limit : ℕ) → AreJoinedParcels limit parcels.old.items → AreJoined limit ledger.old.groups
+        → AreJoined limit ledger.new.groups }
+{
+    while let Some(parcel) = parcels.pop_at(0) {
+        unread.push(ledger.apply(parcel));
+    }
+}
+
+impl Engine {
+    /// Returns an engine in which nothing was queued. Its clock starts at `clock` nanoseconds, 0 to `CLOCK_MAX`.
+    /// Allocates nothing.
+    ///
+    /// # Errors
+    ///
+    /// `BadLimit` unless `limit` is 1 to 8190 events, else `BadSubmitters` unless there are 1 to 16 submitters.
+    pub fn new(alloc: Global, clock: u64, limit: u32, submitters: u32) -> Result<Engine, Refusal>
+        requires { clock ≤ clock_max }
+        ensures serves { IfOk result (λ engine. Serves clock [] [] engine) }
+        ensures opens { OnOk result (opening_refusal limit submitters ≡ None) }
+        ensures refusal { IfErr result (λ refusal. opening_refusal limit submitters ≡ Some refusal) }
+    {
+        let front = Front::new(alloc, limit, submitters)?;
+        Ok(Engine {
+            limit,
+            submitters,
+            shut: false,
+            front,
+            ledger: Ledger::new(alloc, clock),
+            unread: Unread::new(alloc),
+            numbers: [0; 16],
+        })
+    }
+
+    /// Passes a ticket through the front and the ledger. If there is no memory for its outcomes, it is returned and
+    /// nothing has changed.
+    fn take(&mut self, ticket: Ticket) -> Result<(), Ticket>
+        requires { ticket.sender ≤ self.old.front.submitters }
+        ensures taken { OnOk result ((clock : ℕ) (items : List ItemValue) (read : List Replied)
+            → HasTaken clock items (read ++ self.old.unread) self.old.front self.old.ledger
+            → HasTaken clock (items ++ ticket.item ∷ []) (read ++ self.new.unread) self.new.front self.new.ledger) }
+        ensures same { (self.new.numbers ≡ self.old.numbers) × (self.new.shut ≡ self.old.shut)
+            × (self.new.front.limit ≡ self.old.front.limit)
+            × (self.new.front.submitters ≡ self.old.front.submitters) }
+        ensures err { IfErr result (λ back. (back ≡ ticket) × (self.new ≡ self.old)) }
+    {
+        if self.unread.reserve(2).is_err() {
+            return Err(ticket);
+        }
+        let mut parcels = ArrayVec::new();
+        self.front.take_into(&mut parcels, ticket);
+        let count = parcels.len();
+        prove!(count <= 2);
+        apply_all(&mut self.ledger, &mut self.unread, &mut parcels);
+        Ok(())
+    }
+
+    /// Passes an item of the control through the front and the ledger.
+    fn take_control(&mut self, item: Item) -> Result<(), Refusal>
+        ensures taken { OnOk result ((clock : ℕ) (items : List ItemValue) (read : List Replied)
+            → HasTaken clock items (read ++ self.old.unread) self.old.front self.old.ledger
+            → HasTaken clock (items ++ item ∷ []) (read ++ self.new.unread) self.new.front self.new.ledger) }
+        ensures same { (self.new.numbers ≡ self.old.numbers) × (self.new.shut ≡ self.old.shut)
+            × (self.new.front.limit ≡ self.old.front.limit)
+            × (self.new.front.submitters ≡ self.old.front.submitters) }
+        ensures err { IfErr result (λ refusal. (refusal ≡ NoMemoryRefusal) × (self.new ≡ self.old)) }
+    {
+        let ticket = Ticket {
+            sender: self.submitters,
+            item,
+        };
+        match self.take(ticket) {
+            Ok(()) => Ok(()),
+            Err(ticket) => {
+                drop(ticket);
+                Err(Refusal::NoMemory)
+            }
+        }
+    }
+
+    /// Returns the first refusal of a packet that doesn't depend on memory or on the packet; None if there is none.
+    fn refusal(&self, submitter: u32) -> Option<Refusal>
+        ensures { result ≡ sender_refusal self.now submitter }
+    {
+        if submitter >= self.submitters {
+            return Some(Refusal::BadSubmitters);
+        }
+        if self.numbers[submitter as usize] == u64::MAX {
+            return Some(Refusal::Full);
+        }
+        None
+    }
+
+    /// Queues a submitter's packet and returns its number, which counts that submitter's packets from 0. The packet
+    /// waits for neighbours of its operation until one that doesn't join it, a pulse, `shut` or `flush` commits it.
+    ///
+    /// # Errors
+    ///
+    /// Returns the packet with the first refusal that applies, and nothing has changed: `BadSubmitters` if there is no
+    /// such submitter, `Full` if it has no number left, the refusal of `admit`, `NoMemory`.
+    pub fn submit(
+        &mut self,
+        alloc: Global,
+        submitter: u32,
+        packet: Packet,
+    ) -> Result<u64, (Packet, Refusal)>
+        ensures ok { IfOk result (λ number. Queues self.old (packet_ticket submitter number packet) self.new) }
+        ensures number { IfOk result (λ number. number ≡ get_or self.old.numbers submitter 0) }
+        ensures admitted { OnOk result (submit_refusal self.old submitter packet ≡ None) }
+        ensures back { IfErr result (λ refused. (refused.0 ≡ packet) × (self.new ≡ self.old)) }
+        ensures refusal { IfErr result (λ refused. IsRefusal (submit_refusal self.old submitter packet) refused.1) }
+    {
+        if let Some(refusal) = self.refusal(submitter) {
+            return Err((packet, refusal));
+        }
+        let number = self.numbers[submitter as usize];
+        let job = Job::new(alloc, submitter, number, self.limit, packet)?;
+        let ticket = Ticket {
+            sender: submitter,
+            item: Item::Packet(job),
+        };
+        match self.take(ticket) {
+            Ok(()) => {
+                self.numbers[submitter as usize] = number + 1;
+                Ok(number)
+            }
+            Err(
+                Ticket {
+                    sender: _,
+                    item: Item::Packet(job),
+                },
+            ) => Err((job.into_packet(), Refusal::NoMemory)),
+            Err(_) => unreachable!(),
+        }
+    }
+
+    /// Queues a pulse, which raises the clock to a moment in nanoseconds and lets pending transfers expire whose
+    /// timeout is over by then.
+    ///
+    /// # Errors
+    ///
+    /// `MomentTooLarge` above `MOMENT_MAX`, then `Shutdown` after `shut`, then `NoMemory`. Nothing has changed then.
+    pub fn pulse(&mut self, nanoseconds: u64) -> Result<(), Refusal>
+        ensures ok { OnOk result (Queues self.old
+            (ticket_of self.old.front.submitters (item.Pulse nanoseconds)) self.new) }
+        ensures admitted { OnOk result (pulse_refusal self.old nanoseconds ≡ None) }
+        ensures same { OnErr result (self.new ≡ self.old) }
+        ensures refusal { IfErr result (λ refusal. IsRefusal (pulse_refusal self.old nanoseconds) refusal) }
+    {
+        if nanoseconds > MOMENT_MAX {
+            return Err(Refusal::MomentTooLarge);
+        }
+        if self.shut {
+            return Err(Refusal::Shutdown);
+        }
+        self.take_control(Item::Pulse(Moment::new(nanoseconds)))?;
+        Ok(())
+    }
+
+    /// Queues the Close: packets after it aren't committed, and their replies say Shutdown.
+    ///
+    /// # Errors
+    ///
+    /// `Shutdown` after an earlier `shut`, then `NoMemory`. Nothing has changed then.
+    pub fn shut(&mut self) -> Result<(), Refusal>
+        ensures ok { OnOk result (Queues self.old (ticket_of self.old.front.submitters item.Close) self.new) }
+        ensures shut { OnOk result (self.new.shut ≡ true) }
+        ensures admitted { OnOk result (shut_refusal self.old ≡ None) }
+        ensures same { OnErr result (self.new ≡ self.old) }
+        ensures refusal { IfErr result (λ refusal. IsRefusal (shut_refusal self.old) refusal) }
+    {
+        if self.shut {
+            return Err(Refusal::Shutdown);
+        }
+        self.take_control(Item::Close)?;
+        self.shut = true;
+        Ok(())
+    }
+
+    /// Commits the packets that are held.
+    ///
+    /// # Errors
+    ///
+    /// `NoMemory`, and nothing has changed.
+    pub fn flush(&mut self) -> Result<(), Refusal>
+        ensures ok { OnOk result (Continues self.old self.new) }
+        ensures held { OnOk result (self.new.front.held ≡ []) }
+        ensures err { IfErr result (λ refusal. (refusal ≡ NoMemoryRefusal) × (self.new ≡ self.old)) }
+    {
+        if self.unread.reserve(1).is_err() {
+            return Err(Refusal::NoMemory);
+        }
+        if let Some(batch) = self.front.idle() {
+            self.unread.push(self.ledger.apply(Parcel::Batch(batch)));
+        }
+        Ok(())
+    }
+
+    /// Returns the next reply, which stays unread; None if there is none.
+    pub fn next_reply(&self) -> Option<&Reply>
+        ensures { option_copied result ≡ slice_get self.now.unread 0 }
+    {
+        self.unread.next()
+    }
+
+    /// Removes the next reply and returns it, in the order in which packets were queued; None if there is none.
+    pub fn reply(&mut self) -> Option<Reply>
+        ensures some { IfSome result (λ reply. Reads self.old reply self.new) }
+        ensures unread { self.old.unread ≡ option_to_list result ++ self.new.unread }
+        ensures none { IfNone result ((self.old.unread ≡ []) × (self.new ≡ self.old)) }
+    {
+        self.unread.take()
+    }
+
+    /// Returns the account with this id and its balances; None if there is none. Held packets aren't in it.
+    pub fn lookup_account(&self, id: u128) -> Option<Account>
+        ensures { result ≡ balanced_account (state_of self.now).facts id }
+    {
+        self.ledger.machine().account(id)
+    }
+
+    /// Returns the clock in nanoseconds.
+    pub fn clock(&self) -> u64
+        ensures { result ≡ (state_of self.now).clock }
+    {
+        self.ledger.machine().clock()
+    }
+}

@@ -1,0 +1,14 @@
+//! What follows from an engine's calls.
+
+ghost use Rattle.tb_embed.specs.Engine.{ServingIsLawful};
+
+use tb_core::{each_part_is_lawful, run_is_lawful};
+
+/// Establishes, for any sequence of calls, that what an engine committed is a prefix of what was queued ahead of the
+/// Close, that its replies are a prefix of those due, and that the report is lawful once nothing is held or unread.
+pub fn serving_is_lawful()
+    ensures { ServingIsLawful }
+{
+    each_part_is_lawful();
+    run_is_lawful();
+}

@@ -1,0 +1,13 @@
+//! The pipeline in one value and one thread, for callers that bring no queue and no threads.
+//!
+//! An `Engine` takes packets, pulses and a Close, joins neighbouring packets, commits them, and has a reply for each
+//! packet. Each call's clause says which ticket or which reply it adds to the run so far (`specs/Engine.antt`), and
+//! `serving_is_lawful` leads from any sequence of calls to the lawful report of that run.
+#![tactic(auto)]
+
+mod engine;
+mod laws;
+mod unread;
+
+pub use engine::Engine;
+pub use laws::serving_is_lawful;
