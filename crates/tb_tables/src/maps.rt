@@ -13,6 +13,7 @@ use crate::status::Status;
 use crate::storing::{apply, expect, forget, forget_resolved, take_back};
 use crate::timeouts::expire_all;
 use std::alloc::Global;
+use std::cmp::Reverse;
 use std::collections::BTreeSet;
 use std::marker::Model;
 use tb_layout::{Account, NoMemory, Transfer};
@@ -23,7 +24,7 @@ pub struct Maps {
     accounts: ById<Account>,
     transfers: ById<Row>,
     failed: Ids,
-    expiries: BTreeSet<(u64, usize)>,
+    expiries: BTreeSet<Reverse<(u64, usize)>>,
 }
 
 impl Model for Maps {

@@ -13,6 +13,7 @@ use crate::expiries::take_due;
 use crate::places::Places;
 use crate::row::Row;
 use crate::status::Status;
+use std::cmp::Reverse;
 use std::collections::BTreeSet;
 use tb_layout::Account;
 
@@ -36,7 +37,7 @@ fn expire(accounts: &mut ById<Account>, transfers: &mut ById<Row>, place: usize)
 pub fn expire_all(
     accounts: &mut ById<Account>,
     transfers: &mut ById<Row>,
-    expiries: &mut BTreeSet<(u64, usize)>,
+    expiries: &mut BTreeSet<Reverse<(u64, usize)>>,
     clock: u64,
 )
     requires { (facts : Facts) × AreHeld accounts.old.entries transfers.old.entries (is_indexed expiries.old) facts }
