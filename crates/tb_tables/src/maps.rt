@@ -7,14 +7,13 @@ ghost use Rattle.std.specs.Option.{option_map};
 use crate::by_id::{ById, Ids};
 use crate::change::Change;
 use crate::entries::{place_of, pop_account, pop_failed, push_account, push_failed, push_transfer};
+use crate::expiries::Expiries;
 use crate::places::Places;
 use crate::row::Row;
 use crate::status::Status;
 use crate::storing::{apply, expect, forget, forget_resolved, take_back};
 use crate::timeouts::expire_all;
 use std::alloc::Global;
-use std::cmp::Reverse;
-use std::collections::BTreeSet;
 use std::marker::Model;
 use tb_layout::{Account, NoMemory, Transfer};
 
@@ -24,7 +23,7 @@ pub struct Maps {
     accounts: ById<Account>,
     transfers: ById<Row>,
     failed: Ids,
-    expiries: BTreeSet<Reverse<(u64, usize)>>,
+    expiries: Expiries,
 }
 
 impl Model for Maps {
@@ -57,7 +56,7 @@ impl Maps {
             accounts: ById::new(alloc),
             transfers: ById::new(alloc),
             failed: Ids::new(alloc),
-            expiries: BTreeSet::new(alloc),
+            expiries: Expiries::new(alloc),
         }
     }
 
