@@ -8,6 +8,7 @@ use crate::by_id::{ById, Ids};
 use crate::change::Change;
 use crate::entries::{place_of, pop_account, pop_failed, push_account, push_failed, push_transfer};
 use crate::expiries::Expiries;
+use crate::hashing::{IdHasher, Seed};
 use crate::places::Places;
 use crate::row::Row;
 use crate::status::Status;
@@ -48,14 +49,15 @@ impl Maps {
     ghost use Rattle.tb_tables.specs.Conditions.{HasNoBalances, MayAdd, MayResolve};
     ghost use Rattle.tb_tables.specs.Kept.{MayStore, HavePlaces, IsSound, IsUndoable, KeepsPairs, NamesOne, is_resolved_at, is_spent};
 
-    /// Maps without facts. Takes no memory.
-    pub fn new(alloc: Global) -> Maps
+    /// Maps without facts, whose ids are hashed with a seed. Takes no memory.
+    pub fn new(alloc: Global, seed: Seed) -> Maps
         ensures { result.facts ≡ no_facts }
     {
+        let hasher = IdHasher::new(seed);
         Maps {
-            accounts: ById::new(alloc),
-            transfers: ById::new(alloc),
-            failed: Ids::new(alloc),
+            accounts: ById::with_hasher(alloc, hasher),
+            transfers: ById::with_hasher(alloc, hasher),
+            failed: Ids::with_hasher(alloc, hasher),
             expiries: Expiries::new(alloc),
         }
     }
