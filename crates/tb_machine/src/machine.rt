@@ -67,6 +67,14 @@ impl Machine {
         }
     }
 
+    /// Reserves capacity for more accounts and more transfers: while these are made, no commit waits for a map to grow,
+    /// which moves all that is stored. If memory runs out, nothing has changed.
+    pub fn reserve(&mut self, accounts: usize, transfers: usize) -> Result<(), NoMemory>
+        ensures { self.new ≡ self.old }
+    {
+        self.tables.reserve(accounts, transfers)
+    }
+
     /// Takes the events of a packet, accounts (`CREATE_ACCOUNTS`) or transfers (`CREATE_TRANSFERS`), and reports those
     /// that failed. The data of the packet, `body`, has 128 bytes an event and at most `BATCH_MAX` events; `out` is
     /// empty, with room for as many failures, and doesn't grow. On want of memory nothing has happened. It costs what

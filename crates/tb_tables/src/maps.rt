@@ -62,6 +62,15 @@ impl Maps {
         }
     }
 
+    /// Reserves capacity for more accounts and transfers, so that the maps don't grow while these are added.
+    pub fn reserve(&mut self, accounts: usize, transfers: usize) -> Result<(), NoMemory>
+        ensures { self.new ≡ self.old }
+    {
+        self.accounts.reserve(accounts)?;
+        self.transfers.reserve(transfers)?;
+        Ok(())
+    }
+
     /// Adds an account, unless one with its id is there; whether it was added.
     pub fn add_account(&mut self, account: &Account) -> Result<bool, NoMemory>
         requires { HasNoBalances account.now }

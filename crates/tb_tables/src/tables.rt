@@ -68,6 +68,14 @@ impl Tables {
         }
     }
 
+    /// Reserves capacity for more accounts and more transfers: while these are added, the maps of both don't grow, which
+    /// would move all that is stored. If memory runs out, nothing has changed.
+    pub fn reserve(&mut self, accounts: usize, transfers: usize) -> Result<(), NoMemory>
+        ensures { self.new ≡ self.old }
+    {
+        self.maps.reserve(accounts, transfers)
+    }
+
     /// Adds an account after those that are there, with its timestamp and no balances of its own. On want of memory
     /// nothing has changed.
     pub fn add_account(&mut self, account: Account) -> Result<(), NoMemory>
