@@ -20,6 +20,9 @@ const LINKED_EVENT_CHAIN_OPEN: u32 = 2;
 
 const CLOCK_EXHAUSTED: u32 = 201;
 
+/// How many events' ids are looked up ahead of them.
+const BLOCK: usize = 64;
+
 /// Stores the event, at the timestamp after the clock, where its checks find nothing, and answers the number of its
 /// result. An event for which the clock can't be raised isn't checked.
 #[inline(always)]
@@ -258,6 +261,15 @@ fn commit_first<E: Event>(
     Ok(count)
 }
 
+/// Looks the ids of the next events up, so that memory is asked for all of them at once: as each event is taken, its own
+/// look-up would wait. Returns the index of the event after them.
+fn look_ahead<E: Event>(tables: &Tables, chunks: &[[u8; 128]], start: usize) -> usize {
+    for chunk in chunks.iter().skip(start).take(BLOCK) {
+        let _ = E::read(chunk).is_stored(tables);
+    }
+    start.saturating_add(BLOCK)
+}
+
 /// Takes the chains of a packet in order, and reports the events that failed. On an error, part of
 /// the changes may have been made.
 pub fn commit_chains<E: Event>(
@@ -279,7 +291,11 @@ pub fn commit_chains<E: Event>(
 {
     let mut clock = clock;
     let mut start = 0;
+    let mut ahead = 0;
     while start < chunks.len() {
+        if start >= ahead {
+            ahead = look_ahead::<E>(tables, chunks, start);
+        }
         let count = commit_first::<E>(clock, tables, &chunks[start..], start, out)?;
         clock = clock_after(clock, count);
         start += count;

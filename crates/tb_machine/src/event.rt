@@ -1,11 +1,11 @@
 //! What the two operations that change the facts make of their events.
 
-ghost use Rattle.std.specs.Prelude.{◌≡◌, ◌≢◌, ◌≤◌, ◌==◌, ℕ, List, None, Ok, IfOk, OnOk, is_some, not, true};
+ghost use Rattle.std.specs.Prelude.{◌≡◌, ◌≢◌, ◌≤◌, ◌==◌, ℕ, Bool, List, None, Ok, IfOk, OnOk, is_some, not, true};
 ghost use Rattle.tb_layout.specs.Account.{account_of};
 ghost use Rattle.tb_layout.specs.Transfer.{transfer_of};
 ghost use Rattle.tb_layout.specs.AccountCode.{number_of as account_number};
 ghost use Rattle.tb_layout.specs.TransferCode.{number_of};
-ghost use Rattle.tb_tables.specs.Facts.{account_with, add_account, add_transfer, transfer_with};
+ghost use Rattle.tb_tables.specs.Facts.{Facts, account_with, add_account, add_transfer, transfer_with};
 ghost use Rattle.tb_tables.specs.History.{with_change, Extends};
 ghost use Rattle.tb_layout.specs.Limits.{clock_max};
 ghost use Rattle.tb_machine.specs.Chain.{Operation};
@@ -29,6 +29,8 @@ pub trait Event: Copy {
 
     ghost operation: { Operation Self };
 
+    ghost is_stored: { Facts → Self → Bool };
+
     /// The event in the 128 bytes of its chunk.
     fn read(chunk: &[u8; 128]) -> Self
         ensures { result ≡ event_of chunk.now };
@@ -36,6 +38,10 @@ pub trait Event: Copy {
     /// Whether the event in a chunk is linked, without reading the rest of it.
     fn is_chunk_linked(chunk: &[u8; 128]) -> bool
         ensures { result ≡ operation.is_linked (event_of chunk.now) };
+
+    /// Whether an event with the id of this one is stored.
+    fn is_stored(&self, tables: &Tables) -> bool
+        ensures { result ≡ is_stored tables.now.now self.now };
 
     /// Stores the event, which gets its timestamp, where its checks find nothing, and answers the number of its result.
     fn examine(&mut self, tables: &mut Tables, timestamp: u64) -> Result<u32, NoMemory>
@@ -56,12 +62,18 @@ impl Event for Account {
 
     ghost operation = { spec.accounts_operation };
 
+    ghost is_stored = { λ facts event. is_some (account_with facts event.id) };
+
     fn read(chunk: &[u8; 128]) -> Account {
         read_account(chunk)
     }
 
     fn is_chunk_linked(chunk: &[u8; 128]) -> bool {
         is_chunk_linked(chunk)
+    }
+
+    fn is_stored(&self, tables: &Tables) -> bool {
+        tables.place(self.id).is_some()
     }
 
     fn examine(&mut self, tables: &mut Tables, timestamp: u64) -> Result<u32, NoMemory> {
@@ -82,12 +94,18 @@ impl Event for Transfer {
 
     ghost operation = { spec.transfers_operation };
 
+    ghost is_stored = { λ facts event. is_some (transfer_with facts event.id) };
+
     fn read(chunk: &[u8; 128]) -> Transfer {
         read_transfer(chunk)
     }
 
     fn is_chunk_linked(chunk: &[u8; 128]) -> bool {
         is_chunk_linked(chunk)
+    }
+
+    fn is_stored(&self, tables: &Tables) -> bool {
+        tables.place_of_transfer(self.id).is_some()
     }
 
     fn examine(&mut self, tables: &mut Tables, timestamp: u64) -> Result<u32, NoMemory> {
@@ -173,7 +191,7 @@ fn store_new(
 }
 
 /// Stores a plain or pending transfer where its checks find nothing, and answers the number of its result. Its id is
-/// looked up where it is stored: most are new.
+/// looked up where it is stored: most are new. Only an event whose id is there is checked again.
 #[inline(always)]
 fn examine_moving(
     tables: &mut Tables,
@@ -189,8 +207,12 @@ fn examine_moving(
     ensures same { result ≢ Ok 0 → tables.new ≡ tables.old }
 {
     let code = new_transfer_verdict(tables, Target::Between(sides), timestamp, event).number();
-    if code == 0 && store_new(tables, sides, timestamp, event)? {
-        return Ok(0);
+    if code == 0 {
+        if store_new(tables, sides, timestamp, event)? {
+            return Ok(0);
+        }
+    } else if !event.is_stored(tables) {
+        return Ok(code);
     }
     Ok(transfer_verdict(tables, Target::Between(sides), timestamp, event).number())
 }

@@ -16,7 +16,7 @@ use crate::lookup::look_up;
 use std::alloc::Global;
 use std::marker::Model;
 use tb_layout::{Account, CREATE_ACCOUNTS, Failure, NoMemory, Transfer};
-use tb_tables::{Status, Tables};
+use tb_tables::{Seed, Status, Tables};
 
 /// The state machine: the facts of a ledger, and the clock, in nanoseconds.
 pub struct Machine {
@@ -52,10 +52,27 @@ impl Machine {
         requires { clock ≤ clock_max }
         ensures { result ≡ opening clock }
     {
+        Machine::with_seed(alloc, clock, Seed::default())
+    }
+
+    /// The same, whose ids are hashed with a seed. With two numbers that an attacker doesn't know, ids can't be chosen
+    /// to make commits slow. What the machine does doesn't depend on them.
+    pub fn with_seed(alloc: Global, clock: u64, seed: Seed) -> Machine
+        requires { clock ≤ clock_max }
+        ensures { result ≡ opening clock }
+    {
         Machine {
             clock,
-            tables: Tables::new(alloc),
+            tables: Tables::with_seed(alloc, seed),
         }
+    }
+
+    /// Reserves capacity for more accounts and more transfers: while these are made, no commit waits for a map to grow,
+    /// which moves all that is stored. If memory runs out, nothing has changed.
+    pub fn reserve(&mut self, accounts: usize, transfers: usize) -> Result<(), NoMemory>
+        ensures { self.new ≡ self.old }
+    {
+        self.tables.reserve(accounts, transfers)
     }
 
     /// Takes the events of a packet, accounts (`CREATE_ACCOUNTS`) or transfers (`CREATE_TRANSFERS`), and reports those

@@ -1,28 +1,29 @@
 -- Pairs of the index of expiries: which are those of a transfer, and which it has to have.
-use Rattle.std.proofs.Common.{find, refl, sym, ap, ◌∙◌, arith, ◌≡◌, ℕ, Bool, true, false, List, [], ◌∷◌, ◌++◌, length, slice_get, zero, suc, if◌then◌else◌, ◌==◌, ◌&&◌, ◌||◌, Option, Some, None, ◌≤◌, not, cond, is_eq, is_gt}
+use Rattle.std.proofs.Common.{find, refl, sym, ap, ◌∙◌, arith, ◌≡◌, ℕ, Bool, true, false, List, [], ◌∷◌, ◌++◌, length, slice_get, zero, suc, if◌then◌else◌, ◌==◌, ◌&&◌, ◌||◌, Option, Some, None, ◌≤◌, not, cond, is_eq, is_gt, is_lt}
 use Rattle.std.proofs.lemmas.Bool.{eqb-true}
 use Rattle.std.proofs.lemmas.Option.{slice_get_past}
 use Rattle.tb_tables.proofs.Words.{its_pair, nat_tests, Transfer, Facts, add_transfer, is_reserving, has_id, ids_distinct, is_pair, expects, list_any, pair_cmp, is_indexed, same_pair}
 use Rattle.std.specs.BTreeSet.{BTreeSet}
+use Rattle.std.specs.declared.cmp.Reverse.{Reverse}
 
 pair-eq : (moment place m p : ℕ) → is_eq (pair_cmp (moment, place) (m, p)) ≡ same_pair moment place m p
 pair-eq moment place m p = grind (arith, nat_tests)
 
 -- a set with a pair more, and with a pair less
 pub with_pair : (moment place m p : ℕ) (had : Bool)
-    → cond (is_eq (pair_cmp (moment, place) (m, p))) true had ≡ (same_pair moment place m p || had)
-with_pair moment place m p had = grind (arith, pair-eq moment place m p)
+    → cond (is_eq (pair_cmp (m, p) (moment, place))) true had ≡ (same_pair moment place m p || had)
+with_pair moment place m p had = grind (arith, nat_tests, pair-eq m p moment place)
 
 pub without_pair : (moment place m p : ℕ) (had : Bool)
-    → cond (is_eq (pair_cmp (moment, place) (m, p))) false had ≡ (not (same_pair moment place m p) && had)
-without_pair moment place m p had = grind (arith, pair-eq moment place m p)
+    → cond (is_eq (pair_cmp (m, p) (moment, place))) false had ≡ (not (same_pair moment place m p) && had)
+without_pair moment place m p had = grind (arith, nat_tests, pair-eq m p moment place)
 
 -- a pair that isn't above another has no later moment
 pub moment-le : (a b x y : ℕ) → is_gt (pair_cmp (a, x) (b, y)) ≡ false → a ≤ b
 moment-le a b x y h = grind (arith, nat_tests)
 
-pub same-keys : (old new : BTreeSet (ℕ × ℕ)) → new.keys ≡ old.keys → (m p : ℕ) → is_indexed new m p ≡ is_indexed old m p
-same-keys old new same m p = ap (list_any (λ k. is_eq (pair_cmp (m, p) k))) same
+pub same-keys : (old new : BTreeSet (Reverse (ℕ × ℕ))) → new.keys ≡ old.keys → (m p : ℕ) → is_indexed new m p ≡ is_indexed old m p
+same-keys old new same m p = ap (list_any (λ (k : Reverse (ℕ × ℕ)). is_eq (pair_cmp k.0 (m, p)))) same
 
 pub slice_get-push : {X : Type 0} (xs : List X) (x : X) (place : ℕ)
     → slice_get (xs ++ x ∷ []) place ≡ (if place == length xs then Some x else slice_get xs place)
@@ -75,3 +76,7 @@ module _ (facts : Facts) (t : Transfer) where
           → (its_pair facts t moment place || expects facts moment place) ≡ true
       by None at = grind (arith, nat_tests, slice_get-push facts.transfers t place, at, has)
       by (Some y) at = grind (arith, nat_tests, slice_get-push facts.transfers t place, at, has, less y)
+
+-- a pair that isn't below another has no earlier moment
+pub moment-ge : (a b x y : ℕ) → is_lt (pair_cmp (b, y) (a, x)) ≡ false → a ≤ b
+moment-ge a b x y h = grind (arith, nat_tests)

@@ -1,6 +1,7 @@
 pub mod Words
 pub mod Histories
 pub mod Finding
+pub mod Identifying
 mod Sums
 pub mod Laws
 pub mod Stored

@@ -4,16 +4,17 @@ use Rattle.std.specs.List.{list_any}
 use Rattle.std.specs.BTreeSet.{BTreeSet}
 use Rattle.std.specs.Ordering.{nat_cmp, ordering_then, is_eq}
 use Rattle.std.specs.declared.cmp.Ordering.{Ordering}
+use Rattle.std.specs.declared.cmp.Reverse.{Reverse}
 
 -- pairs stand by moment, and then by place
 abbrev pub pair_cmp : ℕ × ℕ → ℕ × ℕ → Ordering
 pair_cmp a b = ordering_then (nat_cmp a.0 b.0) (nat_cmp a.1 b.1)
 
 -- whether a pair is among others, or in the index
-abbrev pub has_pair : List (ℕ × ℕ) → ℕ → ℕ → Bool
-has_pair pairs moment place = list_any (λ pair. is_eq (pair_cmp (moment, place) pair)) pairs
+abbrev pub has_pair : List (Reverse (ℕ × ℕ)) → ℕ → ℕ → Bool
+has_pair pairs moment place = list_any (λ pair. is_eq (pair_cmp pair.0 (moment, place))) pairs
 
-abbrev pub is_indexed : BTreeSet (ℕ × ℕ) → ℕ → ℕ → Bool
+abbrev pub is_indexed : BTreeSet (Reverse (ℕ × ℕ)) → ℕ → ℕ → Bool
 is_indexed expiries = has_pair expiries.keys
 
 -- whether two pairs are the same

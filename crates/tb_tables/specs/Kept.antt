@@ -4,6 +4,7 @@ use Rattle.std.specs.List.{list_any, AllByRecursion}
 use Rattle.tb_layout.specs.declared.account.Account.{Account as AccountRecord}
 use Rattle.tb_layout.specs.declared.transfer.Transfer.{Transfer as TransferRecord}
 use Rattle.tb_layout.specs.Transfer.{is_pending, is_resolving}
+use Rattle.std.specs.declared.cmp.Reverse.{Reverse}
 use Rattle.tb_tables.specs.Facts.{Facts, transfer_with, is_expired, add_transfer}
 use Rattle.tb_tables.specs.History.{History}
 use Rattle.tb_tables.specs.Status.{status_in, is_resolved, is_reserving, expires_at}
@@ -50,7 +51,7 @@ facts_of stored =
 -- what the maps are seen as: the facts, and the pairs of moment and place that the index has
 pub record Indexed : Type 0 where
   pub facts : Facts
-  pub pairs : List (ℕ × ℕ)
+  pub pairs : List (Reverse (ℕ × ℕ))
 
 -- ---- the maps
 

@@ -11,3 +11,4 @@ pub mod Expiries
 pub mod Kept
 pub mod Held
 pub mod Storing
+pub mod Hashing

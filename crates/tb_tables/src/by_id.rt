@@ -1,9 +1,10 @@
 //! Maps and sets of ids.
 
+use crate::hashing::IdHasher;
 use indexmap::{IndexMap, IndexSet};
 
 /// What stands under ids, in order of making.
-pub type ById<V> = IndexMap<u128, V>;
+pub type ById<V> = IndexMap<u128, V, IdHasher>;
 
 /// Ids, in order of making.
-pub type Ids = IndexSet<u128>;
+pub type Ids = IndexSet<u128, IdHasher>;

@@ -5,38 +5,39 @@ ghost use Rattle.std.specs.Prelude.{◌≡◌, ◌≤◌, ◌<◌, OnOk, OnErr, 
 ghost use Rattle.std.specs.BTreeSet.{btree_set_len};
 ghost use Rattle.tb_tables.specs.Expiries.{is_indexed, same_pair};
 
+use std::cmp::Reverse;
 use std::collections::BTreeSet;
 use tb_layout::NoMemory;
 
+/// The pairs, the latest first: those of new transfers are among the first, where a node of the tree is searched first.
+pub type Expiries = BTreeSet<Reverse<(u64, usize)>>;
+
 /// Puts a pair in.
-pub fn put_in(
-    expiries: &mut BTreeSet<(u64, usize)>,
-    moment: u64,
-    place: usize,
-) -> Result<(), NoMemory>
+pub fn put_in(expiries: &mut Expiries, moment: u64, place: usize) -> Result<(), NoMemory>
     ensures ok { OnOk result ((m p : ℕ) → is_indexed expiries.new m p
         ≡ (same_pair moment place m p || is_indexed expiries.old m p)) }
     ensures err { OnErr result (expiries.new.keys ≡ expiries.old.keys) }
 {
-    expiries.insert((moment, place))?;
+    expiries.insert(Reverse((moment, place)))?;
     Ok(())
 }
 
-/// Takes a pair out. It is often the first one: what is resolved before its timeout is over is mostly resolved in the
+/// Takes a pair out. It is often the last one: what is resolved before its timeout is over is mostly resolved in the
 /// order in which it would have expired.
-pub fn take_out(expiries: &mut BTreeSet<(u64, usize)>, moment: u64, place: usize)
+pub fn take_out(expiries: &mut Expiries, moment: u64, place: usize)
     ensures { (m p : ℕ) → is_indexed expiries.new m p
         ≡ (not (same_pair moment place m p) && is_indexed expiries.old m p) }
 {
-    if expiries.first() == Some(&(moment, place)) {
-        expiries.pop_first();
+    let pair = Reverse((moment, place));
+    if expiries.last() == Some(&pair) {
+        expiries.pop_last();
     } else {
-        expiries.remove(&(moment, place));
+        expiries.remove(&pair);
     }
 }
 
-/// Takes the first pair out, where it is due at a clock.
-pub fn take_due(expiries: &mut BTreeSet<(u64, usize)>, clock: u64) -> Option<usize>
+/// Takes the earliest pair out, which is the last one, if it is due at a clock.
+pub fn take_due(expiries: &mut Expiries, clock: u64) -> Option<usize>
     ensures due { IfSome result (λ place. (moment : ℕ) × (moment ≤ clock)
         × (is_indexed expiries.old moment place ≡ true)
         × ((m p : ℕ) → is_indexed expiries.new m p ≡ (not (same_pair moment place m p)
@@ -45,9 +46,10 @@ pub fn take_due(expiries: &mut BTreeSet<(u64, usize)>, clock: u64) -> Option<usi
     ensures later { IfNone result ((moment place : ℕ) → is_indexed expiries.old moment place ≡ true → clock < moment) }
     ensures none { IfNone result (expiries.new.keys ≡ expiries.old.keys) }
 {
-    if expiries.first()?.0 > clock {
+    let Reverse((moment, _)) = *expiries.last()?;
+    if moment > clock {
         return None;
     }
-    let (_, place) = expiries.pop_first()?;
+    let Reverse((_, place)) = expiries.pop_last()?;
     Some(place)
 }

@@ -8,7 +8,8 @@
 //!
 //! What stands on what, lowest first:
 //!
-//! - `halves`, `row`, `by_id`: a transfer with its status as it lies in memory, and maps of what stands under ids;
+//! - `halves`, `row`: a transfer with its status as it lies in memory;
+//! - `hashing`, `by_id`: how ids are hashed, and maps of what stands under them;
 //! - `balance`, `amounts`: one balance of an account, an amount between two;
 //! - `entries`, `expiries`: one entry of a map, one pair of the index of expiries;
 //! - `storing`, `timeouts`: all that one transfer changes, over facts that the maps hold (`AreHeld`);
@@ -23,6 +24,7 @@ mod change;
 mod entries;
 mod expiries;
 mod halves;
+mod hashing;
 mod maps;
 mod mark;
 mod note;
@@ -33,6 +35,7 @@ mod storing;
 mod tables;
 mod timeouts;
 
+pub use hashing::Seed;
 pub use mark::Mark;
 pub use status::Status;
 pub use tables::Tables;

@@ -7,13 +7,14 @@ ghost use Rattle.std.specs.Option.{option_map};
 use crate::by_id::{ById, Ids};
 use crate::change::Change;
 use crate::entries::{place_of, pop_account, pop_failed, push_account, push_failed, push_transfer};
+use crate::expiries::Expiries;
+use crate::hashing::{IdHasher, Seed};
 use crate::places::Places;
 use crate::row::Row;
 use crate::status::Status;
 use crate::storing::{apply, expect, forget, forget_resolved, take_back};
 use crate::timeouts::expire_all;
 use std::alloc::Global;
-use std::collections::BTreeSet;
 use std::marker::Model;
 use tb_layout::{Account, NoMemory, Transfer};
 
@@ -23,7 +24,7 @@ pub struct Maps {
     accounts: ById<Account>,
     transfers: ById<Row>,
     failed: Ids,
-    expiries: BTreeSet<(u64, usize)>,
+    expiries: Expiries,
 }
 
 impl Model for Maps {
@@ -48,16 +49,26 @@ impl Maps {
     ghost use Rattle.tb_tables.specs.Conditions.{HasNoBalances, MayAdd, MayResolve};
     ghost use Rattle.tb_tables.specs.Kept.{MayStore, HavePlaces, IsSound, IsUndoable, KeepsPairs, NamesOne, is_resolved_at, is_spent};
 
-    /// Maps without facts. Takes no memory.
-    pub fn new(alloc: Global) -> Maps
+    /// Maps without facts, whose ids are hashed with a seed. Takes no memory.
+    pub fn new(alloc: Global, seed: Seed) -> Maps
         ensures { result.facts ≡ no_facts }
     {
+        let hasher = IdHasher::new(seed);
         Maps {
-            accounts: ById::new(alloc),
-            transfers: ById::new(alloc),
-            failed: Ids::new(alloc),
-            expiries: BTreeSet::new(alloc),
+            accounts: ById::with_hasher(alloc, hasher),
+            transfers: ById::with_hasher(alloc, hasher),
+            failed: Ids::with_hasher(alloc, hasher),
+            expiries: Expiries::new(alloc),
         }
+    }
+
+    /// Reserves capacity for more accounts and transfers, so that the maps don't grow while these are added.
+    pub fn reserve(&mut self, accounts: usize, transfers: usize) -> Result<(), NoMemory>
+        ensures { self.new ≡ self.old }
+    {
+        self.accounts.reserve(accounts)?;
+        self.transfers.reserve(transfers)?;
+        Ok(())
     }
 
     /// Adds an account, unless one with its id is there; whether it was added.

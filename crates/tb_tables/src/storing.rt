@@ -15,11 +15,10 @@ use crate::amounts::{Phase, add_amount, phase_of, post_if, take_amount, unpost_i
 use crate::by_id::ById;
 use crate::change::Change;
 use crate::entries::{pop_transfer, row_at, set_status, settled_status};
-use crate::expiries::{put_in, take_out};
+use crate::expiries::{Expiries, put_in, take_out};
 use crate::places::Places;
 use crate::row::Row;
 use crate::status::Status;
-use std::collections::BTreeSet;
 use tb_layout::{Account, NANOSECONDS_PER_SECOND, NoMemory, Transfer};
 
 /// Whether a transfer has a moment at which it expires.
@@ -39,7 +38,7 @@ fn expires_at(transfer: &Transfer) -> u64
 
 /// Puts the pair of a transfer at a place into the index, where it has one.
 pub fn expect(
-    expiries: &mut BTreeSet<(u64, usize)>,
+    expiries: &mut Expiries,
     transfer: &Transfer,
     place: usize,
 ) -> Result<(), NoMemory>
@@ -56,7 +55,7 @@ pub fn expect(
 }
 
 /// Takes the pair of a transfer at a place out of the index again.
-pub fn forget(expiries: &mut BTreeSet<(u64, usize)>, transfer: &Transfer, place: usize)
+pub fn forget(expiries: &mut Expiries, transfer: &Transfer, place: usize)
     requires { is_pending transfer.now ≡ true → expires_at_of transfer.now < 2 ^ 64 }
     ensures { (m p : ℕ) → is_indexed expiries.new m p
         ≡ (not (is_timed_of transfer.now && same_pair (expires_at_of transfer.now) place m p)
@@ -142,7 +141,7 @@ fn unapply(
 pub fn take_back(
     accounts: &mut ById<Account>,
     transfers: &mut ById<Row>,
-    expiries: &mut BTreeSet<(u64, usize)>,
+    expiries: &mut Expiries,
     places: Places,
 )
     requires { (facts : Facts) × (transfer : TransferRecord)
@@ -178,7 +177,7 @@ fn is_spent(row: &Row) -> bool
 }
 
 /// Takes the pair of the transfer at a place out of the index, where it reserves nothing any more.
-fn forget_at(expiries: &mut BTreeSet<(u64, usize)>, transfers: &ById<Row>, place: usize)
+fn forget_at(expiries: &mut Expiries, transfers: &ById<Row>, place: usize)
     requires { (facts : Facts) × (transfer : TransferRecord)
         × IsForgettable facts transfer transfers.now.entries place }
     ensures { (facts : Facts) (transfer : TransferRecord)
@@ -193,7 +192,7 @@ fn forget_at(expiries: &mut BTreeSet<(u64, usize)>, transfers: &ById<Row>, place
 
 /// Takes the pair of the transfer that a change resolved out of the index.
 fn forget_change(
-    expiries: &mut BTreeSet<(u64, usize)>,
+    expiries: &mut Expiries,
     transfers: &ById<Row>,
     change: &Change<Places>,
 )
@@ -210,7 +209,7 @@ fn forget_change(
 /// Takes the pairs of the transfers that some changes resolved out of the index. Where that is empty, the changes
 /// aren't gone through.
 pub fn forget_resolved(
-    expiries: &mut BTreeSet<(u64, usize)>,
+    expiries: &mut Expiries,
     transfers: &ById<Row>,
     changes: &[Change<Places>],
 )

@@ -4,6 +4,7 @@ ghost use Rattle.std.specs.Prelude.{◌≡◌, ◌≢◌, ◌<◌, ◌≤◌, �
 ghost use Rattle.std.specs.Option.{option_map};
 
 use crate::change::Change;
+use crate::hashing::Seed;
 use crate::maps::Maps;
 use crate::mark::Mark;
 use crate::note::note;
@@ -53,10 +54,26 @@ impl Tables {
     pub fn new(alloc: Global) -> Tables
         ensures { result ≡ record { now = no_facts; past = [] } }
     {
+        Tables::with_seed(alloc, Seed::default())
+    }
+
+    /// Tables without facts, whose ids are hashed with a seed: with numbers that an attacker doesn't know, ids can't be
+    /// chosen to make look-ups slow. The facts don't depend on it. Takes no memory.
+    pub fn with_seed(alloc: Global, seed: Seed) -> Tables
+        ensures { result ≡ record { now = no_facts; past = [] } }
+    {
         Tables {
-            maps: Maps::new(alloc),
+            maps: Maps::new(alloc, seed),
             changes: Vec::new(alloc),
         }
+    }
+
+    /// Reserves capacity for more accounts and more transfers: while these are added, the maps of both don't grow, which
+    /// would move all that is stored. If memory runs out, nothing has changed.
+    pub fn reserve(&mut self, accounts: usize, transfers: usize) -> Result<(), NoMemory>
+        ensures { self.new ≡ self.old }
+    {
+        self.maps.reserve(accounts, transfers)
     }
 
     /// Adds an account after those that are there, with its timestamp and no balances of its own. On want of memory

@@ -9,11 +9,10 @@ ghost use Rattle.tb_tables.specs.Storing.{CanExpire, expire_one};
 use crate::amounts::{Phase, take_amount};
 use crate::by_id::ById;
 use crate::entries::{place_of, row_at, set_status};
-use crate::expiries::take_due;
+use crate::expiries::{Expiries, take_due};
 use crate::places::Places;
 use crate::row::Row;
 use crate::status::Status;
-use std::collections::BTreeSet;
 use tb_layout::Account;
 
 /// Lets the transfer at a place expire: its amount is reserved no more.
@@ -36,7 +35,7 @@ fn expire(accounts: &mut ById<Account>, transfers: &mut ById<Row>, place: usize)
 pub fn expire_all(
     accounts: &mut ById<Account>,
     transfers: &mut ById<Row>,
-    expiries: &mut BTreeSet<(u64, usize)>,
+    expiries: &mut Expiries,
     clock: u64,
 )
     requires { (facts : Facts) × AreHeld accounts.old.entries transfers.old.entries (is_indexed expiries.old) facts }

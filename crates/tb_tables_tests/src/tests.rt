@@ -8,7 +8,7 @@ mod plain;
 
 use std::test::Fail;
 use tb_layout::{Account, Transfer};
-use tb_tables::{Status, Tables};
+use tb_tables::{Seed, Status, Tables};
 
 fn account(id: u128) -> Account
     ensures { result ≡ record {
@@ -190,4 +190,21 @@ fn each_call_that_looks_first(rt: HostRuntime) -> Result<(), Fail> {
     adds_a_new_transfer(&mut transfers)?;
     let mut posts = Tables::new(rt.alloc());
     resolves_by_a_new_post(&mut posts)
+}
+
+/// Reserves capacity, asks for more than there can be, and adds transfers.
+fn reserves(tables: &mut Tables) -> Result<(), Fail>
+    requires { tables.old ≡ record { now = no_facts; past = [] } }
+{
+    tables.reserve(1000, 1000)?;
+    holds(tables.reserve(usize::MAX, 0).is_err())?;
+    holds(tables.reserve(0, usize::MAX).is_err())?;
+    posts_and_undoes(tables)
+}
+
+#[test]
+fn reserve_with_a_seed(rt: HostRuntime) -> Result<(), Fail> {
+    let seed = Seed { low: 1, high: 2 };
+    let mut tables = Tables::with_seed(rt.alloc(), seed);
+    reserves(&mut tables)
 }

@@ -4,7 +4,7 @@ use super::{account, make_accounts, make_transfers, resolving, transfer};
 use std::alloc::Global;
 use std::process::Abort;
 use tb_layout::{Account, Transfer};
-use tb_machine::Machine;
+use tb_machine::{Machine, Seed};
 use tb_tables::Status;
 
 /// A pending transfer with a timeout, one that is voided, and a plain one.
@@ -58,6 +58,19 @@ fn each_call(rt: HostRuntime) {
     assert!(rt; machine.clock() == 1_000_000_003);
     assert_transfers(&rt, &machine);
     assert_accounts(&rt, &machine);
+    drop(machine);
+}
+
+/// Both ids have hash 0 without a seed.
+#[test]
+fn seed_with_colliding_ids(rt: HostRuntime) {
+    let seed = Seed { low: 3, high: 5 };
+    let mut machine = Machine::with_seed(rt.alloc(), 0, seed);
+    let upper = 0x9e37_79b9_7f4a_7c15u128 << 64;
+    make_accounts(&rt, &mut machine, &[account(upper, 0), account(upper + 1, 0)]);
+    make_transfers(&rt, &mut machine, &[transfer(upper + 2, upper, upper + 1, 5, 0)]);
+    assert!(rt; machine.account(upper).is_some_and(|account| account.debits_posted == 5));
+    assert!(rt; machine.transfer(upper + 2).is_some());
     drop(machine);
 }
 

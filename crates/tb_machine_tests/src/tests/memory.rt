@@ -174,3 +174,20 @@ fn void_of_nothing_refused_memory(rt: HostRuntime) {
     }
     drop(machine);
 }
+
+/// Reserves capacity, or leaves the machine as it was.
+fn reserves(rt: &impl Abort, machine: &mut Machine) -> bool {
+    let seen = Seen::of(machine);
+    let is_reserved = machine.reserve(2, 3).is_ok();
+    assert!(rt; seen.holds(machine), "the machine isn't as before");
+    is_reserved
+}
+
+#[test]
+fn reserve_refused_memory(rt: HostRuntime) {
+    let mut machine = Machine::new(rt.alloc(), 0);
+    if reserves(&rt, &mut machine) && chain_and_single(&rt, &mut machine) {
+        assert!(rt; machine.clock() == 7);
+    }
+    drop(machine);
+}

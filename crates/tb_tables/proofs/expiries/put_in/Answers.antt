@@ -3,4 +3,4 @@ use Rattle.tb_tables.proofs.Expecting.{with_pair}
 use Rattle.tb_tables.proofs.expiries.put_in.Goals as goal
 
 pub returns-clause-ok : goal.returns-clause-ok
-returns-clause-ok c = λ m p. c.in_ok-insert.ensures.updates.0 (m, p) ∙ with_pair c.args.moment c.args.place m p _
+returns-clause-ok c = λ m p. c.in_ok-insert.ensures.updates.0 (record { 0 = (m, p) }) ∙ with_pair c.args.moment c.args.place m p _

@@ -1,0 +1,9 @@
+use Rattle.std.proofs.Common.{◌≡◌, drop, fold, map}
+use Rattle.tb_layout.specs.Bytes.{little_endian}
+use Rattle.tb_tables.specs.Hashing.{with_id}
+use Rattle.tb_tables.proofs.hashing.IdHasherHasher.write.Given as goal
+
+abbrev pub invariant-loop-chunk : goal.invariant-loop-chunk
+invariant-loop-chunk l =
+    fold with_id l.self (map little_endian (drop l.chunk-index l.chunks))
+    ≡ fold with_id l.fn.self (map little_endian l.chunks)
