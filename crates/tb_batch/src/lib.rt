@@ -1,8 +1,11 @@
-//! Batches: neighbouring packets of one operation, laid one after the other.
+//! Batches: neighbouring packets of one operation, laid one after the other in one body.
 //!
-//! A `Batcher` holds one group. A packet that it is offered joins the group, or the group is sealed
-//! and the packet begins the next one. All memory of a batch, room for its answer included, is taken
-//! inside `offer` before anything changes, so that a refused packet leaves all as it was.
+//! A `Batcher` holds one group. `offer` lets a packet join it exactly if it may (`offers`); otherwise it seals the group and the
+//! packet begins the next one. `seal` returns the group held, and `None` only if there is none. All memory of a batch is allocated in
+//! `offer`, capacity for its answer included, before anything changes: a rejected packet leaves everything as it was.
+//!
+//! A `Batch` keeps that its body is its packets' data in order and its stubs are theirs, with at most 8,190 events of one operation;
+//! an open packet and a lookup are alone in theirs. `specs/Grouping.antt` defines what may join.
 #![tactic(auto)]
 
 mod batch;

@@ -1,5 +1,5 @@
-//! The command line of the program: what its arguments ask for, why its work could not be done, and the exit status and
-//! the last line of each outcome.
+//! The command line: what the arguments ask for (`request_of`), and the exit status and the last line of each outcome
+//! (`ending_of`, `Ending::status`, `Ending::text`).
 #![tactic(auto)]
 
 mod ending;

@@ -14,10 +14,13 @@
 //! }
 //! ```
 //!
-//! (`way_of_a_packet` in tb_core_tests is this caller, proved.) `run_list` does so with a list of items. Whatever took
-//! the tickets, and whichever growth was refused, what comes of them is one report: `Front` and `Ledger` keep `passes`
-//! and `commits` from call to call, and `run_is_lawful` leads from there to `LawfulReport` (`specs/Report.antt`), in
-//! which no batch is mentioned.
+//! (`way_of_a_packet` in tb_core_tests is this caller, proved.) `run_list` does so with a list of items (`listed`, `ran`,
+//! `grouping`). The front loses, doubles and overtakes nothing (`accounted`, `took`, `passes`, `lawful`). The ledger keeps a
+//! batch as one entry of its journal, and answers each packet by its place (`applied`, `commits`, `joined`).
+//!
+//! The report on any run is one record (`specs/Report.antt`), and the law `headline` says what it means for each submitter
+//! (`specs/Headline.antt`). `run_is_lawful` leads there from what a front and a ledger took, also if an allocation failed;
+//! `each_part_is_lawful` says what holds on the way.
 #![tactic(auto)]
 
 mod front;

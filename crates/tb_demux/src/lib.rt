@@ -1,8 +1,8 @@
-//! Cutting: the outcome of a batch, given to its packets one by one.
+//! Cuts the outcome of a batch into the replies of its packets.
 //!
-//! A `Cutter` is seen as the list of the replies still to come. It takes no memory: each packet's
-//! failures go into the room that its job brought along, and each failure is touched once to find
-//! where a packet's end, once to be written.
+//! A `Cutter` is seen as the list of the replies still to come. `next` returns them one by one (`some`), and `None` exactly when all
+//! are given (`none`). Each packet gets its own failures, with its offset subtracted, or the accounts of its lookup. Nothing is
+//! allocated: a packet's failures are written into the capacity that its job brought along.
 #![tactic(auto)]
 
 mod cutter;

@@ -1,7 +1,12 @@
-//! The records of the state machine as they lie in bytes, and the numbers of their results.
+//! Accounts, transfers, ids and failures as TigerBeetle lays them out in bytes, and the numbers of their results.
 //!
-//! Every number is little-endian. Nothing here takes memory or refuses anything: a record is read
-//! from just as many bytes as it has, and writing it gives those bytes back.
+//! All numbers are little-endian. Nothing here allocates or fails: a record is read from exactly as many bytes as it has.
+//!
+//! - `read_account`, `read_transfer`, `read_id`, `read_failure` return the record that the layout defines;
+//! - `write_account`, `write_transfer`, `write_failure` return its bytes, and no other bytes are read as that record;
+//! - `is_linked`, `is_pending`, `is_post`, `is_void` and the account's limit flags each read their bit;
+//! - `AccountCode` and `TransferCode` have the result codes and their numbers;
+//! - `Failures` and `Accounts` are what an answer holds, seen by clauses as the lists that they contain.
 #![tactic(auto)]
 
 mod account;

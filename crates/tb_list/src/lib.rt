@@ -1,8 +1,7 @@
 //! A script in one thread.
 //!
-//! `run_script` takes a script through front and ledger. It promises that what is written is the output that is defined
-//! for the bytes that were read, whatever these are, and that nothing is written where the reader failed or memory ran
-//! out.
+//! `run_script` takes a script through front and ledger and writes the output that is defined for the bytes read, whatever these are
+//! (`written`). If reading fails or memory runs out, it writes nothing (`read`, `memory`).
 #![tactic(auto)]
 
 mod listing;

@@ -1,4 +1,18 @@
-//! The pipeline: its stages as threads, from the submission queue to the replies.
+//! The pipeline: batcher, committer and demultiplexer as threads, between the submission queue and the reply rings.
+//!
+//! `open` makes a pipeline with its submitters and its control (`opens`, `refusal`, `own`, `seats`). `Pipeline::serve` runs the stages
+//! until all senders have ended; if a thread can't be started it returns the intake, from which nothing was taken (`refused`).
+//! `settle` makes the report, which is lawful and has the headline (`report`, `headline`, `grouping`, `pulses`): its caller ensures
+//! by two equations that the ends are those that were opened with the pipeline, in order.
+//!
+//! ```
+//! let Opened { pipeline, submitters, control } = open(alloc, clock, limit, capacity, credit, 2)?;
+//! // each thread submits, reads its replies and ends; the control ends too
+//! let served = pipeline.serve(&rt, &Open)?;
+//! let report = settle(served, ends, control_end);
+//! ```
+//!
+//! A `Gate` holds batches back: the committer gets a batch only after the gate said yes to its number (`through`).
 #![tactic(auto)]
 
 mod batching;

@@ -1,5 +1,7 @@
-//! Scripts of packets, run and printed: `run_script` takes one through the stages in one thread, `run_threads` through
-//! the pipeline, with a thread for each sender.
+//! Scripts through the pipeline, with a thread for each sender.
+//!
+//! `run_threads` writes of a script with a fault what `run_script` writes (`faulty`), and of any other the text of a lawful run of what
+//! the script says (`ran`, `specs/RunText.antt`). If reading fails, or memory or a thread is unavailable, it writes nothing.
 #![tactic(auto)]
 
 mod run;

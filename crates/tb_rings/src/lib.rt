@@ -1,5 +1,8 @@
-//! A ring from one thread to one other, over `rtrb`. No memory is taken once it is made, and no call
-//! waits.
+//! A ring from one thread to one other, over `rtrb`.
+//!
+//! `ring` allocates it; no other call allocates, and none waits. What was taken is a prefix of what was given (`Outlet::give`,
+//! `Inlet::take`). With both ends in one thread, `Inlet::lying` counts what is in the ring, and the next takes return it. A value is
+//! returned to its giver only if no slot was seen to be free (`none_free`, `room`).
 #![tactic(auto)]
 
 ghost use Rattle.std.specs.Prelude.{◌≡◌, ◌<◌, ◌≤◌, ◌+◌, [], ◌∷◌, ◌++◌, length, OnOk, IfOk, IfErr, IsOk, IfSome, IfNone, IsSomeAnd};

@@ -1,4 +1,15 @@
-//! The submission queue, which several senders share under a rule for each sender's order, and its ends.
+//! The submission queue of several senders, and the ends of its users.
+//!
+//! `open_queue` makes a queue of `capacity` slots, and for each submitter a reply ring of `credit` slots (`intake`, `slots`).
+//!
+//! - `Submitter::submit` queues a packet with the submitter's next number, or returns it with the first refusal that applies and
+//!   nothing changed (`ok`, `back`, `refusal`); `reply` returns the next reply; `end` queues the submitter's End;
+//! - `Control::pulse`, `end` and `shut` queue the control's items;
+//! - `Intake::take` returns the front of the queue;
+//! - `settle_queue` establishes, once all senders have ended, that the taken tickets are the queue as its senders filled it.
+//!
+//! The queue is the kit's ruled queue. Its rule (`specs/Rule.antt`) keeps that the taken and queued tickets contain, as each
+//! sender's part, exactly what that sender pushed, so no thread has to trust another.
 #![tactic(auto)]
 
 mod control;

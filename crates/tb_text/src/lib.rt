@@ -1,7 +1,7 @@
-//! The text that the program reads and the lines that it prints.
+//! The text that the program reads, and the lines that it prints.
 //!
-//! `specs/Output.antt` defines the output of `list` for the bytes of a script, whatever these are, and
-//! `specs/Plan.antt` what each item of a script comes to.
+//! `read_script` reads the bytes of a script, `source_of` says what they are: a script, or the line of its fault. `put_reply` and its
+//! like append exactly the line that `specs/Output.antt` defines, and `write_out` writes a whole text.
 #![tactic(auto)]
 
 mod output;

@@ -1,9 +1,13 @@
-//! Packets on their way: what submitters hand in, what the queue carries, and what comes back.
+//! Packets, from the submitter that hands them in to the reply that returns them.
 //!
-//! A `Job` is a packet that was admitted, with room for its failures, so that handing them back takes
-//! no memory. A `Reply` carries the packet back as it was handed in. What
-//! a type promises (an admitted packet, failures that rise below the packet's count, a moment in
-//! range) is kept by the type.
+//! - `Packet::of_accounts` and `Packet::of_transfers` lay out exactly the given events (`bytes`, `events`);
+//! - `admit` returns the number of a packet's events, or the first refusal that applies;
+//! - `Job::new` makes a job of an admitted packet, with capacity for its failures, or returns the packet unchanged (`back`,
+//!   `refusal`); memory is an excuse only for more than two events of no lookup (`few`);
+//! - `Reply::of` and `Reply::committed` return the packet unchanged with its outcome, and allocate nothing;
+//! - `Moment`, `Item`, `Ticket`, `Stub`, `Outcome` and `Refusal` are what queue, rings and journal carry.
+//!
+//! The types keep what they promise: a job's packet is admitted, failures rise and are below the packet's count, a moment is in range.
 #![tactic(auto)]
 
 mod admission;
