@@ -5,3 +5,4 @@ pub mod Drained
 pub mod Fresh
 pub mod Origins
 pub mod Moments
+mod Cleared

@@ -1,11 +1,11 @@
 //! What a run reports.
 
-ghost use Rattle.std.specs.Prelude.{◌≡◌, ℕ, map, length, slice_index_or};
+ghost use Rattle.std.specs.Prelude.{◌≡◌, ◌<◌, ℕ, true, map, length, slice_index_or, All};
 ghost use Rattle.tb_machine.specs.Replay.{replay};
 ghost use Rattle.tb_core.specs.Grouping.{IsGrouping};
 ghost use Rattle.tb_core.specs.Ledger.{works};
 ghost use Rattle.tb_core.specs.Report.{LawfulReport};
-ghost use Rattle.tb_submit.specs.Ends.{EndedState, control_seat, end_origin, origins, queued_by, replies_of};
+ghost use Rattle.tb_submit.specs.Ends.{EndedState, control_seat, end_origin, origins, queued_by, replies_of, seat_at};
 ghost use Rattle.tb_pipe.specs.Pulses.{IsPrefixOf, moments_committed, moments_queued};
 ghost use Rattle.tb_pipe.specs.Run.{IsServed};
 
@@ -36,6 +36,11 @@ fn settle_remains(remains: Remains, ends: Vec<Ended>, control: ControlEnd) -> Re
     ensures long { length result.ends.items ≡ remains.intake.submitters }
     ensures read { (k : ℕ) (d : EndedState) → (slice_index_or result.ends.items k d).read
         ≡ (slice_index_or ends.items k d).read }
+    ensures queued { (k : ℕ) (d : EndedState) → (slice_index_or result.ends.items k d).queued
+        ≡ (slice_index_or ends.items k d).queued }
+    ensures settled { All (λ ended. ended.settled ≡ true) result.ends.items }
+    ensures seats { (k : ℕ) (d : EndedState) → k < length ends.items
+        → (slice_index_or ends.items k d).origin.seat ≡ seat_at remains.intake k }
 {
     run_is_lawful();
     let Remains {
@@ -54,8 +59,8 @@ fn settle_remains(remains: Remains, ends: Vec<Ended>, control: ControlEnd) -> Re
 }
 
 /// The report on a run. The ends are those of the submitters that were opened with the pipeline, by rising number, and
-/// the control's is its control's. Takes no memory, and waits for nobody. Once it is there, `reply` on an end gives all
-/// replies that are left, and None only after them.
+/// the control's is its control's. Takes no memory, and waits for nobody. Each end is settled: `reply` on it gives the
+/// unread replies in order, and then None for ever.
 pub fn settle(served: Served, ends: Vec<Ended>, control: ControlEnd) -> Report
     requires ends { map end_origin ends.items ≡ served.submitters }
     requires control { control.seat ≡ control_seat served.intake }
@@ -68,6 +73,11 @@ pub fn settle(served: Served, ends: Vec<Ended>, control: ControlEnd) -> Report
     ensures long { length result.ends.items ≡ served.intake.submitters }
     ensures read { (k : ℕ) (d : EndedState) → (slice_index_or result.ends.items k d).read
         ≡ (slice_index_or ends.items k d).read }
+    ensures queued { (k : ℕ) (d : EndedState) → (slice_index_or result.ends.items k d).queued
+        ≡ (slice_index_or ends.items k d).queued }
+    ensures settled { All (λ ended. ended.settled ≡ true) result.ends.items }
+    ensures seats { (k : ℕ) (d : EndedState) → k < length ends.items
+        → (slice_index_or ends.items k d).origin.seat ≡ seat_at served.intake k }
 {
     settle_remains(served.into_remains(), ends, control)
 }
