@@ -4,3 +4,4 @@ pub mod Commits
 pub mod Drained
 pub mod Fresh
 pub mod Origins
+mod Cleared

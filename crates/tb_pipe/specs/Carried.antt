@@ -1,5 +1,5 @@
 -- What the rings between the stages carry.
-use Rattle.std.specs.Prelude.{◌≡◌, ℕ, Bool, true, false, List, [], ◌∷◌, ◌++◌}
+use Rattle.std.specs.Prelude.{◌≡◌, ℕ, ◌+◌, ◌%◌, ◌^◌, Bool, true, false, List, [], ◌∷◌, ◌++◌, if◌then◌else◌, ⊤}
 use Rattle.std.specs.List.{flat_map, list_any}
 use Rattle.tb_work.specs.Queue.{items_in}
 use Rattle.tb_work.specs.Packet.{Replied}
@@ -25,6 +25,28 @@ is_batch (parcel.Batch jobs) = true
 is_batch (parcel.Pulse moment) = false
 is_batch (parcel.Return job cause) = false
 is_batch parcel.Last = false
+
+-- the number of the batch after a parcel; batches are counted from 0, in 64 bits
+abbrev pub next_number : ℕ → Parcel → ℕ
+next_number number handed = if is_batch handed then (number + 1) % 2 ^ 64 else number
+
+-- the number of the batch after some parcels
+abbrev pub number_after : ℕ → List Parcel → ℕ
+number_after number [] = number
+number_after number (handed ∷ others) = number_after (next_number number handed) others
+
+-- of these parcels each batch was let through under its number, the first batch having this one
+abbrev pub AreLetThrough : (ℕ → Type 0) → ℕ → List Parcel → Type 0
+AreLetThrough lets_through number [] = ⊤
+AreLetThrough lets_through number (handed ∷ others) =
+    (is_batch handed ≡ true → lets_through number) × AreLetThrough lets_through (next_number number handed) others
+
+-- of all parcels that were taken after the first ones each batch was let through, and the next batch has this number
+pub record AreCleared (lets_through : ℕ → Type 0) (first all : List Parcel) (number : ℕ) : Type 0 where
+  pub more : List Parcel
+  pub parts : all ≡ first ++ more
+  pub through : AreLetThrough lets_through 0 more
+  pub counted : number ≡ number_after 0 more
 
 abbrev pub has_last : List Parcel → Bool
 has_last parcels = list_any is_last parcels

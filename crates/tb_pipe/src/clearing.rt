@@ -1,7 +1,7 @@
 //! What the committer may apply.
 
 ghost use Rattle.std.specs.Prelude.{◌≡◌, true};
-ghost use Rattle.tb_pipe.specs.Carried.{is_batch};
+ghost use Rattle.tb_pipe.specs.Carried.{is_batch, next_number};
 
 use crate::gate::Gate;
 use crossbeam_utils::Backoff;
@@ -54,7 +54,8 @@ fn wait_for<R: Wait, G: Gate>(rt: &R, gate: &G, batch: u64)
     unreachable!()
 }
 
-/// Waits until the parcel may be applied. A batch is asked for, by the number of those before it; nothing else is.
+/// Waits until the parcel may be applied. A batch is asked for, by the number of those before it, and then counted;
+/// nothing else is.
 pub(crate) fn clear<R: Wait, G: Gate>(
     rt: &R,
     gate: &G,
@@ -63,6 +64,7 @@ pub(crate) fn clear<R: Wait, G: Gate>(
 ) -> Cleared
     ensures parcel { result ≡ parcel }
     ensures through { is_batch parcel ≡ true → G.lets_through gate.now batches.old }
+    ensures next { batches.new ≡ next_number batches.old parcel }
 {
     if is_batch(&parcel) {
         wait_for(rt, gate, *batches);

@@ -3,7 +3,7 @@
 ghost use Rattle.std.specs.Prelude.{◌≡◌, ℕ, List, [], ◌∷◌, ◌++◌};
 ghost use Rattle.tb_core.specs.declared.parcel.Parcel.{Parcel as ParcelValue};
 ghost use Rattle.tb_rings.specs.Ends.{given, taken, SameInlet, SameOutlet};
-ghost use Rattle.tb_pipe.specs.Carried.{is_last, given_on, IsCommitted, AllCommitted, CommittedTo};
+ghost use Rattle.tb_pipe.specs.Carried.{is_last, given_on, AreCleared, IsCommitted, AllCommitted, CommittedTo};
 
 use crate::clearing::{Cleared, clear};
 use crate::gate::Gate;
@@ -82,7 +82,8 @@ fn commit<R: Wait>(
     last
 }
 
-/// Commits until the last parcel, and gives all replies on, and then the last outcome.
+/// Commits until the last parcel, and gives all replies on, and then the last outcome. The gate let each batch through,
+/// by its number among those that were taken here.
 pub(crate) fn commit_all<R: Wait, G: Gate>(
     rt: &R,
     gate: &G,
@@ -93,6 +94,7 @@ pub(crate) fn commit_all<R: Wait, G: Gate>(
     requires { IsCommitted ledger.opening (taken inlet) ledger (given outlet) }
     ensures same { SameInlet inlet result.inlet × SameOutlet outlet result.outlet }
     ensures all { AllCommitted ledger.opening (taken result.inlet) result.ledger (given result.outlet) }
+    ensures through { (number : ℕ) × AreCleared (G.lets_through gate.now) (taken inlet) (taken result.inlet) number }
 {
     let mut inlet = inlet;
     let mut outlet = outlet;

@@ -1,11 +1,11 @@
 //! What a run reports.
 
-ghost use Rattle.std.specs.Prelude.{◌≡◌, ℕ, map, length, slice_index_or};
+ghost use Rattle.std.specs.Prelude.{◌≡◌, ◌<◌, ℕ, true, map, length, slice_index_or, All};
 ghost use Rattle.tb_core.specs.Grouping.{IsGrouping};
 ghost use Rattle.tb_core.specs.Headline.{Headline, moments_in, moments_queued};
 ghost use Rattle.tb_core.specs.Journal.{works};
 ghost use Rattle.tb_core.specs.Report.{IsPrefix, LawfulReport};
-ghost use Rattle.tb_submit.specs.Ends.{EndedState, control_seat, end_origin, origins};
+ghost use Rattle.tb_submit.specs.Ends.{EndedState, control_seat, end_origin, origins, seat_at};
 ghost use Rattle.tb_pipe.specs.Run.{IsServed, run_of};
 
 use crate::serving::Served;
@@ -36,6 +36,11 @@ fn settle_remains(remains: Remains, ends: Vec<Ended>, control: ControlEnd) -> Re
     ensures long { length result.ends.items ≡ remains.intake.submitters }
     ensures read { (k : ℕ) (d : EndedState) → (slice_index_or result.ends.items k d).read
         ≡ (slice_index_or ends.items k d).read }
+    ensures queued { (k : ℕ) (d : EndedState) → (slice_index_or result.ends.items k d).queued
+        ≡ (slice_index_or ends.items k d).queued }
+    ensures settled { All (λ ended. ended.settled ≡ true) result.ends.items }
+    ensures seats { (k : ℕ) (d : EndedState) → k < length ends.items
+        → (slice_index_or ends.items k d).origin.seat ≡ seat_at remains.intake k }
 {
     run_is_lawful();
     headline();
@@ -56,7 +61,7 @@ fn settle_remains(remains: Remains, ends: Vec<Ended>, control: ControlEnd) -> Re
 
 /// Returns the report on a run. `ends` are those of the submitters that were opened with the pipeline, by rising number,
 /// and `control` is the end of its control. Allocates nothing and doesn't wait. After it, `reply` on an end returns the
-/// replies that are left, in order, and then `None`.
+/// unread replies in order, and then always `None`.
 pub fn settle(served: Served, ends: Vec<Ended>, control: ControlEnd) -> Report
     requires ends { map end_origin ends.items ≡ served.submitters }
     requires control { control.seat ≡ control_seat served.intake }
@@ -70,6 +75,11 @@ pub fn settle(served: Served, ends: Vec<Ended>, control: ControlEnd) -> Report
     ensures long { length result.ends.items ≡ served.intake.submitters }
     ensures read { (k : ℕ) (d : EndedState) → (slice_index_or result.ends.items k d).read
         ≡ (slice_index_or ends.items k d).read }
+    ensures queued { (k : ℕ) (d : EndedState) → (slice_index_or result.ends.items k d).queued
+        ≡ (slice_index_or ends.items k d).queued }
+    ensures settled { All (λ ended. ended.settled ≡ true) result.ends.items }
+    ensures seats { (k : ℕ) (d : EndedState) → k < length ends.items
+        → (slice_index_or ends.items k d).origin.seat ≡ seat_at served.intake k }
 {
     settle_remains(served.into_remains(), ends, control)
 }

@@ -1,5 +1,5 @@
 -- What a contract sees of the ends of a queue.
-use Rattle.std.specs.Prelude.{ℕ, zero, suc, List, [], ◌∷◌, ◌++◌, Option, Some}
+use Rattle.std.specs.Prelude.{ℕ, zero, suc, Bool, false, List, [], ◌∷◌, ◌++◌, Option, Some}
 use Rattle.atomic_table.specs.Seated.{TableId}
 use Rattle.tb_rings.specs.Ends.{RingId, outlet_ring}
 use Rattle.tb_rings.specs.declared.Outlet.{Outlet}
@@ -34,12 +34,13 @@ pub record SubmitterState : Type 0 where
   pub read : List Replied
   pub lying : List Replied
 
--- a submitter that has ended
+-- a submitter that has ended; once it was settled, all of its replies that aren't read are known to lie in its ring
 pub record EndedState : Type 0 where
   pub origin : Origin
   pub queued : List Item
   pub read : List Replied
   pub lying : List Replied
+  pub settled : Bool
 
 -- the intake, with what it took; its queue has so many places
 pub record IntakeState : Type 0 where
@@ -104,6 +105,7 @@ ended_with submitter item =
       queued = submitter.queued ++ item ∷ [];
       read = submitter.read;
       lying = submitter.lying;
+      settled = false;
     }
 
 -- ---- all that have ended, by rising number

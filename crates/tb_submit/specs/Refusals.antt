@@ -1,8 +1,9 @@
 -- Why a call is refused.
-use Rattle.std.specs.Prelude.{◌≡◌, ℕ, ◌-◌, ◌==◌, ◌||◌, ◌⊎◌, if◌then◌else◌, nat_lt, List, [], ◌∷◌, length, Option, Some, None, Result, Ok, Err}
+use Rattle.std.specs.Prelude.{◌≡◌, ℕ, ◌-◌, ◌<◌, ◌==◌, false, ◌||◌, ◌⊎◌, if◌then◌else◌, nat_lt, List, [], ◌∷◌, length, Option, Some, None, Result, Ok, Err}
 use Rattle.tb_layout.specs.Limits.{batch_max, capacity_max, submitters_max}
-use Rattle.tb_work.specs.Admission.{admission_of}
+use Rattle.tb_work.specs.Admission.{admission_of, count_of}
 use Rattle.tb_work.specs.Packet.{Replied}
+use Rattle.tb_work.specs.Job.{is_lookup}
 use Rattle.tb_work.specs.declared.outcome.Outcome.{Outcome}
 use Rattle.tb_work.specs.declared.outcome.Outcome.TheVariants as outcome
 use Rattle.tb_work.specs.declared.packet.Packet.{Packet}
@@ -64,7 +65,12 @@ submit_refusal submitter packet =
     (or_else (refusal_in (admission_of submitter.origin.seat.limit packet))
     (if in_flight submitter == submitter.credit then Some InFlight else None))
 
--- why a packet isn't queued: the refusal that is due, or where none is, want of memory or a full queue
+-- its failures need memory: those of up to two events are kept in the job itself, and a lookup has none
+abbrev pub TakesMemory : Packet → Type 0
+TakesMemory packet = (is_lookup packet ≡ false) × (2 < count_of packet)
+
+-- why a packet isn't queued: the refusal that is due, or where none is, want of memory, if it takes any, or a full queue
 abbrev pub IsSubmitRefusal : SubmitterState → Packet → Refusal → Type 0
 IsSubmitRefusal submitter packet refusal =
-    IsRefusal (submit_refusal submitter packet) (λ other. (other ≡ NoMemory) ⊎ (other ≡ Full)) refusal
+    IsRefusal (submit_refusal submitter packet) (λ other. ((other ≡ NoMemory) × TakesMemory packet)
+    ⊎ (other ≡ Full)) refusal

@@ -1,48 +1,84 @@
 //! Senders that have ended.
 
-ghost use Rattle.std.specs.Prelude.{◌≡◌, ◌<◌, [], ◌∷◌, ◌++◌, length, Some, IfSome, IfNone, IsSomeAnd};
-ghost use Rattle.tb_rings.specs.Ends.{given, outlet_ring};
+ghost use Rattle.std.specs.Prelude.{◌≡◌, ◌<◌, [], ◌∷◌, ◌++◌, length, true, false, Some, None, IfSome, IfNone, IsSomeAnd};
+ghost use Rattle.tb_rings.specs.Ends.{given, taken, lies, inlet_ring, outlet_ring};
 ghost use Rattle.tb_submit.specs.Lists.{IsFiled};
 ghost use Rattle.tb_submit.specs.Rule.{entry};
 
 use crate::reader::Reader;
 use crate::sender::EndedSender;
 use std::marker::Model;
+use std::snapshot::Snapshot;
 use tb_rings::{Inlet, Outlet};
 use tb_work::Reply;
 
 /// A submitter that has ended, with its replies still to read.
 #[derive(Drop)]
 pub struct Ended {
-    pub(crate) sender: EndedSender,
-    pub(crate) inlet: Inlet<Reply>,
+    sender: EndedSender,
+    /// The sender as it ended, of which contracts see what it queued.
+    was: Snapshot<EndedSender>,
+    inlet: Inlet<Reply>,
+    /// How many replies are unread, once no more can come.
+    unread: Option<usize>,
 }
 
 impl Model for Ended {
     ghost use Rattle.tb_rings.specs.Ends.{inlet_ring, taken, lies};
+    ghost use Rattle.std.specs.Prelude.{is_some};
     ghost use Rattle.tb_submit.specs.Ends.{EndedState};
+    ghost use Rattle.tb_submit.specs.Inside.{CountsUnread, KeepsQueued};
 
     ghost Value = { EndedState };
 
     ghost view = { λ e. record {
       origin = record { seat = e.sender.seat; ring = inlet_ring e.inlet };
-      queued = e.sender.queued;
+      queued = e.was.value.queued;
       read = taken e.inlet;
       lying = lies e.inlet;
+      settled = is_some e.unread;
     } };
+
+    ghost invariant = { λ e. KeepsQueued e.was.value e.sender × CountsUnread e.unread (lies e.inlet) };
 }
 
 impl Ended {
-    /// The next reply; None where none is seen, and once its pipeline was settled only when all were read. It takes no
-    /// memory and waits for nobody.
+    /// A submitter that has ended, of which the queue isn't settled yet.
+    pub(crate) fn new(sender: EndedSender, inlet: Inlet<Reply>) -> Ended
+        ensures { result ≡ record {
+          origin = record { seat = sender.seat; ring = inlet_ring inlet };
+          queued = sender.queued;
+          read = taken inlet;
+          lying = lies inlet;
+          settled = false;
+        } }
+    {
+        Ended {
+            was: Snapshot::of(&sender),
+            sender,
+            inlet,
+            unread: None,
+        }
+    }
+
+    /// Returns the next reply, or `None` if none is seen. Once its pipeline was settled, it returns the unread replies
+    /// in order and then `None` for ever. It takes no memory and waits for nobody.
     pub fn reply(&mut self) -> Option<Reply>
         ensures some { IfSome result (λ reply. self.new
             ≡ record self.old { read = self.old.read ++ reply ∷ []; lying = self.new.lying }) }
         ensures none { IfNone result (self.new ≡ record self.old { lying = [] }) }
         ensures known { 0 < length self.old.lying → IsSomeAnd result (λ reply.
             self.old.lying ≡ reply ∷ self.new.lying) }
+        ensures over { self.old.settled ≡ true → self.old.lying ≡ [] → result ≡ None }
     {
-        self.inlet.take()
+        match self.unread {
+            Some(0) => None,
+            Some(unread) => {
+                self.unread = Some(unread - 1);
+                self.inlet.take()
+            }
+            None => self.inlet.take(),
+        }
     }
 
     /// Tells the reader what was queued, and sees all replies that lie in its ring.
@@ -56,9 +92,10 @@ impl Ended {
         ensures filed { IsFiled self.old.origin.seat.limit self.old.origin.seat.submitters
             self.old.origin.seat.number self.old.queued }
         ensures replies { self.new.read ++ self.new.lying ≡ given outlet.old }
-        ensures read { self.new.read ≡ self.old.read }
+        ensures same { (self.new.read ≡ self.old.read) × (self.new.queued ≡ self.old.queued) }
+        ensures settled { self.new.settled ≡ true }
     {
         reader.gather(&mut self.sender);
-        self.inlet.lying(outlet);
+        self.unread = Some(self.inlet.lying(outlet));
     }
 }

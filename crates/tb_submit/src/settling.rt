@@ -1,10 +1,10 @@
 //! What a queue came to, once all its senders have ended.
 
-ghost use Rattle.std.specs.Prelude.{◌≡◌, ◌≤◌, ◌<◌, ◌++◌, ℕ, map, length, slice_index_or, true};
+ghost use Rattle.std.specs.Prelude.{◌≡◌, ◌≤◌, ◌<◌, ◌++◌, ℕ, map, length, slice_index_or, true, All};
 ghost use Rattle.std.specs.List.{list_any};
 ghost use Rattle.tb_rings.specs.Ends.{given};
 ghost use Rattle.tb_rings.specs.declared.Outlet.{Outlet as OutletValue};
-ghost use Rattle.tb_submit.specs.Ends.{EndedState, IntakeState, control_seat, end_origin, origins, queued_by, replies_of};
+ghost use Rattle.tb_submit.specs.Ends.{EndedState, IntakeState, control_seat, end_origin, origins, queued_by, replies_of, seat_at};
 ghost use Rattle.tb_submit.specs.Inside.{entry_of};
 ghost use Rattle.tb_submit.specs.Lists.{AreWithin, IsFiled};
 ghost use Rattle.tb_work.specs.Queue.{IsQueueOf, is_end, part};
@@ -30,8 +30,11 @@ fn settle_all(reader: &mut Reader, ends: Vec<Ended>, outlets: Vec<Outlet<Reply>>
     ensures replies { (k : ℕ) (d : EndedState) (o : OutletValue Replied) → k < length ends.items
         → (slice_index_or result.items k d).read ++ (slice_index_or result.items k d).lying
         ≡ given (slice_index_or outlets.items k o) }
-    ensures read { (k : ℕ) (d : EndedState) → (slice_index_or result.items k d).read
-        ≡ (slice_index_or ends.items k d).read }
+    ensures same { (k : ℕ) (d : EndedState)
+        → ((slice_index_or result.items k d).read ≡ (slice_index_or ends.items k d).read)
+        × ((slice_index_or result.items k d).queued ≡ (slice_index_or ends.items k d).queued) }
+    ensures settled { (k : ℕ) (d : EndedState) → k < length ends.items
+        → (slice_index_or result.items k d).settled ≡ true }
 {
     let mut ends = ends;
     let mut outlets = outlets;
@@ -61,6 +64,11 @@ pub fn settle_queue(
         → replies_of result.items sender ≡ given (slice_index_or outlets.items sender d) }
     ensures read { (k : ℕ) (d : EndedState) → (slice_index_or result.items k d).read
         ≡ (slice_index_or ends.items k d).read }
+    ensures queued { (k : ℕ) (d : EndedState) → (slice_index_or result.items k d).queued
+        ≡ (slice_index_or ends.items k d).queued }
+    ensures settled { All (λ ended. ended.settled ≡ true) result.items }
+    ensures seats { (k : ℕ) (d : EndedState) → k < length ends.items
+        → (slice_index_or ends.items k d).origin.seat ≡ seat_at intake k }
 {
     let mut reader = intake.reader;
     let mut last = control.sender;

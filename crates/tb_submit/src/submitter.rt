@@ -181,7 +181,7 @@ impl Submitter {
             told,
         } = self;
         match sender.end(rt, Item::End) {
-            Ok(sender) => Ok(Ended { sender, inlet }),
+            Ok(sender) => Ok(Ended::new(sender, inlet)),
             Err(sender) => Err((
                 Submitter {
                     sender,

@@ -1,6 +1,7 @@
-use Rattle.std.proofs.Common.{◌∙◌, subst, Bool, ◌++◌, ◌∷◌, []}
+use Rattle.std.proofs.Common.{refl, ◌∙◌, subst, Bool, ◌++◌, ◌∷◌, []}
 use Rattle.tb_rings.specs.Ends.{given, taken}
-use Rattle.tb_pipe.specs.Carried.{CommittedTo}
+use Rattle.tb_pipe.specs.Carried.{AreCleared, CommittedTo}
+use Rattle.tb_pipe.proofs.Cleared.{none_cleared, one_cleared}
 use Rattle.tb_pipe.proofs.committing.commit_all.Goals as goal
 
 pub loop-preserved : goal.loop-preserved
@@ -15,4 +16,26 @@ loop-preserved g c =
       committed = rw (c.in-Some-take.ensures.some, ← c.clear-cleared.ensures.parcel) (subst
           (λ (b : Bool). CommittedTo b c.args.ledger.opening (taken c.loop.inlet ++ parcel ∷ []) c.commit.new.ledger
           (given c.commit.new.outlet)) c.if-commit.false more);
+      cleared = one_cleared (g.G.Gate.lets_through c.args.gate.now) (taken c.args.inlet) (taken c.loop.inlet)
+          (taken c.take.new.self) c.loop.batches c.clear-cleared.new.batches c.in-Some-take.parcel
+          c.loop.invariant.cleared c.in-Some-take.ensures.some c.clear-cleared.ensures.through
+          c.clear-cleared.ensures.next;
     }
+
+pub loop-init : goal.loop-init
+loop-init g c =
+    record {
+      inlet = refl;
+      outlet = refl;
+      committed = c.requires;
+      cleared = none_cleared (g.G.Gate.lets_through c.args.gate.now) (taken c.args.inlet);
+    }
+
+pub returns-then-commit-clause-through : goal.returns-then-commit-clause-through
+returns-then-commit-clause-through g c = (
+  c.clear-cleared.new.batches,
+  one_cleared (g.G.Gate.lets_through c.args.gate.now) (taken c.args.inlet) (taken c.loop.inlet)
+      (taken c.take.new.self) c.loop.batches c.clear-cleared.new.batches c.in-Some-take.parcel
+      c.loop.invariant.cleared c.in-Some-take.ensures.some c.clear-cleared.ensures.through
+      c.clear-cleared.ensures.next,
+)

@@ -1,4 +1,4 @@
-use Rattle.std.proofs.Common.{rules, ◌≡◌, ◌≢◌, ◌<◌, ◌+◌, ⊎_elim, ℕ, zero, suc, List, [], ◌∷◌, ◌++◌, map, take, length, get_or, set, Some, sym, refl, ap, ◌∙◌, subst, arith, append_assoc, length-set, get_or-set_other}
+use Rattle.std.proofs.Common.{rules, ◌≡◌, ◌≢◌, ◌<◌, ◌+◌, ⊎_elim, ℕ, zero, suc, List, [], ◌∷◌, ◌++◌, map, take, length, get_or, set, Some, true, sym, refl, ap, ◌∙◌, subst, arith, append_assoc, length-set, get_or-set_other}
 use Rattle.std.proofs.lemmas.List.{map-append, take_more, get_or-set_same}
 use Rattle.std.proofs.lemmas.Bool.{cases_eq}
 use Rattle.tb_work.specs.Packet.{Replied}
@@ -47,13 +47,12 @@ reader_more old was new xs k x within same was_is new_is =
     ∙ ap (λ es. old.entries ++ es) (sym (ap (map entry_of) (take_more xs k x within)
     ∙ map-append entry_of (take k xs) (get_or xs k x ∷ []))))
 
-read_kept : (xs : List EndedState) (k : ℕ) (x old : EndedState) (j : ℕ) (d : EndedState) → k < length xs
-    → old ≡ get_or xs k old → x.read ≡ old.read → (get_or (set xs k x) j d).read ≡ (get_or xs j d).read
-read_kept xs k x old j d within old_is same = ⊎_elim
-    (λ (is : j ≡ k). subst (λ i. (get_or (set xs k x) i d).read ≡ (get_or xs i d).read) (sym is)
-    (ap (λ (e : EndedState). e.read) (get_or-set_same xs k x d within) ∙ same
-    ∙ ap (λ (e : EndedState). e.read) (old_is ∙ same_at xs k old d within)))
-    (λ (other : j ≢ k). ap (λ (e : EndedState). e.read) (get_or-set_other xs k j x d other))
+kept : {A : Type 0} (f : EndedState → A) (xs : List EndedState) (k : ℕ) (x old : EndedState) (j : ℕ) (d : EndedState)
+    → k < length xs → old ≡ get_or xs k old → f x ≡ f old → f (get_or (set xs k x) j d) ≡ f (get_or xs j d)
+kept f xs k x old j d within old_is same = ⊎_elim
+    (λ (is : j ≡ k). subst (λ i. f (get_or (set xs k x) i d) ≡ f (get_or xs i d)) (sym is)
+    (ap f (get_or-set_same xs k x d within) ∙ same ∙ ap f (old_is ∙ same_at xs k old d within)))
+    (λ (other : j ≢ k). ap f (get_or-set_other xs k j x d other))
     (cases_eq j k)
 
 abbrev FiledAt : EndedState → Type 0
@@ -129,8 +128,14 @@ loop-k-preserved c =
           ∙ inv.rest j d (omega (arith, far));
       ungiven = λ j d far. get_or-set_other ms k j c.settle.new.outlet d (λ is. omega (arith, far, is))
           ∙ inv.ungiven j d (omega (arith, far));
-      read = λ j d. read_kept ls k c.settle.new.self x j d inside c.index_mut.ensures.value
-          c.settle.ensures.read ∙ inv.read j d;
+      same = λ j d. (
+        kept (λ e. e.read) ls k c.settle.new.self x j d inside c.index_mut.ensures.value c.settle.ensures.same.0
+            ∙ (inv.same j d).0,
+        kept (λ e. e.queued) ls k c.settle.new.self x j d inside c.index_mut.ensures.value c.settle.ensures.same.1
+            ∙ (inv.same j d).1,
+      );
+      settled = one_further (λ i (e : EndedState). e.settled ≡ true) ls k c.settle.new.self inside
+          c.settle.ensures.settled inv.settled;
       filed = filed_further xs k x within x_same c.settle.ensures.filed inv.filed;
       replies = λ j d o below. one_further (λ i (e : EndedState). (q : Outlet Replied)
           → e.read ++ e.lying ≡ given (get_or os i q)) ls k c.settle.new.self inside

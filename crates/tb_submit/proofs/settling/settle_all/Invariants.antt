@@ -1,4 +1,4 @@
-use Rattle.std.proofs.Common.{◌≡◌, ◌≤◌, ◌<◌, ◌++◌, ℕ, map, take, length, slice_index_or}
+use Rattle.std.proofs.Common.{◌≡◌, ◌≤◌, ◌<◌, ◌++◌, ℕ, map, take, length, slice_index_or, true}
 use Rattle.tb_work.specs.Packet.{Replied}
 use Rattle.tb_rings.specs.Ends.{given}
 use Rattle.tb_rings.specs.declared.Outlet.{Outlet}
@@ -15,7 +15,10 @@ invariant-loop-k l = record {
   rest : (j : ℕ) (d : EndedState) → l.k ≤ j → slice_index_or l.ends.items j d ≡ slice_index_or l.fn.ends.items j d;
   ungiven : (j : ℕ) (d : Outlet Replied) → l.k ≤ j
       → slice_index_or l.outlets.items j d ≡ slice_index_or l.fn.outlets.items j d;
-  read : (j : ℕ) (d : EndedState) → (slice_index_or l.ends.items j d).read ≡ (slice_index_or l.fn.ends.items j d).read;
+  same : (j : ℕ) (d : EndedState)
+      → ((slice_index_or l.ends.items j d).read ≡ (slice_index_or l.fn.ends.items j d).read)
+      × ((slice_index_or l.ends.items j d).queued ≡ (slice_index_or l.fn.ends.items j d).queued);
+  settled : (j : ℕ) (d : EndedState) → j < l.k → (slice_index_or l.ends.items j d).settled ≡ true;
   filed : (j : ℕ) (d : EndedState) → j < l.k → IsFiled (slice_index_or l.fn.ends.items j d).origin.seat.limit
       (slice_index_or l.fn.ends.items j d).origin.seat.submitters
       (slice_index_or l.fn.ends.items j d).origin.seat.number (slice_index_or l.fn.ends.items j d).queued;

@@ -1,5 +1,6 @@
-use Rattle.std.proofs.Common.{◌≡◌, ◌<◌, ◌+◌, ℕ, zero, suc, List, [], ◌∷◌, ◌++◌, map, length, get_or, ap, ◌∙◌, subst, arith}
+use Rattle.std.proofs.Common.{◌≡◌, ◌<◌, ◌+◌, ℕ, zero, suc, List, [], ◌∷◌, ◌++◌, map, length, get_or, ap, ◌∙◌, subst, arith, true, All}
 use Rattle.tb_work.specs.Packet.{Replied}
+use Rattle.std.proofs.lemmas.List.Elements.{All-nil, All-from_get_or}
 use Rattle.tb_work.specs.declared.item.Ticket.{Ticket}
 use Rattle.tb_rings.specs.Ends.{given}
 use Rattle.tb_submit.specs.declared.rule.Entry.{Entry}
@@ -33,6 +34,12 @@ replies_all F (ended ∷ ends) each zero below = each 0 ended (omega arith)
 replies_all F (ended ∷ ends) each (suc sender) below =
     replies_all (λ k. F (suc k)) ends (λ k d within. each (suc k) d (omega (arith, within)))
     sender (omega (arith, below))
+
+all_settled : (ends : List EndedState) → ((k : ℕ) (d : EndedState) → k < length ends
+    → (get_or ends k d).settled ≡ true) → All (λ (ended : EndedState). ended.settled ≡ true) ends
+all_settled [] each = All-nil (λ (ended : EndedState). ended.settled ≡ true)
+all_settled (ended ∷ ends) each =
+    All-from_get_or (λ (e : EndedState). e.settled ≡ true) (ended ∷ ends) ended (λ k within. each k ended within)
 
 settled : (c : goal.After-drop-reader) → AreSettled c.args.intake c.args.ends.items c.args.control
 settled c =
@@ -77,3 +84,11 @@ returns-clause-replies c =
     c.settle_all-ends.result.items
     (λ k e within. c.settle_all-ends.ensures.replies k e d (omega (arith, within, all))) sender
     (omega (arith, below, all, (settled c).long))
+
+pub returns-clause-settled : goal.returns-clause-settled
+returns-clause-settled c =
+    all_settled c.settle_all-ends.result.items
+    (λ k d within. c.settle_all-ends.ensures.settled k d (omega (arith, within, c.settle_all-ends.ensures.long)))
+
+pub returns-clause-seats : goal.returns-clause-seats
+returns-clause-seats c = (settled c).seats
