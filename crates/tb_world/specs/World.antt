@@ -9,9 +9,9 @@ use Rattle.tb_core.specs.declared.parcel.Parcel.TheVariants.{Batch, Last}
 use Rattle.tb_world.specs.declared.event.Event.{Event}
 use Rattle.tb_world.specs.declared.event.Event.TheVariants.{Push, Pop, BatchPush, BatchPop, OutcomePush, OutcomePop, ReplyPush, ReplyPop}
 use Rattle.tb_world.specs.declared.sender.Sender.{Sender}
-use Rattle.tb_core.specs.Front.{FrontState, take_step, with_group, all_ended}
+use Rattle.tb_core.specs.Front.{FrontState, take_step, with_group, all_ended, takes_memory as ticket_takes}
 use Rattle.tb_core.specs.Journal.{LedgerState, new_ledger}
-use Rattle.tb_core.specs.Ledger.{apply_step}
+use Rattle.tb_core.specs.Ledger.{apply_step, takes_memory as parcel_takes}
 use Rattle.tb_core.specs.Run.{replies_in}
 use Rattle.tb_world.specs.Pushing.{newcomer, may_push, sender_after}
 use Rattle.tb_world.specs.Shelf.{Shelf, empty_shelf, shelf_at, shelves_with, after_pop}
@@ -129,6 +129,24 @@ moved world OutcomePop = outcome_pop world world.replies world.outcomes
 moved world ReplyPush = reply_push world world.replies
 moved world (ReplyPop submitter) = reply_pop world submitter (after_pop (shelf_at world.shelves submitter))
 
+-- whether the first of these takes memory
+abbrev pub first_takes : {A : Type 0} → (A → Bool) → List A → Bool
+first_takes takes [] = false
+first_takes takes (first ∷ others) = takes first
+
+-- Whether an event may be refused for want of memory: a push where its ring grows, a pop where a packet begins or joins
+-- a group, or where the ledger commits. A step whose growth is refused anyway takes none.
+abbrev pub takes_memory : WorldState → Event → Bool
+takes_memory world (Push ticket) = true
+takes_memory world (Pop refused) =
+    not refused && first_takes (λ (ticket : Ticket). ticket_takes world.front ticket.item) world.queue
+takes_memory world BatchPush = true
+takes_memory world (BatchPop refused) = not refused && first_takes (parcel_takes world.ledger) world.batches
+takes_memory world OutcomePush = true
+takes_memory world OutcomePop = false
+takes_memory world ReplyPush = true
+takes_memory world (ReplyPop submitter) = true
+
 -- false changes nothing
 abbrev pub after_event : WorldState → Event → WorldState
 after_event world event = unwrap_or (moved world event) world
@@ -141,6 +159,12 @@ pub record IsMove (world : WorldState) (event : Event) (moves : Bool) (next : Wo
 abbrev pub run : WorldState → List Event → WorldState
 run world [] = world
 run world (event ∷ events) = run (after_event world event) events
+
+-- one of the events, after those before it, may be refused for want of memory
+abbrev pub TakeMemory : WorldState → List Event → Type 0
+TakeMemory world events =
+    (before : List Event) × (event : Event) × (after : List Event) × (events ≡ before ++ event ∷ after)
+    × (takes_memory (run world before) event ≡ true)
 
 -- a new World
 abbrev pub new_world : ℕ → ℕ → ℕ → WorldState

@@ -1,9 +1,9 @@
 //! A list of events.
 
-ghost use Rattle.std.specs.Prelude.{◌≡◌, ◌≤◌, IfOk, OnOk};
+ghost use Rattle.std.specs.Prelude.{◌≡◌, ◌≤◌, true, IfOk, OnOk, OnErr};
 ghost use Rattle.tb_layout.specs.Limits.{batch_max, clock_max, submitters_max};
 ghost use Rattle.tb_world.specs.EveryOrder.{HasRun};
-ghost use Rattle.tb_world.specs.World.{after_event, run};
+ghost use Rattle.tb_world.specs.World.{TakeMemory, after_event, run, takes_memory};
 
 use crate::event::Event;
 use crate::world::World;
@@ -12,7 +12,8 @@ use tb_layout::NoMemory;
 
 /// Takes one event more.
 fn go_on(world: &mut World, event: Event) -> Result<(), NoMemory>
-    ensures { OnOk result (world.new ≡ after_event world.old event) }
+    ensures ok { OnOk result (world.new ≡ after_event world.old event) }
+    ensures memory { OnErr result (takes_memory world.old event ≡ true) }
 {
     match world.step(event) {
         Ok(_) => Ok(()),
@@ -22,7 +23,8 @@ fn go_on(world: &mut World, event: Event) -> Result<(), NoMemory>
 
 /// Takes events in order.
 fn go_through(world: &mut World, events: Vec<Event>) -> Result<(), NoMemory>
-    ensures { OnOk result (world.new ≡ run world.old events.items) }
+    ensures ok { OnOk result (world.new ≡ run world.old events.items) }
+    ensures memory { OnErr result (TakeMemory world.old events.items) }
 {
     for event in events {
         go_on(world, event)?;

@@ -132,7 +132,7 @@ fn keep(outcome: &mut Option<Outcomes>, outcomes: Outcomes)
 }
 
 impl World {
-    ghost use Rattle.tb_world.specs.World.{received_of, moved};
+    ghost use Rattle.tb_world.specs.World.{received_of, moved, takes_memory};
     ghost use Rattle.tb_world.specs.declared.event.Event.TheVariants as event;
 
     /// A World in which nothing happened, whose clock starts at a number of nanoseconds, 0 to `CLOCK_MAX`. The limit is
@@ -210,6 +210,7 @@ impl World {
     fn pop(&mut self, refused: bool) -> Result<bool, NoMemory>
         ensures ok { IfOk result (λ moves. IsMove self.old (event.Pop refused) moves self.new) }
         ensures err { OnErr result ((is_some (moved self.old (event.Pop refused)) ≡ true) × (self.new ≡ self.old)) }
+        ensures memory { OnErr result (takes_memory self.old (event.Pop refused) ≡ true) }
     {
         if !self.parcels.is_empty() {
             return Ok(false);
@@ -270,6 +271,7 @@ impl World {
         ensures ok { IfOk result (λ moves. IsMove self.old (event.BatchPop refused) moves self.new) }
         ensures err { OnErr result ((is_some (moved self.old (event.BatchPop refused)) ≡ true)
             × (self.new ≡ self.old)) }
+        ensures memory { OnErr result (takes_memory self.old (event.BatchPop refused) ≡ true) }
     {
         if self.outcome.is_some() {
             return Ok(false);
@@ -341,11 +343,14 @@ impl World {
     }
 
     /// Takes one event. Answers true where it may happen, and the World then moves as its table says; false changes
-    /// nothing. Where it may happen and a growth is really refused, the event comes back and nothing has changed.
+    /// nothing. Where it may happen and a growth is really refused, the event comes back and nothing has changed. No
+    /// memory is taken to pop an End, a Close, a pulse or a packet that is returned, nor to apply Last, a returned
+    /// packet, or what must be stopped.
     pub fn step(&mut self, event: Event) -> Result<bool, (Event, NoMemory)>
         ensures ok { IfOk result (λ moves. IsMove self.old event moves self.new) }
         ensures err { IfErr result (λ back. (is_some (moved self.old event) ≡ true) × (back.0 ≡ event)
             × (self.new ≡ self.old)) }
+        ensures memory { OnErr result (takes_memory self.old event ≡ true) }
     {
         match event {
             Event::Push(ticket) => match self.push(ticket) {

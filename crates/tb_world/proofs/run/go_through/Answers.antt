@@ -1,26 +1,62 @@
-use Rattle.std.proofs.Common.{◌≡◌, ◌∙◌, sym, ap, [], ◌∷◌, List}
+use Rattle.std.proofs.Common.{◌≡◌, ◌∙◌, refl, sym, ap, subst, append_assoc, true, [], ◌∷◌, ◌++◌, List}
+use Rattle.std.specs.Prelude.{Result, Ok, Err, OnErr}
 use Rattle.tb_world.specs.declared.event.Event.{Event}
-use Rattle.tb_world.specs.World.{WorldState, run}
+use Rattle.tb_world.specs.World.{WorldState, after_event, run, takes_memory}
 use Rattle.std.proofs.lemmas.List.{nil_from_length}
 use Rattle.tb_world.proofs.run.go_through.Goals as goal
+
+run_more : (world : WorldState) (xs ys : List Event) → run world (xs ++ ys) ≡ run (run world xs) ys
+run_more world [] ys = refl
+run_more world (x ∷ xs) ys = run_more (after_event world x) xs ys
+
+on_err : {A E : Type 0} (result : Result A E) (P : Type 0) → P → OnErr result P
+on_err (Ok x) P holds = tt
+on_err (Err e) P holds = holds
 
 pub loop-event-init : goal.loop-event-init
 loop-event-init c =
     let all : c.into_iter-event-iterator.result.rest.items
     ≡ c.args.events.items = c.into_iter-event-iterator.ensures.into_iter_gives.0 in
-    ap (λ (events : List Event). run c.args.world.now events) (sym all)
+    record {
+      left = ap (λ (events : List Event). run c.args.world.now events) (sym all);
+      so_far = refl;
+      all = sym all;
+    }
 
 pub loop-event-preserved : goal.loop-event-preserved
 loop-event-preserved c =
-    let step : c.loop-event.event-iterator.rest.items
-    ≡ c.in-Some.event ∷ c.next.new.self.rest.items = c.in-Some.ensures.steps.0 in
-    c.loop-event.invariant ∙ ap (λ (events : List Event). run c.loop-event.world events) step
-    ∙ ap (λ (world : WorldState). run world c.next.new.self.rest.items) (sym c.in_ok-go_on.ensures)
+    let inv = c.loop-event.invariant in
+    let event = c.in-Some.event in
+    let rest = c.next.new.self.rest.items in
+    let step : c.loop-event.event-iterator.rest.items ≡ event ∷ rest = c.in-Some.ensures.steps.0 in
+    let went = c.in_ok-go_on.ensures.ok in
+    record {
+      left = inv.left ∙ ap (λ (events : List Event). run c.loop-event.world events) step
+          ∙ ap (λ (world : WorldState). run world rest) (sym went);
+      so_far = went ∙ ap (λ (world : WorldState). after_event world event) inv.so_far
+          ∙ sym (run_more c.args.world.now c.loop-event.yielded (event ∷ []));
+      all = inv.all ∙ ap (λ (events : List Event). c.loop-event.yielded ++ events) step
+          ∙ sym (append_assoc c.loop-event.yielded (event ∷ []) rest);
+    }
 
-pub returns : goal.returns
-returns c =
+pub returns-in_err-go_on-clause-memory : goal.returns-in_err-go_on-clause-memory
+returns-in_err-go_on-clause-memory c =
+    let inv = c.loop-event.invariant in
+    let event = c.in-Some.event in
+    let rest = c.next.new.self.rest.items in
+    let step : c.loop-event.event-iterator.rest.items ≡ event ∷ rest = c.in-Some.ensures.steps.0 in
+    on_err c.from_residual.result _ (
+      c.loop-event.yielded,
+      event,
+      rest,
+      inv.all ∙ ap (λ (events : List Event). c.loop-event.yielded ++ events) step,
+      subst (λ (world : WorldState). takes_memory world event ≡ true) inv.so_far c.in_err-go_on.ensures.memory,
+    )
+
+pub returns-clause-ok : goal.returns-clause-ok
+returns-clause-ok c =
     let none : c.loop-event.event-iterator.rest.items
     ≡ [] =
     nil_from_length c.loop-event.event-iterator.rest.items
     (sym c.loop-event.event-iterator.rest.ok.0 ∙ c.in-None.ensures.steps.0) in
-    sym (c.loop-event.invariant ∙ ap (λ (events : List Event). run c.loop-event.world events) none)
+    sym (c.loop-event.invariant.left ∙ ap (λ (events : List Event). run c.loop-event.world events) none)

@@ -7,5 +7,5 @@ pub returns-in-Ok-go_through : goal.returns-in-Ok-go_through
 returns-in-Ok-go_through c =
     let short : length c.args.events.items ≤ 2 ^ 63 = omega (arith, c.args.events.small, c.args.events.ok) in
     has_run c.args.clock c.args.limit c.args.submitters c.args.events.items c.go_through.new.world short
-    (c.in-Ok-go_through.ensures ∙ ap (λ (world : WorldState). run world c.args.events.items)
+    (c.in-Ok-go_through.ensures.ok ∙ ap (λ (world : WorldState). run world c.args.events.items)
     c.in-Ok.ensures.world)
