@@ -1,12 +1,11 @@
 -- What senders queued, with one ticket more and with the ends of a run.
-use Rattle.std.proofs.Common.{refl, sym, ap, ◌∙◌, subst, arith, ◌≡◌, ◌≢◌, ◌==◌, ⊎_elim, ℕ, zero, suc, ◌+◌, ◌<◌, ◌≤◌, Bool, true, false, not, ◌&&◌, if◌then◌else◌, nat_lt, List, [], ◌∷◌, ◌++◌, length, append-nil, append_assoc, get_or, get_or-set_other}
+use Rattle.std.proofs.Common.{refl, sym, ap, ◌∙◌, subst, arith, ◌≡◌, ◌≢◌, ⊎_elim, ℕ, zero, suc, ◌+◌, ◌<◌, ◌≤◌, Bool, true, false, not, ◌&&◌, if◌then◌else◌, List, [], ◌∷◌, ◌++◌, length, append-nil, append_assoc, get_or, get_or-set_other}
 use Rattle.std.specs.Prelude.{slice_set}
-use Rattle.std.specs.List.{list_all}
 use Rattle.std.proofs.lemmas.List.{get_or-set_same, map-append}
 use Rattle.std.proofs.lemmas.List.Folds.{list_all-append}
-use Rattle.std.proofs.lemmas.Bool.{cases_eq, eq-eqb, ne_eqb, lt-ltb, ltb-true}
+use Rattle.std.proofs.lemmas.Bool.{cases_eq, eq-eqb, ne_eqb}
 use Rattle.tb_work.specs.Job.{Numbered}
-use Rattle.tb_work.specs.Queue.{part, is_end, items_in, IsUnended, IsEnded, IsSubmitted, AreSubmitted, AreNumbered, IsQueueOf}
+use Rattle.tb_work.specs.Queue.{part, is_end, items_in, IsUnended, IsSubmitted, AreSubmitted, AreNumbered, IsQueueOf}
 use Rattle.tb_work.specs.declared.item.Item.{Item}
 use Rattle.tb_work.specs.declared.item.Item.TheVariants as item
 use Rattle.tb_work.specs.declared.item.Ticket.{Ticket}
@@ -218,7 +217,9 @@ queue_ended submitters queue numbers shut are = record {
     each sender among = ⊎_elim
         (λ (same : submitters ≡ sender). subst
         (λ s. (next : ℕ) × HasQueued s next true (part s (queue ++ ends_of count))) same (0, control shut refl))
-        (λ (other : submitters ≢ sender). let within : sender < submitters = omega (arith, among, other) in
-        (get_or numbers sender 0 + 0, by_end sender (get_or numbers sender 0) (below shut sender within)
-        (are.each sender within)))
+        (λ (other : submitters ≢ sender). let within : sender < submitters = omega (arith, among, other) in (
+          get_or numbers sender 0 + 0,
+          by_end sender (get_or numbers sender 0) (below shut sender within)
+              (are.each sender within),
+        ))
         (cases_eq submitters sender)
