@@ -1,13 +1,12 @@
-// A library with one function.
+//! The functions that C calls: an engine behind a handle.
+//!
+//! Each export takes the engine out of the handle, calls it and puts it back, and repeats its claim. A status is 0, the
+//! number of a refusal, or one of those in `calls`. `include/kip.h` declares the exports and states what a caller must
+//! uphold.
 #![tactic(auto)]
 
-ghost use Rattle.std.specs.Prelude.{◌≡◌};
-ghost use Rattle.kip.specs.Echo.{echo_of};
-
-// The `ensures` clause is the contract: what `echo` returns is `echo_of` of its argument, a definition
-// in `specs/Echo.antt`, which a caller's clause can cite too.
-pub fn echo(x: usize) -> usize
-    ensures { result ≡ echo_of x }
-{
-    x
-}
+mod calls;
+mod handle;
+mod held;
+mod loose;
+mod reading;

@@ -1,5 +1,5 @@
 -- Parcels that are applied one by one, and the replies that they add.
-use Rattle.std.proofs.Common.{◌≡◌, refl, sym, ap, ◌∙◌, ℕ, List, [], ◌∷◌, ◌++◌, arith, remove, slice_get, Some, None, Option, option_to_list}
+use Rattle.std.proofs.Common.{◌≡◌, refl, ℕ, List, [], ◌∷◌, ◌++◌, arith, remove, slice_get, Some, None}
 use Rattle.tb_work.specs.Packet.{Replied}
 use Rattle.tb_core.specs.declared.parcel.Parcel.{Parcel}
 use Rattle.tb_core.specs.Front.{all_passages_in}

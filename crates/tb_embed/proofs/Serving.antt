@@ -8,11 +8,10 @@ use Rattle.tb_work.specs.declared.item.Item.{Item}
 use Rattle.tb_work.specs.declared.item.Ticket.{Ticket}
 use Rattle.tb_work.specs.declared.packet.Packet.{Packet}
 use Rattle.tb_core.specs.Due.{replies_to}
-use Rattle.tb_core.specs.Front.{FrontState, held_by}
-use Rattle.tb_core.specs.Journal.{LedgerState}
-use Rattle.tb_core.specs.inside.Passage.{Passage, Admitted, Passes}
-use Rattle.tb_core.specs.Run.{Commits, Ran, EachPartIsLawful, RunIsLawful}
-use Rattle.tb_embed.specs.Engine.{EngineState, HasTaken, Serves, Queues, sender_refusal, run_of, ServingIsLawful}
+use Rattle.tb_core.specs.Front.{held_by}
+use Rattle.tb_core.specs.inside.Passage.{Admitted, Passes}
+use Rattle.tb_core.specs.Run.{Commits, EachPartIsLawful, RunIsLawful}
+use Rattle.tb_embed.specs.Engine.{EngineState, HasTaken, Queues, sender_refusal, run_of, ServingIsLawful}
 use Rattle.tb_embed.specs.Queued.{AreQueued, packets_in, ticket_of, packet_ticket, ended_queue}
 use Rattle.tb_embed.proofs.Queued.{IsNext, packet_queued, control_queued, passes_ended, queue_ended}
 

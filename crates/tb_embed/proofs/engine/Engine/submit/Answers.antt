@@ -1,4 +1,4 @@
-use Rattle.std.proofs.Common.{refl, sym, subst, ap, ◌∙◌, arith, ◌+◌, ◌≤◌, get_or, length}
+use Rattle.std.proofs.Common.{sym, subst, ap, ◌∙◌, arith, ◌+◌, ◌≤◌, get_or, length}
 use Rattle.std.specs.Prelude.{slice_set}
 use Rattle.tb_work.specs.Packet.{Numbered}
 use Rattle.tb_work.specs.declared.item.Item.TheVariants as item

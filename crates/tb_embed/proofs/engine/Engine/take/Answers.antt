@@ -1,4 +1,4 @@
-use Rattle.std.proofs.Common.{sym, subst, ap, ◌∙◌, ◌++◌}
+use Rattle.std.proofs.Common.{sym, subst, ap, ◌++◌}
 use Rattle.tb_core.specs.Front.{all_passages_in}
 use Rattle.tb_core.specs.Grouping.{AreJoined}
 use Rattle.tb_core.specs.Run.{Commits}

@@ -1,0 +1,63 @@
+//! The declarations of `include/kip.h`.
+
+use std::ffi::c_void;
+
+#[repr(C)]
+pub(crate) struct Handle {
+    engine: *mut c_void,
+    is_open: bool,
+}
+
+impl Handle {
+    pub(crate) fn closed() -> Handle {
+        Handle {
+            engine: std::ptr::null_mut(),
+            is_open: false,
+        }
+    }
+}
+
+/// The head of a reply.
+#[repr(C)]
+#[derive(Clone, Copy, Debug, Default, PartialEq, Eq)]
+pub struct Head {
+    pub user_data: u64,
+    pub number: u64,
+    pub place: u64,
+    pub size: u64,
+    pub submitter: u32,
+    pub(crate) outcome: u32,
+    pub operation: u32,
+    reserved: u32,
+}
+
+extern "C" {
+    pub(crate) fn kip_version() -> u32;
+    pub(crate) fn kip_open(kip: *mut Handle, clock: u64, limit: u32, submitters: u32) -> u32;
+    pub(crate) fn kip_close(kip: *mut Handle) -> u32;
+    pub(crate) fn kip_submit_bytes(
+        kip: *mut Handle,
+        submitter: u32,
+        operation: u8,
+        data: *const u8,
+        data_size: usize,
+        user_data: u64,
+        number: *mut u64,
+    ) -> u32;
+    pub(crate) fn kip_pulse(kip: *mut Handle, nanoseconds: u64) -> u32;
+    pub(crate) fn kip_shut(kip: *mut Handle) -> u32;
+    pub(crate) fn kip_flush(kip: *mut Handle) -> u32;
+    pub(crate) fn kip_reply_bytes(
+        kip: *mut Handle,
+        reply: *mut Head,
+        results: *mut u8,
+        results_size: usize,
+    ) -> u32;
+    pub(crate) fn kip_lookup_account(
+        kip: *mut Handle,
+        id_low: u64,
+        id_high: u64,
+        account: *mut [u8; 128],
+    ) -> u32;
+    pub(crate) fn kip_clock(kip: *mut Handle, nanoseconds: *mut u64) -> u32;
+}

@@ -1,0 +1,4 @@
+mod Values
+mod AsBox
+mod Moved
+mod Written

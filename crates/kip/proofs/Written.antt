@@ -1,0 +1,41 @@
+-- Bytes that are written one record after the other.
+use Rattle.std.proofs.Common.{◌≡◌, sym, subst, ap, ◌∙◌, arith, ℕ, suc, ◌+◌, ◌<◌, List, [], ◌++◌, take, drop, length, get_or, append_assoc, length-append}
+use Rattle.std.specs.List.{flat_map}
+use Rattle.std.proofs.Math.Seq.{take-append_seam, take-suc}
+use Rattle.std.proofs.lemmas.List.{flat_map_more}
+use Rattle.std.proofs.lemmas.Slice.{drop-append-drop}
+
+-- a record written after those before it
+pub write_next : (before bytes out : List ℕ) (offset size : ℕ) → length before ≡ offset →
+    take offset (before ++ drop offset out) ++ (bytes ++ drop (offset + size) (before ++ drop offset out))
+    ≡ (before ++ bytes) ++ drop (offset + size) out
+write_next before bytes out offset size long =
+    ap (λ front. front ++ (bytes ++ drop (offset + size) (before ++ drop offset out)))
+    (subst (λ n. take n (before ++ drop offset out) ≡ before) long (take-append_seam before (drop offset out)))
+    ∙ ap (λ back. before ++ (bytes ++ back)) (drop-append-drop offset out before (offset + size) (omega arith) long)
+    ∙ sym (append_assoc before bytes (drop (offset + size) out))
+
+-- one record more
+pub one_more : {X : Type 0} (f : X → List ℕ) (xs : List X) (i : ℕ) (d : X) → i < length xs
+    → flat_map f (take (i + 1) xs) ≡ flat_map f (take i xs) ++ f (get_or xs i d)
+one_more f xs i d within =
+    let e : suc i ≡ i + 1 = omega arith in
+    subst (λ n. flat_map f (take n xs) ≡ flat_map f (take i xs) ++ f (get_or xs i d)) e
+    (ap (flat_map f) (take-suc xs i d within) ∙ sym (flat_map_more f [] (take i xs) (get_or xs i d)))
+
+-- the buffer with one record more
+pub written_more : {X : Type 0} (f : X → List ℕ) (xs : List X) (i : ℕ) (d : X) (offset size : ℕ)
+    (out was now : List ℕ) → i < length xs → length (flat_map f (take i xs)) ≡ offset
+    → was ≡ flat_map f (take i xs) ++ drop offset out
+    → now ≡ take offset was ++ (f (get_or xs i d) ++ drop (offset + size) was)
+    → length (f (get_or xs i d)) ≡ size →
+    (length (flat_map f (take (i + 1) xs)) ≡ offset + size)
+    × (now ≡ flat_map f (take (i + 1) xs) ++ drop (offset + size) out)
+written_more f xs i d offset size out was now within long was_is now_is wide =
+    let before = flat_map f (take i xs) in
+    let bytes = f (get_or xs i d) in
+    let more = one_more f xs i d within in (
+      omega (arith, ap length more, length-append before bytes, long, wide),
+      now_is ∙ ap (λ was. take offset was ++ (bytes ++ drop (offset + size) was)) was_is
+          ∙ write_next before bytes out offset size long ∙ ap (λ all. all ++ drop (offset + size) out) (sym more),
+    )

@@ -1,0 +1,120 @@
+-- What a call did to the engine behind a handle; a closed handle has none.
+use Rattle.std.specs.Prelude.{◌≡◌, ◌<◌, ◌≤◌, ◌⊎◌, ◌+◌, ◌*◌, ◌^◌, ℕ, List, [], nat_lt, if◌then◌else◌, length, slice_get, Option, Some, None}
+use Rattle.tb_layout.specs.Account.{account_bytes}
+use Rattle.tb_layout.specs.Limits.{clock_max}
+use Rattle.tb_layout.specs.declared.account.Account.{Account}
+use Rattle.tb_tables.specs.Balances.{balanced_account}
+use Rattle.tb_work.specs.Refusal.{number_of}
+use Rattle.tb_work.specs.Packet.{Replied}
+use Rattle.tb_work.specs.declared.packet.Packet.{Packet}
+use Rattle.tb_work.specs.declared.refusal.Refusal.{Refusal}
+use Rattle.tb_work.specs.declared.refusal.Refusal.TheVariants.{MomentTooLarge, NoMemory}
+use Rattle.tb_core.specs.Front.{opening_refusal}
+use Rattle.tb_embed.specs.Engine.{EngineState, Reads, IsRefusal, submit_refusal, state_of}
+use Rattle.kip.specs.declared.reading.KipReply.{KipReply}
+use Rattle.kip.specs.Results.{AreWritten, IsHeadOf, result_bytes, result_size}
+
+-- the handle was open and stays open, and this holds of its engine before and after
+abbrev pub Moves : (EngineState → EngineState → Type 0) → Option EngineState → Option EngineState → Type 0
+Moves R (Some old) (Some new) = R old new
+Moves R (Some old) None = ⊥
+Moves R None new = ⊥
+
+-- the handle is open, and this holds of its engine
+abbrev pub IsOpen : (EngineState → Type 0) → Option EngineState → Type 0
+IsOpen P (Some engine) = P engine
+IsOpen P None = ⊥
+
+abbrev pub packet_with : ℕ → List ℕ → ℕ → Packet
+packet_with operation bytes user = record { operation = operation; bytes = bytes; user = user }
+
+-- ---- statuses
+
+-- 0 if nothing is refused, else the number of the first refusal that applies or of NoMemory
+abbrev pub IsStatus : Option Refusal → ℕ → Type 0
+IsStatus first status =
+    ((status ≡ 0) × (first ≡ None))
+    ⊎ ((refusal : Refusal) × (IsRefusal first refusal × (status ≡ number_of refusal)))
+
+-- the status of a call, which a closed handle refuses with 100
+abbrev pub IsStatusOf : (EngineState → Option Refusal) → Option EngineState → ℕ → Type 0
+IsStatusOf refusal (Some engine) status = IsStatus (refusal engine) status
+IsStatusOf refusal None status = status ≡ 100
+
+-- the status of a submission: memory for the copy of the data is needed before anything else
+abbrev pub IsSubmitStatus : ℕ → Packet → Option EngineState → ℕ → Type 0
+IsSubmitStatus submitter packet (Some engine) status =
+    IsStatus (submit_refusal engine submitter packet) status ⊎ (status ≡ number_of NoMemory)
+IsSubmitStatus submitter packet None status = status ≡ 100
+
+-- why a handle isn't opened, if memory is there
+abbrev pub open_refusal : ℕ → ℕ → ℕ → Option Refusal
+open_refusal clock limit submitters =
+    if nat_lt clock_max clock then Some MomentTooLarge else opening_refusal limit submitters
+
+-- an open handle isn't opened again
+abbrev pub IsOpeningStatus : ℕ → ℕ → ℕ → Option EngineState → ℕ → Type 0
+IsOpeningStatus clock limit submitters None status = IsStatus (open_refusal clock limit submitters) status
+IsOpeningStatus clock limit submitters (Some engine) status = status ≡ 101
+
+abbrev pub IsClosingStatus : Option EngineState → ℕ → Type 0
+IsClosingStatus None status = status ≡ 100
+IsClosingStatus (Some engine) status = status ≡ 0
+
+-- ---- replies
+
+-- a reply was read, which the head describes and whose results are in the buffer
+pub record HasRead (head : KipReply) (before after : List ℕ) (old new : EngineState) : Type 0 where
+  pub reply : Replied
+  pub told : IsHeadOf head reply
+  pub written : AreWritten (result_bytes reply.outcome) (result_size reply.outcome) before after
+  pub reads : Reads old reply new
+
+-- the head describes the next reply
+pub record IsNextIn (head : KipReply) (engine : EngineState) : Type 0 where
+  pub reply : Replied
+  pub is_next : slice_get engine.unread 0 ≡ Some reply
+  pub told : IsHeadOf head reply
+
+-- the next reply, whose results have up to `size` bytes, or more with status 103; none with status 102
+pub record IsPeek (status : ℕ) (head : KipReply) (size : ℕ) (engine : EngineState) : Type 0 where
+  pub fits : status ≡ 0 → IsNextIn head engine × (head.size ≤ size)
+  pub none : status ≡ 102 → engine.unread ≡ []
+  pub small : status ≡ 103 → IsNextIn head engine × (size < head.size)
+  pub one_of : (status ≡ 0) ⊎ ((status ≡ 102) ⊎ (status ≡ 103))
+
+-- the status of a read: 0 with a reply, 102 without one, 103 with a buffer that is too small
+pub record IsReading (status : ℕ) (head : KipReply) (before after : List ℕ) (old new : EngineState) : Type 0 where
+  pub read : status ≡ 0 → HasRead head before after old new
+  pub none : status ≡ 102 → old.unread ≡ []
+  pub small : status ≡ 103 → IsNextIn head old × (length before < head.size)
+  pub same : (status ≡ 0 → ⊥) → (new ≡ old) × (after ≡ before)
+  pub one_of : (status ≡ 0) ⊎ ((status ≡ 102) ⊎ (status ≡ 103))
+
+-- a closed handle reads nothing
+abbrev pub IsReadingOf : ℕ → KipReply → List ℕ → List ℕ → Option EngineState → Option EngineState → Type 0
+IsReadingOf status head before after (Some old) (Some new) = IsReading status head before after old new
+IsReadingOf status head before after (Some old) None = ⊥
+IsReadingOf status head before after None new = (status ≡ 100) × (after ≡ before)
+
+-- ---- look-ups
+
+abbrev pub id_of : ℕ → ℕ → ℕ
+id_of low high = high * 2 ^ 64 + low
+
+-- 0 with the account's bytes, 104 without an account
+pub record IsLookup (status id : ℕ) (before after : List ℕ) (engine : EngineState) : Type 0 where
+  pub found : status ≡ 0
+      → (account : Account) × ((balanced_account (state_of engine).facts id ≡ Some account)
+      × (after ≡ account_bytes account))
+  pub none : status ≡ 104 → (balanced_account (state_of engine).facts id ≡ None) × (after ≡ before)
+  pub one_of : (status ≡ 0) ⊎ (status ≡ 104)
+
+abbrev pub IsLookupIn : ℕ → ℕ → List ℕ → List ℕ → Option EngineState → Type 0
+IsLookupIn status id before after (Some engine) = IsLookup status id before after engine
+IsLookupIn status id before after None = (status ≡ 100) × (after ≡ before)
+
+-- 0 with the clock
+abbrev pub IsClockOf : ℕ → ℕ → ℕ → Option EngineState → Type 0
+IsClockOf status before after (Some engine) = (status ≡ 0) × (after ≡ (state_of engine).clock)
+IsClockOf status before after None = (status ≡ 100) × (after ≡ before)

@@ -1,0 +1,324 @@
+//! The exported functions.
+
+ghost use Rattle.std.specs.Prelude.{◌≡◌, ◌⊎◌, [], IfOk, IfErr, OnOk, OnErr, IsOk, None};
+ghost use Rattle.tb_work.specs.Refusal.{number_of};
+ghost use Rattle.tb_work.specs.declared.item.Item.TheVariants as item;
+ghost use Rattle.tb_work.specs.declared.refusal.Refusal.TheVariants.{NoMemory as NoMemoryRefusal};
+ghost use Rattle.tb_embed.specs.Engine.{EngineState, Serves, Queues, Continues, IsRefusal, submit_refusal, pulse_refusal, shut_refusal, state_of};
+ghost use Rattle.tb_embed.specs.Queued.{packet_ticket, ticket_of};
+ghost use Rattle.kip.specs.Handle.{Moves, IsOpen, IsStatus, IsStatusOf, IsSubmitStatus, IsOpeningStatus, IsClosingStatus, IsPeek, IsReading, IsReadingOf, IsLookup, IsLookupIn, IsClockOf, id_of, open_refusal, packet_with};
+
+use crate::handle::Kip;
+use crate::reading::{KipReply, head_of, put_results};
+use std::alloc::{AllocError, Global};
+use tb_embed::Engine;
+use tb_layout::{CLOCK_MAX, write_account};
+use tb_work::{Bytes, Packet, Refusal};
+
+/// Version 0.1.0, a byte for each number.
+const VERSION: u32 = 0x0000_0100;
+
+/// The handle is closed.
+const CLOSED: u32 = 100;
+
+/// The handle is open.
+const ALREADY_OPEN: u32 = 101;
+
+/// No reply is unread.
+const NO_REPLY: u32 = 102;
+
+/// The buffer is too small for the results.
+const TOO_SMALL: u32 = 103;
+
+/// There is no such account.
+const NOT_FOUND: u32 = 104;
+
+/// What half of an id stays below.
+const HALF: u128 = 1 << 64;
+
+/// Returns the version of the library: major, minor and patch in a byte each, patch lowest.
+#[unsafe(no_mangle)]
+pub extern "C" fn kip_version() -> u32
+    ensures { result ≡ 256 }
+{
+    VERSION
+}
+
+/// Returns 0, or the number of the refusal.
+fn status_of(done: Result<(), Refusal>) -> u32
+    ensures ok { OnOk done (result ≡ 0) }
+    ensures err { IfErr done (λ refusal. result ≡ number_of refusal) }
+    ensures zero { result ≡ 0 → IsOk done }
+{
+    match done {
+        Ok(()) => 0,
+        Err(refusal) => refusal.number(),
+    }
+}
+
+fn open(alloc: Global, clock: u64, limit: u32, submitters: u32) -> Result<Box<Engine>, Refusal>
+    ensures serves { IfOk result (λ engine. Serves clock [] [] engine.value) }
+    ensures opens { OnOk result (open_refusal clock limit submitters ≡ None) }
+    ensures refusal { IfErr result (λ refusal. IsRefusal (open_refusal clock limit submitters) refusal) }
+{
+    if clock > CLOCK_MAX {
+        return Err(Refusal::MomentTooLarge);
+    }
+    let engine = Engine::new(alloc, clock, limit, submitters)?;
+    match Box::new(alloc, engine) {
+        Ok(engine) => Ok(engine),
+        Err(_) => Err(Refusal::NoMemory),
+    }
+}
+
+/// Opens a closed handle, with a clock in nanoseconds, a limit of 1 to 8190 events and 1 to 16 submitters.
+#[unsafe(no_mangle)]
+pub extern "C" fn kip_open(
+    alloc: Global,
+    kip: &mut Kip,
+    clock: u64,
+    limit: u32,
+    submitters: u32,
+) -> u32
+    ensures ok { result ≡ 0 → IsOpen (Serves clock [] []) kip.new.held.engine }
+    ensures status { IsOpeningStatus clock limit submitters kip.old.held.engine result }
+    ensures same { (result ≡ 0 → ⊥) → kip.new.held.engine ≡ kip.old.held.engine }
+{
+    if kip.is_open {
+        return ALREADY_OPEN;
+    }
+    match open(alloc, clock, limit, submitters) {
+        Ok(engine) => {
+            kip.put(engine);
+            0
+        }
+        Err(refusal) => refusal.number(),
+    }
+}
+
+/// Closes a handle and frees all that is behind it.
+#[unsafe(no_mangle)]
+pub extern "C" fn kip_close(alloc: Global, kip: &mut Kip) -> u32
+    ensures closed { kip.new.held.engine ≡ None }
+    ensures status { IsClosingStatus kip.old.held.engine result }
+{
+    match kip.take(alloc) {
+        Some(engine) => {
+            drop(engine);
+            0
+        }
+        None => CLOSED,
+    }
+}
+
+fn packet_of(alloc: Global, operation: u8, bytes: &[u8], user: u64) -> Result<Packet, AllocError>
+    ensures { IfOk result (λ packet. packet ≡ packet_with operation bytes.now user) }
+{
+    let mut copy = Vec::with_capacity(alloc, bytes.len())?;
+    copy.extend_from_slice(bytes)?;
+    Ok(Packet {
+        operation,
+        bytes: Bytes::from_vec(copy),
+        user,
+    })
+}
+
+/// Queues a packet with a copy of the data, and writes its number.
+fn submit(
+    alloc: Global,
+    engine: &mut Engine,
+    submitter: u32,
+    packet: Packet,
+    number: &mut u64,
+) -> u32
+    ensures ok { result ≡ 0 → Queues engine.old (packet_ticket submitter number.new packet) engine.new }
+    ensures status { IsStatus (submit_refusal engine.old submitter packet) result }
+    ensures same { (result ≡ 0 → ⊥) → (engine.new ≡ engine.old) × (number.new ≡ number.old) }
+{
+    match engine.submit(alloc, submitter, packet) {
+        Ok(next) => {
+            *number = next;
+            0
+        }
+        Err((packet, refusal)) => {
+            drop(packet);
+            refusal.number()
+        }
+    }
+}
+
+/// Queues a packet, whose data is copied, and writes its number among its submitter's packets.
+#[unsafe(no_mangle)]
+pub extern "C" fn kip_submit_bytes(
+    alloc: Global,
+    kip: &mut Kip,
+    submitter: u32,
+    operation: u8,
+    bytes: &[u8],
+    user_data: u64,
+    number: &mut u64,
+) -> u32
+    ensures ok { result ≡ 0 → Moves (λ old new. Queues old
+        (packet_ticket submitter number.new (packet_with operation bytes.now user_data)) new)
+        kip.old.held.engine kip.new.held.engine }
+    ensures status { IsSubmitStatus submitter (packet_with operation bytes.now user_data)
+        kip.old.held.engine result }
+    ensures same { (result ≡ 0 → ⊥) → (kip.new.held.engine ≡ kip.old.held.engine) × (number.new ≡ number.old) }
+{
+    if !kip.is_open {
+        return CLOSED;
+    }
+    let Ok(packet) = packet_of(alloc, operation, bytes, user_data) else {
+        return Refusal::NoMemory.number();
+    };
+    let Some(mut engine) = kip.take(alloc) else {
+        unreachable!()
+    };
+    let status = submit(alloc, &mut engine, submitter, packet, number);
+    kip.put(engine);
+    status
+}
+
+/// Queues a pulse: a moment in nanoseconds to which the clock is raised.
+#[unsafe(no_mangle)]
+pub extern "C" fn kip_pulse(alloc: Global, kip: &mut Kip, nanoseconds: u64) -> u32
+    ensures ok { result ≡ 0 → Moves (λ old new. Queues old
+        (ticket_of old.front.submitters (item.Pulse nanoseconds)) new) kip.old.held.engine kip.new.held.engine }
+    ensures status { IsStatusOf (λ engine. pulse_refusal engine nanoseconds) kip.old.held.engine result }
+    ensures same { (result ≡ 0 → ⊥) → kip.new.held.engine ≡ kip.old.held.engine }
+{
+    let Some(mut engine) = kip.take(alloc) else {
+        return CLOSED;
+    };
+    let status = status_of(engine.pulse(nanoseconds));
+    kip.put(engine);
+    status
+}
+
+/// Queues the Close: packets after it aren't committed.
+#[unsafe(no_mangle)]
+pub extern "C" fn kip_shut(alloc: Global, kip: &mut Kip) -> u32
+    ensures ok { result ≡ 0 → Moves (λ old new. Queues old
+        (ticket_of old.front.submitters item.Close) new) kip.old.held.engine kip.new.held.engine }
+    ensures status { IsStatusOf shut_refusal kip.old.held.engine result }
+    ensures same { (result ≡ 0 → ⊥) → kip.new.held.engine ≡ kip.old.held.engine }
+{
+    let Some(mut engine) = kip.take(alloc) else {
+        return CLOSED;
+    };
+    let status = status_of(engine.shut());
+    kip.put(engine);
+    status
+}
+
+/// Commits the packets that are held.
+#[unsafe(no_mangle)]
+pub extern "C" fn kip_flush(alloc: Global, kip: &mut Kip) -> u32
+    ensures ok { result ≡ 0 → Moves (λ old new. Continues old new) kip.old.held.engine kip.new.held.engine }
+    ensures held { result ≡ 0 → IsOpen (λ engine. engine.front.held ≡ []) kip.new.held.engine }
+    ensures status { IsStatusOf (λ engine. None) kip.old.held.engine result }
+    ensures same { (result ≡ 0 → ⊥) → kip.new.held.engine ≡ kip.old.held.engine }
+{
+    let Some(mut engine) = kip.take(alloc) else {
+        return CLOSED;
+    };
+    let status = status_of(engine.flush());
+    kip.put(engine);
+    status
+}
+
+/// Writes the head of the next reply, which stays. Returns 0 if its results fit into `size` bytes.
+fn peek(engine: &Engine, head: &mut KipReply, size: usize) -> u32
+    ensures { IsPeek result head.new size engine.now }
+{
+    let Some(next) = engine.next_reply() else {
+        return NO_REPLY;
+    };
+    *head = head_of(next);
+    if head.size > size as u64 {
+        return TOO_SMALL;
+    }
+    0
+}
+
+/// Reads the next reply and its results.
+fn read(engine: &mut Engine, head: &mut KipReply, results: &mut [u8]) -> u32
+    ensures { IsReading result head.new results.old results.new engine.old engine.new }
+{
+    let status = peek(engine, head, results.len());
+    if status != 0 {
+        return status;
+    }
+    let Some(reply) = engine.reply() else {
+        unreachable!()
+    };
+    put_results(&reply.outcome, results);
+    drop(reply);
+    0
+}
+
+/// Reads the next reply, in the order of the packets, with its results: 8 bytes a failure, or 128 an account. If they are
+/// too many for the buffer, the reply stays and its head has their size.
+#[unsafe(no_mangle)]
+pub extern "C" fn kip_reply_bytes(
+    alloc: Global,
+    kip: &mut Kip,
+    reply: &mut KipReply,
+    results: &mut [u8],
+) -> u32
+    ensures { IsReadingOf result reply.new results.old results.new kip.old.held.engine kip.new.held.engine }
+{
+    let Some(mut engine) = kip.take(alloc) else {
+        return CLOSED;
+    };
+    let status = read(&mut engine, reply, results);
+    kip.put(engine);
+    status
+}
+
+fn lookup(engine: &Engine, id: u128, account: &mut [u8; 128]) -> u32
+    ensures { IsLookup result id account.old account.new engine.now }
+{
+    match engine.lookup_account(id) {
+        Some(found) => {
+            *account = write_account(&found);
+            0
+        }
+        None => NOT_FOUND,
+    }
+}
+
+/// Writes the account with an id, in 128 bytes; held packets aren't in it.
+#[unsafe(no_mangle)]
+pub extern "C" fn kip_lookup_account(
+    alloc: Global,
+    kip: &mut Kip,
+    id_low: u64,
+    id_high: u64,
+    account: &mut [u8; 128],
+) -> u32
+    ensures lookup { IsLookupIn result (id_of id_low id_high) account.old account.new kip.old.held.engine }
+    ensures same { kip.new.held.engine ≡ kip.old.held.engine }
+{
+    let Some(engine) = kip.take(alloc) else {
+        return CLOSED;
+    };
+    let id = u128::from(id_high) * HALF + u128::from(id_low);
+    let status = lookup(&engine, id, account);
+    kip.put(engine);
+    status
+}
+
+/// Writes the clock in nanoseconds.
+#[unsafe(no_mangle)]
+pub extern "C" fn kip_clock(alloc: Global, kip: &mut Kip, nanoseconds: &mut u64) -> u32
+    ensures clock { IsClockOf result nanoseconds.old nanoseconds.new kip.old.held.engine }
+    ensures same { kip.new.held.engine ≡ kip.old.held.engine }
+{
+    let Some(engine) = kip.take(alloc) else {
+        return CLOSED;
+    };
+    *nanoseconds = engine.clock();
+    kip.put(engine);
+    0
+}

@@ -1,0 +1,94 @@
+/* Calls that are refused: each returns its status and leaves everything as it was. */
+#undef NDEBUG
+#include <assert.h>
+#include <kip.h>
+#include <stdio.h>
+#include <string.h>
+
+static void closed_handle(void) {
+    kip_t kip = {0};
+    uint64_t number = 99;
+    unsigned char bytes[128] = {0}, results[8] = {7};
+    kip_reply_t reply;
+    kip_account account;
+    assert(kip_close(&kip) == KIP_CLOSED && kip_flush(&kip) == KIP_CLOSED && kip_shut(&kip) == KIP_CLOSED);
+    assert(kip_submit(&kip, 0, 129, bytes, 128, 0, &number) == KIP_CLOSED && number == 99);
+    assert(kip_reply(&kip, &reply, results, 8) == KIP_CLOSED && results[0] == 7);
+    assert(kip_clock(&kip, &number) == KIP_CLOSED && number == 99);
+    assert(kip_lookup_account(&kip, 1, 0, &account) == KIP_CLOSED && kip_pulse(&kip, 1) == KIP_CLOSED);
+}
+
+static void settings(void) {
+    kip_t kip = {0};
+    assert(kip_open(&kip, UINT64_C(1) << 63, 0, 0) == KIP_MOMENT_TOO_LARGE);
+    assert(kip_open(&kip, UINT64_MAX, 8190, 1) == KIP_MOMENT_TOO_LARGE);
+    assert(kip_open(&kip, 0, 0, 0) == KIP_BAD_LIMIT && kip_open(&kip, 0, 8191, 1) == KIP_BAD_LIMIT);
+    assert(kip_open(&kip, 0, UINT32_MAX, 1) == KIP_BAD_LIMIT);
+    assert(kip_open(&kip, 0, 1, 0) == KIP_BAD_SUBMITTERS && kip_open(&kip, 0, 1, 17) == KIP_BAD_SUBMITTERS);
+    assert(kip_open(&kip, 0, 1, UINT32_MAX) == KIP_BAD_SUBMITTERS && !kip.is_open);
+    assert(kip_open(&kip, (UINT64_C(1) << 63) - 1, 8190, 16) == KIP_OK);
+    assert(kip_open(&kip, 0, 1, 16) == KIP_ALREADY_OPEN);
+    assert(kip_close(&kip) == KIP_OK && kip_close(&kip) == KIP_CLOSED);
+    assert(kip_open(&kip, 0, 1, 1) == KIP_OK && kip_close(&kip) == KIP_OK);
+}
+
+static void packets(kip_t *kip) {
+    uint64_t number = 99;
+    unsigned char bytes[257] = {0};
+    assert(kip_submit(kip, 16, 129, bytes, 128, 0, &number) == KIP_BAD_SUBMITTERS);
+    assert(kip_submit(kip, UINT32_MAX, 0, bytes, 1, 0, &number) == KIP_BAD_SUBMITTERS);
+    assert(kip_submit(kip, 0, 0, bytes, 128, 0, &number) == KIP_INVALID_OPERATION);
+    assert(kip_submit(kip, 0, 255, bytes, 128, 0, &number) == KIP_INVALID_OPERATION);
+    assert(kip_submit(kip, 0, 129, bytes, 127, 0, &number) == KIP_INVALID_DATA_SIZE);
+    assert(kip_submit(kip, 0, 131, bytes, 15, 0, &number) == KIP_INVALID_DATA_SIZE);
+    assert(kip_submit(kip, 0, 130, bytes, 256, 0, &number) == KIP_TOO_MUCH_DATA);
+    assert(kip_submit(kip, 0, 129, NULL, 128, 0, &number) == KIP_NULL_POINTER && number == 99);
+    assert(kip_pulse(kip, (UINT64_C(1) << 62) + 1) == KIP_MOMENT_TOO_LARGE);
+    /* No number was used. A packet without data is a packet, and data needs no alignment. */
+    assert(kip_submit(kip, 0, 130, NULL, 0, 0, &number) == KIP_OK && number == 0);
+    assert(kip_submit(kip, 0, 129, bytes + 1, 128, 5, &number) == KIP_OK && number == 1);
+    assert(kip_submit(kip, 15, 129, bytes, 128, 6, &number) == KIP_OK && number == 0);
+}
+
+static void replies(kip_t *kip) {
+    unsigned char results[8];
+    kip_reply_t reply;
+    kip_account account;
+    assert(kip_reply(kip, &reply, NULL, 8) == KIP_NULL_POINTER);
+    assert(kip_reply(kip, &reply, NULL, 0) == KIP_OK && reply.size == 0 && reply.number == 0);
+    assert(kip_flush(kip) == KIP_OK);
+    memset(results, 0xAA, sizeof results);
+    assert(kip_reply(kip, &reply, results, 7) == KIP_TOO_SMALL && reply.size == 8 && results[0] == 0xAA);
+    assert(kip_reply(kip, &reply, NULL, 0) == KIP_TOO_SMALL && reply.user_data == 5);
+    assert(kip_reply(kip, &reply, results, 8) == KIP_OK && reply.user_data == 5 && reply.submitter == 0);
+    assert(results[0] == 0 && results[4] == 6); /* id_must_not_be_zero */
+    assert(kip_reply(kip, &reply, results, 8) == KIP_OK && reply.user_data == 6 && reply.submitter == 15);
+    assert(kip_reply(kip, &reply, results, 8) == KIP_NO_REPLY);
+    assert(kip_lookup_account(kip, 0, 0, &account) == KIP_NOT_FOUND);
+    assert(kip_lookup_account(kip, UINT64_MAX, UINT64_MAX, &account) == KIP_NOT_FOUND);
+}
+
+static void after_the_close(kip_t *kip) {
+    uint64_t number;
+    unsigned char bytes[128] = {0};
+    kip_reply_t reply;
+    assert(kip_shut(kip) == KIP_OK && kip_shut(kip) == KIP_SHUTDOWN && kip_pulse(kip, 5) == KIP_SHUTDOWN);
+    assert(kip_submit(kip, 0, 129, bytes, 128, 7, &number) == KIP_OK && number == 2);
+    assert(kip_reply(kip, &reply, NULL, 0) == KIP_OK && reply.outcome == KIP_OUTCOME_SHUTDOWN && reply.size == 0);
+    assert(kip_reply(kip, &reply, NULL, 0) == KIP_NO_REPLY);
+}
+
+int main(void) {
+    kip_t kip = {0};
+    assert(kip_version() == KIP_VERSION);
+    assert(strcmp(kip_status_name(KIP_SHUTDOWN), "shutdown") == 0 && strcmp(kip_status_name(4), "unknown") == 0);
+    closed_handle();
+    settings();
+    assert(kip_open(&kip, 0, 1, 16) == KIP_OK);
+    packets(&kip);
+    replies(&kip);
+    after_the_close(&kip);
+    assert(kip_close(&kip) == KIP_OK);
+    puts("each refused as declared");
+    return 0;
+}

@@ -1,0 +1,46 @@
+/* Two accounts, one transfer that succeeds and one that fails. Prints their replies and a balance. */
+#include <kip.h>
+#include <stdio.h>
+#include <stdlib.h>
+
+static void must(uint32_t status) {
+    if (status != KIP_OK) {
+        fprintf(stderr, "%s\n", kip_status_name(status));
+        exit(1);
+    }
+}
+
+int main(void) {
+    kip_t kip = {0};
+    must(kip_open(&kip, 0, 8190, 2));
+
+    kip_account accounts[2] = {
+        {.id = {1, 0}, .ledger = 1, .code = 1},
+        {.id = {2, 0}, .ledger = 1, .code = 1},
+    };
+    kip_transfer transfers[2] = {
+        {.id = {1, 0}, .debit_account_id = {1, 0}, .credit_account_id = {2, 0}, .amount = {30, 0}, .ledger = 1, .code = 1},
+        {.id = {2, 0}, .debit_account_id = {1, 0}, .credit_account_id = {9, 0}, .amount = {30, 0}, .ledger = 1, .code = 1},
+    };
+    uint64_t number;
+    must(kip_submit(&kip, 0, KIP_OPERATION_CREATE_ACCOUNTS, accounts, sizeof accounts, 70, &number));
+    must(kip_submit(&kip, 1, KIP_OPERATION_CREATE_TRANSFERS, transfers, sizeof transfers, 71, &number));
+    must(kip_flush(&kip));
+
+    kip_reply_t reply;
+    kip_failure failures[2];
+    while (kip_reply(&kip, &reply, failures, sizeof failures) == KIP_OK) {
+        printf("packet %u %llu, user word %llu: place %llu", reply.submitter, (unsigned long long)reply.number,
+               (unsigned long long)reply.user_data, (unsigned long long)reply.place);
+        for (size_t i = 0; i < reply.size / sizeof *failures; i++) {
+            printf(" %u:%u", failures[i].index, failures[i].result);
+        }
+        printf("\n");
+    }
+
+    kip_account found;
+    must(kip_lookup_account(&kip, 1, 0, &found));
+    printf("account 1: debits posted %llu\n", (unsigned long long)found.debits_posted.low);
+    must(kip_close(&kip));
+    return 0;
+}
