@@ -53,10 +53,9 @@ pub record IsAnsweredAt (run : Run) (place : ℕ) (reply : Replied) (answer : An
 
 -- ---- the headline
 
--- The packets committed of each submitter are, in order and each once, a prefix of those ahead of the Close; those are a
--- prefix of what it queued; all of them are committed unless the pipeline stopped. Its replies are one per queued packet,
--- in order. A committed one names the packet's place, and is what the state machine answers to that packet alone, in the
--- state that the packets and pulses before it left. Committed pulses are a prefix of those that the control queued.
+-- The packets committed of each submitter are a prefix of those ahead of the Close, which are a prefix of what it queued;
+-- they are all of them unless something stopped. Its replies are one per queued packet, in order, each committed one being
+-- what the state machine answers to that packet alone at its place. Committed pulses are a prefix of the control's.
 pub record Headline (run : Run) : Type 0 where
   pub committed : (submitter : ℕ) → submitter < run.submitters
       → IsPrefix (packets_of submitter (committed_in run)) (packets_of submitter (ahead_in run))

@@ -1,4 +1,4 @@
--- Queues of tickets: each sender's part, what is ahead of the Close, and what is known of them once all have ended.
+-- Queues of tickets: each sender's part, and what is ahead of the Close.
 use Rattle.std.specs.Prelude.{◌≡◌, ◌<◌, ◌≤◌, ℕ, ◌+◌, ◌==◌, Bool, true, false, not, List, [], ◌∷◌, ◌++◌, map, filter}
 use Rattle.std.specs.List.{list_all, AllByRecursion}
 use Rattle.tb_work.specs.declared.item.Item.{Item}
@@ -18,7 +18,7 @@ ahead_of (Pulse moment) others = work.Pulse moment ∷ others
 ahead_of End others = others
 ahead_of Close others = []
 
--- the packets and pulses in front of the first Close, or all of them where there is none
+-- the packets and pulses ahead of the first Close
 abbrev pub ahead : List Item → List Work
 ahead [] = []
 ahead (item ∷ items) = ahead_of item (ahead items)
@@ -30,11 +30,10 @@ is_end (Pulse moment) = false
 is_end End = true
 is_end Close = true
 
--- no end stands in the list
 abbrev pub IsUnended : List Item → Type 0
 IsUnended items = list_all (λ item. not (is_end item)) items ≡ true
 
--- the list has one end, which is its last item
+-- the last item, and no other, is an end
 pub record IsEnded (items : List Item) : Type 0 where
   pub body : List Item
   pub last : Item
@@ -46,8 +45,7 @@ pub record IsEnded (items : List Item) : Type 0 where
 abbrev pub items_in : List Ticket → List Item
 items_in queue = map (λ (ticket : Ticket). ticket.item) queue
 
--- a sender's own item: a packet is that of its submitter, one of so many; a pulse and a Close are the control's, which
--- is the sender after them
+-- packets are their submitters' own; pulses and the Close are the control's, the sender after the last submitter
 abbrev pub IsSubmitted : ℕ → ℕ → Item → Type 0
 IsSubmitted submitters sender (Packet job) = (job.submitter ≡ sender) × (sender < submitters)
 IsSubmitted submitters sender (Pulse moment) = sender ≡ submitters
@@ -58,7 +56,7 @@ abbrev pub AreSubmitted : ℕ → List Ticket → Type 0
 AreSubmitted submitters queue =
     AllByRecursion (λ (ticket : Ticket). IsSubmitted submitters ticket.sender ticket.item) queue
 
--- a sender's packets are its own, and numbered from a number on
+-- a sender's packets are its own, and numbered from `number` on
 abbrev pub AreNumbered : ℕ → ℕ → List Item → Type 0
 AreNumbered sender number [] = Unit {0}
 AreNumbered sender number (Packet job ∷ items) =
@@ -67,9 +65,8 @@ AreNumbered sender number (Pulse moment ∷ items) = AreNumbered sender number i
 AreNumbered sender number (End ∷ items) = AreNumbered sender number items
 AreNumbered sender number (Close ∷ items) = AreNumbered sender number items
 
--- A queue as its senders filled it: senders 0 to `submitters` (the last is the control) put in it just what each of
--- them queued, in order and with its end last; each packet is its submitter's own, and numbered from 0; pulses and a
--- Close are the control's; nobody else is in it.
+-- Senders 0 to `submitters`, the last of which is the control, put exactly what each of them queued into the queue, in
+-- order and its end last. Packets are numbered from 0.
 pub record IsQueueOf (submitters : ℕ) (queue : List Ticket) (queued : ℕ → List Item) : Type 0 where
   pub parts : (sender : ℕ) → sender ≤ submitters → part sender queue ≡ queued sender
   pub strangers : (sender : ℕ) → submitters < sender → part sender queue ≡ []
