@@ -35,6 +35,9 @@ fn main(rt: HostRuntime) -> ExitCode {
         Err(fault) => Ending::Failed(fault),
     };
     let text = ending.text();
-    let _ = print!(rt; "{text}");
+    let ending = match print!(rt; "{text}") {
+        Ok(()) => ending,
+        Err(_) => Ending::Failed(ProgramFault::Write),
+    };
     ExitCode::from(ending.status())
 }
