@@ -11,8 +11,9 @@ from collections import namedtuple
 # What one run of a program took, in seconds, and what it printed.
 Run = namedtuple("Run", "wall processor output")
 
-# The medians of two programs that ran in turn, in seconds, and of their ratio pair by pair, with its quartiles.
-Pair = namedtuple("Pair", "ours peers low ratio high")
+# The medians of two programs that ran in turn, in seconds, and of their ratio pair by pair, with its quartiles; the
+# quartiles of both programs' times stand beside them.
+Pair = namedtuple("Pair", "ours peers low ratio high our_spread peers_spread")
 
 
 def run(command, source=os.devnull):
@@ -29,23 +30,31 @@ def run(command, source=os.devnull):
         return Run(wall, used.ru_utime + used.ru_stime, output.read())
 
 
-def in_turn(ours, peers, turns, source=os.devnull):
-    """The runs of two programs in alternation, as pairs. Both must print the same."""
-    pairs = []
+def in_turn(commands, turns, source=os.devnull):
+    """The runs of programs in turn, beginning with another one each time. All must print the same."""
+    rounds = []
     for turn in range(turns):
-        first, second = (ours, peers) if turn % 2 == 0 else (peers, ours)
-        runs = [run(first, source), run(second, source)]
-        pairs.append(tuple(runs if turn % 2 == 0 else reversed(runs)))
-        if runs[0].output != runs[1].output:
-            raise SystemExit(f"{ours} and {peers} don't print the same")
-    return pairs
+        runs = {}
+        for place in range(len(commands)):
+            at = (turn + place) % len(commands)
+            runs[at] = run(commands[at], source)
+        if len({ended.output for ended in runs.values()}) > 1:
+            raise SystemExit(f"these don't print the same: {commands}")
+        rounds.append(tuple(runs[at] for at in range(len(commands))))
+    return rounds
 
 
-def medians(pairs, measure):
-    """What the pairs come to in one measure: `wall` or `processor`."""
-    times = [(getattr(our, measure), getattr(peer, measure)) for our, peer in pairs]
-    low, middle, high = statistics.quantiles([our / peer for our, peer in times], n=4, method="inclusive")
-    return Pair(statistics.median(t[0] for t in times), statistics.median(t[1] for t in times), low, middle, high)
+def quartiles(numbers):
+    low, _, high = statistics.quantiles(numbers, n=4, method="inclusive")
+    return low, high
+
+
+def medians(rounds, measure, peer=1):
+    """What the first program and another one took in one measure: `wall` or `processor`."""
+    times = [(getattr(runs[0], measure), getattr(runs[peer], measure)) for runs in rounds]
+    ours, peers = zip(*times)
+    low, middle, high = statistics.quantiles([our / other for our, other in times], n=4, method="inclusive")
+    return Pair(statistics.median(ours), statistics.median(peers), low, middle, high, quartiles(ours), quartiles(peers))
 
 
 # A process begins with the memory of the one that starts it, so a small one starts it and tells its greatest memory.

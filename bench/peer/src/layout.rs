@@ -27,6 +27,7 @@ pub const VOID: u16 = 8;
 pub const KNOWN_FLAGS: u16 = 15;
 
 #[derive(Clone, Copy, Debug)]
+#[repr(C)]
 pub struct Account {
     pub id: u128,
     pub debits_pending: u128,
@@ -44,6 +45,7 @@ pub struct Account {
 }
 
 #[derive(Clone, Copy, Debug)]
+#[repr(C)]
 pub struct Transfer {
     pub id: u128,
     pub debit_account_id: u128,

@@ -1,4 +1,4 @@
-//! What the two peers in Rust share: the state machine, and how packets are admitted and joined.
+//! What the peers in Rust share: two state machines, and how packets are admitted and joined.
 
 mod checks;
 mod codes;
@@ -6,3 +6,4 @@ pub mod hash;
 pub mod layout;
 pub mod machine;
 pub mod packet;
+pub mod strong;

@@ -21,6 +21,7 @@ const CLOCK_EXHAUSTED: u32 = 201;
 
 /// What became of a transfer; a plain one stays `None`.
 #[derive(Clone, Copy, PartialEq, Eq)]
+#[repr(u8)]
 pub enum Status {
     None,
     Pending,
@@ -113,6 +114,13 @@ impl Machine {
             failed: HashSet::default(),
             expiries: BTreeSet::new(),
         }
+    }
+
+    /// Reserves room for more accounts and transfers.
+    pub fn reserve(&mut self, accounts: usize, transfers: usize) {
+        self.accounts.reserve(accounts);
+        self.transfers.reserve(transfers);
+        self.statuses.reserve(transfers);
     }
 
     pub fn clock(&self) -> u64 {

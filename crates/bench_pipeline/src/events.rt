@@ -1,6 +1,5 @@
 //! The events that are sent.
 
-use crate::request::Kind;
 use std::alloc::{AllocError, Global};
 use tb_layout::{CREATE_ACCOUNTS, CREATE_TRANSFERS};
 use tb_work::{Bytes, Packet};
@@ -29,51 +28,6 @@ fn transfer(id: u64, first_account: u64, made: u64) -> [u8; 128] {
     event[112] = 1;
     event[116] = 1;
     event
-}
-
-/// The bytes of a pending transfer with a timeout of 100 seconds.
-fn pending(made: u64) -> [u8; 128] {
-    let mut event = transfer(made.wrapping_add(1), 1, made);
-    event[108] = 100;
-    event[118] = 2;
-    event
-}
-
-/// The bytes of a post or a void of the transfer made before.
-fn resolving(made: u64) -> [u8; 128] {
-    let mut event = [0u8; 128];
-    event[0..8].copy_from_slice(&made.wrapping_add(1).to_le_bytes());
-    event[64..72].copy_from_slice(&made.to_le_bytes());
-    if made % 4 == 1 {
-        event[48..64].copy_from_slice(&[255; 16]);
-        event[118] = 4;
-    } else {
-        event[118] = 8;
-    }
-    event
-}
-
-/// The bytes of a plain transfer in a chain of ten; the last one of each tenth chain has another ledger than its
-/// accounts.
-fn linked_transfer(made: u64) -> [u8; 128] {
-    let mut event = transfer(made.wrapping_add(1), 1, made);
-    if made % 10 != 9 {
-        event[118] = 1;
-    } else if made / 10 % 10 == 0 {
-        event[112] = 2;
-    }
-    event
-}
-
-/// The bytes of the next event of a kind, after so many made before.
-pub fn event_of(kind: Kind, made: u64) -> [u8; 128] {
-    match kind {
-        Kind::Plain => transfer(made.wrapping_add(1), 1, made),
-        Kind::TwoPhase if made % 2 == 0 => pending(made),
-        Kind::TwoPhase => resolving(made),
-        Kind::Accounts => account(made.wrapping_add(1)),
-        Kind::Chains => linked_transfer(made),
-    }
 }
 
 fn packet_of(operation: u8, bytes: Vec<u8>) -> Packet {

@@ -1,17 +1,12 @@
-//! Drives the pipeline from its submitters' threads, or its state machine alone, to measure them.
+//! Drives the pipeline from its submitters' threads, to measure it.
 //!
 //!     bench_pipeline run EVENTS PACKETS SUBMITTERS CREDIT CAPACITY LIMIT
-//!     bench_pipeline commit KIND EVENTS PACKETS
-//!     bench_pipeline make KIND EVENTS PACKETS
 //!
-//! `run`: each submitter makes a thousand accounts and sends so many packets of so many plain transfers between them,
-//! with at most so many of them unanswered, over a queue of so many places and in batches of at most so many events.
-//! `commit`: a state machine commits so many packets of so many events, which
-//! are `plain`, `two-phase`, `accounts` or `chains`; `make` makes the packets and lets them go. Prints sums over the
-//! replies and the balances, which are the same in every order.
+//! Each submitter makes a thousand accounts and sends PACKETS packets of EVENTS plain transfers between them, with at
+//! most CREDIT of them unanswered, over a queue of CAPACITY slots and in batches of at most LIMIT events. Prints sums
+//! over the replies and the balances, which are the same in every order.
 #![tactic(auto)]
 
-mod commit;
 mod driver;
 mod events;
 mod request;
@@ -19,7 +14,6 @@ mod tally;
 
 ghost use Rattle.std.specs.Prelude.{◌≡◌, length, IfSome};
 
-use crate::commit::{Committed, commit_packets, make_packets};
 use crate::driver::LoadDriver;
 use crate::events::ACCOUNTS;
 use crate::request::{Load, Opening, Request, request_of};
@@ -89,36 +83,17 @@ fn line_of_run(alloc: Global, finished: Finished<LoadDriver>, submitters: u32) -
     ).ok()
 }
 
-/// The line that a request comes to.
+/// The line that a request prints.
 fn line_of<R: Threads + Wait + Sync>(rt: &R, alloc: Global, request: Request) -> Option<String> {
-    match request {
-        Request::Run { opening, load } => {
-            let finished = run(rt, alloc, opening, load)?;
-            line_of_run(alloc, finished, opening.submitters)
-        }
-        Request::Commit {
-            kind,
-            events,
-            packets,
-        } => {
-            let Committed { failures, balances } = commit_packets(alloc, kind, events, packets)?;
-            format!(in alloc; "failures {failures} balances {balances}").ok()
-        }
-        Request::Make {
-            kind,
-            events,
-            packets,
-        } => {
-            let bytes = make_packets(alloc, kind, events, packets)?;
-            format!(in alloc; "bytes {bytes}").ok()
-        }
-    }
+    let Request { opening, load } = request;
+    let finished = run(rt, alloc, opening, load)?;
+    line_of_run(alloc, finished, opening.submitters)
 }
 
 fn main(rt: HostRuntime) -> ExitCode {
     let Some(request) = env::args(&rt).ok().and_then(request_of) else {
         let _ = println!(rt;
-            "usage: bench_pipeline run EVENTS PACKETS SUBMITTERS CREDIT CAPACITY LIMIT | commit|make KIND EVENTS PACKETS"
+            "usage: bench_pipeline run EVENTS PACKETS SUBMITTERS CREDIT CAPACITY LIMIT"
         );
         return ExitCode::from(1);
     };

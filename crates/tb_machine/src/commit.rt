@@ -20,8 +20,11 @@ const LINKED_EVENT_CHAIN_OPEN: u32 = 2;
 
 const CLOCK_EXHAUSTED: u32 = 201;
 
-/// How many events' ids are looked up ahead of them.
+/// The most events that are looked up ahead at once.
 const BLOCK: usize = 64;
+
+/// Up to this number the processor's cache has most accounts.
+const CACHED_ACCOUNTS: usize = 1 << 13;
 
 /// Stores the event, at the timestamp after the clock, where its checks find nothing, and answers the number of its
 /// result. An event for which the clock can't be raised isn't checked.
@@ -261,13 +264,47 @@ fn commit_first<E: Event>(
     Ok(count)
 }
 
-/// Looks the ids of the next events up, so that memory is asked for all of them at once: as each event is taken, its own
-/// look-up would wait. Returns the index of the event after them.
-fn look_ahead<E: Event>(tables: &Tables, chunks: &[[u8; 128]], start: usize) -> usize {
-    for chunk in chunks.iter().skip(start).take(BLOCK) {
-        let _ = E::read(chunk).is_stored(tables);
+/// Looks ids up until one is stored; how many aren't.
+#[inline(never)]
+fn count_new<E: Event>(tables: &Tables, chunks: &[[u8; 128]]) -> usize
+    ensures { result ≤ length chunks.now }
+{
+    for (index, chunk) in chunks.iter().enumerate() {
+        if E::read(chunk).is_stored(tables) {
+            return index;
+        }
     }
-    start.saturating_add(BLOCK)
+    chunks.len()
+}
+
+/// Looks the accounts of events up until one isn't there; how many events have theirs.
+#[inline(never)]
+fn count_with_accounts<E: Event>(tables: &Tables, chunks: &[[u8; 128]]) -> usize
+    ensures { result ≤ length chunks.now }
+{
+    for (index, chunk) in chunks.iter().enumerate() {
+        if !E::read(chunk).has_accounts(tables) {
+            return index;
+        }
+    }
+    chunks.len()
+}
+
+/// Looks up the ids of the events after the one at `start`, so that memory is asked for all of them at once: as each
+/// event is taken, its own look-up would wait. If there are many accounts it looks up those too. Returns the index of
+/// the first event of which not all was looked up.
+fn look_ahead<E: Event>(tables: &Tables, chunks: &[[u8; 128]], start: usize) -> usize
+    requires { start < length chunks.now }
+{
+    let end = chunks.len().min(start.saturating_add(BLOCK));
+    let next = start + 1;
+    let block = &chunks[next..end];
+    let new = count_new::<E>(tables, block);
+    if tables.accounts() > CACHED_ACCOUNTS {
+        next + count_with_accounts::<E>(tables, &block[..new])
+    } else {
+        next + new
+    }
 }
 
 /// Takes the chains of a packet in order, and reports the events that failed. On an error, part of

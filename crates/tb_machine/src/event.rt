@@ -1,8 +1,8 @@
 //! What the two operations that change the facts make of their events.
 
-ghost use Rattle.std.specs.Prelude.{◌≡◌, ◌≢◌, ◌≤◌, ◌==◌, ℕ, Bool, List, None, Ok, IfOk, OnOk, is_some, not, true};
+ghost use Rattle.std.specs.Prelude.{◌≡◌, ◌≢◌, ◌≤◌, ◌==◌, ◌&&◌, ◌||◌, ℕ, Bool, List, None, Ok, IfOk, OnOk, is_some, not, true};
 ghost use Rattle.tb_layout.specs.Account.{account_of};
-ghost use Rattle.tb_layout.specs.Transfer.{transfer_of};
+ghost use Rattle.tb_layout.specs.Transfer.{transfer_of, is_resolving as is_resolving_event};
 ghost use Rattle.tb_layout.specs.AccountCode.{number_of as account_number};
 ghost use Rattle.tb_layout.specs.TransferCode.{number_of};
 ghost use Rattle.tb_tables.specs.Facts.{Facts, account_with, add_account, add_transfer, transfer_with};
@@ -17,6 +17,7 @@ ghost use Rattle.tb_machine.specs.Operations as spec;
 
 use crate::account_verdict::{account_verdict, new_account_verdict};
 use crate::prefetch::{Sides, Target};
+use crate::resolved::is_resolving;
 use crate::transfer_verdict::{new_resolving, new_transfer_verdict, transfer_verdict};
 use tb_layout::{
     Account, NoMemory, Transfer, TransferCode, is_chunk_linked, read_account, read_transfer,
@@ -31,6 +32,8 @@ pub trait Event: Copy {
 
     ghost is_stored: { Facts → Self → Bool };
 
+    ghost has_accounts: { Facts → Self → Bool };
+
     /// The event in the 128 bytes of its chunk.
     fn read(chunk: &[u8; 128]) -> Self
         ensures { result ≡ event_of chunk.now };
@@ -42,6 +45,10 @@ pub trait Event: Copy {
     /// Whether an event with the id of this one is stored.
     fn is_stored(&self, tables: &Tables) -> bool
         ensures { result ≡ is_stored tables.now.now self.now };
+
+    /// Whether the accounts of the event are there, unless it is a post or a void, which may leave them out.
+    fn has_accounts(&self, tables: &Tables) -> bool
+        ensures { result ≡ has_accounts tables.now.now self.now };
 
     /// Stores the event, which gets its timestamp, where its checks find nothing, and answers the number of its result.
     fn examine(&mut self, tables: &mut Tables, timestamp: u64) -> Result<u32, NoMemory>
@@ -64,6 +71,8 @@ impl Event for Account {
 
     ghost is_stored = { λ facts event. is_some (account_with facts event.id) };
 
+    ghost has_accounts = { λ _ _. true };
+
     fn read(chunk: &[u8; 128]) -> Account {
         read_account(chunk)
     }
@@ -74,6 +83,10 @@ impl Event for Account {
 
     fn is_stored(&self, tables: &Tables) -> bool {
         tables.place(self.id).is_some()
+    }
+
+    fn has_accounts(&self, _tables: &Tables) -> bool {
+        true
     }
 
     fn examine(&mut self, tables: &mut Tables, timestamp: u64) -> Result<u32, NoMemory> {
@@ -96,6 +109,10 @@ impl Event for Transfer {
 
     ghost is_stored = { λ facts event. is_some (transfer_with facts event.id) };
 
+    ghost has_accounts = { λ facts event. is_resolving_event event
+        || (is_some (account_with facts event.debit_account_id)
+        && is_some (account_with facts event.credit_account_id)) };
+
     fn read(chunk: &[u8; 128]) -> Transfer {
         read_transfer(chunk)
     }
@@ -106,6 +123,12 @@ impl Event for Transfer {
 
     fn is_stored(&self, tables: &Tables) -> bool {
         tables.place_of_transfer(self.id).is_some()
+    }
+
+    fn has_accounts(&self, tables: &Tables) -> bool {
+        is_resolving(self)
+            || tables.place(self.debit_account_id).is_some()
+                && tables.place(self.credit_account_id).is_some()
     }
 
     fn examine(&mut self, tables: &mut Tables, timestamp: u64) -> Result<u32, NoMemory> {

@@ -2,7 +2,6 @@
 
 use peer::layout::{CREATE_ACCOUNTS, CREATE_TRANSFERS, EVENT_SIZE};
 use peer::packet::Packet;
-use std::str::FromStr;
 
 /// The accounts of each submitter.
 pub const ACCOUNTS: u64 = 1000;
@@ -29,79 +28,6 @@ fn transfer(id: u64, first_account: u64, made: u64) -> [u8; EVENT_SIZE] {
     put_number(&mut event, 32, first_account + credit);
     event[48] = 1;
     event
-}
-
-/// A pending transfer with a timeout of 100 seconds.
-fn pending(made: u64) -> [u8; EVENT_SIZE] {
-    let mut event = transfer(made + 1, 1, made);
-    event[108] = 100;
-    event[118] = 2;
-    event
-}
-
-/// A post or a void of the transfer made before.
-fn resolving(made: u64) -> [u8; EVENT_SIZE] {
-    let mut event = [0; EVENT_SIZE];
-    put_number(&mut event, 0, made + 1);
-    put_number(&mut event, 64, made);
-    if made % 4 == 1 {
-        event[48..64].fill(255);
-        event[118] = 4;
-    } else {
-        event[118] = 8;
-    }
-    event
-}
-
-/// A plain transfer in a chain of ten; the last one of each tenth chain has another ledger than its accounts.
-fn chained(made: u64) -> [u8; EVENT_SIZE] {
-    let mut event = transfer(made + 1, 1, made);
-    if made % 10 != 9 {
-        event[118] = 1;
-    } else if made / 10 % 10 == 0 {
-        event[112] = 2;
-    }
-    event
-}
-
-/// What a state machine commits.
-#[derive(Clone, Copy)]
-pub enum Kind {
-    /// Plain transfers.
-    Plain,
-    /// Pending transfers with a timeout, each followed by its post or its void.
-    TwoPhase,
-    /// Accounts.
-    Accounts,
-    /// Chains of ten plain transfers, of which every tenth fails at its end.
-    Chains,
-}
-
-impl Kind {
-    /// The next event, behind so many made before.
-    pub fn event(self, made: u64) -> [u8; EVENT_SIZE] {
-        match self {
-            Kind::Plain => transfer(made + 1, 1, made),
-            Kind::TwoPhase if made.is_multiple_of(2) => pending(made),
-            Kind::TwoPhase => resolving(made),
-            Kind::Accounts => event(made + 1),
-            Kind::Chains => chained(made),
-        }
-    }
-}
-
-impl FromStr for Kind {
-    type Err = String;
-
-    fn from_str(word: &str) -> Result<Kind, String> {
-        match word {
-            "plain" => Ok(Kind::Plain),
-            "two-phase" => Ok(Kind::TwoPhase),
-            "accounts" => Ok(Kind::Accounts),
-            "chains" => Ok(Kind::Chains),
-            _ => Err(format!("no kind of event: {word}")),
-        }
-    }
 }
 
 fn packet(submitter: u32, operation: u8, bytes: Vec<u8>) -> Packet {

@@ -2,23 +2,17 @@
 //! batcher, committer over the state machine, demultiplexer, and a ring of replies for each submitter.
 //!
 //!     peer_pipeline run EVENTS PACKETS SUBMITTERS CREDIT CAPACITY LIMIT
-//!     peer_pipeline commit KIND EVENTS PACKETS
-//!     peer_pipeline make KIND EVENTS PACKETS
 //!
-//! `run`: each submitter makes a thousand accounts and sends so many packets of so many plain transfers between them,
-//! with at most so many of them unanswered, over a queue of so many places and in batches of at most so many events.
-//! `commit`: a state machine commits so many packets of so many events, which
-//! are `plain`, `two-phase`, `accounts` or `chains`; `make` makes the packets and lets them go. Prints sums over the
-//! replies and the balances, which are the same in every order.
+//! Each submitter makes a thousand accounts and sends PACKETS packets of EVENTS plain transfers between them, with at
+//! most CREDIT of them unanswered, over a queue of CAPACITY slots and in batches of at most LIMIT events. Prints sums
+//! over the replies and the balances, which are the same in every order.
 
-mod commit;
 mod events;
 mod ring;
 mod stages;
 mod submitter;
 mod work;
 
-use commit::{commit_packets, make_packets};
 use crossbeam_queue::ArrayQueue;
 use events::ACCOUNTS;
 use peer::machine::Machine;
@@ -128,19 +122,7 @@ fn line_of(words: &[&str]) -> Result<String, Box<dyn Error>> {
             };
             line_of_run(opening, load).map_err(|why| format!("{why:?}").into())
         }
-        ["commit", kind, events, packets] => {
-            let (machine, failures) =
-                commit_packets(kind.parse()?, events.parse()?, packets.parse()?);
-            let balances = sum_of_balances(&machine, ACCOUNTS);
-            Ok(format!("failures {failures} balances {balances}"))
-        }
-        ["make", kind, events, packets] => {
-            let bytes = make_packets(kind.parse()?, events.parse()?, packets.parse()?);
-            Ok(format!("bytes {bytes}"))
-        }
-        _ => Err(
-            "usage: run EVENTS PACKETS SUBMITTERS CREDIT | commit|make KIND EVENTS PACKETS".into(),
-        ),
+        _ => Err("usage: run EVENTS PACKETS SUBMITTERS CREDIT CAPACITY LIMIT".into()),
     }
 }
 
