@@ -13,9 +13,6 @@ returns-clause-grouping c = rw c.into_remains.ensures.same c.settle_remains.ensu
 pub returns-clause-read : goal.returns-clause-read
 returns-clause-read c = search rules
 
-pub returns-clause-queued : goal.returns-clause-queued
-returns-clause-queued c = search rules
-
 pub returns-clause-settled : goal.returns-clause-settled
 returns-clause-settled c = search rules
 
