@@ -36,8 +36,6 @@ fn settle_remains(remains: Remains, ends: Vec<Ended>, control: ControlEnd) -> Re
     ensures long { length result.ends.items ≡ remains.intake.submitters }
     ensures read { (k : ℕ) (d : EndedState) → (slice_index_or result.ends.items k d).read
         ≡ (slice_index_or ends.items k d).read }
-    ensures queued { (k : ℕ) (d : EndedState) → (slice_index_or result.ends.items k d).queued
-        ≡ (slice_index_or ends.items k d).queued }
     ensures settled { All (λ ended. ended.settled ≡ true) result.ends.items }
     ensures seats { (k : ℕ) (d : EndedState) → k < length ends.items
         → (slice_index_or ends.items k d).origin.seat ≡ seat_at remains.intake k }
@@ -75,8 +73,6 @@ pub fn settle(served: Served, ends: Vec<Ended>, control: ControlEnd) -> Report
     ensures long { length result.ends.items ≡ served.intake.submitters }
     ensures read { (k : ℕ) (d : EndedState) → (slice_index_or result.ends.items k d).read
         ≡ (slice_index_or ends.items k d).read }
-    ensures queued { (k : ℕ) (d : EndedState) → (slice_index_or result.ends.items k d).queued
-        ≡ (slice_index_or ends.items k d).queued }
     ensures settled { All (λ ended. ended.settled ≡ true) result.ends.items }
     ensures seats { (k : ℕ) (d : EndedState) → k < length ends.items
         → (slice_index_or ends.items k d).origin.seat ≡ seat_at served.intake k }

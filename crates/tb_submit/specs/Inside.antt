@@ -61,10 +61,6 @@ IsLeft (Some pass) submitters limit number =
     (pass.me.1 ≡ []) × (view_of pass ≡ sender number (first_pushed (view_of pass).entries))
     × IsFiled limit submitters number (first_pushed (view_of pass).entries)
 
--- an ended submitter has the queued items of its sender, until they go to the reader
-abbrev pub KeepsQueued : SenderState → SenderState → Type 0
-KeepsQueued was sender = (queue : TableId) → sender.seat.queue ≡ Some queue → was.queued ≡ sender.queued
-
 -- once it was settled it counts the replies that lie in its ring
 abbrev pub CountsUnread : Option ℕ → List Replied → Type 0
 CountsUnread None lying = ⊤

@@ -8,7 +8,6 @@ ghost use Rattle.tb_submit.specs.Rule.{entry};
 use crate::reader::Reader;
 use crate::sender::EndedSender;
 use std::marker::Model;
-use std::snapshot::Snapshot;
 use tb_rings::{Inlet, Outlet};
 use tb_work::Reply;
 
@@ -16,8 +15,6 @@ use tb_work::Reply;
 #[derive(Drop)]
 pub struct Ended {
     sender: EndedSender,
-    /// The sender as it ended, of which contracts see what it queued.
-    was: Snapshot<EndedSender>,
     inlet: Inlet<Reply>,
     /// How many replies are unread, once no more can come.
     unread: Option<usize>,
@@ -27,19 +24,19 @@ impl Model for Ended {
     ghost use Rattle.tb_rings.specs.Ends.{inlet_ring, taken, lies};
     ghost use Rattle.std.specs.Prelude.{is_some};
     ghost use Rattle.tb_submit.specs.Ends.{EndedState};
-    ghost use Rattle.tb_submit.specs.Inside.{CountsUnread, KeepsQueued};
+    ghost use Rattle.tb_submit.specs.Inside.{CountsUnread};
 
     ghost Value = { EndedState };
 
     ghost view = { λ e. record {
       origin = record { seat = e.sender.seat; ring = inlet_ring e.inlet };
-      queued = e.was.value.queued;
+      queued = e.sender.queued;
       read = taken e.inlet;
       lying = lies e.inlet;
       settled = is_some e.unread;
     } };
 
-    ghost invariant = { λ e. KeepsQueued e.was.value e.sender × CountsUnread e.unread (lies e.inlet) };
+    ghost invariant = { λ e. CountsUnread e.unread (lies e.inlet) };
 }
 
 impl Ended {
@@ -54,7 +51,6 @@ impl Ended {
         } }
     {
         Ended {
-            was: Snapshot::of(&sender),
             sender,
             inlet,
             unread: None,
@@ -92,7 +88,7 @@ impl Ended {
         ensures filed { IsFiled self.old.origin.seat.limit self.old.origin.seat.submitters
             self.old.origin.seat.number self.old.queued }
         ensures replies { self.new.read ++ self.new.lying ≡ given outlet.old }
-        ensures same { (self.new.read ≡ self.old.read) × (self.new.queued ≡ self.old.queued) }
+        ensures read { self.new.read ≡ self.old.read }
         ensures settled { self.new.settled ≡ true }
     {
         reader.gather(&mut self.sender);

@@ -1,6 +1,6 @@
 //! The pass that takes.
 
-ghost use Rattle.std.specs.Prelude.{◌≡◌, ◌+◌, ◌<◌, [], ◌∷◌, ◌++◌, List, Some, None, OnOk, IfOk, IfSome, IfNone};
+ghost use Rattle.std.specs.Prelude.{◌≡◌, ◌+◌, ◌<◌, [], ◌∷◌, ◌++◌, List, Some, OnOk, IfOk, IfSome, IfNone};
 ghost use Rattle.tb_work.specs.declared.item.Ticket.{Ticket};
 ghost use Rattle.tb_submit.specs.Inside.{seat_with};
 ghost use Rattle.tb_submit.specs.Lists.{IsFiled};
@@ -104,7 +104,6 @@ impl Reader {
               ++ entry ended.old.seat.number ended.old.queued ∷ [];
         } }
         ensures filed { IsFiled ended.old.seat.limit ended.old.seat.submitters ended.old.seat.number ended.old.queued }
-        ensures left { ended.new.seat.queue ≡ None }
     {
         let Some(place) = ended.place.take() else {
             unreachable!()

@@ -30,9 +30,8 @@ fn settle_all(reader: &mut Reader, ends: Vec<Ended>, outlets: Vec<Outlet<Reply>>
     ensures replies { (k : ℕ) (d : EndedState) (o : OutletValue Replied) → k < length ends.items
         → (slice_index_or result.items k d).read ++ (slice_index_or result.items k d).lying
         ≡ given (slice_index_or outlets.items k o) }
-    ensures same { (k : ℕ) (d : EndedState)
-        → ((slice_index_or result.items k d).read ≡ (slice_index_or ends.items k d).read)
-        × ((slice_index_or result.items k d).queued ≡ (slice_index_or ends.items k d).queued) }
+    ensures read { (k : ℕ) (d : EndedState) → (slice_index_or result.items k d).read
+        ≡ (slice_index_or ends.items k d).read }
     ensures settled { (k : ℕ) (d : EndedState) → k < length ends.items
         → (slice_index_or result.items k d).settled ≡ true }
 {
@@ -64,8 +63,6 @@ pub fn settle_queue(
         → replies_of result.items sender ≡ given (slice_index_or outlets.items sender d) }
     ensures read { (k : ℕ) (d : EndedState) → (slice_index_or result.items k d).read
         ≡ (slice_index_or ends.items k d).read }
-    ensures queued { (k : ℕ) (d : EndedState) → (slice_index_or result.items k d).queued
-        ≡ (slice_index_or ends.items k d).queued }
     ensures settled { All (λ ended. ended.settled ≡ true) result.items }
     ensures seats { (k : ℕ) (d : EndedState) → k < length ends.items
         → (slice_index_or ends.items k d).origin.seat ≡ seat_at intake k }

@@ -16,9 +16,6 @@ returns-clause-read c = search rules
 pub returns-clause-headline : goal.returns-clause-headline
 returns-clause-headline c = search rules
 
-pub returns-clause-queued : goal.returns-clause-queued
-returns-clause-queued c = search rules
-
 pub returns-clause-settled : goal.returns-clause-settled
 returns-clause-settled c = search rules
 

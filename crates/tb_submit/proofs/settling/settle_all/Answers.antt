@@ -128,12 +128,8 @@ loop-k-preserved c =
           ∙ inv.rest j d (omega (arith, far));
       ungiven = λ j d far. get_or-set_other ms k j c.settle.new.outlet d (λ is. omega (arith, far, is))
           ∙ inv.ungiven j d (omega (arith, far));
-      same = λ j d. (
-        kept (λ e. e.read) ls k c.settle.new.self x j d inside c.index_mut.ensures.value c.settle.ensures.same.0
-            ∙ (inv.same j d).0,
-        kept (λ e. e.queued) ls k c.settle.new.self x j d inside c.index_mut.ensures.value c.settle.ensures.same.1
-            ∙ (inv.same j d).1,
-      );
+      read = λ j d. kept (λ e. e.read) ls k c.settle.new.self x j d inside c.index_mut.ensures.value
+          c.settle.ensures.read ∙ inv.read j d;
       settled = one_further (λ i (e : EndedState). e.settled ≡ true) ls k c.settle.new.self inside
           c.settle.ensures.settled inv.settled;
       filed = filed_further xs k x within x_same c.settle.ensures.filed inv.filed;

@@ -15,9 +15,7 @@ invariant-loop-k l = record {
   rest : (j : ℕ) (d : EndedState) → l.k ≤ j → slice_index_or l.ends.items j d ≡ slice_index_or l.fn.ends.items j d;
   ungiven : (j : ℕ) (d : Outlet Replied) → l.k ≤ j
       → slice_index_or l.outlets.items j d ≡ slice_index_or l.fn.outlets.items j d;
-  same : (j : ℕ) (d : EndedState)
-      → ((slice_index_or l.ends.items j d).read ≡ (slice_index_or l.fn.ends.items j d).read)
-      × ((slice_index_or l.ends.items j d).queued ≡ (slice_index_or l.fn.ends.items j d).queued);
+  read : (j : ℕ) (d : EndedState) → (slice_index_or l.ends.items j d).read ≡ (slice_index_or l.fn.ends.items j d).read;
   settled : (j : ℕ) (d : EndedState) → j < l.k → (slice_index_or l.ends.items j d).settled ≡ true;
   filed : (j : ℕ) (d : EndedState) → j < l.k → IsFiled (slice_index_or l.fn.ends.items j d).origin.seat.limit
       (slice_index_or l.fn.ends.items j d).origin.seat.submitters
