@@ -144,11 +144,15 @@ fn mixed(made: u64, accounts: u64) -> [u8; 128] {
 }
 
 /// A plain transfer; those of the first two packets have ids with one hash. The hasher multiplies the halves of an id
-/// after it has mixed two numbers into them, so an upper half that equals the second number makes the product 0.
+/// after it has mixed a number into each, so a half that equals its number makes the product 0.
 fn attacked(made: u64, accounts: u64) -> [u8; 128] {
     let mut event = plain(made, accounts);
-    if made.wrapping_sub(accounts) < 2 * PACKET {
+    let number = made.wrapping_sub(accounts);
+    if number < PACKET {
         event[8..16].copy_from_slice(&0x9e37_79b9_7f4a_7c15u64.to_le_bytes());
+    } else if number < 2 * PACKET {
+        event[0..8].copy_from_slice(&0x243f_6a88_85a3_08e3u64.to_le_bytes());
+        event[8..16].copy_from_slice(&made.to_le_bytes());
     }
     event
 }

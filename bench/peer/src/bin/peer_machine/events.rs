@@ -162,8 +162,11 @@ fn mixed(made: u64, accounts: u64) -> Event {
 
 fn attacked(made: u64, accounts: u64) -> Event {
     let mut event = plain(made, accounts);
-    if made - accounts < 2 * PACKET {
+    if made - accounts < PACKET {
         put_number(&mut event, 8, 0x9e37_79b9_7f4a_7c15);
+    } else if made - accounts < 2 * PACKET {
+        put_number(&mut event, 0, 0x243f_6a88_85a3_08e3);
+        put_number(&mut event, 8, made);
     }
     event
 }
