@@ -1,2 +1,3 @@
 mod Control
 mod Seen
+mod Refusing

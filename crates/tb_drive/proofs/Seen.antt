@@ -1,10 +1,11 @@
 -- What drivers have seen, list by list.
-use Rattle.std.proofs.Common.{◌≡◌, ◌∙◌, ◌<◌, ℕ, zero, suc, List, [], ◌∷◌, ◌++◌, Some, length, slice_get, get_or, ap, sym, subst, arith}
+use Rattle.std.proofs.Common.{◌≡◌, ◌∙◌, ◌<◌, ℕ, zero, suc, List, [], ◌∷◌, ◌++◌, Some, length, slice_get, get_or, refl, ap, sym, subst, arith, append_assoc, append-nil}
 use Rattle.std.specs.Prelude.{slice_index_or}
 use Rattle.std.proofs.lemmas.Option.{slice_get_within, slice_get-get_or, get_or_from_slice_get}
 use Rattle.tb_submit.specs.Ends.{EndedState, SenderState, SubmitterState, queued_by}
 use Rattle.tb_work.specs.Packet.{Numbered, Replied}
-use Rattle.tb_drive.specs.Seen.{HaveSeen, HaveSeenEnds, HasSeen, HasSeenEnd, jobs_in}
+use Rattle.tb_work.specs.declared.item.Item.{Item}
+use Rattle.tb_drive.specs.Seen.{AreFronts, HaveSeen, HaveSeenEnds, HasSeen, HasSeenEnd, IsFront, jobs_in}
 
 -- what a submitter queued stands in its end
 queued_by_end : (ends : List EndedState) (control : SenderState) (k : ℕ) (ended : EndedState)
@@ -13,7 +14,7 @@ queued_by_end [] control k ended is = cc
 queued_by_end (first ∷ ends) control zero ended is = cc
 queued_by_end (first ∷ ends) control (suc k) ended is = queued_by_end ends control k ended is
 
-module _ {D : Type 0} (has_seen : D → List Numbered → List Replied → Type 0) where
+module _ {D : Type 0} (has_seen : D → ℕ → List Numbered → List Replied → Type 0) where
   pub one_more : (drivers : List D) (ends : List EndedState) (last : D) (ended : EndedState)
       → length drivers ≡ length ends → HaveSeenEnds has_seen drivers ends → HasSeenEnd has_seen last ended
       → HaveSeenEnds has_seen (drivers ++ last ∷ []) (ends ++ ended ∷ [])
@@ -44,20 +45,58 @@ module _ {D : Type 0} (has_seen : D → List Numbered → List Replied → Type 
       have (suc k) driver submitter (ap (λ ds. slice_get ds (suc k)) drivers_are ∙ driver_is)
       (ap (λ ss. slice_get ss (suc k)) submitters_are ∙ submitter_is)
 
-  -- settling leaves what each end has read
-  pub once_settled : (drivers : List D) (ends settled : List EndedState) (control : SenderState)
+  -- settling leaves what each end has queued and read
+  pub once_settled : (limit : ℕ) (drivers : List D) (ends settled : List EndedState) (control : SenderState)
       → length settled ≡ length ends
+      → ((k : ℕ) (d : EndedState) → k < length ends → (slice_index_or ends k d).origin.seat.limit ≡ limit)
       → ((k : ℕ) (d : EndedState) → (slice_index_or settled k d).read ≡ (slice_index_or ends k d).read)
       → HaveSeenEnds has_seen drivers ends
       → (k : ℕ) (driver : D) (ended : EndedState) → slice_get drivers k ≡ Some driver
-      → slice_get settled k ≡ Some ended → has_seen driver (jobs_in (queued_by ends control k)) ended.read
-  once_settled drivers ends settled control long same have k driver ended driver_is ended_is =
+      → slice_get settled k ≡ Some ended → has_seen driver limit (jobs_in (queued_by ends control k)) ended.read
+  once_settled limit drivers ends settled control long limits same have k driver ended driver_is ended_is =
       let within : k < length ends = omega (arith, slice_get_within settled k ended ended_is, long) in
       let before = get_or ends k ended in
       let before_is : slice_get ends k ≡ Some before = slice_get-get_or ends k ended within in
       let read : before.read ≡ ended.read = sym (same k ended)
       ∙ ap (λ (e : EndedState). e.read) (get_or_from_slice_get settled k ended ended ended_is) in
-      let seen : has_seen driver (jobs_in before.queued) before.read = have k driver before driver_is before_is in
-      subst (λ items. has_seen driver (jobs_in items) ended.read)
+      let seen : has_seen driver limit (jobs_in before.queued) before.read =
+      subst (λ n. has_seen driver n (jobs_in before.queued) before.read) (limits k ended within)
+      (have k driver before driver_is before_is) in
+      subst (λ items. has_seen driver limit (jobs_in items) ended.read)
       (sym (queued_by_end ends control k before before_is))
-      (subst (λ r. has_seen driver (jobs_in before.queued) r) read seen)
+      (subst (λ r. has_seen driver limit (jobs_in before.queued) r) read seen)
+
+-- what was queued ahead is the front part of what each end queued
+pub fronts_queued : (submitters : List SubmitterState) (ends : List EndedState) (control : SenderState)
+    → AreFronts submitters ends → (k : ℕ) (submitter : SubmitterState) → k < length ends
+    → slice_get submitters k ≡ Some submitter → IsFront submitter.queued (queued_by ends control k)
+fronts_queued submitters [] control fronts k submitter below is = absurd (omega (arith, below))
+fronts_queued [] (ended ∷ ends) control fronts k submitter below is = cc
+fronts_queued (first ∷ submitters) (ended ∷ ends) control fronts zero submitter below is =
+    fronts zero submitter ended is refl
+fronts_queued (first ∷ submitters) (ended ∷ ends) control fronts (suc k) submitter below is =
+    fronts_queued submitters ends control (λ k. fronts (suc k)) k submitter (omega (arith, below)) is
+
+-- ---- front parts
+
+pub front_same : (items : List Item) → IsFront items items
+front_same items = ([], sym (append-nil items))
+
+pub front_then : (first next all : List Item) → IsFront first next → IsFront next all → IsFront first all
+front_then first next all one two =
+    (one.0 ++ two.0, two.1 ∙ ap (λ items. items ++ two.0) one.1 ∙ append_assoc first one.0 two.0)
+
+pub front_more : (submitters : List SubmitterState) (ends : List EndedState) (submitter : SubmitterState)
+    (ended : EndedState) → length submitters ≡ length ends → AreFronts submitters ends
+    → IsFront submitter.queued ended.queued → AreFronts (submitters ++ submitter ∷ []) (ends ++ ended ∷ [])
+front_more [] [] submitter ended long all one zero s e s_is e_is =
+    let same : submitter ≡ s = cc in
+    let end_same : ended ≡ e = cc in
+    subst (λ (x : SubmitterState). IsFront x.queued e.queued) same
+    (subst (λ (x : EndedState). IsFront submitter.queued x.queued) end_same one)
+front_more [] [] submitter ended long all one (suc k) s e s_is e_is = cc
+front_more [] (first ∷ ends) submitter ended long all one k s e s_is e_is = absurd (omega (arith, long))
+front_more (first ∷ submitters) [] submitter ended long all one k s e s_is e_is = absurd (omega (arith, long))
+front_more (x ∷ submitters) (y ∷ ends) submitter ended long all one zero s e s_is e_is = all zero s e s_is e_is
+front_more (x ∷ submitters) (y ∷ ends) submitter ended long all one (suc k) s e s_is e_is =
+    front_more submitters ends submitter ended (omega (arith, long)) (λ k. all (suc k)) one k s e s_is e_is

@@ -1,5 +1,5 @@
 -- A pipeline that was driven until all of its senders had ended.
-use Rattle.std.specs.Prelude.{◌≡◌, ℕ, List, Some, map, length, slice_get}
+use Rattle.std.specs.Prelude.{◌≡◌, ◌<◌, ℕ, true, List, Some, map, length, slice_get, All}
 use Rattle.tb_core.specs.Grouping.{IsGrouping}
 use Rattle.tb_core.specs.Headline.{moments_in, moments_queued}
 use Rattle.tb_core.specs.Journal.{LedgerState, works}
@@ -8,7 +8,7 @@ use Rattle.tb_submit.specs.Ends.{EndedState, IntakeState, SubmitterState, Sender
 use Rattle.tb_work.specs.Packet.{Numbered, Replied}
 use Rattle.tb_work.specs.declared.item.Item.{Item}
 use Rattle.tb_work.specs.declared.item.Ticket.{Ticket}
-use Rattle.tb_drive.specs.Seen.{jobs_in}
+use Rattle.tb_drive.specs.Seen.{jobs_in, IsFront}
 use Rattle.tb_drive.specs.declared.driving.Finished.{Finished}
 use Rattle.tb_pipe.specs.Run.{PipelineState}
 
@@ -19,12 +19,16 @@ AreTogether pipeline submitters control =
     × (length pipeline.submitters ≡ pipeline.intake.submitters)
 
 -- Of a pipeline with this clock and this limit, whose control queued these items, the report is lawful of some queue
--- that its senders filled, and each driver has seen what its submitter queued and read.
-pub record HasReported {D : Type 0} (has_seen : D → List Numbered → List Replied → Type 0)
-    (clock limit submitters : ℕ) (controlled : List Item)
+-- that its senders filled; what a submitter queued before is the front part of what it queued. Each end is settled, and
+-- each driver has seen what its submitter queued and read, and was asked until it ended.
+pub record HasReported {D : Type 0} (has_seen has_ended : D → ℕ → List Numbered → List Replied → Type 0)
+    (clock limit submitters : ℕ) (before : List SubmitterState) (controlled : List Item)
     (drivers : List D) (ledger : LedgerState) (ends : List EndedState) : Type 0 where
   pub queue : List Ticket
   pub queued : ℕ → List Item
+  pub ahead : (k : ℕ) (submitter : SubmitterState) → k < submitters → slice_get before k ≡ Some submitter
+      → IsFront submitter.queued (queued k)
+  pub settled : All (λ (ended : EndedState). ended.settled ≡ true) ends
   pub control : queued submitters ≡ controlled
   pub report : LawfulReport (record {
     clock = clock;
@@ -40,11 +44,15 @@ pub record HasReported {D : Type 0} (has_seen : D → List Numbered → List Rep
   pub number : length ends ≡ submitters
   pub driven : length drivers ≡ submitters
   pub seen : (k : ℕ) (driver : D) (ended : EndedState) → slice_get drivers k ≡ Some driver
-      → slice_get ends k ≡ Some ended → has_seen driver (jobs_in (queued k)) ended.read
+      → slice_get ends k ≡ Some ended → has_seen driver limit (jobs_in (queued k)) ended.read
+  pub ended : (k : ℕ) (driver : D) (ended : EndedState) → slice_get drivers k ≡ Some driver
+      → slice_get ends k ≡ Some ended → has_ended driver limit (jobs_in (queued k)) ended.read
 
--- a run of a pipeline with this clock and this intake, whose control queued these items, has reported so
-abbrev pub HasFinished : {D : Type 0} → (D → List Numbered → List Replied → Type 0) → ℕ → IntakeState
-    → List Item → Finished D → Type 0
-HasFinished has_seen clock intake controlled finished =
-    HasReported has_seen clock intake.limit intake.submitters controlled finished.drivers.items
+-- a run of a pipeline with this clock and this intake, with these submitters before it and a control that queued these
+-- items, has reported so
+abbrev pub HasFinished : {D : Type 0} → (D → ℕ → List Numbered → List Replied → Type 0)
+    → (D → ℕ → List Numbered → List Replied → Type 0) → ℕ → IntakeState → List SubmitterState → List Item
+    → Finished D → Type 0
+HasFinished has_seen has_ended clock intake before controlled finished =
+    HasReported has_seen has_ended clock intake.limit intake.submitters before controlled finished.drivers.items
     finished.report.ledger finished.report.ends.items

@@ -2,6 +2,7 @@
 use Rattle.std.specs.Prelude.{◌≡◌, Option, IfSome, List, []}
 use Rattle.tb_submit.specs.Ends.{Origin, SubmitterState, EndedState, end_origin, origin_of}
 use Rattle.tb_work.specs.declared.packet.Packet.{Packet}
+use Rattle.tb_drive.specs.Seen.{IsFront}
 
 -- a submitter with its driver, of which the share is seen
 pub record SeatedState : Type 0 where
@@ -10,6 +11,9 @@ pub record SeatedState : Type 0 where
 
 abbrev pub seated_origin : SeatedState → Origin
 seated_origin seated = origin_of seated.submitter
+
+abbrev pub seated_submitter : SeatedState → SubmitterState
+seated_submitter seated = seated.submitter
 
 abbrev pub seated_share : SeatedState → List Packet
 seated_share seated = seated.share
@@ -26,9 +30,10 @@ pub record LeftState : Type 0 where
 abbrev pub nothing_left : LeftState
 nothing_left = record { ends = []; shares = [] }
 
--- a submitter's end, if there is one, has its origin
+-- a submitter's end, if there is one, has its origin, and what it queued before as the front part of all
 abbrev pub IsEnd : SubmitterState → Option EndedState → Type 0
-IsEnd submitter ended = IfSome ended (λ end. end_origin end ≡ origin_of submitter)
+IsEnd submitter ended =
+    IfSome ended (λ end. (end_origin end ≡ origin_of submitter) × IsFront submitter.queued end.queued)
 
 -- what a thread leaves is of this submitter and its driver
 abbrev pub IsLeftBy : SeatedState → DrivenState → Type 0

@@ -1,9 +1,11 @@
 //! What an application says of a submitter.
 
-ghost use Rattle.std.specs.Prelude.{◌≡◌, List, [], ◌∷◌, ◌++◌, Ok, IsErr, ⊤};
+ghost use Rattle.std.specs.Prelude.{◌≡◌, ℕ, List, [], ◌∷◌, ◌++◌, None, Ok, Err, ⊤};
 ghost use Rattle.tb_work.specs.Packet.{Numbered, Replied};
 ghost use Rattle.tb_work.specs.declared.packet.Packet as packets;
+ghost use Rattle.tb_work.specs.declared.refusal.Refusal.{Refusal as RefusalValue};
 ghost use Rattle.tb_drive.specs.Actions.{GoesOn};
+ghost use Rattle.tb_drive.specs.Refusing.{IsFinalRefusal, final_refusal};
 
 use std::alloc::Global;
 use tb_work::{Packet, Refusal, Reply};
@@ -22,40 +24,48 @@ pub enum Action {
 /// Says what a submitter does, and takes what comes of it. A thread of the submitter's own calls it, one call after
 /// another. It needn't end anything itself, nor wait.
 ///
-/// Its implementor says what is to be known of a driver after a run, by two relations, which hold of anything unless
-/// they are given. `has_seen` is between a driver, the packets that it was told are queued, and the replies that it was
-/// given, both in their order; `has_asked` is the same of a driver that besides asked for a packet to be queued and
-/// wasn't told yet what became of it. `share` is what a driver was made to queue, as its implementor defines it; it
-/// stays as it is whatever the driver is asked and told, so that a caller knows its own drivers again.
+/// Its implementor says what is to be known of a driver after a run, by three relations, which hold of anything unless
+/// they are given. `has_seen` is between a driver, the most events of a packet, the packets that it was told are queued,
+/// and the replies that it was given, both in their order. `has_asked` is the same of a driver that besides asked for a
+/// packet to be queued and wasn't told yet what became of it, and `has_ended` of one that answered `End`: a driver is
+/// asked until it does. `share` is what a driver was made to queue, as its implementor defines it; it stays as it is
+/// whatever the driver is asked and told, so that a caller knows its own drivers again.
 pub trait Driver: Drop {
-    ghost has_seen: { Self → List Numbered → List Replied → Type 0 } = { λ _ _ _. ⊤ };
+    ghost has_seen: { Self → ℕ → List Numbered → List Replied → Type 0 } = { λ _ _ _ _. ⊤ };
 
-    ghost has_asked: { Self → packets.Packet → List Numbered → List Replied → Type 0 } = { λ _ _ _ _. ⊤ };
+    ghost has_asked: { Self → packets.Packet → ℕ → List Numbered → List Replied → Type 0 } = { λ _ _ _ _ _. ⊤ };
+
+    ghost has_ended: { Self → ℕ → List Numbered → List Replied → Type 0 } = { λ _ _ _ _. ⊤ };
 
     ghost share: { Self → List packets.Packet } = { λ _. [] };
 
     /// What the submitter does next.
     fn next(&mut self, alloc: Global) -> Action
-        ensures seen { (queued : List Numbered) (read : List Replied) → has_seen self.old queued read
-            → GoesOn result (λ packet. has_asked self.new packet queued read) (has_seen self.new queued read) }
+        ensures seen { (limit : ℕ) (queued : List Numbered) (read : List Replied) → has_seen self.old limit queued read
+            → GoesOn result (λ packet. has_asked self.new packet limit queued read)
+            (has_seen self.new limit queued read) (has_ended self.new limit queued read) }
         ensures share { share self.new ≡ share self.old };
 
-    /// Takes what became of the packet that was to be submitted last: the number under which it is queued, or why it is
-    /// refused. `InFlight` and `Full` aren't told: such a packet is tried again. None is told of a packet that is still
-    /// tried when the run is given up.
+    /// Takes what became of the packet that was to be submitted last: the number under which it is queued, which only
+    /// an admitted packet is, or why it is refused. `InFlight` and `Full` aren't told: such a packet is tried again.
+    /// None is told of a packet that is still tried when the run is given up.
     fn submitted(&mut self, told: Result<u64, Refusal>)
-        ensures queued { (job : Numbered) (queued : List Numbered) (read : List Replied)
-            → has_asked self.old job.packet queued read → told ≡ Ok job.number
-            → has_seen self.new (queued ++ job ∷ []) read }
-        ensures refused { (packet : packets.Packet) (queued : List Numbered) (read : List Replied)
-            → has_asked self.old packet queued read → IsErr told → has_seen self.new queued read }
+        ensures queued { (job : Numbered) (limit : ℕ) (queued : List Numbered) (read : List Replied)
+            → has_asked self.old job.packet limit queued read → told ≡ Ok job.number
+            → final_refusal limit read job.packet ≡ None → has_seen self.new limit (queued ++ job ∷ []) read }
+        ensures refused { (packet : packets.Packet) (refusal : RefusalValue) (limit : ℕ) (queued : List Numbered)
+            (read : List Replied) → has_asked self.old packet limit queued read → told ≡ Err refusal
+            → IsFinalRefusal limit read packet refusal → has_seen self.new limit queued read }
         ensures share { share self.new ≡ share self.old };
 
     /// Takes the next reply.
     fn receive(&mut self, reply: Reply)
-        ensures seen { (queued : List Numbered) (read : List Replied) → has_seen self.old queued read
-            → has_seen self.new queued (read ++ reply ∷ []) }
-        ensures asked { (packet : packets.Packet) (queued : List Numbered) (read : List Replied)
-            → has_asked self.old packet queued read → has_asked self.new packet queued (read ++ reply ∷ []) }
+        ensures seen { (limit : ℕ) (queued : List Numbered) (read : List Replied) → has_seen self.old limit queued read
+            → has_seen self.new limit queued (read ++ reply ∷ []) }
+        ensures asked { (packet : packets.Packet) (limit : ℕ) (queued : List Numbered) (read : List Replied)
+            → has_asked self.old packet limit queued read
+            → has_asked self.new packet limit queued (read ++ reply ∷ []) }
+        ensures ended { (limit : ℕ) (queued : List Numbered) (read : List Replied) → has_ended self.old limit queued read
+            → has_ended self.new limit queued (read ++ reply ∷ []) }
         ensures share { share self.new ≡ share self.old };
 }

@@ -1,14 +1,15 @@
 //! A run of a pipeline, with a thread for each of its senders.
 
-ghost use Rattle.std.specs.Prelude.{◌≡◌, ◌<◌, ◌≤◌, ◌∷◌, ◌++◌, ◌^◌, [], map, length, set, slice_get, Some, None, Err, IfOk, IfErr, IfSome, OnOk};
+ghost use Rattle.std.specs.Prelude.{◌≡◌, ◌<◌, ◌≤◌, ◌∷◌, ◌++◌, ◌^◌, [], List, map, length, set, slice_get, Some, None, Err, IfOk, IfErr, IfSome, OnOk};
 ghost use Rattle.tb_submit.specs.Ends.{Origin, SubmitterState, control_seat, end_origin, origin_of};
 ghost use Rattle.tb_submit.specs.Refusals.{IsSubmitRefusal, submit_refusal};
 ghost use Rattle.tb_work.specs.declared.refusal.Refusal.TheVariants as refusal;
+ghost use Rattle.tb_drive.specs.declared.driving.DriveFault.TheVariants as fault;
 ghost use Rattle.tb_drive.specs.Ahead.{with_packet};
 ghost use Rattle.tb_drive.specs.Lines.{lines_of, refused_of};
-ghost use Rattle.tb_drive.specs.Seen.{HaveSeen};
+ghost use Rattle.tb_drive.specs.Seen.{AreFronts, HaveSeen, IsFront};
 ghost use Rattle.tb_drive.specs.Reported.{AreTogether, HasFinished};
-ghost use Rattle.tb_drive.specs.Seated.{IsLeftBy, nothing_left, seated_origin, seated_share};
+ghost use Rattle.tb_drive.specs.Seated.{IsLeftBy, nothing_left, seated_origin, seated_share, seated_submitter};
 ghost use Rattle.tb_drive.specs.Threads.{IsControlEnd, IsEndPromised, IsPromiseOf, items_promised, items_to_queue, refused_promised, started_from};
 
 use crate::controlling::{ControlDriver, ControlLeft, ControlLines, EndOfControl};
@@ -79,7 +80,8 @@ impl<D: Driver> Model for Left<D> {
     ghost view = { λ left. record { ends = left.ends.items; shares = map D.share left.drivers.items } };
 
     ghost invariant = { λ left. (length left.drivers.items ≡ length left.ends.items)
-        × HaveSeenEnds D.has_seen left.drivers.items left.ends.items };
+        × HaveSeenEnds D.has_seen left.drivers.items left.ends.items
+        × HaveSeenEnds D.has_ended left.drivers.items left.ends.items };
 }
 
 type Started<D> = PromisedHandle<Driven<D>, EndOfSubmitter<D>>;
@@ -89,7 +91,8 @@ type StartedControl = PromisedHandle<Option<ControlLeft>, EndOfControl>;
 impl<D: Driver> Left<D> {
     /// What no thread left yet, with room for what so many leave.
     fn new(alloc: Global, threads: usize) -> Result<Left<D>, DriveFault>
-        ensures { IfOk result (λ left. left ≡ nothing_left) }
+        ensures nothing { IfOk result (λ left. left ≡ nothing_left) }
+        ensures memory { IfErr result (λ why. why ≡ fault.NoMemory) }
     {
         Ok(Left {
             ends: Vec::with_capacity(alloc, threads)?,
@@ -101,6 +104,10 @@ impl<D: Driver> Left<D> {
     fn with(self, driven: Driven<D>) -> Result<Left<D>, DriveFault>
         ensures own { (origin : Origin) → IfSome driven.ended (λ end. end_origin end ≡ origin)
             → IfOk result (λ left. map end_origin left.ends ≡ map end_origin self.ends ++ origin ∷ []) }
+        ensures front { (submitters : List SubmitterState) (submitter : SubmitterState)
+            → length submitters ≡ length self.ends → AreFronts submitters self.ends
+            → IfSome driven.ended (λ end. IsFront submitter.queued end.queued)
+            → IfOk result (λ left. AreFronts (submitters ++ submitter ∷ []) left.ends) }
         ensures shares { IfOk result (λ left. left.shares ≡ self.shares ++ driven.share ∷ []) }
     {
         let Left {
@@ -126,7 +133,9 @@ fn seat_all<D: Driver>(
     requires number { length drivers.items ≡ length submitters.items }
     requires seen { HaveSeen D.has_seen drivers.items submitters.items }
     ensures own { IfOk result (λ all. map seated_origin all.items ≡ map origin_of submitters.items) }
+    ensures submitters { IfOk result (λ all. map seated_submitter all.items ≡ submitters.items) }
     ensures shares { IfOk result (λ all. map seated_share all.items ≡ map D.share drivers.items) }
+    ensures memory { IfErr result (λ why. why ≡ fault.NoMemory) }
 {
     let mut drivers = drivers.into_iter();
     let mut all = Vec::with_capacity(alloc, submitters.len())?;
@@ -282,6 +291,7 @@ fn join_all<D: Driver, R: Threads>(
 ) -> Result<Left<D>, DriveFault>
     requires { room ≡ nothing_left }
     ensures own { IfOk result (λ left. map end_origin left.ends ≡ map seated_origin (map started_from handles.items)) }
+    ensures front { IfOk result (λ left. AreFronts (map seated_submitter (map started_from handles.items)) left.ends) }
     ensures shares { IfOk result (λ left. left.shares ≡ map seated_share (map started_from handles.items)) }
 {
     let mut left = room;
@@ -306,7 +316,8 @@ fn settle_left<D: Driver>(served: Served, left: Left<D>, control: ControlLeft) -
     requires own { map end_origin left.ends ≡ served.submitters }
     requires control { control.end.seat ≡ control_seat served.intake }
     requires number { length served.submitters ≡ served.intake.submitters }
-    ensures reported { HasFinished D.has_seen served.clock served.intake control.end.queued result }
+    ensures reported { (before : List SubmitterState) → AreFronts before left.ends
+        → HasFinished D.has_seen D.has_ended served.clock served.intake before control.end.queued result }
     ensures shares { map D.share result.drivers.items ≡ left.shares }
     ensures refused { result.refused_pulses ≡ control.refused }
 {
@@ -327,6 +338,8 @@ fn join<D: Driver, R: Threads>(
     requires { running.room ≡ nothing_left }
     ensures own { IfOk result (λ left. map end_origin left.0.ends
         ≡ map seated_origin (map started_from running.submitters.items)) }
+    ensures front { IfOk result (λ left. AreFronts
+        (map seated_submitter (map started_from running.submitters.items)) left.0.ends) }
     ensures shares { IfOk result (λ left. left.0.shares
         ≡ map seated_share (map started_from running.submitters.items)) }
     ensures control { IfOk result (λ left. IsEndPromised running.control.promise left.1) }
@@ -350,8 +363,8 @@ fn finish<D: Driver, R: Threads>(
     requires control { running.control.promise.control.value.seat ≡ control_seat served.intake }
     requires number { length served.submitters ≡ served.intake.submitters }
     requires room { running.room ≡ nothing_left }
-    ensures reported { IfOk result (HasFinished D.has_seen served.clock served.intake
-        (items_promised running.control.promise)) }
+    ensures reported { IfOk result (HasFinished D.has_seen D.has_ended served.clock served.intake
+        (map seated_submitter (map started_from running.submitters.items)) (items_promised running.control.promise)) }
     ensures shares { IfOk result (λ finished. map D.share finished.drivers.items
         ≡ map seated_share (map started_from running.submitters.items)) }
     ensures refused { IfOk result (λ finished. finished.refused_pulses ≡ refused_promised running.control.promise) }
@@ -375,8 +388,8 @@ fn serve<D: Driver, R: Threads + Wait + Sync>(
     requires control { running.control.promise.control.value.seat ≡ control_seat pipeline.intake }
     requires number { length pipeline.submitters ≡ pipeline.intake.submitters }
     requires room { running.room ≡ nothing_left }
-    ensures reported { IfOk result (HasFinished D.has_seen pipeline.clock pipeline.intake
-        (items_promised running.control.promise)) }
+    ensures reported { IfOk result (HasFinished D.has_seen D.has_ended pipeline.clock pipeline.intake
+        (map seated_submitter (map started_from running.submitters.items)) (items_promised running.control.promise)) }
     ensures shares { IfOk result (λ finished. map D.share finished.drivers.items
         ≡ map seated_share (map started_from running.submitters.items)) }
     ensures refused { IfOk result (λ finished. finished.refused_pulses ≡ refused_promised running.control.promise) }
@@ -404,8 +417,8 @@ fn run_all<'s, E, D: Driver + Send + 's, R: Threads + Wait + Sync>(
     requires own { map seated_origin all.items ≡ pipeline.submitters }
     requires control { control_driver.control.seat ≡ control_seat pipeline.intake }
     requires number { length pipeline.submitters ≡ pipeline.intake.submitters }
-    ensures reported { IfOk result (HasFinished D.has_seen pipeline.clock pipeline.intake
-        (items_to_queue control_driver)) }
+    ensures reported { IfOk result (HasFinished D.has_seen D.has_ended pipeline.clock pipeline.intake
+        (map seated_submitter all.items) (items_to_queue control_driver)) }
     ensures shares { IfOk result (λ finished. map D.share finished.drivers.items ≡ map seated_share all.items) }
     ensures refused { IfOk result (λ finished. finished.refused_pulses
         ≡ refused_of control_driver.lines.moments.items) }
@@ -431,8 +444,8 @@ fn run_in_scope<D: Driver + Send, R: Threads + Wait + Sync>(
     requires own { map seated_origin all.items ≡ pipeline.submitters }
     requires control { control_driver.control.seat ≡ control_seat pipeline.intake }
     requires number { length pipeline.submitters ≡ pipeline.intake.submitters }
-    ensures reported { IfOk result (HasFinished D.has_seen pipeline.clock pipeline.intake
-        (items_to_queue control_driver)) }
+    ensures reported { IfOk result (HasFinished D.has_seen D.has_ended pipeline.clock pipeline.intake
+        (map seated_submitter all.items) (items_to_queue control_driver)) }
     ensures shares { IfOk result (λ finished. map D.share finished.drivers.items ≡ map seated_share all.items) }
     ensures refused { IfOk result (λ finished. finished.refused_pulses
         ≡ refused_of control_driver.lines.moments.items) }
@@ -446,8 +459,8 @@ fn run_in_scope<D: Driver + Send, R: Threads + Wait + Sync>(
             requires own { map seated_origin all.items ≡ pipeline.submitters }
             requires control { control_driver.control.seat ≡ control_seat pipeline.intake }
             requires number { length pipeline.submitters ≡ pipeline.intake.submitters }
-            ensures reported { IfOk result (HasFinished D.has_seen pipeline.clock pipeline.intake
-                (items_to_queue control_driver)) }
+            ensures reported { IfOk result (HasFinished D.has_seen D.has_ended pipeline.clock pipeline.intake
+                (map seated_submitter all.items) (items_to_queue control_driver)) }
             ensures shares { IfOk result (λ finished. map D.share finished.drivers.items ≡ map seated_share all.items) }
             ensures refused { IfOk result (λ finished. finished.refused_pulses
                 ≡ refused_of control_driver.lines.moments.items) }
@@ -507,8 +520,8 @@ pub fn drive_all<D: Driver + Send, R: Threads + Wait + Sync>(
     requires together { AreTogether opened.pipeline opened.submitters.items opened.control }
     requires number { length drivers.items ≡ length opened.pipeline.submitters }
     requires seen { HaveSeen D.has_seen drivers.items opened.submitters.items }
-    ensures reported { IfOk result (HasFinished D.has_seen opened.pipeline.clock opened.pipeline.intake
-        (opened.control.queued ++ lines_of lines.moments.items lines.shuts)) }
+    ensures reported { IfOk result (HasFinished D.has_seen D.has_ended opened.pipeline.clock opened.pipeline.intake
+        opened.submitters.items (opened.control.queued ++ lines_of lines.moments.items lines.shuts)) }
     ensures shares { IfOk result (λ finished. map D.share finished.drivers.items ≡ map D.share drivers.items) }
     ensures refused { IfOk result (λ finished. finished.refused_pulses ≡ refused_of lines.moments.items) }
 {

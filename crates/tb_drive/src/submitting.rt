@@ -7,7 +7,8 @@ ghost use Rattle.tb_work.specs.Job.{numbered_packet};
 ghost use Rattle.tb_work.specs.declared.packet.Packet as packets;
 ghost use Rattle.tb_work.specs.declared.refusal.Refusal.TheVariants as refusal;
 ghost use Rattle.tb_drive.specs.Ahead.{with_packet};
-ghost use Rattle.tb_drive.specs.Seen.{HasSeen, HasSeenEnd, HasAsked, jobs_in};
+ghost use Rattle.tb_drive.specs.Seen.{HasSeen, HasSeenEnd, HasAsked, IsFront, jobs_in};
+ghost use Rattle.tb_drive.specs.Refusing.{IsFinalRefusal, final_refusal};
 ghost use Rattle.tb_drive.specs.Seated.{IsEnd, IsLeftBy};
 
 use crate::driver::{Action, Driver};
@@ -44,7 +45,7 @@ impl<D: Driver> Model for Seated<D> {
 }
 
 /// What a submitter's thread leaves: the submitter's end, unless it was told to stop first, and the driver, which has
-/// seen what the end queued and read.
+/// seen what the end queued and read, and answered that it ends.
 #[derive(Drop)]
 pub(crate) struct Driven<D: Driver> {
     pub(crate) ended: Option<Ended>,
@@ -60,7 +61,8 @@ impl<D: Driver> Model for Driven<D> {
 
     ghost view = { λ driven. record { ended = driven.ended; share = D.share driven.driver } };
 
-    ghost invariant = { λ driven. IfSome driven.ended (λ ended. HasSeenEnd D.has_seen driven.driver ended) };
+    ghost invariant = { λ driven. IfSome driven.ended (λ ended. HasSeenEnd D.has_seen driven.driver ended
+        × HasSeenEnd D.has_ended driven.driver ended) };
 }
 
 /// The promise that the end that comes back is that of the submitter that was handed over, and the driver the one that
@@ -90,11 +92,15 @@ pub(crate) fn submit_once<R: Wait>(
     ensures job { IfOk result (λ number. jobs_in submitter.new.queued
         ≡ jobs_in submitter.old.queued ++ numbered_packet submitter.old.origin.seat.number number packet ∷ []) }
     ensures read { submitter.new.read ≡ submitter.old.read }
+    ensures front { IsFront submitter.old.queued submitter.new.queued }
     ensures admitted { OnOk result (submit_refusal submitter.old packet ≡ None) }
     ensures back { IfErr result (λ refused. (refused.0 ≡ packet) × (submitter.new ≡ submitter.old)) }
     ensures refusal { length submitter.old.queued < 2 ^ 56
         → IfErr result (λ refused. IsSubmitRefusal submitter.old packet refused.1) }
     ensures full { 2 ^ 56 ≤ length submitter.old.queued → result ≡ Err (packet, refusal.Full) }
+    ensures kept { OnOk result (final_refusal submitter.old.origin.seat.limit submitter.old.read packet ≡ None) }
+    ensures told { IfErr result (λ refused. (refused.1 ≡ refusal.InFlight → ⊥) → (refused.1 ≡ refusal.Full → ⊥)
+        → IsFinalRefusal submitter.old.origin.seat.limit submitter.old.read packet refused.1) }
 {
     if submitter.queued() >= MOST_QUEUED {
         return Err((packet, Refusal::Full));
@@ -105,7 +111,9 @@ pub(crate) fn submit_once<R: Wait>(
 /// Hands the next reply to the driver. Answers whether there was one.
 fn read<D: Driver>(submitter: &mut Submitter, driver: &mut D) -> bool
     ensures own { origin_of submitter.new ≡ origin_of submitter.old }
+    ensures front { submitter.new.queued ≡ submitter.old.queued }
     ensures seen { HasSeen D.has_seen driver.old submitter.old → HasSeen D.has_seen driver.new submitter.new }
+    ensures ended { HasSeen D.has_ended driver.old submitter.old → HasSeen D.has_ended driver.new submitter.new }
     ensures asked { (packet : packets.Packet) → HasAsked D.has_asked driver.old packet submitter.old
         → HasAsked D.has_asked driver.new packet submitter.new }
     ensures share { D.share driver.new ≡ D.share driver.old }
@@ -130,6 +138,7 @@ fn submit<D: Driver, R: Wait>(
     stop: &AtomicBool,
 ) -> Result<(), Stopped>
     ensures own { origin_of submitter.new ≡ origin_of submitter.old }
+    ensures front { IsFront submitter.old.queued submitter.new.queued }
     ensures seen { HasAsked D.has_asked driver.old packet submitter.old
         → OnOk result (HasSeen D.has_seen driver.new submitter.new) }
     ensures share { D.share driver.new ≡ D.share driver.old }
@@ -154,6 +163,7 @@ fn submit<D: Driver, R: Wait>(
 /// Waits for the next reply, as long as one is to come and it isn't told to stop.
 fn receive<D: Driver, R: Wait>(rt: &R, submitter: &mut Submitter, driver: &mut D, stop: &AtomicBool)
     ensures own { origin_of submitter.new ≡ origin_of submitter.old }
+    ensures front { submitter.new.queued ≡ submitter.old.queued }
     ensures seen { HasSeen D.has_seen driver.old submitter.old → HasSeen D.has_seen driver.new submitter.new }
     ensures share { D.share driver.new ≡ D.share driver.old }
 {
@@ -177,8 +187,9 @@ fn follow<D: Driver, R: Wait>(
     stop: &AtomicBool,
 ) -> Result<(), Stopped>
     ensures own { origin_of submitter.new ≡ origin_of submitter.old }
+    ensures front { IsFront submitter.old.queued submitter.new.queued }
     ensures seen { HasSeen D.has_seen driver.old submitter.old
-        → OnOk result (HasSeen D.has_seen driver.new submitter.new) }
+        → OnOk result (HasSeen D.has_seen driver.new submitter.new × HasSeen D.has_ended driver.new submitter.new) }
     ensures share { D.share driver.new ≡ D.share driver.old }
 {
     for _ in rt.forever() {
@@ -204,6 +215,8 @@ fn end<D: Driver, R: Wait>(
     ensures own { IsEnd submitter result }
     ensures seen { HasSeen D.has_seen driver.old submitter
         → IfSome result (λ ended. HasSeenEnd D.has_seen driver.new ended) }
+    ensures ended { HasSeen D.has_ended driver.old submitter
+        → IfSome result (λ ended. HasSeenEnd D.has_ended driver.new ended) }
     ensures share { D.share driver.new ≡ D.share driver.old }
 {
     let mut submitter = submitter;

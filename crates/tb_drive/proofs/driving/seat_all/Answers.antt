@@ -2,7 +2,7 @@ use Rattle.std.proofs.Common.{rules, ◌≡◌, ◌∙◌, ◌∷◌, ◌++◌, 
 use Rattle.std.proofs.lemmas.List.{map-append}
 use Rattle.std.specs.Vec.Iter.{into_iter_items}
 use Rattle.tb_submit.specs.Ends.{origin_of}
-use Rattle.tb_drive.specs.Seated.{SeatedState, seated_origin, seated_share}
+use Rattle.tb_drive.specs.Seated.{SeatedState, seated_origin, seated_share, seated_submitter}
 use Rattle.tb_drive.proofs.Seen.{first_has, others_have}
 use Rattle.tb_drive.proofs.driving.seat_all.Goals as goal
 
@@ -34,6 +34,7 @@ loop-submitter-preserved g c =
             (c.in-Some.submitter ∷ []),
         c.loop-submitter.invariant.own,
       ) refl;
+      submitters = rw (pushed, map-append seated_submitter all (seated ∷ []), c.loop-submitter.invariant.submitters) refl;
       shares = rw (pushed, map-append seated_share all (seated ∷ []))
           (append_assoc (map seated_share all) (g.D.Driver.share driver ∷ []) _
           ∙ sym (ap (λ ds. map seated_share all ++ map g.D.Driver.share ds) drivers)

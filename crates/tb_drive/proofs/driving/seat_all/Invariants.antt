@@ -1,13 +1,14 @@
 use Rattle.std.proofs.Common.{◌≡◌, ◌++◌, map, length}
 use Rattle.std.specs.Vec.Iter.{into_iter_items}
 use Rattle.tb_submit.specs.Ends.{origin_of}
-use Rattle.tb_drive.specs.Seated.{seated_origin, seated_share}
+use Rattle.tb_drive.specs.Seated.{seated_origin, seated_share, seated_submitter}
 use Rattle.tb_drive.specs.Seen.{HaveSeen}
 use Rattle.tb_drive.proofs.driving.seat_all.Given as goal
 
 abbrev pub invariant-loop-submitter : goal.invariant-loop-submitter
 invariant-loop-submitter g l = record {
   own : map seated_origin l.all.items ≡ map origin_of l.yielded;
+  submitters : map seated_submitter l.all.items ≡ l.yielded;
   shares : map seated_share l.all.items ++ map g.D.Driver.share (into_iter_items l.drivers)
       ≡ map g.D.Driver.share l.fn.drivers.items;
   long : length (into_iter_items l.drivers) ≡ length l.submitter-iterator.rest.items;

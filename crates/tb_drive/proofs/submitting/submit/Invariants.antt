@@ -6,6 +6,7 @@ use Rattle.tb_drive.proofs.submitting.submit.Given as goal
 abbrev pub invariant-loop : goal.invariant-loop
 invariant-loop g l = record {
   own : origin_of l.submitter ≡ origin_of l.initial.submitter;
+  front : l.submitter.queued ≡ l.initial.submitter.queued;
   same : l.packet ≡ l.fn.packet;
   asked : HasAsked g.D.Driver.has_asked l.initial.driver l.fn.packet l.initial.submitter
       → HasAsked g.D.Driver.has_asked l.driver l.fn.packet l.submitter;

@@ -8,7 +8,8 @@ pub invariant_of-result : goal.invariant_of-result
 invariant_of-result g c =
     let ends : c.push.new.self.items ≡ c.self.inside.ends.items ++ c.in-Some.ended ∷ [] = search rules in
     let drivers : c.push-2.new.self.items ≡ c.self.inside.drivers.items ++ c.driven.inside.driver ∷ [] = search rules in
-    let seen : HasSeenEnd g.D.Driver.has_seen c.driven.inside.driver c.in-Some.ended = search rules in
+    let both : HasSeenEnd g.D.Driver.has_seen c.driven.inside.driver c.in-Some.ended
+    × HasSeenEnd g.D.Driver.has_ended c.driven.inside.driver c.in-Some.ended = search rules in
     rw (drivers, ends) (
       omega (
         arith,
@@ -17,5 +18,6 @@ invariant_of-result g c =
             (c.in-Some.ended ∷ []),
         length-append c.self.inside.drivers.items (c.driven.inside.driver ∷ []),
       ),
-      one_more g.D.Driver.has_seen _ _ _ _ c.self.invariant.0 c.self.invariant.1 seen,
+      one_more g.D.Driver.has_seen _ _ _ _ c.self.invariant.0 c.self.invariant.1 both.0,
+      one_more g.D.Driver.has_ended _ _ _ _ c.self.invariant.0 c.self.invariant.2 both.1,
     )
