@@ -90,10 +90,10 @@ fn machine_with_accounts(alloc: Global, load: Load) -> Option<Machine> {
     Some(machine)
 }
 
-/// A sum over the balances of the first accounts.
-fn sum_of_balances(machine: &Machine, accounts: u64) -> u128 {
+/// A sum over the balances of the first thousand accounts.
+fn sum_of_balances(machine: &Machine) -> u128 {
     let mut sum = 0u128;
-    for place in 0..accounts as usize {
+    for place in 0..1000 {
         if let Some(account) = machine.account_at(place) {
             let debits = account.debits_posted.wrapping_mul(3);
             let balances = debits.wrapping_add(account.credits_posted);
@@ -113,7 +113,7 @@ pub fn commit_packets(alloc: Global, load: Load) -> Option<Committed> {
     }
     Some(Committed {
         failures,
-        balances: sum_of_balances(&machine, load.accounts),
+        balances: sum_of_balances(&machine),
     })
 }
 

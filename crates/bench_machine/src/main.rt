@@ -5,7 +5,7 @@
 //!     bench_machine make KIND EVENTS PACKETS ACCOUNTS ROOM SEED
 //!
 //! `commit` makes the accounts and commits packets of events of a kind; it prints how many events failed and a sum over
-//! the balances. `times` prints the processor time of the median commit and of the longest, in nanoseconds. `make`
+//! the balances of a thousand accounts. `times` prints the processor time of the median commit and of the longest, in nanoseconds. `make`
 //! makes the packets and drops them. ROOM is the number of transfers to reserve capacity for. SEED seeds the
 //! hashes of ids; 0 leaves them as they are.
 #![tactic(auto)]

@@ -30,8 +30,8 @@ pub trait StateMachine {
 
     fn lookup_accounts(&self, body: &[u8]) -> Vec<Account>;
 
-    /// A sum over the balances of the first accounts.
-    fn sum_of_balances(&self, accounts: usize) -> u128;
+    /// A sum over the balances of the first thousand accounts.
+    fn sum_of_balances(&self) -> u128;
 }
 
 fn sum_of<'a>(accounts: impl Iterator<Item = &'a Account>) -> u128 {
@@ -61,8 +61,8 @@ impl StateMachine for Machine {
         self.lookup_accounts(body)
     }
 
-    fn sum_of_balances(&self, accounts: usize) -> u128 {
-        sum_of(self.accounts().take(accounts))
+    fn sum_of_balances(&self) -> u128 {
+        sum_of(self.accounts().take(1000))
     }
 }
 
@@ -83,8 +83,8 @@ impl StateMachine for StrongMachine {
         self.lookup_accounts(body)
     }
 
-    fn sum_of_balances(&self, accounts: usize) -> u128 {
-        sum_of(self.accounts().iter().take(accounts))
+    fn sum_of_balances(&self) -> u128 {
+        sum_of(self.accounts().iter().take(1000))
     }
 }
 
@@ -132,7 +132,7 @@ pub fn commit_packets<M: StateMachine>(load: Load) -> (usize, u128) {
     for number in 0..load.packets {
         failures += take(&mut machine, load.kind, &body_of(load, number));
     }
-    (failures, machine.sum_of_balances(load.accounts as usize))
+    (failures, machine.sum_of_balances())
 }
 
 #[repr(C)]
