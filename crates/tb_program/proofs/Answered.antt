@@ -5,7 +5,7 @@ use Rattle.std.proofs.lemmas.Option.{slice_get_within}
 use Rattle.tb_core.specs.Due.{outcome_at, reply_due, all_due_from, replies_to, Place, Ahead, next_place}
 use Rattle.tb_core.specs.Journal.{LedgerState, works}
 use Rattle.tb_layout.specs.Work.{Work}
-use Rattle.tb_submit.specs.Ends.{EndedState, replies_of}
+use Rattle.tb_submit.specs.Ends.{EndedState, SubmitterState, replies_of}
 use Rattle.tb_work.specs.Queue.{AreSubmitted, IsSubmitted, items_in, part}
 use Rattle.tb_work.specs.declared.item.Item.{Item}
 use Rattle.tb_work.specs.declared.item.Item.TheVariants as item
@@ -14,7 +14,8 @@ use Rattle.tb_work.specs.declared.packet.Packet as packets
 use Rattle.tb_drive.specs.Reported.{HasReported}
 use Rattle.tb_drive.specs.Seen.{jobs_in}
 use Rattle.tb_program.specs.Answering.{AreAllAnswered, AreAllDone}
-use Rattle.tb_program.specs.Drivers.{HasSeenOf, share_of, told_of}
+use Rattle.tb_program.specs.Drivers.{HasEndedOf, HasSeenOf, share_of, told_of}
+use Rattle.tb_program.proofs.Handing.{handed_longer}
 use Rattle.tb_program.specs.Noting.{IsHandedIn}
 use Rattle.tb_program.specs.RunText.{AreHandedIn}
 use Rattle.tb_program.specs.declared.run.driver.ScriptDriver.{ScriptDriver}
@@ -58,15 +59,16 @@ some_at [] k below = absurd (omega (arith, below))
 some_at (x ∷ xs) zero below = (x, refl)
 some_at (x ∷ xs) (suc k) below = some_at xs k (omega (arith, below))
 
-module _ {clock limit submitters : ℕ} {controlled : List Item} {drivers : List ScriptDriver} {ledger : LedgerState}
+module _ {clock limit submitters : ℕ} {before : List SubmitterState} {controlled : List Item} {drivers : List ScriptDriver} {ledger : LedgerState}
     {ends : List EndedState}
-    (reported : HasReported HasSeenOf clock limit submitters controlled drivers ledger ends) where
+    (reported : HasReported HasSeenOf HasEndedOf clock limit submitters before controlled drivers ledger ends) where
   pub all_answered : AreAllAnswered drivers ends
   all_answered k driver ended driver_is ended_is =
       let below : k < submitters = subst (λ n. k < n) reported.number (slice_get_within ends k ended ended_is) in
       let filled = reported.report.filled in
       let parts : part k reported.queue ≡ reported.queued k = filled.parts k (omega (arith, below)) in
       record {
+        limit = limit;
         queued = jobs_in (reported.queued k);
         seen = reported.seen k driver ended driver_is ended_is;
         number = ap (λ items. length (jobs_in items)) (sym parts)
@@ -82,7 +84,8 @@ module _ {clock limit submitters : ℕ} {controlled : List Item} {drivers : List
   driver_at (first ∷ all) zero share told share_is told_is = (first, refl, cc, cc)
   driver_at (first ∷ all) (suc k) share told share_is told_is = driver_at all k share told share_is told_is
 
-  pub all_handed_in : AreAllDone drivers → AreHandedIn (map share_of drivers) (map told_of drivers) reported.queued
+  pub all_handed_in : AreAllDone drivers
+      → AreHandedIn limit (replies_of ends) (map share_of drivers) (map told_of drivers) reported.queued
   all_handed_in done k share told share_is told_is =
       let its = driver_at drivers k share told share_is told_is in
       let driver = its.0 in
@@ -96,6 +99,9 @@ module _ {clock limit submitters : ℕ} {controlled : List Item} {drivers : List
       let is_done = done k driver its.1 in
       let jobs = jobs_in (reported.queued k) in
       let seen = reported.seen k driver end.0 its.1 end.1 is_done.0 in
-      subst (λ packets. IsHandedIn packets [] told jobs) its.2
-      (subst (λ all. IsHandedIn (share_of driver) [] all jobs) its.3
-      (subst (λ rest. IsHandedIn (share_of driver) rest (told_of driver) jobs) is_done.1 seen.0))
+      let longer = handed_longer limit end.0.read end.0.lying (share_of driver) _ (told_of driver) jobs seen.0 in
+      subst (λ replies. IsHandedIn limit replies share [] told jobs) (sym (replies_at ends k end.0 end.1))
+      (subst (λ packets. IsHandedIn limit (end.0.read ++ end.0.lying) packets [] told jobs) its.2
+      (subst (λ all. IsHandedIn limit (end.0.read ++ end.0.lying) (share_of driver) [] all jobs) its.3
+      (subst (λ rest. IsHandedIn limit (end.0.read ++ end.0.lying) (share_of driver) rest (told_of driver) jobs)
+      is_done.1 longer)))

@@ -3,4 +3,5 @@ mod Handing
 mod Noting
 mod Packets
 mod Pulses
+mod Refusing
 mod Sharing

@@ -5,14 +5,14 @@ use Rattle.tb_program.specs.Drivers.{AreNew, HasSeenOf}
 use Rattle.tb_program.specs.Noting.{AreFresh, HaveCredit}
 use Rattle.tb_program.specs.declared.run.driver.ScriptDriver.{ScriptDriver}
 
-pub one_more_new : (drivers : List ScriptDriver) (last : ScriptDriver) → AreNew drivers → HasSeenOf last [] []
+pub one_more_new : (drivers : List ScriptDriver) (last : ScriptDriver) → AreNew drivers → ((limit : ℕ) → HasSeenOf last limit [] [])
     → AreNew (drivers ++ last ∷ [])
-one_more_new [] last new is zero driver driver_is = let same : last ≡ driver =
-    cc in subst (λ (d : ScriptDriver). HasSeenOf d [] []) same is
-one_more_new [] last new is (suc k) driver driver_is = cc
-one_more_new (first ∷ drivers) last new is zero driver driver_is = new zero driver driver_is
-one_more_new (first ∷ drivers) last new is (suc k) driver driver_is =
-    one_more_new drivers last (λ k. new (suc k)) is k driver driver_is
+one_more_new [] last new is limit zero driver driver_is = let same : last ≡ driver =
+    cc in subst (λ (d : ScriptDriver). HasSeenOf d limit [] []) same (is limit)
+one_more_new [] last new is limit (suc k) driver driver_is = cc
+one_more_new (first ∷ drivers) last new is limit zero driver driver_is = new limit zero driver driver_is
+one_more_new (first ∷ drivers) last new is limit (suc k) driver driver_is =
+    one_more_new drivers last (λ limit k. new limit (suc k)) is limit k driver driver_is
 
 opened_fresh : (credit : ℕ) (origins : List Origin) → AreFresh (map (new_submitter credit) origins)
 opened_fresh credit [] k submitter is = cc

@@ -19,8 +19,9 @@ IsAnswered told replies = queued_among told ≡ length replies
 
 -- a driver has seen what its end queued and read, and there are as many replies as packets
 pub record IsAnsweredBy (driver : ScriptDriver) (ended : EndedState) : Type 0 where
+  pub limit : ℕ
   pub queued : List Numbered
-  pub seen : HasSeenOf driver queued ended.read
+  pub seen : HasSeenOf driver limit queued ended.read
   pub number : length queued ≡ length (ended.read ++ ended.lying)
 
 abbrev pub AreAllAnswered : List ScriptDriver → List EndedState → Type 0

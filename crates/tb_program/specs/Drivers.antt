@@ -15,13 +15,18 @@ abbrev pub told_of : ScriptDriver → List Told
 told_of driver = driver.notes.told.items
 
 -- a driver has noted what its submitter queued and read; the packets that it still has are left of its share
-abbrev pub HasSeenOf : ScriptDriver → List Numbered → List Replied → Type 0
-HasSeenOf driver queued read = HasNoted (share_of driver) (into_iter_items driver.packets) driver.notes queued read
+abbrev pub HasSeenOf : ScriptDriver → ℕ → List Numbered → List Replied → Type 0
+HasSeenOf driver limit queued read =
+    HasNoted (share_of driver) (into_iter_items driver.packets) driver.notes limit queued read
 
 -- the same, where it handed out one more packet and wasn't told of that
-abbrev pub HasAskedOf : ScriptDriver → Packet → List Numbered → List Replied → Type 0
-HasAskedOf driver packet queued read =
-    HasNoted (share_of driver) (packet ∷ into_iter_items driver.packets) driver.notes queued read
+abbrev pub HasAskedOf : ScriptDriver → Packet → ℕ → List Numbered → List Replied → Type 0
+HasAskedOf driver packet limit queued read =
+    HasNoted (share_of driver) (packet ∷ into_iter_items driver.packets) driver.notes limit queued read
+
+-- it has handed out all of its packets
+abbrev pub HasEndedOf : ScriptDriver → ℕ → List Numbered → List Replied → Type 0
+HasEndedOf driver limit queued read = into_iter_items driver.packets ≡ []
 
 -- a driver noted all that it was to note, and has no packet left
 abbrev pub IsDone : ScriptDriver → Type 0
@@ -29,7 +34,8 @@ IsDone driver = (driver.notes.complete ≡ true) × (into_iter_items driver.pack
 
 -- drivers that have noted nothing
 abbrev pub AreNew : List ScriptDriver → Type 0
-AreNew drivers = (k : ℕ) (driver : ScriptDriver) → slice_get drivers k ≡ Some driver → HasSeenOf driver [] []
+AreNew drivers =
+    (limit k : ℕ) (driver : ScriptDriver) → slice_get drivers k ≡ Some driver → HasSeenOf driver limit [] []
 
 abbrev pub lists_of : List (Vec Packet Global) → List (List Packet)
 lists_of shares = map (λ (share : Vec Packet Global). share.items) shares

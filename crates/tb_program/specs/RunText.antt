@@ -64,17 +64,18 @@ ledger_text works refused_pulses state = pulses_text 0 works ++ refused_pulses_t
 abbrev pub run_text : List (List Told) → (ℕ → List Replied) → List Work → ℕ → State → List ℕ
 run_text told replies works refused_pulses state = packets_text 0 told replies ++ ledger_text works refused_pulses state
 
--- all of these shares were handed in: of each packet it was told what became of it, and just those are queued of which
--- that was told
-abbrev pub AreHandedIn : List (List packets.Packet) → List (List Told) → (ℕ → List Item) → Type 0
-AreHandedIn shares told queued =
+-- all of these shares were handed in: of each packet it was told what became of it, rightly under this limit and with
+-- these replies, and just those are queued of which that was told
+abbrev pub AreHandedIn : ℕ → (ℕ → List Replied) → List (List packets.Packet) → List (List Told) → (ℕ → List Item)
+    → Type 0
+AreHandedIn limit replies shares told queued =
     (k : ℕ) (share : List packets.Packet) (own : List Told) → slice_get shares k ≡ Some share
-    → slice_get told k ≡ Some own → IsHandedIn share [] own (jobs_in (queued k))
+    → slice_get told k ≡ Some own → IsHandedIn limit (replies k) share [] own (jobs_in (queued k))
 
 -- Of a run from this clock on under this limit, with a submitter for each of these shares and a control that queued
 -- these items: the text is that of a lawful report of some queue, in which each submitter queued its share but for what
--- it was refused, and whose committed pulses are the first of the control's. Which packets are refused, and why, is
--- left open.
+-- it was refused, and whose committed pulses are the first of the control's. A packet is printed as refused only for
+-- what refuses it, and no packet that isn't admitted is queued.
 pub record IsRunText (clock limit : ℕ) (shares : List (List packets.Packet)) (controlled : List Item)
     (refused_pulses : ℕ) (text : List ℕ) : Type 0 where
   pub run : Run
@@ -86,7 +87,7 @@ pub record IsRunText (clock limit : ℕ) (shares : List (List packets.Packet)) (
   pub control : run.queued run.submitters ≡ controlled
   pub pulses : IsPrefix (moments_committed (committed_in run)) (moments_queued controlled)
   pub number : length told ≡ length shares
-  pub handed : AreHandedIn shares told run.queued
+  pub handed : AreHandedIn limit run.replies shares told run.queued
   pub printed : text ≡ run_text told run.replies (committed_in run) refused_pulses run.ledger.state
 
 -- of what a script says: each submitter's share is its packets, and the control queues the pulses and the Close, or its

@@ -9,7 +9,7 @@ ghost use Rattle.tb_program.specs.Drivers.{AreNew, lists_of, share_of};
 ghost use Rattle.tb_program.specs.Noting.{AreFresh, HaveCredit};
 ghost use Rattle.tb_text.specs.Output.{out, is_faultless};
 ghost use Rattle.tb_program.specs.RunText.{IsRunOf, IsRunText, IsTextOf};
-ghost use Rattle.tb_script.specs.Script.{InBounds, clock_of, credit_of, limit_of, submitters_of};
+ghost use Rattle.tb_script.specs.Script.{InBounds, capacity_of, clock_of, credit_of, limit_of, submitters_of};
 
 mod driver;
 mod fault;
@@ -40,6 +40,7 @@ fn open_for(alloc: Global, settings: &Settings) -> Result<Opened, NoMemory>
     ensures number { IfOk result (λ opened. length opened.pipeline.submitters ≡ submitters_of settings.now) }
     ensures clock { IfOk result (λ opened. opened.pipeline.clock ≡ clock_of settings.now) }
     ensures limit { IfOk result (λ opened. opened.pipeline.intake.limit ≡ limit_of settings.now) }
+    ensures capacity { IfOk result (λ opened. opened.pipeline.intake.capacity ≡ capacity_of settings.now) }
     ensures credit { IfOk result (λ opened. HaveCredit (credit_of settings.now) opened.submitters.items) }
     ensures fresh { IfOk result (λ opened. AreFresh opened.submitters.items) }
     ensures silent { IfOk result (λ opened. opened.control.queued ≡ []) }

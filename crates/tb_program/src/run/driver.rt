@@ -1,7 +1,7 @@
 //! What a submitter queues.
 
-ghost use Rattle.std.specs.Prelude.{◌≡◌, [], IfOk, IfSome, IsSome};
-ghost use Rattle.tb_program.specs.Drivers.{HasAskedOf, HasSeenOf, IsDone, share_of};
+ghost use Rattle.std.specs.Prelude.{◌≡◌, ℕ, [], IfOk, IfSome, IsSome};
+ghost use Rattle.tb_program.specs.Drivers.{HasAskedOf, HasEndedOf, HasSeenOf, IsDone, share_of};
 
 use crate::run::notes::{Notes, Told};
 use std::alloc::Global;
@@ -23,7 +23,7 @@ impl ScriptDriver {
     /// The driver for these packets, with room for what it is to note.
     pub fn new(alloc: Global, packets: Vec<Packet>) -> Result<ScriptDriver, NoMemory>
         ensures share { IfOk result (λ driver. share_of driver ≡ packets.items) }
-        ensures new { IfOk result (λ driver. HasSeenOf driver [] []) }
+        ensures new { IfOk result (λ driver. (limit : ℕ) → HasSeenOf driver limit [] []) }
     {
         let notes = Notes::new(alloc, packets.len())?;
         Ok(ScriptDriver {
@@ -54,6 +54,8 @@ impl Driver for ScriptDriver {
     ghost has_seen = { HasSeenOf };
 
     ghost has_asked = { HasAskedOf };
+
+    ghost has_ended = { HasEndedOf };
 
     ghost share = { share_of };
 

@@ -16,8 +16,10 @@ use Rattle.tb_program.proofs.run.run_opened.Goals as goal
 pub drive_all-requires-clause-seen : goal.drive_all-requires-clause-seen
 drive_all-requires-clause-seen g c κs within = λ k driver submitter driver_is submitter_is.
     let fresh = c.requires.fresh k submitter submitter_is in
-    subst (λ (queued : List Item). HasSeenOf driver (jobs_in queued) submitter.read) (sym fresh.0)
-    (subst (λ (read : List Replied). HasSeenOf driver [] read) (sym fresh.1) (c.requires.new k driver driver_is))
+    let limit = submitter.origin.seat.limit in
+    subst (λ (queued : List Item). HasSeenOf driver limit (jobs_in queued) submitter.read) (sym fresh.0)
+    (subst (λ (read : List Replied). HasSeenOf driver limit [] read) (sym fresh.1)
+    (c.requires.new limit k driver driver_is))
 
 pub text_of-requires-clause-answered : goal.text_of-requires-clause-answered
 text_of-requires-clause-answered g c = all_answered c.in-Ok.ensures.reported
@@ -53,7 +55,7 @@ returns-in_ok-text_of-in-Ok g c =
       pulses = subst (λ queued. IsPrefix (moments_in (works ledger)) (moments_queued (queued ++ lines)))
           c.requires.silent reported.pulses;
       number = length-map drivers told_of ∙ sym (length-map drivers share_of) ∙ ap length shares;
-      handed = subst (λ all. AreHandedIn all told reported.queued) shares
+      handed = subst (λ all. AreHandedIn opened.pipeline.intake.limit replies all told reported.queued) shares
           (all_handed_in reported c.in_ok-text_of-in-Ok.ensures.done);
       printed = subst (λ refused. string_bytes c.in_ok-text_of-in-Ok.field-0
           ≡ run_text told replies (works ledger) refused ledger.state) c.in-Ok.ensures.refused
