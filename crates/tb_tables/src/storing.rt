@@ -37,11 +37,7 @@ fn expires_at(transfer: &Transfer) -> u64
 }
 
 /// Puts the pair of a transfer at a place into the index, where it has one.
-pub fn expect(
-    expiries: &mut Expiries,
-    transfer: &Transfer,
-    place: usize,
-) -> Result<(), NoMemory>
+pub fn expect(expiries: &mut Expiries, transfer: &Transfer, place: usize) -> Result<(), NoMemory>
     requires { is_pending transfer.now ≡ true → expires_at_of transfer.now < 2 ^ 64 }
     ensures ok { OnOk result ((m p : ℕ) → is_indexed expiries.new m p
         ≡ ((is_timed_of transfer.now && same_pair (expires_at_of transfer.now) place m p)
@@ -191,11 +187,7 @@ fn forget_at(expiries: &mut Expiries, transfers: &ById<Row>, place: usize)
 }
 
 /// Takes the pair of the transfer that a change resolved out of the index.
-fn forget_change(
-    expiries: &mut Expiries,
-    transfers: &ById<Row>,
-    change: &Change<Places>,
-)
+fn forget_change(expiries: &mut Expiries, transfers: &ById<Row>, change: &Change<Places>)
     requires { (facts : Facts) × CanForget facts change.now transfers.now.entries }
     ensures { (facts : Facts) → CanForget facts change.now transfers.now.entries → (m p : ℕ)
         → is_indexed expiries.new m p ≡ (not (resolves_at p change.now && is_spent_at facts m p)
@@ -208,11 +200,7 @@ fn forget_change(
 
 /// Takes the pairs of the transfers that some changes resolved out of the index. Where that is empty, the changes
 /// aren't gone through.
-pub fn forget_resolved(
-    expiries: &mut Expiries,
-    transfers: &ById<Row>,
-    changes: &[Change<Places>],
-)
+pub fn forget_resolved(expiries: &mut Expiries, transfers: &ById<Row>, changes: &[Change<Places>])
     requires { (facts : Facts) × AllByRecursion (λ change. CanForget facts change transfers.now.entries) changes.now }
     ensures { (facts : Facts) → AllByRecursion (λ change.
         CanForget facts change transfers.now.entries) changes.now → (m p : ℕ)

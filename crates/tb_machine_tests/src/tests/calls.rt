@@ -67,9 +67,21 @@ fn seed_with_colliding_ids(rt: HostRuntime) {
     let seed = Seed { low: 3, high: 5 };
     let mut machine = Machine::with_seed(rt.alloc(), 0, seed);
     let upper = 0x9e37_79b9_7f4a_7c15u128 << 64;
-    make_accounts(&rt, &mut machine, &[account(upper, 0), account(upper + 1, 0)]);
-    make_transfers(&rt, &mut machine, &[transfer(upper + 2, upper, upper + 1, 5, 0)]);
-    assert!(rt; machine.account(upper).is_some_and(|account| account.debits_posted == 5));
+    make_accounts(
+        &rt,
+        &mut machine,
+        &[account(upper, 0), account(upper + 1, 0)],
+    );
+    make_transfers(
+        &rt,
+        &mut machine,
+        &[transfer(upper + 2, upper, upper + 1, 5, 0)],
+    );
+    assert!(rt;
+        machine
+            .account(upper)
+            .is_some_and(|account| account.debits_posted == 5)
+    );
     assert!(rt; machine.transfer(upper + 2).is_some());
     drop(machine);
 }

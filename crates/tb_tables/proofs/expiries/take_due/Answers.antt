@@ -13,7 +13,7 @@ returns-clause-due c =
     let last = c.in_ok-moment.field-0.now.0 in
     let popped = c.in_ok-place.field-0.0 in
     let low = moment-ge popped.0 last.0 popped.1 last.1
-        (c.in_ok-place.ensures.greatest c.in_ok-moment.field-0.now c.in_ok-moment.ensures.member) in (
+    (c.in_ok-place.ensures.greatest c.in_ok-moment.field-0.now c.in_ok-moment.ensures.member) in (
       popped.0,
       omega (arith, low, c.if-moment-clock.false),
       c.in_ok-place.ensures.member,
