@@ -8,8 +8,8 @@ ghost use Rattle.tb_tables.specs.Hashing.{folded, with_id, with_ids};
 use std::hash::{BuildHasher, Hasher};
 use tb_layout::read_id;
 
-/// Two numbers that are mixed into the halves of every id before it is hashed. Whoever doesn't know them can't choose
-/// ids that have one hash; with `Seed::default()`, two zeros, anybody can.
+/// Two numbers that are mixed into the halves of every id before it is hashed. With `Seed::default()`, two zeros, anybody
+/// can choose ids that have one hash. With numbers that an attacker doesn't know, those ids have different hashes.
 #[derive(Clone, Copy, Default)]
 pub struct Seed {
     pub low: u64,

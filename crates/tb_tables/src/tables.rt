@@ -57,8 +57,8 @@ impl Tables {
         Tables::with_seed(alloc, Seed::default())
     }
 
-    /// Tables without facts, whose ids are hashed with a seed: with numbers that an attacker doesn't know, ids can't be
-    /// chosen to make look-ups slow. The facts don't depend on it. Takes no memory.
+    /// Tables without facts, whose ids are hashed with a seed: with numbers that an attacker doesn't know, ids that are
+    /// known to have one hash don't make look-ups slow. The facts don't depend on it. Takes no memory.
     pub fn with_seed(alloc: Global, seed: Seed) -> Tables
         ensures { result ≡ record { now = no_facts; past = [] } }
     {
