@@ -39,3 +39,13 @@ returns-then-commit-clause-through g c = (
       c.loop.invariant.cleared c.in-Some-take.ensures.some c.clear-cleared.ensures.through
       c.clear-cleared.ensures.next,
 )
+
+pub returns-then-commit-clause-all : goal.returns-then-commit-clause-all
+returns-then-commit-clause-all g c =
+    let parcel = c.clear-cleared.result in
+    let more : CommittedTo c.commit.result c.args.ledger.opening
+    (taken c.loop.inlet ++ parcel ∷ []) c.commit.new.ledger (given c.commit.new.outlet)
+    = c.commit.ensures.committed c.args.ledger.opening (taken c.loop.inlet) c.loop.invariant.committed in
+    rw (c.in-Some-take.ensures.some, ← c.clear-cleared.ensures.parcel) (subst
+    (λ (b : Bool). CommittedTo b c.args.ledger.opening (taken c.loop.inlet ++ parcel ∷ []) c.commit.new.ledger
+    (given c.commit.new.outlet)) c.if-commit.true more)
