@@ -54,16 +54,22 @@ data IsOfAdmission : Refusal → Type 0 where
   OfSize : IsOfAdmission refusals.InvalidDataSize
   OfCount : IsOfAdmission refusals.TooMuchData
 
+same_refusal : (result : Result ℕ Refusal) (one other : Refusal) → result ≡ Err one → result ≡ Err other → one ≡ other
+same_refusal result one other is also = cc
+
 of_admission : (limit : ℕ) (bytes : List ℕ) (size : Option ℕ) (refusal : Refusal)
     → admission_of_size limit bytes size ≡ Err refusal → IsOfAdmission refusal
-of_admission limit bytes None refusal is = subst IsOfAdmission cc OfOperation
+of_admission limit bytes None refusal is =
+    subst IsOfAdmission (same_refusal (Err refusals.InvalidOperation) refusals.InvalidOperation refusal refl is) OfOperation
 of_admission limit bytes (Some size) refusal is =
     by (length bytes % size == 0) (nat_lt limit (length bytes / size)) is
   where
     by : (whole much : Bool) → (if not whole then Err refusals.InvalidDataSize
         else if much then Err refusals.TooMuchData else Ok (length bytes / size)) ≡ Err refusal → IsOfAdmission refusal
-    by false much is = subst IsOfAdmission cc OfSize
-    by true true is = subst IsOfAdmission cc OfCount
+    by false much is =
+        subst IsOfAdmission (same_refusal (Err refusals.InvalidDataSize) refusals.InvalidDataSize refusal refl is) OfSize
+    by true true is =
+        subst IsOfAdmission (same_refusal (Err refusals.TooMuchData) refusals.TooMuchData refusal refl is) OfCount
     by true false is = cc
 
 not_admitted : (limit : ℕ) (read : List Replied) (packet : Packet) (refusal : Refusal) → IsOfAdmission refusal
@@ -95,7 +101,7 @@ rightly_refused limit read packet refusal is = by (told_in read) (admission_of l
         subst (IsRefusedFor limit read packet) (sym is) (not_admitted limit read packet due
         (of_admission limit packet.bytes (event_size packet.operation) due admission_is) admission_is)
     by None (Ok count) told_is admission_is is =
-        subst (IsRefusedFor limit read packet) (sym is.0) (subst IsOk (sym admission_is) tt, is.1)
+        subst (IsRefusedFor limit read packet) (sym is.0) (subst IsOk (sym admission_is) refl, is.1)
 
 pub admitted : (limit : ℕ) (read : List Replied) (packet : Packet) → final_refusal limit read packet ≡ None
     → IsOk (admission_of limit packet)

@@ -8,7 +8,7 @@ use Rattle.tb_program.proofs.run.report.put_ledger.Goals as goal
 
 pub put_pulses-requires : goal.put_pulses-requires
 put_pulses-requires c =
-    subst (λ ws. length ws < 2 ^ 64) (sym (of_entries c.journal.result.now c.args.ledger.now c.journal.ensures))
+    subst (λ ws. length ws < 2 ^ 64) (sym (of_entries c.journal.result.now c.args.ledger.now c.journal.ensures.groups))
     c.requires
 
 pub returns : goal.returns
@@ -20,6 +20,6 @@ returns c =
     c.in_ok-put_state.ensures ∙ ap (λ t. t ++ state)
     (c.in_ok-put_refused_pulses.ensures ∙ ap (λ t. t ++ refused)
     (c.in_ok-put_pulses.ensures ∙ ap (λ ws. out ++ pulses_text 0 ws)
-    (of_entries c.journal.result.now c.args.ledger.now c.journal.ensures)))
+    (of_entries c.journal.result.now c.args.ledger.now c.journal.ensures.groups)))
     ∙ ap (λ t. t ++ state) (append_assoc out pulses refused) ∙ append_assoc out (pulses ++ refused) state
     ∙ ap (λ (s : State). out ++ (pulses ++ refused ++ state_text s)) c.machine.ensures.own
