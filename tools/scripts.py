@@ -1,4 +1,10 @@
-"""What the tools know of scripts: their settings, packets and pulses."""
+"""What the tools know of scripts, their settings, packets and pulses, and of the program."""
+
+import pathlib
+import subprocess
+import sys
+
+TOP = pathlib.Path(__file__).resolve().parent.parent
 
 EVENT_SIZES = {129: 128, 130: 128, 131: 16}
 SETTINGS = {"clock": 0, "limit": 8190, "capacity": 64, "credit": 16, "submitters": 2}
@@ -62,3 +68,11 @@ class Script:
             self.shuts = True
         else:
             self.packets[-1].lines.append(line)
+
+
+def program_path():
+    """Returns the path of the program that ./tbpipe runs, which it builds first if it must. If it can't, it has said why."""
+    asked = subprocess.run([TOP / "tbpipe", "--which"], stdout=subprocess.PIPE, text=True)
+    if asked.returncode != 0:
+        sys.exit(asked.returncode)
+    return asked.stdout.strip()

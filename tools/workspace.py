@@ -1,5 +1,6 @@
 """The workspace that crates.txt describes: what each crate depends on, and linked copies in which rt can work."""
 
+import argparse
 import functools
 import os
 import pathlib
@@ -10,6 +11,17 @@ CRATES = TOP / "crates"
 SOURCES = ("src", "specs", "proofs")
 # The memory that one proof takes at most, in bytes.
 PROOF_MAX = 3 << 30
+
+
+def named_crates(usage, how_many):
+    """Returns the crates that the command line names. `--help` prints the usage and ends; so does another word, with status 2."""
+    parser = argparse.ArgumentParser(usage=usage, formatter_class=argparse.RawDescriptionHelpFormatter)
+    parser.add_argument("crates", nargs=how_many, metavar="CRATE")
+    crates = parser.parse_args().crates
+    for crate in crates:
+        if crate not in dependencies():
+            parser.error(f"crates.txt has no crate {crate}")
+    return crates
 
 
 @functools.cache
