@@ -4,6 +4,7 @@ use crate::events::{accounts, transfers};
 use crate::request::Load;
 use crate::tally::Tally;
 use std::alloc::{AllocError, Global};
+use std::sync::Wait;
 use tb_drive::{Action, Driver};
 use tb_work::{Packet, Refusal, Reply};
 
@@ -50,7 +51,7 @@ impl LoadDriver {
 }
 
 impl Driver for LoadDriver {
-    fn next(&mut self, alloc: Global) -> Action {
+    fn next<R: Wait>(&mut self, _rt: &R, alloc: Global) -> Action {
         let unanswered = self.sent.wrapping_sub(self.tally.replies);
         let all_sent = self.sent > self.load.packets;
         if self.gives_up || all_sent && unanswered == 0 {

@@ -7,11 +7,11 @@ ghost use Rattle.tb_drive.specs.Lines.{is_refused, last_item, pulse_of, pulses_o
 ghost use Rattle.tb_drive.specs.Threads.{IsControlEnd, IsPromiseOf};
 
 use crate::most_queued::MOST_QUEUED;
+use crate::stop::Stop;
 use crossbeam_utils::Backoff;
 use std::alloc::Global;
 use std::snapshot::Snapshot;
 use std::sync::Wait;
-use std::sync::atomic::{AtomicBool, Ordering};
 use std::thread::Promise;
 use tb_submit::{Control, ControlEnd};
 use tb_work::Refusal;
@@ -85,7 +85,7 @@ fn pulse_once<R: Wait>(rt: &R, control: &mut Control, moment: u64) -> Result<(),
 
 /// Queues a pulse, and while the queue is full tries again. Answers whether it is refused, or None where it is told to
 /// stop.
-fn pulse<R: Wait>(rt: &R, control: &mut Control, moment: u64, stop: &AtomicBool) -> Option<bool>
+fn pulse<R: Wait>(rt: &R, control: &mut Control, moment: u64, stop: &Stop) -> Option<bool>
     ensures queued { OnSome result (control.new ≡ with_items control.old (pulse_of moment)) }
     ensures refused { IfSome result (λ refused. refused ≡ is_refused moment) }
 {
@@ -96,7 +96,7 @@ fn pulse<R: Wait>(rt: &R, control: &mut Control, moment: u64, stop: &AtomicBool)
             Err(Refusal::Full) => {}
             Err(_) => return Some(true),
         }
-        if stop.load(Ordering::SeqCst) {
+        if stop.is_asked() {
             return None;
         }
         backoff.snooze();
@@ -109,7 +109,7 @@ fn pulse_all<R: Wait>(
     rt: &R,
     control: &mut Control,
     moments: Vec<u64>,
-    stop: &AtomicBool,
+    stop: &Stop,
 ) -> Option<u64>
     ensures queued { OnSome result (control.new ≡ with_items control.old (pulses_of moments.items)) }
     ensures refused { IfSome result (λ refused. refused ≡ refused_of moments.items) }
@@ -124,7 +124,7 @@ fn pulse_all<R: Wait>(
 }
 
 /// Queues the Close or the control's end, and while the queue is full tries again. None where it is told to stop.
-fn end<R: Wait>(rt: &R, control: Control, shuts: bool, stop: &AtomicBool) -> Option<ControlEnd>
+fn end<R: Wait>(rt: &R, control: Control, shuts: bool, stop: &Stop) -> Option<ControlEnd>
     ensures { IfSome result (λ end. end ≡ sender_with control (last_item shuts)) }
 {
     let mut control = control;
@@ -139,7 +139,7 @@ fn end<R: Wait>(rt: &R, control: Control, shuts: bool, stop: &AtomicBool) -> Opt
             Ok(end) => return Some(end),
             Err((back, _)) => control = back,
         }
-        if stop.load(Ordering::SeqCst) {
+        if stop.is_asked() {
             return None;
         }
         backoff.snooze();
@@ -160,7 +160,7 @@ impl ControlDriver {
     }
 
     /// Queues the lines and then the control's end. None where it is told to stop.
-    pub(crate) fn drive<R: Wait>(self, rt: &R, stop: &AtomicBool) -> Option<ControlLeft>
+    pub(crate) fn drive<R: Wait>(self, rt: &R, stop: &Stop) -> Option<ControlLeft>
         ensures { IsControlEnd self result }
     {
         let ControlDriver { mut control, lines } = self;

@@ -8,6 +8,7 @@ ghost use Rattle.tb_drive.specs.Actions.{GoesOn};
 ghost use Rattle.tb_drive.specs.Refusing.{IsFinalRefusal, final_refusal};
 
 use std::alloc::Global;
+use std::sync::Wait;
 use tb_work::{Packet, Refusal, Reply};
 
 /// What a submitter does next.
@@ -15,14 +16,20 @@ use tb_work::{Packet, Refusal, Reply};
 pub enum Action {
     /// It queues a packet. While its credit is used up or the queue is full it reads replies and tries again.
     Submit(Packet),
-    /// It waits for the next reply. Where it has no packet whose reply is unread, it goes on at once.
+    /// It waits for the next reply, and sleeps until there is one. If it has no packet whose reply is unread, its thread
+    /// only yields, and the driver is asked again.
     Receive,
     /// It ends, and its driver isn't asked again.
     End,
 }
 
 /// Says what a submitter does, and takes what comes of it. A thread of the submitter's own calls it, one call after
-/// another. It needn't end anything itself, nor wait.
+/// another. It needn't end anything itself.
+///
+/// `next` may wait: for a channel, for input, for another thread. Until it returns, replies to the submitter's packets
+/// are put into its ring, and the driver isn't given them; nor can the run end or be given up. A driver that waits for
+/// input and for replies asks for input without waiting while replies are to come, and answers `Receive` if there is
+/// none.
 ///
 /// Its implementor says what is to be known of a driver after a run, by three relations, which hold of anything unless
 /// they are given. `has_seen` is between a driver, the most events of a packet, the packets that it was told are queued,
@@ -39,8 +46,8 @@ pub trait Driver: Drop {
 
     ghost share: { Self → List packets.Packet } = { λ _. [] };
 
-    /// What the submitter does next.
-    fn next(&mut self, alloc: Global) -> Action
+    /// What the submitter does next. It may wait with `rt`.
+    fn next<R: Wait>(&mut self, rt: &R, alloc: Global) -> Action
         ensures seen { (limit : ℕ) (queued : List Numbered) (read : List Replied) → has_seen self.old limit queued read
             → GoesOn result (λ packet. has_asked self.new packet limit queued read)
             (has_seen self.new limit queued read) (has_ended self.new limit queued read) }

@@ -14,14 +14,15 @@ ghost use Rattle.tb_drive.specs.Threads.{IsControlEnd, IsEndPromised, IsPromiseO
 
 use crate::controlling::{ControlDriver, ControlLeft, ControlLines, EndOfControl};
 use crate::driver::Driver;
+use crate::stop::Stop;
 use crate::submitting::{Driven, EndOfSubmitter, Seated, submit_once};
 use std::alloc::{AllocError, AllocFailed, Global};
 use std::marker::Model;
 use std::snapshot::Snapshot;
 use std::sync::Wait;
-use std::sync::atomic::{AtomicBool, Ordering};
 use std::thread;
 use std::thread::{PromisedHandle, Scope, Threads};
+use tb_layout::NoMemory;
 use tb_pipe::{Open, Opened, Pipeline, Report, Served, settle};
 use tb_submit::{Ended, Submitter};
 use tb_work::{Packet, Refusal};
@@ -59,6 +60,16 @@ impl From<AllocError> for DriveFault {
     ghost from_gives = { λ _ given. given ≡ fault.NoMemory };
 
     fn from(_refused: AllocError) -> DriveFault {
+        DriveFault::NoMemory
+    }
+}
+
+impl From<NoMemory> for DriveFault {
+    ghost use Rattle.tb_drive.specs.declared.driving.DriveFault.TheVariants as fault;
+
+    ghost from_gives = { λ _ given. given ≡ fault.NoMemory };
+
+    fn from(_refused: NoMemory) -> DriveFault {
         DriveFault::NoMemory
     }
 }
@@ -124,11 +135,12 @@ impl<D: Driver> Left<D> {
     }
 }
 
-/// Each submitter seated with its driver.
+/// Each submitter seated with its driver, and known to what wakes it.
 fn seat_all<D: Driver>(
     alloc: Global,
     submitters: Vec<Submitter>,
     drivers: Vec<D>,
+    stop: &mut Stop,
 ) -> Result<Vec<Seated<D>>, DriveFault>
     requires number { length drivers.items ≡ length submitters.items }
     requires seen { HaveSeen D.has_seen drivers.items submitters.items }
@@ -143,6 +155,7 @@ fn seat_all<D: Driver>(
         let Some(driver) = drivers.next() else {
             unreachable!()
         };
+        stop.add(&submitter)?;
         all.push(Seated { submitter, driver })?;
     }
     Ok(all)
@@ -153,7 +166,7 @@ fn start_one<'s, E, D: Driver + Send + 's, R: Wait + Sync>(
     scope: &Scope<'s, E>,
     rt: &'s R,
     alloc: Global,
-    stop: &'s AtomicBool,
+    stop: &'s Stop,
     seated: Seated<D>,
 ) -> Result<Started<D>, DriveFault>
     ensures { IfOk result (λ handle. handle.promise.seated.value ≡ seated) }
@@ -175,7 +188,7 @@ fn start_next<'s, E, D: Driver + Send + 's, R: Wait + Sync>(
     scope: &Scope<'s, E>,
     rt: &'s R,
     alloc: Global,
-    stop: &'s AtomicBool,
+    stop: &'s Stop,
     handles: &mut Vec<Started<D>>,
     seated: Seated<D>,
 ) -> Result<(), DriveFault>
@@ -190,7 +203,7 @@ fn start_all<'s, E, D: Driver + Send + 's, R: Wait + Sync>(
     scope: &Scope<'s, E>,
     rt: &'s R,
     alloc: Global,
-    stop: &'s AtomicBool,
+    stop: &'s Stop,
     all: Vec<Seated<D>>,
 ) -> Result<Vec<Started<D>>, DriveFault>
     ensures { IfOk result (λ handles. map started_from handles.items ≡ all.items) }
@@ -207,7 +220,7 @@ fn start_submitters<'s, E, D: Driver + Send + 's, R: Wait + Sync>(
     scope: &Scope<'s, E>,
     rt: &'s R,
     alloc: Global,
-    stop: &'s AtomicBool,
+    stop: &'s Stop,
     all: Vec<Seated<D>>,
 ) -> Result<(Vec<Started<D>>, Left<D>), DriveFault>
     ensures submitters { IfOk result (λ started. map started_from started.0.items ≡ all.items) }
@@ -227,7 +240,7 @@ fn start_submitters<'s, E, D: Driver + Send + 's, R: Wait + Sync>(
 fn start_control<'s, E, R: Wait + Sync>(
     scope: &Scope<'s, E>,
     rt: &'s R,
-    stop: &'s AtomicBool,
+    stop: &'s Stop,
     control_driver: ControlDriver,
 ) -> Result<StartedControl, DriveFault>
     ensures { IfOk result (λ handle. IsPromiseOf control_driver handle.promise) }
@@ -254,7 +267,7 @@ fn start<'s, E, D: Driver + Send + 's, R: Wait + Sync>(
     scope: &Scope<'s, E>,
     rt: &'s R,
     alloc: Global,
-    stop: &'s AtomicBool,
+    stop: &'s Stop,
     all: Vec<Seated<D>>,
     control_driver: ControlDriver,
 ) -> Result<Running<D>, DriveFault>
@@ -409,7 +422,7 @@ fn run_all<'s, E, D: Driver + Send + 's, R: Threads + Wait + Sync>(
     scope: &Scope<'s, E>,
     rt: &'s R,
     alloc: Global,
-    stop: &'s AtomicBool,
+    stop: &'s Stop,
     pipeline: Pipeline,
     all: Vec<Seated<D>>,
     control_driver: ControlDriver,
@@ -440,6 +453,7 @@ fn run_in_scope<D: Driver + Send, R: Threads + Wait + Sync>(
     pipeline: Pipeline,
     all: Vec<Seated<D>>,
     control_driver: ControlDriver,
+    stop: &Stop,
 ) -> Result<Finished<D>, DriveFault>
     requires own { map seated_origin all.items ≡ pipeline.submitters }
     requires control { control_driver.control.seat ≡ control_seat pipeline.intake }
@@ -450,8 +464,6 @@ fn run_in_scope<D: Driver + Send, R: Threads + Wait + Sync>(
     ensures refused { IfOk result (λ finished. finished.refused_pulses
         ≡ refused_of control_driver.lines.moments.items) }
 {
-    let flag = AtomicBool::new(false);
-    let stop = &flag;
     thread::scope(
         thread::scope_env(),
         rt,
@@ -467,7 +479,7 @@ fn run_in_scope<D: Driver + Send, R: Threads + Wait + Sync>(
         {
             let finished = run_all(scope, rt, alloc, stop, pipeline, all, control_driver);
             if finished.is_err() {
-                stop.store(true, Ordering::SeqCst);
+                stop.ask();
             }
             finished
         },
@@ -530,8 +542,16 @@ pub fn drive_all<D: Driver + Send, R: Threads + Wait + Sync>(
         submitters,
         control,
     } = opened;
-    match seat_all(alloc, submitters, drivers) {
-        Ok(all) => run_in_scope(rt, alloc, pipeline, all, ControlDriver { control, lines }),
+    let mut stop = Stop::new(alloc);
+    match seat_all(alloc, submitters, drivers, &mut stop) {
+        Ok(all) => run_in_scope(
+            rt,
+            alloc,
+            pipeline,
+            all,
+            ControlDriver { control, lines },
+            &stop,
+        ),
         Err(fault) => {
             drop(pipeline);
             drop(control);

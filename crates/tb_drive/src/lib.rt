@@ -19,6 +19,7 @@ mod controlling;
 mod driver;
 mod driving;
 mod most_queued;
+mod stop;
 mod submitting;
 
 pub use controlling::ControlLines;

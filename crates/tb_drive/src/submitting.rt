@@ -13,12 +13,12 @@ ghost use Rattle.tb_drive.specs.Seated.{IsEnd, IsLeftBy};
 
 use crate::driver::{Action, Driver};
 use crate::most_queued::MOST_QUEUED;
+use crate::stop::Stop;
 use crossbeam_utils::Backoff;
 use std::alloc::Global;
 use std::marker::Model;
 use std::snapshot::Snapshot;
 use std::sync::Wait;
-use std::sync::atomic::{AtomicBool, Ordering};
 use std::thread::Promise;
 use tb_submit::{Ended, Submitter};
 use tb_work::{Packet, Refusal};
@@ -127,15 +127,15 @@ fn read<D: Driver>(submitter: &mut Submitter, driver: &mut D) -> bool
     }
 }
 
-/// Submits a packet, and while the credit is used up or the queue is full reads replies and tries again, unless it is
-/// told to stop. The driver is told what became of the packet.
+/// Submits a packet. While the credit is used up it waits for a reply, while the queue is full it yields; then it reads a
+/// reply and tries again, unless it is told to stop. The driver is told what became of the packet.
 fn submit<D: Driver, R: Wait>(
     rt: &R,
     alloc: Global,
     submitter: &mut Submitter,
     driver: &mut D,
     packet: Packet,
-    stop: &AtomicBool,
+    stop: &Stop,
 ) -> Result<(), Stopped>
     ensures own { origin_of submitter.new ≡ origin_of submitter.old }
     ensures front { IsFront submitter.old.queued submitter.new.queued }
@@ -148,20 +148,26 @@ fn submit<D: Driver, R: Wait>(
     for _ in rt.forever() {
         match submit_once(rt, alloc, submitter, packet) {
             Ok(number) => return Ok(driver.submitted(Ok(number))),
-            Err((back, Refusal::InFlight | Refusal::Full)) => packet = back,
+            Err((back, Refusal::InFlight)) => {
+                packet = back;
+                submitter.wait(rt, &backoff);
+            }
+            Err((back, Refusal::Full)) => {
+                packet = back;
+                backoff.snooze();
+            }
             Err((_, refusal)) => return Ok(driver.submitted(Err(refusal))),
         }
-        if stop.load(Ordering::SeqCst) {
+        if stop.is_asked() {
             return Err(Stopped);
         }
         read(submitter, driver);
-        backoff.snooze();
     }
     unreachable!()
 }
 
 /// Waits for the next reply, as long as one is to come and it isn't told to stop.
-fn receive<D: Driver, R: Wait>(rt: &R, submitter: &mut Submitter, driver: &mut D, stop: &AtomicBool)
+fn receive<D: Driver, R: Wait>(rt: &R, submitter: &mut Submitter, driver: &mut D, stop: &Stop)
     ensures own { origin_of submitter.new ≡ origin_of submitter.old }
     ensures front { submitter.new.queued ≡ submitter.old.queued }
     ensures seen { HasSeen D.has_seen driver.old submitter.old → HasSeen D.has_seen driver.new submitter.new }
@@ -169,11 +175,11 @@ fn receive<D: Driver, R: Wait>(rt: &R, submitter: &mut Submitter, driver: &mut D
 {
     let backoff = Backoff::new();
     for _ in rt.forever() {
-        let waits = submitter.in_flight() > 0 && !stop.load(Ordering::SeqCst);
+        let waits = submitter.in_flight() > 0 && !stop.is_asked();
         if !waits || read(submitter, driver) {
             return;
         }
-        backoff.snooze();
+        submitter.wait(rt, &backoff);
     }
     unreachable!()
 }
@@ -184,7 +190,7 @@ fn follow<D: Driver, R: Wait>(
     alloc: Global,
     submitter: &mut Submitter,
     driver: &mut D,
-    stop: &AtomicBool,
+    stop: &Stop,
 ) -> Result<(), Stopped>
     ensures own { origin_of submitter.new ≡ origin_of submitter.old }
     ensures front { IsFront submitter.old.queued submitter.new.queued }
@@ -192,12 +198,14 @@ fn follow<D: Driver, R: Wait>(
         → OnOk result (HasSeen D.has_seen driver.new submitter.new × HasSeen D.has_ended driver.new submitter.new) }
     ensures share { D.share driver.new ≡ D.share driver.old }
 {
+    let backoff = Backoff::new();
     for _ in rt.forever() {
-        if stop.load(Ordering::SeqCst) {
+        if stop.is_asked() {
             return Err(Stopped);
         }
-        match driver.next(alloc) {
+        match driver.next(rt, alloc) {
             Action::Submit(packet) => submit(rt, alloc, submitter, driver, packet, stop)?,
+            Action::Receive if submitter.in_flight() == 0 => backoff.snooze(),
             Action::Receive => receive(rt, submitter, driver, stop),
             Action::End => return Ok(()),
         }
@@ -210,7 +218,7 @@ fn end<D: Driver, R: Wait>(
     rt: &R,
     submitter: Submitter,
     driver: &mut D,
-    stop: &AtomicBool,
+    stop: &Stop,
 ) -> Option<Ended>
     ensures own { IsEnd submitter result }
     ensures seen { HasSeen D.has_seen driver.old submitter
@@ -226,7 +234,7 @@ fn end<D: Driver, R: Wait>(
             Ok(ended) => return Some(ended),
             Err((back, _)) => submitter = back,
         }
-        if stop.load(Ordering::SeqCst) {
+        if stop.is_asked() {
             return None;
         }
         read(&mut submitter, driver);
@@ -237,7 +245,7 @@ fn end<D: Driver, R: Wait>(
 
 impl<D: Driver> Seated<D> {
     /// Does what the driver says, and then ends the submitter, unless it is told to stop.
-    pub(crate) fn drive<R: Wait>(self, rt: &R, alloc: Global, stop: &AtomicBool) -> Driven<D>
+    pub(crate) fn drive<R: Wait>(self, rt: &R, alloc: Global, stop: &Stop) -> Driven<D>
         ensures { IsLeftBy self result }
     {
         let Seated {

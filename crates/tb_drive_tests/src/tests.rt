@@ -101,7 +101,7 @@ impl Noter {
 }
 
 impl Driver for Noter {
-    fn next(&mut self, alloc: Global) -> Action {
+    fn next<R: Wait>(&mut self, _rt: &R, alloc: Global) -> Action {
         self.note(Saw::Asked);
         for _ in 0..self.pause {
             thread::yield_now();

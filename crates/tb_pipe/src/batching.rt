@@ -129,7 +129,7 @@ pub(crate) fn batch_all<R: Wait, G: Gate>(
             }
             None => {
                 sealed = pass_group(rt, gate, front, batches, sealed);
-                backoff.snooze();
+                intake.wait(rt, &backoff);
             }
         }
     }

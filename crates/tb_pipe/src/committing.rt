@@ -103,7 +103,7 @@ pub(crate) fn commit_all<R: Wait, G: Gate>(
     let backoff = Backoff::new();
     for _ in rt.forever() {
         let Some(parcel) = inlet.take() else {
-            backoff.snooze();
+            inlet.wait(rt, &backoff);
             continue;
         };
         backoff.reset();

@@ -88,7 +88,7 @@ pub(crate) fn route_until_last<R: Wait>(
     let backoff = Backoff::new();
     for _ in rt.forever() {
         let Some(outcomes) = inlet.take() else {
-            backoff.snooze();
+            inlet.wait(rt, &backoff);
             continue;
         };
         backoff.reset();

@@ -1,40 +1,52 @@
 //! A ring from one thread to one other, over `rtrb`.
 //!
-//! `ring` allocates it; no other call allocates, and none waits. What was taken is a prefix of what was given (`Outlet::give`,
-//! `Inlet::take`). With both ends in one thread, `Inlet::lying` counts what is in the ring, and the next takes return it. A value is
-//! returned to its giver only if no slot was seen to be free (`none_free`, `room`).
+//! `ring` allocates it; no other call allocates, and only `Inlet::wait` waits. What was taken is a prefix of what was given
+//! (`Outlet::give`, `Inlet::take`). With both ends in one thread, `Inlet::lying` counts what is in the ring, and the next takes
+//! return it. A value is returned to its giver only if no slot was seen to be free (`none_free`, `room`).
+//!
+//! A thread that finds nothing to take waits with the ring's `Sleeper`, which each `give` wakes. No clause speaks of waiting.
 #![tactic(auto)]
+
+mod waiting;
+
+pub use waiting::{Sleeper, Waker};
 
 ghost use Rattle.std.specs.Prelude.{◌≡◌, ◌<◌, ◌≤◌, ◌+◌, [], ◌∷◌, ◌++◌, length, OnOk, IfOk, IfErr, IsOk, IfSome, IfNone, IsSomeAnd};
 ghost use Rattle.tb_rings.specs.Ends.{given, taken, lies, slots, free, IsRing, SameOutlet, SameInlet};
 
+use crossbeam_utils::Backoff;
 use rtrb::{Consumer, Producer, PushError, RingBuffer};
 use std::alloc::Global;
+use std::sync::Wait;
 use tb_layout::NoMemory;
 
 /// The end that gives.
 pub struct Outlet<T> {
     producer: Producer<T>,
+    waker: Waker,
 }
 
 impl<T: Drop> Drop for Outlet<T> {
     /// Lets all that is held go in one call, so that no owner's proof goes through it.
     fn drop(self) {
-        let Outlet { producer } = self;
+        let Outlet { producer, waker } = self;
         drop(producer);
+        drop(waker);
     }
 }
 
 /// The end that takes.
 pub struct Inlet<T> {
     consumer: Consumer<T>,
+    sleeper: Sleeper,
 }
 
 impl<T: Drop> Drop for Inlet<T> {
     /// Lets all that is held go in one call, so that no owner's proof goes through it.
     fn drop(self) {
-        let Inlet { consumer } = self;
+        let Inlet { consumer, sleeper } = self;
         drop(consumer);
+        drop(sleeper);
     }
 }
 
@@ -46,12 +58,14 @@ pub fn ring<T: Drop>(alloc: Global, capacity: usize) -> Result<(Outlet<T>, Inlet
     ensures free { IfOk result (λ ends. free ends.0 ≡ capacity) }
     ensures empty { IfOk result (λ ends. (given ends.0 ≡ []) × (taken ends.1 ≡ []) × (lies ends.1 ≡ [])) }
 {
+    let sleeper = Sleeper::new(alloc)?;
+    let waker = sleeper.waker()?;
     let (producer, consumer) = RingBuffer::new(alloc, capacity)?;
-    Ok((Outlet { producer }, Inlet { consumer }))
+    Ok((Outlet { producer, waker }, Inlet { consumer, sleeper }))
 }
 
 impl<T: Drop> Outlet<T> {
-    /// Puts the value into a free slot; where none is seen, it comes back.
+    /// Puts the value into a free slot, and wakes the thread that waits for one; if no free slot is seen, it is returned.
     pub fn give(&mut self, value: T) -> Result<(), T>
         ensures ring { SameOutlet self.old self.new }
         ensures ok { OnOk result (given self.new ≡ given self.old ++ value ∷ []) }
@@ -61,7 +75,10 @@ impl<T: Drop> Outlet<T> {
         ensures room { 0 < free self.old → IsOk result }
     {
         match self.producer.push(value) {
-            Ok(()) => Ok(()),
+            Ok(()) => {
+                self.waker.wake();
+                Ok(())
+            }
             Err(PushError::Full(back)) => Err(back),
         }
     }
@@ -92,5 +109,14 @@ impl<T: Drop> Inlet<T> {
         ensures all { taken self.new ++ lies self.new ≡ given outlet.new }
     {
         self.consumer.slots_beside(&mut outlet.producer)
+    }
+    /// Waits as `Sleeper::wait` does; each value that is given wakes it.
+    pub fn wait<R: Wait>(&self, rt: &R, backoff: &Backoff) {
+        self.sleeper.wait(rt, backoff);
+    }
+
+    /// Returns a waker of the thread that waits for values.
+    pub fn waker(&self) -> Result<Waker, NoMemory> {
+        self.sleeper.waker()
     }
 }

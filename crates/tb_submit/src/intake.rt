@@ -4,6 +4,7 @@ ghost use Rattle.std.specs.Prelude.{◌≡◌, ◌+◌, ◌≤◌, [], IfSome, I
 ghost use Rattle.tb_submit.specs.Ends.{new_intake, with_taken};
 
 use crate::reader::Reader;
+use crossbeam_utils::Backoff;
 use std::marker::Model;
 use std::sync::Wait;
 use tb_work::Ticket;
@@ -55,5 +56,11 @@ impl Intake {
         ensures sender { IfSome result (λ ticket. ticket.sender ≤ self.old.submitters) }
     {
         self.reader.take(rt)
+    }
+
+    /// Waits for something to take: spins and yields as `backoff` says, and once that is completed sleeps until a sender
+    /// queues something. It may return early, so take again after it. Takes no memory.
+    pub fn wait<R: Wait>(&self, rt: &R, backoff: &Backoff) {
+        self.reader.wait(rt, backoff);
     }
 }

@@ -8,23 +8,32 @@ ghost use Rattle.tb_submit.specs.Rule.{entry, IsWhole};
 
 use crate::rule::{Gathers, Newcomer, Place, Queue, Queued, Taken};
 use crate::sender::{EndedSender, Sender};
-use std::alloc::{AllocError, Global};
+use crossbeam_utils::Backoff;
+use std::alloc::Global;
 use std::marker::Model;
 use std::sync::{Arc, Wait};
+use tb_layout::NoMemory;
+use tb_rings::Sleeper;
 use tb_work::Ticket;
 
 /// Takes from the queue, gives out numbers, and takes in what ended senders know.
 pub(crate) struct Reader {
     queue: Arc<Queue, Global>,
     place: Place,
+    sleeper: Sleeper,
 }
 
 impl Drop for Reader {
     /// Lets all that is held go in one call, so that no owner's proof goes through it.
     fn drop(self) {
-        let Reader { queue, place } = self;
+        let Reader {
+            queue,
+            place,
+            sleeper,
+        } = self;
         drop(queue);
         drop(place);
+        drop(sleeper);
     }
 }
 
@@ -52,14 +61,19 @@ impl Model for Reader {
 
 impl Reader {
     /// The pass that takes from a new queue of so many places.
-    pub(crate) fn new(alloc: Global, capacity: usize) -> Result<Reader, AllocError>
+    pub(crate) fn new(alloc: Global, capacity: usize) -> Result<Reader, NoMemory>
         requires { 0 < capacity }
         ensures fresh { IfOk result (λ reader. (reader.entries ≡ []) × (reader.taken ≡ []) × (reader.count ≡ 0)) }
         ensures capacity { IfOk result (λ reader. reader.capacity ≡ capacity) }
     {
+        let sleeper = Sleeper::new(alloc)?;
         let (queue, place) = Queue::ruled(alloc, capacity)?;
         let queue = Arc::new(alloc, queue)?;
-        Ok(Reader { queue, place })
+        Ok(Reader {
+            queue,
+            place,
+            sleeper,
+        })
     }
 
     /// A new sender, with the next number.
@@ -68,7 +82,7 @@ impl Reader {
         number: u32,
         submitters: u32,
         limit: u32,
-    ) -> Result<Sender, AllocError>
+    ) -> Result<Sender, NoMemory>
         requires { number ≡ self.old.count }
         ensures queue { (self.new.queue ≡ self.old.queue) × (self.new.capacity ≡ self.old.capacity) }
         ensures same { (self.new.entries ≡ self.old.entries) × (self.new.taken ≡ self.old.taken) }
@@ -76,11 +90,13 @@ impl Reader {
         ensures sender { IfOk result (λ sender. sender
             ≡ record { seat = seat_with (Some self.old.queue) submitters limit number; queued = [] }) }
     {
+        let waker = self.sleeper.waker()?;
         let queue = Arc::try_clone(&self.queue)?;
         let place = self.queue.another::<Newcomer>(&mut self.place);
         Ok(Sender {
             queue,
             place,
+            waker,
             number,
             submitters,
             limit,
@@ -94,6 +110,11 @@ impl Reader {
         ensures sender { IfSome result (λ ticket. ticket.sender < self.old.count) }
     {
         self.queue.pop_as::<Taken, R>(rt, &mut self.place)
+    }
+
+    /// Waits as `Sleeper::wait` does; each push wakes it.
+    pub(crate) fn wait<R: Wait>(&self, rt: &R, backoff: &Backoff) {
+        self.sleeper.wait(rt, backoff);
     }
 
     /// Takes in what an ended sender pushed, so that it is known here from now on.

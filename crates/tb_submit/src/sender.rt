@@ -8,12 +8,14 @@ use crate::rule::{Place, Pushed, Queue};
 use std::alloc::Global;
 use std::marker::Model;
 use std::sync::{Arc, Wait};
+use tb_rings::Waker;
 use tb_work::{Item, Ticket};
 
 /// One that may push.
 pub(crate) struct Sender {
     pub(crate) queue: Arc<Queue, Global>,
     pub(crate) place: Place,
+    pub(crate) waker: Waker,
     pub(crate) number: u32,
     pub(crate) submitters: u32,
     pub(crate) limit: u32,
@@ -25,12 +27,14 @@ impl Drop for Sender {
         let Sender {
             queue,
             place,
+            waker,
             number: _,
             submitters: _,
             limit: _,
         } = self;
         drop(queue);
         drop(place);
+        drop(waker);
     }
 }
 
@@ -65,7 +69,7 @@ impl Sender {
         self.limit
     }
 
-    /// Pushes an item. Where the queue was full it comes back.
+    /// Pushes an item, and wakes the intake if it waits. If the queue was full the item is returned.
     pub(crate) fn push<R: Wait>(&mut self, rt: &R, item: Item) -> Result<(), Item>
         ensures ok { OnOk result (self.new ≡ sender_with self.old item) }
         ensures full { IfErr result (λ back. (back ≡ item) × (self.new ≡ self.old)) }
@@ -75,12 +79,15 @@ impl Sender {
             item,
         };
         match self.queue.push_as::<Pushed, R>(rt, &mut self.place, ticket) {
-            Ok(()) => Ok(()),
+            Ok(()) => {
+                self.waker.wake();
+                Ok(())
+            }
             Err(Ticket { sender: _, item }) => Err(item),
         }
     }
 
-    /// Pushes its last item. Where the queue was full the sender comes back.
+    /// Pushes its last item, and wakes the intake if it waits. If the queue was full the sender is returned.
     pub(crate) fn end<R: Wait>(mut self, rt: &R, last: Item) -> Result<EndedSender, Sender>
         requires { IsFiled self.seat.limit self.seat.submitters self.seat.number (self.queued ++ last ∷ []) }
         ensures ok { IfOk result (λ ended. ended ≡ sender_with self last) }
@@ -92,8 +99,10 @@ impl Sender {
         };
         match self.queue.push_as::<Pushed, R>(rt, &mut self.place, ticket) {
             Ok(()) => {
+                self.waker.wake();
                 let Sender {
                     queue: _,
+                    waker: _,
                     place,
                     number,
                     submitters,

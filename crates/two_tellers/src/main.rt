@@ -19,7 +19,7 @@ struct Teller {
 }
 
 impl Driver for Teller {
-    fn next(&mut self, alloc: Global) -> Action {
+    fn next<R: Wait>(&mut self, _rt: &R, alloc: Global) -> Action {
         if self.turns == 0 {
             return Action::End;
         }

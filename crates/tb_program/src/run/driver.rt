@@ -6,6 +6,7 @@ ghost use Rattle.tb_program.specs.Drivers.{HasAskedOf, HasEndedOf, HasSeenOf, Is
 use crate::run::notes::{Notes, Told};
 use std::alloc::Global;
 use std::snapshot::Snapshot;
+use std::sync::Wait;
 use std::vec::IntoIter;
 use tb_drive::{Action, Driver};
 use tb_layout::NoMemory;
@@ -59,7 +60,7 @@ impl Driver for ScriptDriver {
 
     ghost share = { share_of };
 
-    fn next(&mut self, _alloc: Global) -> Action {
+    fn next<R: Wait>(&mut self, _rt: &R, _alloc: Global) -> Action {
         match self.packets.next() {
             Some(packet) => Action::Submit(packet),
             None => Action::End,
