@@ -30,6 +30,11 @@ impl LoadDriver {
         }
     }
 
+    /// Sends nothing more.
+    pub fn finish(&mut self) {
+        self.load.packets = self.load.packets.min(self.sent.saturating_sub(1));
+    }
+
     /// The packet of accounts, or after it the next one of the load.
     fn packet(&self, alloc: Global) -> Result<Packet, AllocError> {
         if self.sent == 0 {

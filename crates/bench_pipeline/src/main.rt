@@ -1,14 +1,19 @@
 //! Drives the pipeline from its submitters' threads, to measure it.
 //!
 //!     bench_pipeline run EVENTS PACKETS SUBMITTERS CREDIT CAPACITY LIMIT
+//!     bench_pipeline live SUBMITTERS LOADS
 //!
-//! Each submitter makes a thousand accounts and sends PACKETS packets of EVENTS plain transfers between them, with at
+//! `run`: each submitter makes a thousand accounts and sends PACKETS packets of EVENTS plain transfers between them, with at
 //! most CREDIT of them unanswered, over a queue of CAPACITY slots and in batches of at most LIMIT events. Prints sums
 //! over the replies and the balances, which are the same in every order.
+//!
+//! `live`: the first submitter sends a packet of one event for each byte of the standard input, and writes a byte when it
+//! has the reply. LOADS others send packets of one event at credit 16 until the input ends, the rest sleep until then.
 #![tactic(auto)]
 
 mod driver;
 mod events;
+mod live;
 mod request;
 mod tally;
 
@@ -16,10 +21,13 @@ ghost use Rattle.std.specs.Prelude.{◌≡◌, length, IfSome};
 
 use crate::driver::LoadDriver;
 use crate::events::ACCOUNTS;
-use crate::request::{Load, Opening, Request, request_of};
+use crate::live::{Echo, Over, Party};
+use crate::request::{Asked, LiveRequest, Load, Opening, Request, asked_by};
 use crate::tally::{Tally, sum_of_balances};
 use std::alloc::Global;
 use std::env;
+use std::io;
+use std::io::{Read, Write};
 use std::process::ExitCode;
 use std::sync::Wait;
 use std::thread::Threads;
@@ -90,14 +98,68 @@ fn line_of<R: Threads + Wait + Sync>(rt: &R, alloc: Global, request: Request) ->
     line_of_run(alloc, finished, opening.submitters)
 }
 
-fn main(rt: HostRuntime) -> ExitCode {
-    let Some(request) = env::args(&rt).ok().and_then(request_of) else {
-        let _ = println!(rt;
-            "usage: bench_pipeline run EVENTS PACKETS SUBMITTERS CREDIT CAPACITY LIMIT"
-        );
-        return ExitCode::from(1);
+/// The submitters of a live run, by rising number.
+fn parties<'a, I: Read + Drop, O: Write + Drop>(
+    alloc: Global,
+    request: LiveRequest,
+    echo: Echo<I, O>,
+    over: &'a Over,
+) -> Option<Vec<Party<'a, I, O>>>
+    ensures { IfSome result (λ parties. length parties.items ≡ request.submitters) }
+{
+    let load = Load {
+        events: 1,
+        packets: u64::MAX,
+        credit: 16,
     };
-    let Some(line) = line_of(&rt, rt.alloc(), request) else {
+    let mut echo = Some(echo);
+    let mut parties = Vec::new(alloc);
+    for number in 0..request.submitters {
+        let party = match echo.take() {
+            Some(echo) => Party::Echoes(echo, over),
+            None if number <= request.loads => {
+                Party::Loads(LoadDriver::new(u64::from(number), load), over)
+            }
+            None => Party::Sleeps(over),
+        };
+        parties.push(party).ok()?;
+    }
+    Some(parties)
+}
+
+/// A live run, until its input ends; None as for `run`.
+fn run_live<I: Read + Drop + Send, O: Write + Drop + Send, R: Threads + Wait + Sync>(
+    rt: &R,
+    alloc: Global,
+    request: LiveRequest,
+    echo: Echo<I, O>,
+) -> Option<()> {
+    let over = Over::new();
+    let parties = parties(alloc, request, echo, &over)?;
+    match open(alloc, 0, 8190, 64, 16, request.submitters) {
+        Ok(opened) => drive_all(rt, alloc, opened, parties, ControlLines::none(alloc))
+            .ok()
+            .map(drop),
+        Err(_) => None,
+    }
+}
+
+fn main(rt: HostRuntime) -> ExitCode {
+    let alloc = rt.alloc();
+    let line = match env::args(&rt).ok().and_then(asked_by) {
+        Some(Asked::Run(request)) => line_of(&rt, alloc, request),
+        Some(Asked::Live(request)) => {
+            run_live(&rt, alloc, request, Echo::new(rt.reader(), io::writer(&rt)))
+                .map(|()| String::new(alloc))
+        }
+        None => {
+            let _ = println!(rt;
+                "usage: bench_pipeline run EVENTS PACKETS SUBMITTERS CREDIT CAPACITY LIMIT | live SUBMITTERS LOADS"
+            );
+            return ExitCode::from(1);
+        }
+    };
+    let Some(line) = line else {
         let _ = println!(rt; "refused, or memory or a thread was wanting");
         return ExitCode::from(2);
     };

@@ -25,6 +25,21 @@ pub struct Request {
     pub load: Load,
 }
 
+/// A pipeline with so many submitters. The first sends a packet for each byte of the input, `loads` others send packets of
+/// one event until the input ends, and the rest sleep until then.
+#[derive(Clone, Copy)]
+pub struct LiveRequest {
+    pub submitters: u32,
+    pub loads: u32,
+}
+
+/// What the arguments ask for.
+#[derive(Clone, Copy)]
+pub enum Asked {
+    Run(Request),
+    Live(LiveRequest),
+}
+
 /// The number in an argument, where there is one.
 fn next_number(words: &mut Args) -> Option<u64> {
     words.next()?.as_str().parse::<u64>().ok()
@@ -55,13 +70,20 @@ fn next_run(words: &mut Args) -> Option<Request> {
     })
 }
 
-/// The request in the arguments, the first of which is the program's name.
-pub fn request_of(words: Args) -> Option<Request> {
+fn next_live(words: &mut Args) -> Option<LiveRequest> {
+    let submitters = next_u32(words)?;
+    let loads = next_u32(words)?;
+    Some(LiveRequest { submitters, loads })
+}
+
+/// What the arguments ask for; the first of them is the program's name.
+pub fn asked_by(words: Args) -> Option<Asked> {
     let mut words = words;
     words.next()?;
     let command = words.next()?;
     match command.as_str() {
-        "run" => next_run(&mut words),
+        "run" => next_run(&mut words).map(Asked::Run),
+        "live" => next_live(&mut words).map(Asked::Live),
         _ => None,
     }
 }

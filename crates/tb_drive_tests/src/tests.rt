@@ -13,6 +13,7 @@ use tb_work::{Bytes, Outcome, Packet, Refusal, Reply};
 
 mod replies;
 mod tellings;
+mod waking;
 
 const CREATE_ACCOUNTS: u8 = 129;
 

@@ -1,5 +1,6 @@
 //! What no clause says: the worked example, and each call once with ample memory.
 
+use crossbeam_utils::Backoff;
 use std::test::Fail;
 use tb_rings::ring;
 
@@ -42,6 +43,23 @@ fn ring_goes_round(rt: HostRuntime) -> Result<(), Fail> {
         assert_eq!(rt; outlet.give(99), Err(99));
         assert_eq!(rt; inlet.take(), Some(value));
     }
+    Ok(())
+}
+
+/// A thread that would sleep for ever is woken: by a value that was given before, and by a waker that was used before.
+#[test]
+fn woken_before_it_sleeps(rt: HostRuntime) -> Result<(), Fail> {
+    let (mut outlet, mut inlet) = ring::<u32>(rt.alloc(), 2)?;
+    let backoff = Backoff::new();
+    while !backoff.is_completed() {
+        inlet.wait(&rt, &backoff);
+    }
+    assert_eq!(rt; outlet.give(7), Ok(()));
+    inlet.wait(&rt, &backoff);
+    assert_eq!(rt; inlet.take(), Some(7));
+    inlet.waker()?.wake();
+    inlet.wait(&rt, &backoff);
+    assert_eq!(rt; inlet.take(), None);
     Ok(())
 }
 

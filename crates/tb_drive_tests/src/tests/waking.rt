@@ -1,0 +1,108 @@
+//! Threads that sleep are woken: a wake-up that is lost ends no test, since its thread sleeps for ever.
+
+use super::{CREATE_ACCOUNTS, packet_of};
+use std::alloc::Global;
+use std::sync::Wait;
+use std::test::Fail;
+use std::thread;
+use std::thread::Threads;
+use tb_drive::{Action, ControlLines, Driver, Finished, drive_all};
+use tb_pipe::open;
+use tb_work::{Refusal, Reply};
+
+/// Sends packets without events, one after the other, and waits for each reply. Before each it gives way a number of times
+/// below `longest` that a fixed sequence of numbers says, so that the pipeline is idle after some packets and busy after
+/// others.
+#[derive(Drop)]
+struct Sender {
+    packets: u32,
+    longest: u32,
+    number: u32,
+    sent: u32,
+    replies: u32,
+}
+
+impl Sender {
+    fn new(packets: u32, longest: u32, seed: u32) -> Sender {
+        Sender {
+            packets,
+            longest,
+            number: seed,
+            sent: 0,
+            replies: 0,
+        }
+    }
+
+    /// The next number of the sequence, below `longest`.
+    fn gap(&mut self) -> u32 {
+        self.number = self.number.wrapping_mul(1_664_525).wrapping_add(1_013_904_223);
+        (self.number >> 8) % self.longest.max(1)
+    }
+}
+
+impl Driver for Sender {
+    fn next<R: Wait>(&mut self, _rt: &R, alloc: Global) -> Action {
+        if self.replies < self.sent {
+            return Action::Receive;
+        }
+        if self.sent == self.packets {
+            return Action::End;
+        }
+        for _ in 0..self.gap() {
+            thread::yield_now();
+        }
+        self.sent += 1;
+        packet_of(alloc, CREATE_ACCOUNTS, 0, 0).map_or(Action::End, Action::Submit)
+    }
+
+    fn submitted(&mut self, _told: Result<u64, Refusal>) {}
+
+    fn receive(&mut self, _reply: Reply) {
+        self.replies = self.replies.saturating_add(1);
+    }
+}
+
+/// How many replies each driver was given.
+fn replies_to(alloc: Global, finished: Finished<Sender>) -> Result<Vec<u32>, Fail> {
+    let mut replies = Vec::new(alloc);
+    for driver in &finished.drivers {
+        replies.push(driver.replies)?;
+    }
+    Ok(replies)
+}
+
+/// Runs a driver for each of the seeds, and returns how many replies each was given.
+fn replies_of<R: Threads + Wait + Sync>(
+    rt: &R,
+    alloc: Global,
+    packets: u32,
+    longest: u32,
+    seeds: &[u32],
+) -> Result<Vec<u32>, Fail> {
+    let mut drivers = Vec::new(alloc);
+    for &seed in seeds {
+        drivers.push(Sender::new(packets, longest, seed))?;
+    }
+    let opened = open(alloc, 0, 4, 8, 1, u32::try_from(seeds.len())?)?;
+    match drive_all(rt, alloc, opened, drivers, ControlLines::none(alloc)) {
+        Ok(finished) => replies_to(alloc, finished),
+        Err(_) => Err("the run is given up")?,
+    }
+}
+
+/// All threads sleep before most of the packets.
+#[test]
+fn ten_thousand_packets_after_idling(rt: HostRuntime) -> Result<(), Fail> {
+    let replies = replies_of(&rt, rt.alloc(), 10_000, 100, &[1])?;
+    assert_eq!(rt; replies.as_slice(), [10_000].as_slice());
+    Ok(())
+}
+
+/// Some threads go to sleep while others wake them.
+#[test]
+fn sixteen_senders_at_random_gaps(rt: HostRuntime) -> Result<(), Fail> {
+    let seeds = [1, 2, 3, 4, 5, 6, 7, 8, 9, 10, 11, 12, 13, 14, 15, 16];
+    let replies = replies_of(&rt, rt.alloc(), 1000, 30, &seeds)?;
+    assert_eq!(rt; replies.as_slice(), [1000; 16].as_slice());
+    Ok(())
+}
