@@ -71,9 +71,10 @@ class Bank(unittest.TestCase):
         """Returns the results of accounts and transfers whose ids all have hash 0 without a seed."""
         upper = 0x9E3779B97F4A7C15 << 64
         made = ledger.create_accounts([Account(id=upper + i, ledger=1, code=1) for i in range(100)])
-        moved = [Transfer(id=upper + i, debit_account_id=upper + i, credit_account_id=upper + 2 * i, amount=5, ledger=1,
-                          code=1) for i in range(100)]
-        return made, ledger.create_transfers(moved), ledger.create_transfers(moved), repr(ledger.lookup_account(upper + 2))
+        moved = [Transfer(id=upper + i, amount=5, **ROUTE | {"debit_account_id": upper + i,
+                                                             "credit_account_id": upper + 2 * i}) for i in range(100)]
+        failed = ledger.create_transfers(moved), ledger.create_transfers(moved)
+        return made, *failed, repr(ledger.lookup_account(upper + 2))
 
     def test_seed_and_reservations_change_no_reply(self):
         with Ledger() as fair, Ledger(seed=(3, 5)) as seeded:

@@ -77,7 +77,7 @@ fn open(
     }
 }
 
-/// Opens a closed handle, with a seed by which ids are hashed.
+/// Opens a closed handle and hashes ids with a seed.
 fn open_handle(
     alloc: Global,
     kip: &mut Kip,
@@ -118,7 +118,7 @@ pub extern "C" fn kip_open(
     open_handle(alloc, kip, clock, limit, submitters, Seed::default())
 }
 
-/// Opens a closed handle as `kip_open` does, with two numbers as the seed by which ids are hashed.
+/// Opens a closed handle as `kip_open` does, and hashes ids with a seed of two numbers.
 #[unsafe(no_mangle)]
 pub extern "C" fn kip_open_seeded(
     alloc: Global,
