@@ -118,6 +118,20 @@ uint32_t kip_version(void);
  * 16. */
 uint32_t kip_open(kip_t *kip, uint64_t clock, uint32_t limit, uint32_t submitters);
 
+/* Opens a closed handle as kip_open does, and hashes ids with a seed. Replies don't depend on the seed.
+ *
+ * Use a seed whenever ids can be chosen by someone you don't trust. Take both numbers from the operating system's random
+ * source, for example by getentropy, and keep them secret: nothing random is in the library. kip_open hashes with numbers
+ * that everybody knows. Two packets of 8,190 transfers with ids crafted for them make each later event cost some 25,000
+ * instructions. With a secret seed, ids of the known families cost what fair ids cost. */
+uint32_t kip_open_seeded(kip_t *kip, uint64_t clock, uint32_t limit, uint32_t submitters, uint64_t seed_low,
+                         uint64_t seed_high);
+
+/* Reserves capacity for accounts and transfers that are still to be made. Until then no commit waits for their maps to
+ * grow, which moves all that is stored; failed ids, expiries and the journal grow as needed. KIP_NO_MEMORY: the engine is
+ * as it was and can be used further. */
+uint32_t kip_reserve(kip_t *kip, size_t accounts, size_t transfers);
+
 /* Frees all that is behind the handle. */
 uint32_t kip_close(kip_t *kip);
 

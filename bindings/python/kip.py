@@ -95,6 +95,7 @@ def _load(path):
     address, size = ctypes.c_void_p, ctypes.c_size_t
     for name, arguments in {
         "version": [], "open": [address, u64, u32, u32], "close": [address],
+        "open_seeded": [address, u64, u32, u32, u64, u64], "reserve": [address, size, size],
         "submit_bytes": [address, u32, u8, address, size, u64, address], "pulse": [address, u64],
         "shut": [address], "flush": [address], "reply_bytes": [address, address, address, size],
         "lookup_account": [address, u64, u64, address], "clock": [address, address],
@@ -105,14 +106,23 @@ def _load(path):
 
 
 class Ledger:
-    """A ledger in memory. Use it on one thread, and close it or use it in a `with`."""
+    """A ledger in memory. Use it on one thread, and close it or use it in a `with`.
 
-    def __init__(self, clock=0, limit=8190, submitters=1, library=None):
+    Give a seed if ids can be chosen by someone you don't trust: `seed=(secrets.randbits(64), secrets.randbits(64))`.
+    Replies don't depend on it.
+    """
+
+    def __init__(self, clock=0, limit=8190, submitters=1, library=None, seed=None):
         self._is_open = False
         self._library = _load(library or os.environ.get("KIP_SO", "libkip.so"))
         self._handle = _Handle()
         self._buffer = ctypes.create_string_buffer(128)
-        self._must(self._library.kip_open(self._at, _number(clock, 64), _number(limit, 32), _number(submitters, 32)))
+        settings = _number(clock, 64), _number(limit, 32), _number(submitters, 32)
+        if seed is None:
+            self._must(self._library.kip_open(self._at, *settings))
+        else:
+            low, high = seed
+            self._must(self._library.kip_open_seeded(self._at, *settings, _number(low, 64), _number(high, 64)))
         self._is_open = True
 
     @property
@@ -138,6 +148,13 @@ class Ledger:
         """Frees the ledger. A second close raises `closed`."""
         self._is_open = False
         self._must(self._library.kip_close(self._at))
+
+    def reserve(self, accounts=0, transfers=0):
+        """Reserves capacity for accounts and transfers that are still to be made.
+
+        Until then no commit waits for their maps to grow. After `no_memory` the ledger can be used further.
+        """
+        self._must(self._library.kip_reserve(self._at, _number(accounts, 64), _number(transfers, 64)))
 
     def submit(self, operation, data, submitter=0, user_data=0):
         """Queues a packet and returns its number among its submitter's."""

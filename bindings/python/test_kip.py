@@ -67,6 +67,29 @@ class Bank(unittest.TestCase):
         with Ledger() as ledger:
             self.assertEqual(len(ledger.create_accounts([Account()] * 8190)), 8190)
 
+    def replies_to_colliding_ids(self, ledger):
+        """Returns the results of accounts and transfers whose ids all have hash 0 without a seed."""
+        upper = 0x9E3779B97F4A7C15 << 64
+        made = ledger.create_accounts([Account(id=upper + i, ledger=1, code=1) for i in range(100)])
+        moved = [Transfer(id=upper + i, amount=5, **ROUTE | {"debit_account_id": upper + i,
+                                                             "credit_account_id": upper + 2 * i}) for i in range(100)]
+        failed = ledger.create_transfers(moved), ledger.create_transfers(moved)
+        return made, *failed, repr(ledger.lookup_account(upper + 2))
+
+    def test_seed_and_reservations_change_no_reply(self):
+        with Ledger() as fair, Ledger(seed=(3, 5)) as seeded:
+            seeded.reserve(accounts=100, transfers=200)
+            for refused in {"transfers": 2**60}, {"accounts": 2**64 - 1}:
+                with self.assertRaises(KipError) as caught:
+                    seeded.reserve(**refused)
+                self.assertEqual(caught.exception.name, "no_memory")
+            replies = self.replies_to_colliding_ids(fair)
+            # The transfer from account 0 to itself, and the 50 to accounts that aren't there, fail; then all 100 again.
+            self.assertEqual([len(failures) for failures in replies[:3]], [0, 51, 100])
+            self.assertEqual(self.replies_to_colliding_ids(seeded), replies)
+        with self.assertRaises(OverflowError):
+            Ledger(seed=(0, 2**64))
+
 
 if __name__ == "__main__":
     unittest.main()

@@ -16,6 +16,7 @@ static void closed_handle(void) {
     assert(kip_reply(&kip, &reply, results, 8) == KIP_CLOSED && results[0] == 7);
     assert(kip_clock(&kip, &number) == KIP_CLOSED && number == 99);
     assert(kip_lookup_account(&kip, 1, 0, &account) == KIP_CLOSED && kip_pulse(&kip, 1) == KIP_CLOSED);
+    assert(kip_reserve(&kip, 1, 1) == KIP_CLOSED && kip_reserve(&kip, SIZE_MAX, SIZE_MAX) == KIP_CLOSED && !kip.is_open);
 }
 
 static void settings(void) {
@@ -30,6 +31,27 @@ static void settings(void) {
     assert(kip_open(&kip, 0, 1, 16) == KIP_ALREADY_OPEN);
     assert(kip_close(&kip) == KIP_OK && kip_close(&kip) == KIP_CLOSED);
     assert(kip_open(&kip, 0, 1, 1) == KIP_OK && kip_close(&kip) == KIP_OK);
+}
+
+static void seeded_settings(void) {
+    kip_t kip = {0};
+    assert(kip_open_seeded(&kip, UINT64_C(1) << 63, 0, 0, 3, 5) == KIP_MOMENT_TOO_LARGE);
+    assert(kip_open_seeded(&kip, 0, 8191, 0, 3, 5) == KIP_BAD_LIMIT);
+    assert(kip_open_seeded(&kip, 0, 1, 17, 3, 5) == KIP_BAD_SUBMITTERS && !kip.is_open);
+    assert(kip_open_seeded(&kip, 7, 1, 16, UINT64_MAX, UINT64_MAX) == KIP_OK);
+    assert(kip_open_seeded(&kip, 0, 1, 16, 0, 0) == KIP_ALREADY_OPEN && kip_open(&kip, 0, 1, 16) == KIP_ALREADY_OPEN);
+    uint64_t clock = 0;
+    assert(kip_clock(&kip, &clock) == KIP_OK && clock == 7);
+    assert(kip_close(&kip) == KIP_OK && kip_reserve(&kip, 0, 0) == KIP_CLOSED);
+}
+
+/* Reservations that no memory is large enough for. */
+static void reservations(kip_t *kip) {
+    for (int bits = 50; bits < 64; bits++) {
+        assert(kip_reserve(kip, 0, (size_t)1 << bits) == KIP_NO_MEMORY);
+        assert(kip_reserve(kip, (size_t)1 << bits, 0) == KIP_NO_MEMORY);
+    }
+    assert(kip_reserve(kip, SIZE_MAX, SIZE_MAX) == KIP_NO_MEMORY && kip_reserve(kip, 0, 0) == KIP_OK);
 }
 
 static void packets(kip_t *kip) {
@@ -84,7 +106,9 @@ int main(void) {
     assert(strcmp(kip_status_name(KIP_SHUTDOWN), "shutdown") == 0 && strcmp(kip_status_name(4), "unknown") == 0);
     closed_handle();
     settings();
+    seeded_settings();
     assert(kip_open(&kip, 0, 1, 16) == KIP_OK);
+    reservations(&kip);
     packets(&kip);
     replies(&kip);
     after_the_close(&kip);

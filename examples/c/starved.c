@@ -52,6 +52,12 @@ static void submitted(uint32_t status) {
     refused += status != KIP_OK;
 }
 
+static void reserved(kip_t *kip, size_t count) {
+    uint32_t status = kip_reserve(kip, count, count);
+    assert(status == KIP_OK || status == KIP_NO_MEMORY);
+    refused += status != KIP_OK;
+}
+
 static void one_round(kip_t *kip, int round, uint64_t *last) {
     uint64_t number;
     kip_uint128 ids[2] = {{1, 0}, {2, 0}};
@@ -82,13 +88,16 @@ static int run(long nth) {
     long before = live;
     refused = queued = read_so_far = stopped = 0;
     countdown = nth;
-    uint32_t status = kip_open(&kip, 0, 8190, 2);
+    uint32_t status = kip_open_seeded(&kip, 0, 8190, 2, 3, 5);
     if (status != KIP_OK) {
         assert(status == KIP_NO_MEMORY && live == before && !kip.is_open);
         countdown = -1;
         return 1;
     }
-    for (int round = 0; round < 6; round++) one_round(&kip, round, &last);
+    for (int round = 0; round < 6; round++) {
+        one_round(&kip, round, &last);
+        reserved(&kip, 40 * (size_t)round);
+    }
     int failed = countdown == 0;
     countdown = -1;
     assert(kip_close(&kip) == KIP_OK && live == before);

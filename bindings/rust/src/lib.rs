@@ -104,6 +104,29 @@ impl Ledger {
         })
     }
 
+    /// Opens a ledger as `open` does, and hashes ids with a seed. Use a seed if ids can be chosen by someone you don't
+    /// trust: two numbers from the operating system's random source, kept secret. Replies don't depend on it.
+    pub fn open_seeded(
+        clock: u64,
+        limit: u32,
+        submitters: u32,
+        seed: [u64; 2],
+    ) -> Result<Ledger, Refusal> {
+        let mut handle = Box::new(raw::Handle::closed());
+        let [low, high] = seed;
+        done(unsafe { raw::kip_open_seeded(&mut *handle, clock, limit, submitters, low, high) })?;
+        Ok(Ledger {
+            handle,
+            stays: PhantomData,
+        })
+    }
+
+    /// Reserves capacity for accounts and transfers that are still to be made. Until then no commit waits for their maps
+    /// to grow. After `NoMemory` the ledger can be used further.
+    pub fn reserve(&mut self, accounts: usize, transfers: usize) -> Result<(), Refusal> {
+        done(unsafe { raw::kip_reserve(&mut *self.handle, accounts, transfers) })
+    }
+
     /// Queues a packet with a copy of the data, and returns its number among its submitter's.
     pub fn submit(
         &mut self,

@@ -34,6 +34,15 @@ pub struct Head {
 extern "C" {
     pub(crate) fn kip_version() -> u32;
     pub(crate) fn kip_open(kip: *mut Handle, clock: u64, limit: u32, submitters: u32) -> u32;
+    pub(crate) fn kip_open_seeded(
+        kip: *mut Handle,
+        clock: u64,
+        limit: u32,
+        submitters: u32,
+        seed_low: u64,
+        seed_high: u64,
+    ) -> u32;
+    pub(crate) fn kip_reserve(kip: *mut Handle, accounts: usize, transfers: usize) -> u32;
     pub(crate) fn kip_close(kip: *mut Handle) -> u32;
     pub(crate) fn kip_submit_bytes(
         kip: *mut Handle,

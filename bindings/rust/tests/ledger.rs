@@ -1,4 +1,4 @@
-use kip::{Ledger, Outcome, Refusal, CREATE_ACCOUNTS, CREATE_TRANSFERS};
+use kip::{Head, Ledger, Outcome, Refusal, CREATE_ACCOUNTS, CREATE_TRANSFERS};
 
 /// Lays out an account or a transfer: six numbers of 16 bytes, then ledger, code and flags.
 fn record(words: [u128; 6], code: u16, flags: u16) -> [u8; 128] {
@@ -62,4 +62,40 @@ fn dropped_with_packets_held() {
         let mut ledger = Ledger::open(0, 8190, 16).unwrap();
         ledger.submit(15, CREATE_ACCOUNTS, &two_accounts(), 0).unwrap();
     }
+}
+
+/// Commits accounts and transfers whose ids all have hash 0 without a seed, and returns each reply with its results.
+fn replies_to_colliding_ids(ledger: &mut Ledger) -> Result<Vec<(Head, Vec<u8>)>, Refusal> {
+    let id = |low: u128| (0x9e37_79b9_7f4a_7c15 << 64) + low;
+    let accounts: Vec<_> = (0..100).map(|i| record([id(i), 0, 0, 0, 0, 0], 1, 0)).collect();
+    let transfers: Vec<_> =
+        (0..100).map(|i| record([id(i), id(i), id(2 * i), 5, 0, 0], 1, 0)).collect();
+    ledger.submit(0, CREATE_ACCOUNTS, &accounts.concat(), 1)?;
+    ledger.submit(0, CREATE_TRANSFERS, &transfers.concat(), 2)?;
+    ledger.submit(0, CREATE_TRANSFERS, &transfers.concat(), 3)?;
+    ledger.flush()?;
+    let (mut replies, mut results) = (Vec::new(), Vec::new());
+    while let Some(head) = ledger.reply(&mut results) {
+        replies.push((head, results.clone()));
+    }
+    Ok(replies)
+}
+
+#[test]
+fn seed_and_reservations_change_no_reply() -> Result<(), Refusal> {
+    let mut fair = Ledger::open(0, 8190, 1)?;
+    let mut seeded = Ledger::open_seeded(0, 8190, 1, [3, 5])?;
+    seeded.reserve(100, 200)?;
+    assert_eq!(seeded.reserve(0, 1 << 60), Err(Refusal::NoMemory));
+    assert_eq!(seeded.reserve(usize::MAX, 0), Err(Refusal::NoMemory));
+    let replies = replies_to_colliding_ids(&mut fair)?;
+    assert_eq!(replies.len(), 3);
+    // The transfer from account 0 to itself, the 50 to accounts that aren't there, and then all 100 again fail.
+    assert_eq!((replies[1].1.len(), replies[2].1.len()), (8 * 51, 8 * 100));
+    assert_eq!(replies_to_colliding_ids(&mut seeded)?, replies);
+    let account = (0x9e37_79b9_7f4a_7c15 << 64) + 2;
+    assert_eq!(seeded.lookup_account(account), fair.lookup_account(account));
+    assert!(seeded.lookup_account(account).is_some());
+    assert_eq!(Ledger::open_seeded(0, 0, 1, [3, 5]).err(), Some(Refusal::BadLimit));
+    Ok(())
 }

@@ -11,7 +11,7 @@ ghost use Rattle.kip.specs.Handle.{Moves, IsOpen, IsStatus, IsStatusOf, IsSubmit
 use crate::handle::Kip;
 use crate::reading::{KipReply, head_of, put_results};
 use std::alloc::{AllocError, Global};
-use tb_embed::Engine;
+use tb_embed::{Engine, Seed};
 use tb_layout::{CLOCK_MAX, write_account};
 use tb_work::{Bytes, Packet, Refusal};
 
@@ -56,7 +56,13 @@ fn status_of(done: Result<(), Refusal>) -> u32
     }
 }
 
-fn open(alloc: Global, clock: u64, limit: u32, submitters: u32) -> Result<Box<Engine>, Refusal>
+fn open(
+    alloc: Global,
+    clock: u64,
+    limit: u32,
+    submitters: u32,
+    seed: Seed,
+) -> Result<Box<Engine>, Refusal>
     ensures serves { IfOk result (λ engine. Serves clock [] [] engine.value) }
     ensures opens { OnOk result (open_refusal clock limit submitters ≡ None) }
     ensures refusal { IfErr result (λ refusal. IsRefusal (open_refusal clock limit submitters) refusal) }
@@ -64,10 +70,35 @@ fn open(alloc: Global, clock: u64, limit: u32, submitters: u32) -> Result<Box<En
     if clock > CLOCK_MAX {
         return Err(Refusal::MomentTooLarge);
     }
-    let engine = Engine::new(alloc, clock, limit, submitters)?;
+    let engine = Engine::with_seed(alloc, clock, limit, submitters, seed)?;
     match Box::new(alloc, engine) {
         Ok(engine) => Ok(engine),
         Err(_) => Err(Refusal::NoMemory),
+    }
+}
+
+/// Opens a closed handle and hashes ids with a seed.
+fn open_handle(
+    alloc: Global,
+    kip: &mut Kip,
+    clock: u64,
+    limit: u32,
+    submitters: u32,
+    seed: Seed,
+) -> u32
+    ensures ok { result ≡ 0 → IsOpen (Serves clock [] []) kip.new.held.engine }
+    ensures status { IsOpeningStatus clock limit submitters kip.old.held.engine result }
+    ensures same { (result ≡ 0 → ⊥) → kip.new.held.engine ≡ kip.old.held.engine }
+{
+    if kip.is_open {
+        return ALREADY_OPEN;
+    }
+    match open(alloc, clock, limit, submitters, seed) {
+        Ok(engine) => {
+            kip.put(engine);
+            0
+        }
+        Err(refusal) => refusal.number(),
     }
 }
 
@@ -84,16 +115,48 @@ pub extern "C" fn kip_open(
     ensures status { IsOpeningStatus clock limit submitters kip.old.held.engine result }
     ensures same { (result ≡ 0 → ⊥) → kip.new.held.engine ≡ kip.old.held.engine }
 {
-    if kip.is_open {
-        return ALREADY_OPEN;
-    }
-    match open(alloc, clock, limit, submitters) {
-        Ok(engine) => {
-            kip.put(engine);
-            0
-        }
-        Err(refusal) => refusal.number(),
-    }
+    open_handle(alloc, kip, clock, limit, submitters, Seed::default())
+}
+
+/// Opens a closed handle as `kip_open` does, and hashes ids with a seed of two numbers.
+#[unsafe(no_mangle)]
+pub extern "C" fn kip_open_seeded(
+    alloc: Global,
+    kip: &mut Kip,
+    clock: u64,
+    limit: u32,
+    submitters: u32,
+    seed_low: u64,
+    seed_high: u64,
+) -> u32
+    ensures ok { result ≡ 0 → IsOpen (Serves clock [] []) kip.new.held.engine }
+    ensures status { IsOpeningStatus clock limit submitters kip.old.held.engine result }
+    ensures same { (result ≡ 0 → ⊥) → kip.new.held.engine ≡ kip.old.held.engine }
+{
+    let seed = Seed {
+        low: seed_low,
+        high: seed_high,
+    };
+    open_handle(alloc, kip, clock, limit, submitters, seed)
+}
+
+/// Reserves capacity for accounts and transfers that are still to be made.
+#[unsafe(no_mangle)]
+pub extern "C" fn kip_reserve(
+    alloc: Global,
+    kip: &mut Kip,
+    accounts: usize,
+    transfers: usize,
+) -> u32
+    ensures status { IsStatusOf (λ engine. None) kip.old.held.engine result }
+    ensures same { kip.new.held.engine ≡ kip.old.held.engine }
+{
+    let Some(mut engine) = kip.take(alloc) else {
+        return CLOSED;
+    };
+    let status = status_of(engine.reserve(accounts, transfers));
+    kip.put(engine);
+    status
 }
 
 /// Closes a handle and frees all that is behind it.

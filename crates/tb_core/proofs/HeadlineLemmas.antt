@@ -1,13 +1,12 @@
 -- A lawful report has all that the headline says.
-use Rattle.std.proofs.Common.{refl, sym, ap, subst, ◌∙◌, arith, ◌≡◌, ◌<◌, ◌≤◌, ℕ, zero, suc, ◌+◌, Bool, true, false, true≢false, List, [], ◌∷◌, ◌++◌, map, take, length, length-append, append_assoc, Option, Some, None}
+use Rattle.std.proofs.Common.{refl, sym, ap, subst, ◌∙◌, arith, ◌≡◌, ℕ, zero, suc, ◌+◌, Bool, true, false, true≢false, List, [], ◌∷◌, ◌++◌, map, take, length, length-append, append_assoc, Option, Some, None}
 use Rattle.std.specs.Prelude.{◌==◌, filter, slice_get, if◌then◌else◌}
 use Rattle.std.specs.List.{AllByRecursion}
 use Rattle.std.proofs.lemmas.Bool.{eq-eqb, cond_both}
 use Rattle.std.proofs.lemmas.List.Elements.{filter-append}
-use Rattle.std.proofs.lemmas.Option.{slice_get_past}
 use Rattle.tb_layout.specs.declared.answer.Answer.{Answer}
 use Rattle.tb_layout.specs.Work.{Work, Packet, Pulse}
-use Rattle.tb_machine.specs.Replay.{replay, answer_of, answer_at, answer_to}
+use Rattle.tb_machine.specs.Replay.{replay, answer_of, answer_to}
 use Rattle.tb_work.specs.Packet.{Numbered, events_in, Replied, reply_with, work_of}
 use Rattle.tb_work.specs.Queue.{ahead, items_in, part, AreSubmitted, IsSubmitted}
 use Rattle.tb_work.specs.declared.outcome.Outcome.{Outcome}
@@ -15,8 +14,8 @@ use Rattle.tb_work.specs.declared.outcome.Outcome.TheVariants.{Committed, Stoppe
 use Rattle.tb_work.specs.declared.item.Item.{Item}
 use Rattle.tb_work.specs.declared.item.Item.TheVariants as item
 use Rattle.tb_work.specs.declared.item.Ticket.{Ticket}
-use Rattle.tb_core.specs.Due.{outcome_at, outcome_with, reply_due, all_due_from, replies_to, Place, Ahead, Behind, next_place}
-use Rattle.tb_core.specs.Headline.{is_packet_of, packets_of, moments_in, packets_queued, moments_queued, packet_of, IsAnsweredAt, Headline, ReportsHeadline}
+use Rattle.tb_core.specs.Due.{outcome_at, outcome_with, all_due_from, replies_to, Place, Ahead, Behind, next_place}
+use Rattle.tb_core.specs.Headline.{is_packet_of, packets_of, moments_in, packets_queued, moments_queued, packet_of, ReportsHeadline}
 use Rattle.tb_core.specs.Report.{Run, committed_in, ahead_in, IsPrefix, LawfulReport}
 
 -- ---- prefixes

@@ -1,5 +1,5 @@
 -- What a run reports once its threads have ended. No definition here mentions a batch.
-use Rattle.std.specs.Prelude.{◌≡◌, ◌↔◌, ℕ, ◌<◌, Bool, true, false, List, [], ◌++◌}
+use Rattle.std.specs.Prelude.{◌≡◌, ◌↔◌, ℕ, ◌<◌, Bool, true, false, List, ◌++◌}
 use Rattle.std.specs.List.{list_any}
 use Rattle.tb_layout.specs.Work.{Work}
 use Rattle.tb_machine.specs.Replay.{replay}

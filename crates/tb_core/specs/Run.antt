@@ -5,7 +5,6 @@ use Rattle.tb_machine.specs.Replay.{replay}
 use Rattle.tb_work.specs.Queue.{IsQueueOf, ahead, items_in}
 use Rattle.tb_work.specs.Packet.{Replied}
 use Rattle.tb_work.specs.declared.item.Item.{Item}
-use Rattle.tb_work.specs.declared.item.Ticket.{Ticket}
 use Rattle.tb_batch.specs.Batch.{AreAdmitted}
 use Rattle.tb_core.specs.declared.outcomes.Outcomes.{Outcomes}
 use Rattle.tb_core.specs.declared.outcomes.Outcomes.TheVariants.{Cut, One, Nothing, Last}

@@ -20,7 +20,7 @@ use std::marker::Model;
 use tb_batch::{Batch, Parts};
 use tb_demux::Cutter;
 use tb_layout::{Account, Failure, LOOKUP_ACCOUNTS, NoMemory};
-use tb_machine::{Machine, joining_is_invisible};
+use tb_machine::{Machine, Seed, joining_is_invisible};
 use tb_work::{Accounts, Answer, Failures, Job, Moment, Outcome, Reply};
 
 /// How many packets and pulses can have a place.
@@ -167,13 +167,31 @@ impl Ledger {
         ensures ledger { result ≡ new_ledger clock }
         ensures commits { Commits clock [] result [] }
     {
+        Ledger::with_seed(alloc, clock, Seed::default())
+    }
+
+    /// Returns the ledger of `new`, which hashes ids with a seed. If the seed is two numbers that an attacker doesn't
+    /// know, ids can't be chosen to make commits slow. The ledger's states and replies don't depend on the seed.
+    pub fn with_seed(alloc: Global, clock: u64, seed: Seed) -> Ledger
+        requires { clock ≤ clock_max }
+        ensures ledger { result ≡ new_ledger clock }
+        ensures commits { Commits clock [] result [] }
+    {
         Ledger {
             opening: clock,
-            machine: Machine::new(alloc, clock),
+            machine: Machine::with_seed(alloc, clock, seed),
             entries: Vec::new(alloc),
             places: 0,
             stopped: false,
         }
+    }
+
+    /// Reserves capacity for accounts and transfers that are still to be made. Until then no commit waits for their maps
+    /// to grow, which moves all that is stored. If memory runs out, nothing has changed.
+    pub fn reserve(&mut self, accounts: usize, transfers: usize) -> Result<(), NoMemory>
+        ensures { self.new ≡ self.old }
+    {
+        self.machine.reserve(accounts, transfers)
     }
 
     /// Where the clock started, in nanoseconds.

@@ -38,3 +38,4 @@ pub use ledger::Ledger;
 pub use list::{Listed, run_list};
 pub use outcomes::Outcomes;
 pub use parcel::{Cause, Parcel};
+pub use tb_machine::Seed;

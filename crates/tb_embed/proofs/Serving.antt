@@ -2,17 +2,16 @@
 use Rattle.std.proofs.Common.{◌≡◌, refl, sym, ap, ◌∙◌, subst, ℕ, ◌+◌, Bool, if◌then◌else◌, List, [], ◌∷◌, ◌++◌, append-nil, map, length, get_or, ◌<◌, ◌≤◌, false, None, arith}
 use Rattle.std.specs.Prelude.{slice_set}
 use Rattle.std.proofs.lemmas.List.{map-append}
-use Rattle.tb_work.specs.Queue.{part, is_end, items_in, IsSubmitted}
+use Rattle.tb_work.specs.Queue.{is_end, items_in, IsSubmitted}
 use Rattle.tb_work.specs.Packet.{Replied}
 use Rattle.tb_work.specs.declared.item.Item.{Item}
 use Rattle.tb_work.specs.declared.item.Ticket.{Ticket}
 use Rattle.tb_work.specs.declared.packet.Packet.{Packet}
-use Rattle.tb_core.specs.Due.{replies_to}
 use Rattle.tb_core.specs.Front.{held_by}
 use Rattle.tb_core.specs.inside.Passage.{Admitted, Passes}
 use Rattle.tb_core.specs.Run.{Commits, EachPartIsLawful, RunIsLawful}
 use Rattle.tb_embed.specs.Engine.{EngineState, HasTaken, Queues, sender_refusal, run_of, ServingIsLawful}
-use Rattle.tb_embed.specs.Queued.{AreQueued, packets_in, ticket_of, packet_ticket, ended_queue}
+use Rattle.tb_embed.specs.Queued.{AreQueued, packets_in, ticket_of, packet_ticket}
 use Rattle.tb_embed.proofs.Queued.{IsNext, packet_queued, control_queued, passes_ended, queue_ended}
 
 -- what the front and the ledger make of one item more

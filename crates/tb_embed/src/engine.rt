@@ -20,7 +20,7 @@ use crate::unread::Unread;
 use arrayvec::ArrayVec;
 use std::alloc::Global;
 use std::marker::Model;
-use tb_core::{Front, Ledger, Parcel};
+use tb_core::{Front, Ledger, Parcel, Seed};
 use tb_layout::{Account, MOMENT_MAX};
 use tb_work::{Item, Job, Moment, Packet, Refusal, Reply, Ticket};
 
@@ -96,16 +96,53 @@ impl Engine {
         ensures opens { OnOk result (opening_refusal limit submitters ≡ None) }
         ensures refusal { IfErr result (λ refusal. opening_refusal limit submitters ≡ Some refusal) }
     {
+        Engine::with_seed(alloc, clock, limit, submitters, Seed::default())
+    }
+
+    /// Returns the engine of `new`, which hashes ids with a seed. Use a seed if ids can be chosen by someone you don't
+    /// trust: two numbers that nobody else knows. Replies don't depend on it.
+    ///
+    /// # Errors
+    ///
+    /// Those of `new`.
+    pub fn with_seed(
+        alloc: Global,
+        clock: u64,
+        limit: u32,
+        submitters: u32,
+        seed: Seed,
+    ) -> Result<Engine, Refusal>
+        requires { clock ≤ clock_max }
+        ensures serves { IfOk result (λ engine. Serves clock [] [] engine) }
+        ensures opens { OnOk result (opening_refusal limit submitters ≡ None) }
+        ensures refusal { IfErr result (λ refusal. opening_refusal limit submitters ≡ Some refusal) }
+    {
         let front = Front::new(alloc, limit, submitters)?;
         Ok(Engine {
             limit,
             submitters,
             shut: false,
             front,
-            ledger: Ledger::new(alloc, clock),
+            ledger: Ledger::with_seed(alloc, clock, seed),
             unread: Unread::new(alloc),
             numbers: [0; 16],
         })
+    }
+
+    /// Reserves capacity for accounts and transfers that are still to be made. Until then no commit waits for their maps
+    /// to grow, which moves all that is stored.
+    ///
+    /// # Errors
+    ///
+    /// `NoMemory`, and nothing has changed.
+    pub fn reserve(&mut self, accounts: usize, transfers: usize) -> Result<(), Refusal>
+        ensures same { self.new ≡ self.old }
+        ensures err { IfErr result (λ refusal. refusal ≡ NoMemoryRefusal) }
+    {
+        if self.ledger.reserve(accounts, transfers).is_err() {
+            return Err(Refusal::NoMemory);
+        }
+        Ok(())
     }
 
     /// Passes a ticket through the front and the ledger. If there is no memory for its outcomes, it is returned and

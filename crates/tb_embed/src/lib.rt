@@ -11,3 +11,4 @@ mod unread;
 
 pub use engine::Engine;
 pub use laws::serving_is_lawful;
+pub use tb_core::Seed;

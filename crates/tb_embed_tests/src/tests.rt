@@ -2,7 +2,7 @@
 
 use std::alloc::Global;
 use std::process::Abort;
-use tb_embed::Engine;
+use tb_embed::{Engine, Seed};
 use tb_layout::{CREATE_ACCOUNTS, CREATE_TRANSFERS, LOOKUP_ACCOUNTS, MOMENT_MAX};
 use tb_work::{Bytes, Outcome, Packet, Refusal, Reply};
 
@@ -152,4 +152,23 @@ fn calls_in_a_row(rt: HostRuntime) {
     let found = engine.lookup_account(0).is_some();
     drop(engine);
     assert!(&rt; hold && clock == MOMENT_MAX && !found);
+}
+
+/// Reserves capacity, then more than memory has.
+fn reserves(engine: &mut Engine) -> bool {
+    let refused = Got::Refused(Refusal::NoMemory);
+    got_of(engine.reserve(10, 10)) == Got::Done
+        && got_of(engine.reserve(0, 1 << 60)) == refused
+        && got_of(engine.reserve(usize::MAX, 0)) == refused
+}
+
+#[test]
+fn calls_in_a_row_with_a_seed_after_refused_reservations(rt: HostRuntime) {
+    let seed = Seed { low: 3, high: 5 };
+    let mut engine = Engine::with_seed(rt.alloc(), 0, 2, 3, seed)
+        .ok()
+        .expect(&rt, "settings");
+    let hold = reserves(&mut engine) && rows_hold(&mut engine, rt.alloc());
+    drop(engine);
+    assert!(&rt; hold);
 }

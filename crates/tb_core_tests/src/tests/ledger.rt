@@ -8,7 +8,7 @@ use super::told::{Noted, Told, assert_noted, first_reply, told_by};
 use std::alloc::Global;
 use std::process::Abort;
 use tb_batch::{Batch, Batcher, Offered};
-use tb_core::{Cause, Front, Ledger, Outcomes, Parcel};
+use tb_core::{Cause, Front, Ledger, Outcomes, Parcel, Seed};
 use tb_demux::Cutter;
 use tb_layout::Account;
 use tb_work::{Answer, Job, Moment, Outcome, Reply, Ticket};
@@ -121,6 +121,25 @@ fn feed_all(rt: &(impl Abort + Alloc<A = Global>), front: &mut Front, ledger: &m
 fn pulse_between_batches(rt: HostRuntime) {
     let mut front = small_front(rt.alloc()).expect(&rt, "memory");
     let mut ledger = Ledger::new(rt.alloc(), 0);
+    feed_all(&rt, &mut front, &mut ledger);
+    assert_pulse_between(&rt, &ledger);
+    drop(front);
+    drop(ledger);
+}
+
+/// Reserves capacity, then more than memory has.
+fn assert_reserves(rt: &impl Abort, ledger: &mut Ledger) {
+    assert!(rt; ledger.reserve(10, 10).is_ok());
+    assert!(rt; ledger.reserve(0, 1 << 60).is_err());
+    assert!(rt; ledger.reserve(usize::MAX, 0).is_err());
+}
+
+#[test]
+fn pulse_between_batches_after_refused_reservations(rt: HostRuntime) {
+    let seed = Seed { low: 3, high: 5 };
+    let mut front = small_front(rt.alloc()).expect(&rt, "memory");
+    let mut ledger = Ledger::with_seed(rt.alloc(), 0, seed);
+    assert_reserves(&rt, &mut ledger);
     feed_all(&rt, &mut front, &mut ledger);
     assert_pulse_between(&rt, &ledger);
     drop(front);

@@ -1,9 +1,6 @@
 use Rattle.std.proofs.Common.{rules}
 use Rattle.tb_core.proofs.ledger.Ledger.new.Goals as goal
 
-pub invariant_of-result : goal.invariant_of-result
-invariant_of-result c = search rules
-
 pub returns-clause-ledger : goal.returns-clause-ledger
 returns-clause-ledger c = search rules
 
