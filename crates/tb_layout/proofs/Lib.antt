@@ -1,3 +1,5 @@
 pub mod Numbers
 pub mod Records
 pub mod Rising
+pub mod AccountCodes
+pub mod TransferCodes

@@ -79,7 +79,7 @@ halves offset number old between new low high =
     ap (λ n. take n new) end ∙ high ∙ ap (λ bytes. bytes ++ bytes_of 8 (number / 18446744073709551616)) low
     ∙ append_assoc (take offset old) _ _ ∙ ap (λ bytes. take offset old ++ bytes) parts
 
-little_endian-bytes_of : (size number : ℕ) → number < 256 ^ size → little_endian (bytes_of size number) ≡ number
+pub little_endian-bytes_of : (size number : ℕ) → number < 256 ^ size → little_endian (bytes_of size number) ≡ number
 unfolding bytes_of
 little_endian-bytes_of zero number h = omega arith
 little_endian-bytes_of (suc size) number h =

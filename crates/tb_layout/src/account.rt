@@ -30,25 +30,34 @@ pub struct Account {
 }
 
 impl Account {
+    /// The flag of an event that belongs to the same chain as the next one.
+    pub const LINKED: u16 = 1;
+
+    /// The flag of an account whose posted and pending debits may not exceed its posted credits.
+    pub const DEBITS_MUST_NOT_EXCEED_CREDITS: u16 = 2;
+
+    /// The flag of an account whose posted and pending credits may not exceed its posted debits.
+    pub const CREDITS_MUST_NOT_EXCEED_DEBITS: u16 = 4;
+
     /// Whether the next event of its packet belongs to the same chain (bit 0 of the flags).
     pub fn is_linked(&self) -> bool
         ensures { result ≡ spec.is_linked self.now }
     {
-        self.flags & 1 != 0
+        self.flags & Account::LINKED != 0
     }
 
     /// Whether what the account owes may not exceed what it is owed (bit 1 of the flags).
     pub fn debits_must_not_exceed_credits(&self) -> bool
         ensures { result ≡ spec.debits_must_not_exceed_credits self.now }
     {
-        self.flags & 2 != 0
+        self.flags & Account::DEBITS_MUST_NOT_EXCEED_CREDITS != 0
     }
 
     /// Whether what the account is owed may not exceed what it owes (bit 2 of the flags).
     pub fn credits_must_not_exceed_debits(&self) -> bool
         ensures { result ≡ spec.credits_must_not_exceed_debits self.now }
     {
-        self.flags & 4 != 0
+        self.flags & Account::CREDITS_MUST_NOT_EXCEED_DEBITS != 0
     }
 
     /// Whether a bit of the flags is set that stands for nothing (bits 4 to 15).

@@ -3,9 +3,9 @@
 //! All numbers are little-endian. Nothing here allocates or fails: a record is read from exactly as many bytes as it has.
 //!
 //! - `read_account`, `read_transfer`, `read_id`, `read_failure` return the record that the layout defines;
-//! - `write_account`, `write_transfer`, `write_failure` return its bytes, and no other bytes are read as that record;
+//! - `write_account`, `write_transfer`, `write_failure` return its bytes, and no other bytes are read as that record, `write_id` an id's;
 //! - `is_linked`, `is_pending`, `is_post`, `is_void` and the account's limit flags each read their bit;
-//! - `AccountCode` and `TransferCode` have the result codes and their numbers;
+//! - `AccountCode` and `TransferCode` have the result codes, their numbers and names, and find a result by its number;
 //! - `Failures` and `Accounts` are what an answer holds, seen by clauses as the lists that they contain.
 #![tactic(auto)]
 
@@ -28,7 +28,7 @@ pub use account_code::AccountCode;
 pub use answer::{Accounts, Answer, FailureRoom, Failures};
 pub use chunk::is_chunk_linked;
 pub use failure::{Failure, read_failure, write_failure};
-pub use id::read_id;
+pub use id::{read_id, write_id};
 pub use limits::{
     BATCH_MAX, CAPACITY_MAX, CLOCK_MAX, MOMENT_MAX, NANOSECONDS_PER_SECOND, SUBMITTERS_MAX,
 };

@@ -1,6 +1,9 @@
 //! Want of memory.
 
 use std::alloc::{AllocError, AllocFailed};
+use std::error::Error;
+use std::fmt;
+use std::fmt::{Display, Formatter};
 
 /// Memory that a call asked for was refused.
 ///
@@ -19,3 +22,11 @@ impl<T: Drop> From<AllocFailed<T>> for NoMemory {
         NoMemory
     }
 }
+
+impl Display for NoMemory {
+    fn fmt<W: fmt::Write>(&self, f: &mut Formatter<W>) -> fmt::Result {
+        f.pad("memory ran out")
+    }
+}
+
+impl Error for NoMemory {}

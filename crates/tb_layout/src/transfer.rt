@@ -30,32 +30,44 @@ pub struct Transfer {
 }
 
 impl Transfer {
+    /// The flag of an event that belongs to the same chain as the next one.
+    pub const LINKED: u16 = 1;
+
+    /// The flag of a transfer that reserves its amount.
+    pub const PENDING: u16 = 2;
+
+    /// The flag of an event that posts the pending transfer named by `pending_id`.
+    pub const POST_PENDING_TRANSFER: u16 = 4;
+
+    /// The flag of an event that voids the pending transfer named by `pending_id`.
+    pub const VOID_PENDING_TRANSFER: u16 = 8;
+
     /// Whether the next event of its packet belongs to the same chain (bit 0 of the flags).
     pub fn is_linked(&self) -> bool
         ensures { result ≡ spec.is_linked self.now }
     {
-        self.flags & 1 != 0
+        self.flags & Transfer::LINKED != 0
     }
 
     /// Whether the transfer reserves its amount and moves nothing yet (bit 1 of the flags).
     pub fn is_pending(&self) -> bool
         ensures { result ≡ spec.is_pending self.now }
     {
-        self.flags & 2 != 0
+        self.flags & Transfer::PENDING != 0
     }
 
     /// Whether the event posts a pending transfer (bit 2 of the flags).
     pub fn is_post(&self) -> bool
         ensures { result ≡ spec.is_post self.now }
     {
-        self.flags & 4 != 0
+        self.flags & Transfer::POST_PENDING_TRANSFER != 0
     }
 
     /// Whether the event voids a pending transfer (bit 3 of the flags).
     pub fn is_void(&self) -> bool
         ensures { result ≡ spec.is_void self.now }
     {
-        self.flags & 8 != 0
+        self.flags & Transfer::VOID_PENDING_TRANSFER != 0
     }
 
     /// Whether a bit of the flags is set that stands for nothing (bits 4 to 15).

@@ -3,18 +3,23 @@
 ghost use Rattle.std.specs.Prelude.{◌≡◌, ◌+◌, ◌++◌, length, IfOk, OnOk};
 ghost use Rattle.std.specs.List.{flat_map};
 ghost use Rattle.tb_layout.specs.Account.{account_bytes, account_of};
-ghost use Rattle.tb_layout.specs.Events.{accounts_of, transfers_of};
-ghost use Rattle.tb_layout.specs.Operation.{create_accounts, create_transfers};
+ghost use Rattle.tb_layout.specs.Bytes.{bytes_of, little_endian};
+ghost use Rattle.tb_layout.specs.Events.{accounts_of, ids_of, transfers_of};
+ghost use Rattle.tb_layout.specs.Operation.{create_accounts, create_transfers, lookup_accounts};
 ghost use Rattle.tb_layout.specs.Transfer.{transfer_bytes, transfer_of};
 
 use crate::bytes::Bytes;
 use std::alloc::Global;
 use tb_layout::{
-    Account, CREATE_ACCOUNTS, CREATE_TRANSFERS, NoMemory, Transfer, write_account, write_transfer,
+    Account, CREATE_ACCOUNTS, CREATE_TRANSFERS, LOOKUP_ACCOUNTS, NoMemory, Transfer, write_account,
+    write_id, write_transfer,
 };
 
 /// The bytes of an event of an account or a transfer.
 const EVENT_SIZE: usize = 128;
+
+/// The bytes of an id.
+const ID_SIZE: usize = 16;
 
 /// What a submitter hands in: an operation (129 create_accounts, 130 create_transfers,
 /// 131 lookup_accounts), the data of its events, and a user word that comes back untouched.
@@ -45,6 +50,16 @@ fn add_transfer(bytes: &mut Vec<u8>, transfer: &Transfer) -> Result<(), NoMemory
     Ok(())
 }
 
+/// Puts an id after what is there.
+fn add_id(bytes: &mut Vec<u8>, id: u128) -> Result<(), NoMemory>
+    ensures bytes { OnOk result (bytes.new.items ≡ bytes.old.items ++ bytes_of 16 id) }
+    ensures length { length (bytes_of 16 id) ≡ 16 }
+    ensures read_back { little_endian (bytes_of 16 id) ≡ id }
+{
+    bytes.extend_from_slice(&write_id(id))?;
+    Ok(())
+}
+
 /// The accounts in turn, in 128 bytes each.
 fn lay_accounts(alloc: Global, accounts: &[Account]) -> Result<Vec<u8>, NoMemory>
     ensures bytes { IfOk result (λ bytes. bytes.items ≡ flat_map account_bytes accounts.now) }
@@ -69,8 +84,20 @@ fn lay_transfers(alloc: Global, transfers: &[Transfer]) -> Result<Vec<u8>, NoMem
     Ok(bytes)
 }
 
+/// The ids in turn, in 16 bytes each.
+fn lay_ids(alloc: Global, ids: &[u128]) -> Result<Vec<u8>, NoMemory>
+    ensures bytes { IfOk result (λ bytes. bytes.items ≡ flat_map (bytes_of 16) ids.now) }
+    ensures events { IfOk result (λ bytes. ids_of bytes.items ≡ ids.now) }
+{
+    let mut bytes = Vec::with_capacity(alloc, ids.len().saturating_mul(ID_SIZE))?;
+    for &id in ids {
+        add_id(&mut bytes, id)?;
+    }
+    Ok(bytes)
+}
+
 impl Packet {
-    ghost use Rattle.tb_layout.specs.Events.{Accounts, Transfers};
+    ghost use Rattle.tb_layout.specs.Events.{Accounts, Ids, Transfers};
     ghost use Rattle.tb_work.specs.Packet.{events_in};
 
     /// A packet that makes these accounts, in their order, with a user word. Takes 128 bytes of memory an account, at
@@ -103,6 +130,21 @@ impl Packet {
         Ok(Packet {
             operation: CREATE_TRANSFERS,
             bytes: Bytes::from_vec(lay_transfers(alloc, transfers)?),
+            user,
+        })
+    }
+
+    /// A packet that looks up the accounts with these ids, in their order, with a user word. Takes 16 bytes of memory an
+    /// id, at once. How many a packet may have is its pipeline's limit, 8190 at most, and isn't looked at here.
+    pub fn of_ids(alloc: Global, ids: &[u128], user: u64) -> Result<Packet, NoMemory>
+        ensures operation { IfOk result (λ packet. packet.operation ≡ lookup_accounts) }
+        ensures bytes { IfOk result (λ packet. packet.bytes ≡ flat_map (bytes_of 16) ids.now) }
+        ensures events { IfOk result (λ packet. events_in packet ≡ Ids ids.now) }
+        ensures user { IfOk result (λ packet. packet.user ≡ user) }
+    {
+        Ok(Packet {
+            operation: LOOKUP_ACCOUNTS,
+            bytes: Bytes::from_vec(lay_ids(alloc, ids)?),
             user,
         })
     }

@@ -3,6 +3,10 @@
 ghost use Rattle.std.specs.Prelude.{◌≡◌};
 ghost use Rattle.tb_work.specs.Refusal as spec;
 
+use std::error::Error;
+use std::fmt;
+use std::fmt::{Display, Formatter};
+
 /// Why a call was refused, in the order of the numbers.
 #[derive(Clone, Copy, Debug, PartialEq, Eq)]
 pub enum Refusal {
@@ -77,3 +81,25 @@ impl Refusal {
         }
     }
 }
+
+impl Display for Refusal {
+    fn fmt<W: fmt::Write>(&self, f: &mut Formatter<W>) -> fmt::Result {
+        f.pad(match self {
+            Refusal::InvalidOperation => "the operation is none of 129, 130 and 131",
+            Refusal::InvalidDataSize => "the data isn't a whole number of events",
+            Refusal::TooMuchData => "there are more events than the limit",
+            Refusal::InFlight => "the credit is used up",
+            Refusal::Full => "the queue was full",
+            Refusal::NoMemory => "memory ran out",
+            Refusal::Shutdown => "the pipeline was shut",
+            Refusal::Stopped => "the pipeline stopped",
+            Refusal::BadLimit => "the limit isn't 1 to 8190",
+            Refusal::BadCapacity => "the capacity or the credit isn't 1 to 65536",
+            Refusal::BadSubmitters => "there aren't 1 to 16 submitters",
+            Refusal::MomentTooLarge => "the moment is above 2^62 nanoseconds",
+            Refusal::NoThread => "a thread could not be started",
+        })
+    }
+}
+
+impl Error for Refusal {}

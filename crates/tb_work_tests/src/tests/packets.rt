@@ -3,7 +3,7 @@
 use super::account;
 use std::alloc::Global;
 use std::process::Abort;
-use tb_layout::{Account, Transfer, read_account, read_transfer};
+use tb_layout::{Account, AccountCode, Transfer, TransferCode, read_account, read_transfer};
 use tb_work::{Packet, Refusal, admit};
 
 /// A packet of these accounts, with user word 7.
@@ -64,6 +64,32 @@ fn a_packet_of_one_transfer(rt: HostRuntime) {
     let fields = [chunk[0], chunk[16], chunk[32], chunk[48], chunk[108]];
     assert!(rt; fields == [1, 2, 3, 4, 5]);
     assert!(rt; read_transfer(chunk) == transfer);
+}
+
+/// The lowest byte of each id comes first, and ids of 128 bits are whole.
+#[test]
+fn a_packet_of_two_ids(rt: HostRuntime) {
+    let Ok(packet) = Packet::of_ids(rt.alloc(), &[1, 0x0f0e_0d0c_0b0a_0908_0706_0504_0302_0100], 7)
+    else {
+        rt.abort()
+    };
+    assert!(rt; packet.operation == 131 && packet.user == 7);
+    let bytes = packet.bytes.as_slice();
+    assert!(rt; bytes.len() == 32 && bytes[0] == 1);
+    assert!(rt; bytes[1..16].iter().all(|&byte| byte == 0));
+    for number in 0..16u8 {
+        assert!(rt; bytes[16 + usize::from(number)] == number);
+    }
+}
+
+/// Codes by TigerBeetle's numbers and names.
+#[test]
+fn codes_by_number(rt: HostRuntime) {
+    assert!(rt; TransferCode::of_number(55).map(TransferCode::name) == Some("exceeds_debits"));
+    assert!(rt; TransferCode::of_number(46) == Some(TransferCode::Exists));
+    assert!(rt; TransferCode::of_number(18).is_none());
+    assert!(rt; AccountCode::of_number(21).map(AccountCode::name) == Some("exists"));
+    assert!(rt; AccountCode::of_number(22).is_none());
 }
 
 #[test]

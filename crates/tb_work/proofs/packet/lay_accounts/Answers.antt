@@ -1,3 +1,4 @@
+use Rattle.std.proofs.Common.{arith}
 use Rattle.std.proofs.lemmas.List.{take_more}
 use Rattle.tb_layout.specs.Account.{account_bytes, account_of}
 use Rattle.tb_work.proofs.Laid.{laid-bytes, laid-length, laid-events}
@@ -12,8 +13,10 @@ loop-account-preserved c =
       bytes = laid-bytes account_bytes account_of c.args.accounts.now c.loop-account.account-index _ next
           c.loop-account.bytes.items c.add_account.new.bytes.items added.bytes before.bytes;
       length = laid-length account_bytes account_of c.args.accounts.now c.loop-account.account-index _ next
-          c.loop-account.bytes.items c.add_account.new.bytes.items added.bytes before.length added.length;
+          c.loop-account.bytes.items c.add_account.new.bytes.items added.bytes 128 (λ k. omega arith)
+          before.length added.length;
       events = laid-events account_bytes account_of c.args.accounts.now c.loop-account.account-index _ next
-          c.loop-account.bytes.items c.add_account.new.bytes.items added.bytes before.length added.length
+          c.loop-account.bytes.items c.add_account.new.bytes.items added.bytes 128 (λ k. omega arith) (λ k. omega arith)
+          before.length added.length
           added.read_back before.events;
     }

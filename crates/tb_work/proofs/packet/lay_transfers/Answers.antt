@@ -1,3 +1,4 @@
+use Rattle.std.proofs.Common.{arith}
 use Rattle.std.proofs.lemmas.List.{take_more}
 use Rattle.tb_layout.specs.Transfer.{transfer_bytes, transfer_of}
 use Rattle.tb_work.proofs.Laid.{laid-bytes, laid-length, laid-events}
@@ -12,8 +13,10 @@ loop-transfer-preserved c =
       bytes = laid-bytes transfer_bytes transfer_of c.args.transfers.now c.loop-transfer.transfer-index _ next
           c.loop-transfer.bytes.items c.add_transfer.new.bytes.items added.bytes before.bytes;
       length = laid-length transfer_bytes transfer_of c.args.transfers.now c.loop-transfer.transfer-index _ next
-          c.loop-transfer.bytes.items c.add_transfer.new.bytes.items added.bytes before.length added.length;
+          c.loop-transfer.bytes.items c.add_transfer.new.bytes.items added.bytes 128 (λ k. omega arith)
+          before.length added.length;
       events = laid-events transfer_bytes transfer_of c.args.transfers.now c.loop-transfer.transfer-index _ next
-          c.loop-transfer.bytes.items c.add_transfer.new.bytes.items added.bytes before.length added.length
+          c.loop-transfer.bytes.items c.add_transfer.new.bytes.items added.bytes 128 (λ k. omega arith) (λ k. omega arith)
+          before.length added.length
           added.read_back before.events;
     }

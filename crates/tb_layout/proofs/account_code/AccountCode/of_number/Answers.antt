@@ -1,0 +1,12 @@
+use Rattle.std.proofs.Common.{rules, ◌∙◌}
+use Rattle.tb_layout.specs.AccountCode.{all_codes}
+use Rattle.tb_layout.specs.declared.account_code.AccountCode.TheVariants.{Ok}
+use Rattle.tb_layout.proofs.AccountCodes.{pass_over}
+use Rattle.tb_layout.proofs.account_code.AccountCode.of_number.Goals as goal
+
+pub loop-code-preserved : goal.loop-code-preserved
+loop-code-preserved c = (
+  search rules,
+  c.loop-code.invariant.1
+      ∙ pass_over c.args.number c.loop-code.code-index all_codes Ok (search rules) (search rules),
+)

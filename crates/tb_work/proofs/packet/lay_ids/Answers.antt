@@ -1,0 +1,22 @@
+use Rattle.std.proofs.Common.{arith}
+use Rattle.std.proofs.lemmas.List.{take_more}
+use Rattle.tb_layout.specs.Bytes.{bytes_of, little_endian}
+use Rattle.tb_work.proofs.Laid.{laid-bytes, laid-length, laid-events}
+use Rattle.tb_work.proofs.packet.lay_ids.Goals as goal
+
+pub loop-id-preserved : goal.loop-id-preserved
+loop-id-preserved c =
+    let before = c.loop-id.invariant in
+    let added = c.in_ok-add_id.ensures in
+    let next = take_more c.args.ids.now c.loop-id.id-index _ c.loop-id-test.true in
+    record {
+      bytes = laid-bytes (bytes_of 16) little_endian c.args.ids.now c.loop-id.id-index _ next
+          c.loop-id.bytes.items c.add_id.new.bytes.items added.bytes before.bytes;
+      length = laid-length (bytes_of 16) little_endian c.args.ids.now c.loop-id.id-index _ next
+          c.loop-id.bytes.items c.add_id.new.bytes.items added.bytes 16 (λ k. omega arith)
+          before.length added.length;
+      events = laid-events (bytes_of 16) little_endian c.args.ids.now c.loop-id.id-index _ next
+          c.loop-id.bytes.items c.add_id.new.bytes.items added.bytes 16 (λ k. omega arith) (λ k. omega arith)
+          before.length added.length
+          added.read_back before.events;
+    }

@@ -1,0 +1,12 @@
+use Rattle.std.proofs.Common.{◌≡◌, ◌*◌, length, take}
+use Rattle.std.specs.List.{flat_map}
+use Rattle.tb_layout.specs.Bytes.{bytes_of}
+use Rattle.tb_layout.specs.Events.{ids_of}
+use Rattle.tb_work.proofs.packet.lay_ids.Given as goal
+
+abbrev pub invariant-loop-id : goal.invariant-loop-id
+invariant-loop-id l = record {
+  bytes : l.bytes.items ≡ flat_map (bytes_of 16) (take l.id-index l.ids);
+  length : length l.bytes.items ≡ l.id-index * 16;
+  events : ids_of l.bytes.items ≡ take l.id-index l.ids;
+}
