@@ -6,11 +6,13 @@ ghost use Rattle.tb_command.specs.Request.{asked_by, request_of};
 
 use std::env::Args;
 
-/// What the arguments ask for: any but exactly `list` or exactly `run`, to be told the usage.
+/// What the arguments ask for. Any but exactly one of the words `list`, `run`, `--help` and `--version` ask for the usage.
 #[derive(Clone, Copy)]
 pub enum Request {
     List,
     Run,
+    Help,
+    Version,
     Usage,
 }
 
@@ -21,6 +23,10 @@ fn asked_by(word: &str) -> Request
         Request::List
     } else if word == "run" {
         Request::Run
+    } else if word == "--help" {
+        Request::Help
+    } else if word == "--version" {
+        Request::Version
     } else {
         Request::Usage
     }

@@ -20,6 +20,7 @@ use std::marker::Model;
 use std::snapshot::Snapshot;
 use std::sync::Wait;
 use std::thread::Promise;
+use tb_rings::SpinWait;
 use tb_submit::{Ended, Submitter};
 use tb_work::{Packet, Refusal};
 
@@ -144,13 +145,14 @@ fn submit<D: Driver, R: Wait>(
     ensures share { D.share driver.new ≡ D.share driver.old }
 {
     let mut packet = packet;
+    let spin = SpinWait::new();
     let backoff = Backoff::new();
     for _ in rt.forever() {
         match submit_once(rt, alloc, submitter, packet) {
             Ok(number) => return Ok(driver.submitted(Ok(number))),
             Err((back, Refusal::InFlight)) => {
                 packet = back;
-                submitter.wait(rt, &backoff);
+                submitter.wait(rt, &spin);
             }
             Err((back, Refusal::Full)) => {
                 packet = back;
@@ -173,13 +175,13 @@ fn receive<D: Driver, R: Wait>(rt: &R, submitter: &mut Submitter, driver: &mut D
     ensures seen { HasSeen D.has_seen driver.old submitter.old → HasSeen D.has_seen driver.new submitter.new }
     ensures share { D.share driver.new ≡ D.share driver.old }
 {
-    let backoff = Backoff::new();
+    let spin = SpinWait::new();
     for _ in rt.forever() {
         let waits = submitter.in_flight() > 0 && !stop.is_asked();
         if !waits || read(submitter, driver) {
             return;
         }
-        submitter.wait(rt, &backoff);
+        submitter.wait(rt, &spin);
     }
     unreachable!()
 }

@@ -8,11 +8,10 @@ ghost use Rattle.tb_work.specs.declared.item.Ticket.{Ticket as TicketValue};
 use crate::gate::Gate;
 use crate::waiting::give_waiting;
 use arrayvec::ArrayVec;
-use crossbeam_utils::Backoff;
 use std::mem;
 use std::sync::Wait;
 use tb_core::{Front, Parcel};
-use tb_rings::Outlet;
+use tb_rings::{Outlet, SpinWait};
 use tb_submit::Intake;
 use tb_work::Ticket;
 
@@ -115,7 +114,7 @@ pub(crate) fn batch_all<R: Wait, G: Gate>(
 {
     let mut parcels = ArrayVec::new();
     let mut sealed = 0;
-    let backoff = Backoff::new();
+    let spin = SpinWait::new();
     for _ in rt.forever() {
         if front.finished() {
             pass_group(rt, gate, front, batches, sealed);
@@ -125,11 +124,11 @@ pub(crate) fn batch_all<R: Wait, G: Gate>(
         match intake.take(rt) {
             Some(ticket) => {
                 sealed = pass_ticket(rt, gate, front, batches, &mut parcels, ticket, sealed);
-                backoff.reset();
+                spin.reset();
             }
             None => {
                 sealed = pass_group(rt, gate, front, batches, sealed);
-                intake.wait(rt, &backoff);
+                intake.wait(rt, &spin);
             }
         }
     }

@@ -8,12 +8,11 @@ ghost use Rattle.tb_pipe.specs.Carried.{is_last, given_on, AreCleared, IsCommitt
 use crate::clearing::{Cleared, clear};
 use crate::gate::Gate;
 use crate::waiting::give_waiting;
-use crossbeam_utils::Backoff;
 use std::snapshot::Snapshot;
 use std::sync::Wait;
 use std::thread::Promise;
 use tb_core::{Ledger, Outcomes, Parcel};
-use tb_rings::{Inlet, Outlet};
+use tb_rings::{Inlet, Outlet, SpinWait};
 
 /// What the committer hands back.
 #[derive(Drop)]
@@ -100,13 +99,13 @@ pub(crate) fn commit_all<R: Wait, G: Gate>(
     let mut outlet = outlet;
     let mut ledger = ledger;
     let mut batches = 0;
-    let backoff = Backoff::new();
+    let spin = SpinWait::new();
     for _ in rt.forever() {
         let Some(parcel) = inlet.take() else {
-            inlet.wait(rt, &backoff);
+            inlet.wait(rt, &spin);
             continue;
         };
-        backoff.reset();
+        spin.reset();
         let cleared = clear(rt, gate, parcel, &mut batches);
         if commit(rt, &mut ledger, &mut outlet, cleared) {
             return Committed {

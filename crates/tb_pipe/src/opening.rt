@@ -1,6 +1,7 @@
 //! Opening a pipeline.
 
 ghost use Rattle.std.specs.Prelude.{◌≡◌, ◌≤◌, ◌<◌, ℕ, [], map, length, slice_index_or, None, OnOk, IfOk, IfErr, IfSome};
+ghost use Rattle.tb_core.specs.Journal.{new_ledger};
 ghost use Rattle.tb_layout.specs.Limits.{clock_max};
 ghost use Rattle.tb_rings.specs.Ends.{given, taken, IsRing};
 ghost use Rattle.tb_submit.specs.Ends.{Origin, new_submitter, new_control, new_intake, origin_of, seat_at};
@@ -83,6 +84,41 @@ pub fn open(
     ensures opens { OnOk result (queue_refusal limit capacity credit submitters ≡ None) }
     ensures refusal { IfErr result (IsQueueRefusal limit capacity credit submitters) }
 {
+    open_with(
+        alloc,
+        Ledger::new(alloc, clock),
+        limit,
+        capacity,
+        credit,
+        submitters,
+    )
+}
+
+/// The same over a new ledger that the caller made, whose clock it begins with: one with a seed (`Ledger::with_seed`) if ids
+/// come from someone who may choose them to make commits slow, or one with reserved capacity (`Ledger::reserve`), so that no
+/// commit waits for a map to grow.
+pub fn open_with(
+    alloc: Global,
+    ledger: Ledger,
+    limit: u32,
+    capacity: u32,
+    credit: u32,
+    submitters: u32,
+) -> Result<Opened, Refusal>
+    requires { ledger ≡ new_ledger ledger.opening }
+    ensures clock { IfOk result (λ opened. opened.pipeline.clock ≡ ledger.opening) }
+    ensures intake { IfOk result (λ opened. opened.pipeline.intake
+        ≡ new_intake opened.pipeline.intake.queue submitters limit capacity) }
+    ensures submitters { IfOk result (λ opened. opened.submitters.items
+        ≡ map (new_submitter credit) opened.pipeline.submitters) }
+    ensures own { IfOk result (λ opened. map origin_of opened.submitters.items ≡ opened.pipeline.submitters) }
+    ensures number { IfOk result (λ opened. length opened.pipeline.submitters ≡ submitters) }
+    ensures seats { IfOk result (λ opened. (k : ℕ) (d : Origin) → k < submitters
+        → (slice_index_or opened.pipeline.submitters k d).seat ≡ seat_at opened.pipeline.intake k) }
+    ensures control { IfOk result (λ opened. opened.control ≡ new_control opened.pipeline.intake) }
+    ensures opens { OnOk result (queue_refusal limit capacity credit submitters ≡ None) }
+    ensures refusal { IfErr result (IsQueueRefusal limit capacity credit submitters) }
+{
     let ends = open_queue(alloc, limit, capacity, credit, submitters)?;
     let Some(rings) = open_rings(alloc) else {
         drop(ends);
@@ -108,7 +144,7 @@ pub fn open(
         front,
         batches,
         parcels,
-        ledger: Ledger::new(alloc, clock),
+        ledger,
         made,
         outcomes,
         outlets,

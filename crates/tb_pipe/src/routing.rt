@@ -7,12 +7,11 @@ ghost use Rattle.tb_pipe.specs.Carried.{is_final, answers_in};
 ghost use Rattle.tb_pipe.specs.Outlets.{SameOutlets, AllGiven, AllMore, AllRouted};
 
 use crate::waiting::give_waiting;
-use crossbeam_utils::Backoff;
 use std::snapshot::Snapshot;
 use std::sync::Wait;
 use std::thread::Promise;
 use tb_core::Outcomes;
-use tb_rings::{Inlet, Outlet};
+use tb_rings::{Inlet, Outlet, SpinWait};
 use tb_work::Reply;
 
 /// What the demultiplexer hands back.
@@ -85,13 +84,13 @@ pub(crate) fn route_until_last<R: Wait>(
 {
     let mut inlet = inlet;
     let mut outlets = outlets;
-    let backoff = Backoff::new();
+    let spin = SpinWait::new();
     for _ in rt.forever() {
         let Some(outcomes) = inlet.take() else {
-            inlet.wait(rt, &backoff);
+            inlet.wait(rt, &spin);
             continue;
         };
-        backoff.reset();
+        spin.reset();
         if route_all(rt, &mut outlets, outcomes) {
             return Routed { inlet, outlets };
         }

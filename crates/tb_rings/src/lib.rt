@@ -9,12 +9,11 @@
 
 mod waiting;
 
-pub use waiting::{Sleeper, Waker};
+pub use waiting::{Sleeper, SpinWait, Waker};
 
 ghost use Rattle.std.specs.Prelude.{◌≡◌, ◌<◌, ◌≤◌, ◌+◌, [], ◌∷◌, ◌++◌, length, OnOk, IfOk, IfErr, IsOk, IfSome, IfNone, IsSomeAnd};
 ghost use Rattle.tb_rings.specs.Ends.{given, taken, lies, slots, free, IsRing, SameOutlet, SameInlet};
 
-use crossbeam_utils::Backoff;
 use rtrb::{Consumer, Producer, PushError, RingBuffer};
 use std::alloc::Global;
 use std::sync::Wait;
@@ -111,8 +110,8 @@ impl<T: Drop> Inlet<T> {
         self.consumer.slots_beside(&mut outlet.producer)
     }
     /// Waits as `Sleeper::wait` does; each value that is given wakes it.
-    pub fn wait<R: Wait>(&self, rt: &R, backoff: &Backoff) {
-        self.sleeper.wait(rt, backoff);
+    pub fn wait<R: Wait>(&self, rt: &R, spin: &SpinWait) {
+        self.sleeper.wait(rt, spin);
     }
 
     /// Returns a waker of the thread that waits for values.

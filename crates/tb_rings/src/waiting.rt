@@ -3,8 +3,48 @@
 use crossbeam_utils::Backoff;
 use crossbeam_utils::sync::{Parker, Unparker};
 use std::alloc::Global;
+use std::cell::Cell;
 use std::sync::Wait;
 use tb_layout::NoMemory;
+
+/// How many times a thread yields before it sleeps: together some 30 microseconds, about what it takes to go to sleep and
+/// be woken.
+const YIELDS: u32 = 64;
+
+/// How long a thread has had nothing to do. It spins first, then yields, and then sleeps.
+#[derive(Drop)]
+pub struct SpinWait {
+    backoff: Backoff,
+    yields: Cell<u32>,
+}
+
+impl SpinWait {
+    pub fn new() -> SpinWait {
+        SpinWait {
+            backoff: Backoff::new(),
+            yields: Cell::new(0),
+        }
+    }
+
+    /// Begins again, since there was something to do.
+    pub fn reset(&self) {
+        self.backoff.reset();
+        self.yields.set(0);
+    }
+
+    /// Spins or yields once. False if it has yielded long enough.
+    fn pause(&self) -> bool {
+        let yields = self.yields.get();
+        if yields >= YIELDS {
+            return false;
+        }
+        if self.backoff.is_completed() {
+            self.yields.set(yields + 1);
+        }
+        self.backoff.snooze();
+        true
+    }
+}
 
 /// What one thread waits with.
 pub struct Sleeper {
@@ -48,15 +88,13 @@ impl Sleeper {
         })
     }
 
-    /// Spins and yields as `backoff` says, and sleeps once that is completed, until a waker is used. If one was used since
-    /// the last sleep, it doesn't sleep. It may return early, so the caller looks again at what it waits for.
+    /// Spins or yields once, or sleeps until a waker is used, once it has done so long enough. If a waker was used since the
+    /// last sleep, it doesn't sleep. It may return early, so the caller looks again at what it waits for.
     ///
     /// What is changed before a call of `wake` is seen after the sleep, so no change is missed.
-    pub fn wait<R: Wait>(&self, rt: &R, backoff: &Backoff) {
-        if backoff.is_completed() {
+    pub fn wait<R: Wait>(&self, rt: &R, spin: &SpinWait) {
+        if !spin.pause() {
             self.parker.park(rt);
-        } else {
-            backoff.snooze();
         }
     }
 }

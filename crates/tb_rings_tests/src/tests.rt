@@ -1,8 +1,7 @@
 //! What no clause says: the worked example, and each call once with ample memory.
 
-use crossbeam_utils::Backoff;
 use std::test::Fail;
-use tb_rings::ring;
+use tb_rings::{SpinWait, ring};
 
 /// What both ends answer in one thread.
 #[test]
@@ -50,15 +49,14 @@ fn ring_goes_round(rt: HostRuntime) -> Result<(), Fail> {
 #[test]
 fn woken_before_it_sleeps(rt: HostRuntime) -> Result<(), Fail> {
     let (mut outlet, mut inlet) = ring::<u32>(rt.alloc(), 2)?;
-    let backoff = Backoff::new();
-    while !backoff.is_completed() {
-        inlet.wait(&rt, &backoff);
+    let spin = SpinWait::new();
+    for turn in 0..1000u32 {
+        assert_eq!(rt; outlet.give(turn), Ok(()));
+        inlet.wait(&rt, &spin);
+        assert_eq!(rt; inlet.take(), Some(turn));
     }
-    assert_eq!(rt; outlet.give(7), Ok(()));
-    inlet.wait(&rt, &backoff);
-    assert_eq!(rt; inlet.take(), Some(7));
     inlet.waker()?.wake();
-    inlet.wait(&rt, &backoff);
+    inlet.wait(&rt, &spin);
     assert_eq!(rt; inlet.take(), None);
     Ok(())
 }

@@ -5,10 +5,13 @@ ghost use Rattle.tb_script.specs.Fault.{fault_text};
 ghost use Rattle.tb_script.specs.declared.fault.LineError.TheVariants.{NoMemory as OutOfMemory, Fault as FaultOf};
 
 use std::alloc::AllocError;
+use std::error::Error;
+use std::fmt;
+use std::fmt::{Display, Formatter};
 use tb_layout::NoMemory;
 
 /// What is wrong with a line: the first that applies.
-#[derive(Clone, Copy)]
+#[derive(Clone, Copy, Debug, PartialEq, Eq)]
 pub enum Fault {
     LineTooLong,
     BadByte,
@@ -68,3 +71,11 @@ impl From<Fault> for LineError {
         LineError::Fault(fault)
     }
 }
+
+impl Display for Fault {
+    fn fmt<W: fmt::Write>(&self, f: &mut Formatter<W>) -> fmt::Result {
+        f.pad(self.text())
+    }
+}
+
+impl Error for Fault {}

@@ -10,14 +10,28 @@ use crate::fault::{Fault, LineError};
 use crate::script::{Script, is_text};
 use crate::text::split_line;
 use std::alloc::Global;
+use std::error::Error;
+use std::fmt;
+use std::fmt::{Display, Formatter};
 
 /// Why a script could not be read.
-#[derive(Clone, Copy)]
+#[derive(Clone, Copy, Debug, PartialEq, Eq)]
 pub enum ScriptError {
     NoMemory,
     /// The number of the first faulty line, counted from 1, and its fault.
     Faulty(usize, Fault),
 }
+
+impl Display for ScriptError {
+    fn fmt<W: fmt::Write>(&self, f: &mut Formatter<W>) -> fmt::Result {
+        match self {
+            ScriptError::NoMemory => f.pad("memory ran out"),
+            ScriptError::Faulty(line, fault) => write!(f, "line {line}: {fault}"),
+        }
+    }
+}
+
+impl Error for ScriptError {}
 
 /// Whether all lines of a text are text. This is asked once, since it takes less for many bytes than line by line.
 fn are_text(text: &[u8]) -> bool

@@ -4,9 +4,9 @@ ghost use Rattle.std.specs.Prelude.{◌≡◌, ◌+◌, ◌≤◌, [], IfSome, I
 ghost use Rattle.tb_submit.specs.Ends.{new_intake, with_taken};
 
 use crate::reader::Reader;
-use crossbeam_utils::Backoff;
 use std::marker::Model;
 use std::sync::Wait;
+use tb_rings::SpinWait;
 use tb_work::Ticket;
 
 /// Takes what all senders of a queue have put in it.
@@ -58,9 +58,9 @@ impl Intake {
         self.reader.take(rt)
     }
 
-    /// Waits for something to take: spins and yields as `backoff` says, and once that is completed sleeps until a sender
-    /// queues something. It may return early, so take again after it. Takes no memory.
-    pub fn wait<R: Wait>(&self, rt: &R, backoff: &Backoff) {
-        self.reader.wait(rt, backoff);
+    /// Waits for something to take: spins or yields once, or sleeps until a sender queues something, once it has done so long
+    /// enough. It may return early, so take again after it. Takes no memory.
+    pub fn wait<R: Wait>(&self, rt: &R, spin: &SpinWait) {
+        self.reader.wait(rt, spin);
     }
 }

@@ -8,12 +8,11 @@ ghost use Rattle.tb_submit.specs.Rule.{entry, IsWhole};
 
 use crate::rule::{Gathers, Newcomer, Place, Queue, Queued, Taken};
 use crate::sender::{EndedSender, Sender};
-use crossbeam_utils::Backoff;
 use std::alloc::Global;
 use std::marker::Model;
 use std::sync::{Arc, Wait};
 use tb_layout::NoMemory;
-use tb_rings::Sleeper;
+use tb_rings::{Sleeper, SpinWait};
 use tb_work::Ticket;
 
 /// Takes from the queue, gives out numbers, and takes in what ended senders know.
@@ -113,8 +112,8 @@ impl Reader {
     }
 
     /// Waits as `Sleeper::wait` does; each push wakes it.
-    pub(crate) fn wait<R: Wait>(&self, rt: &R, backoff: &Backoff) {
-        self.sleeper.wait(rt, backoff);
+    pub(crate) fn wait<R: Wait>(&self, rt: &R, spin: &SpinWait) {
+        self.sleeper.wait(rt, spin);
     }
 
     /// Takes in what an ended sender pushed, so that it is known here from now on.

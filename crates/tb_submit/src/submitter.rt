@@ -12,12 +12,11 @@ ghost use Rattle.tb_work.specs.declared.refusal.Refusal.TheVariants as refusal;
 
 use crate::ended::Ended;
 use crate::sender::Sender;
-use crossbeam_utils::Backoff;
 use std::alloc::Global;
 use std::marker::Model;
 use std::sync::Wait;
 use tb_layout::NoMemory;
-use tb_rings::{Inlet, Waker};
+use tb_rings::{Inlet, SpinWait, Waker};
 use tb_work::{Item, Job, Outcome, Packet, Refusal, Reply, admit};
 
 /// Queues packets under its number, and reads their replies.
@@ -169,11 +168,11 @@ impl Submitter {
         Some(reply)
     }
 
-    /// Waits for a reply: spins and yields as `backoff` says, and once that is completed sleeps until a reply is given or
-    /// a waker of this submitter is used. It may return early, so read again after it. Takes no memory. With no packet
-    /// in flight nothing but a waker ends the sleep.
-    pub fn wait<R: Wait>(&self, rt: &R, backoff: &Backoff) {
-        self.inlet.wait(rt, backoff);
+    /// Waits for a reply: spins or yields once, or sleeps until a reply is given or a waker of this submitter is used, once it
+    /// has done so long enough. It may return early, so read again after it. Takes no memory. With no packet in flight
+    /// nothing but a waker ends the sleep.
+    pub fn wait<R: Wait>(&self, rt: &R, spin: &SpinWait) {
+        self.inlet.wait(rt, spin);
     }
 
     /// Returns a waker, with which another thread ends `wait`: no reply comes any more if the pipeline isn't served.

@@ -31,6 +31,8 @@ fn main(rt: HostRuntime) -> ExitCode {
             &mut rt.reader(),
             &mut io::writer(&rt),
         )),
+        Ok(Request::Help) => Ending::Help,
+        Ok(Request::Version) => Ending::Version,
         Ok(Request::Usage) => Ending::Usage,
         Err(fault) => Ending::Failed(fault),
     };
