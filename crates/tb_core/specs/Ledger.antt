@@ -1,9 +1,9 @@
 -- What a ledger makes of one parcel.
-use Rattle.std.specs.Prelude.{◌≡◌, ◌≤◌, ℕ, ◌+◌, ◌*◌, ◌^◌, Bool, true, false, ◌||◌, fold, nat_lt, List, [], ◌∷◌, ◌++◌, length, map, take, drop, unwrap_or, IsSome, if◌then◌else◌, not}
+use Rattle.std.specs.Prelude.{◌≡◌, ◌≤◌, ℕ, ◌+◌, ◌*◌, Bool, true, false, ◌||◌, fold, nat_lt, List, [], ◌∷◌, ◌++◌, length, map, take, drop, unwrap_or, IsSome, if◌then◌else◌, not}
 use Rattle.std.specs.List.{sum_by, AllByRecursion}
 use Rattle.tb_layout.specs.Events.{events_of}
 use Rattle.tb_layout.specs.Work.{Work, Packet, Pulse}
-use Rattle.tb_layout.specs.Limits.{batch_max, clock_max}
+use Rattle.tb_layout.specs.Limits.{batch_max, clock_max, places_max}
 use Rattle.tb_machine.specs.Replay.{replay, after_work}
 use Rattle.tb_work.specs.Admission.{event_size}
 use Rattle.tb_work.specs.Packet.{Numbered, reply_with, work_of}
@@ -58,7 +58,7 @@ AreEntries entries = AllByRecursion IsEntry entries
 pub record IsLedger (ledger : LedgerState) (entries : List Entry) (places : ℕ) : Type 0 where
   pub machine : ledger.state ≡ replay ledger.opening (works ledger)
   pub counted : places ≡ length (works ledger)
-  pub few : places ≤ 2 ^ 63
+  pub few : places ≤ places_max
   pub opening : ledger.opening ≤ clock_max
   pub whole : AreEntries entries
 
@@ -81,7 +81,7 @@ with_entry ledger group =
 
 -- whether so many packets or pulses are not committed: it had stopped, their growth is refused, or there are no places
 abbrev pub must_stop : Bool → LedgerState → ℕ → Bool
-must_stop refused ledger count = ledger.stopped || (refused || nat_lt (2 ^ 63) (length (works ledger) + count))
+must_stop refused ledger count = ledger.stopped || (refused || nat_lt places_max (length (works ledger) + count))
 
 -- a batch committed as one entry: each packet is answered by its place in the journal
 abbrev pub step_of_batch : LedgerState → List Numbered → Applied

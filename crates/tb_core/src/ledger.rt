@@ -1,8 +1,8 @@
 //! The ledger: the journal, and the machine that it gives.
 
-ghost use Rattle.std.specs.Prelude.{◌≡◌, ◌==◌, ◌<◌, ◌≤◌, ◌+◌, ◌^◌, ◌++◌, ◌∷◌, [], ℕ, List, Bool, false, true, length, map, vec_len, vec_capacity, OnOk, OnErr, IfOk, IfErr, ◌||◌};
+ghost use Rattle.std.specs.Prelude.{◌≡◌, ◌==◌, ◌<◌, ◌≤◌, ◌+◌, ◌++◌, ◌∷◌, [], ℕ, List, Bool, false, true, length, map, vec_len, vec_capacity, OnOk, OnErr, IfOk, IfErr, ◌||◌};
 ghost use Rattle.tb_layout.specs.Events.{events_of};
-ghost use Rattle.tb_layout.specs.Limits.{clock_max};
+ghost use Rattle.tb_layout.specs.Limits.{clock_max, places_max};
 ghost use Rattle.tb_layout.specs.Work.{Work};
 ghost use Rattle.tb_machine.specs.Replay.{State, after_packet, replay};
 ghost use Rattle.tb_batch.specs.Batch.{AreAdmitted, AreParts};
@@ -19,12 +19,9 @@ use std::alloc::Global;
 use std::marker::Model;
 use tb_batch::{Batch, Parts};
 use tb_demux::Cutter;
-use tb_layout::{Account, Failure, LOOKUP_ACCOUNTS, NoMemory};
+use tb_layout::{Account, Failure, LOOKUP_ACCOUNTS, NoMemory, PLACES_MAX};
 use tb_machine::{Machine, Seed, joining_is_invisible};
 use tb_work::{Accounts, Answer, Failures, Job, Moment, Outcome, Reply};
-
-/// How many packets and pulses can have a place.
-const MOST_PLACES: u64 = 1 << 63;
 
 /// Commits what the front hands on, and keeps a journal of it.
 pub struct Ledger {
@@ -106,7 +103,7 @@ fn answer(operation: u8, failures: Vec<Failure>, accounts: Vec<Account>) -> Answ
 fn record(entries: &mut Vec<Entry>, place: u64, parts: Parts) -> Cutter
     requires room { vec_len entries.old < vec_capacity entries.old }
     requires answered { (state : State) × AreAnswered state parts }
-    requires fits { place + length parts.jobs.items ≤ 2 ^ 63 }
+    requires fits { place + length parts.jobs.items ≤ places_max }
     ensures entry { map group_of entries.new.items
         ≡ map group_of entries.old.items ++ map work_of parts.jobs.items ∷ [] }
     ensures whole { AreEntries entries.old.items → AreEntries entries.new.items }
@@ -236,7 +233,7 @@ impl Ledger {
     fn halts_at(&self, count: usize) -> bool
         ensures { result ≡ must_stop false self.now count }
     {
-        self.stopped || count as u64 > MOST_PLACES - self.places
+        self.stopped || count as u64 > PLACES_MAX - self.places
     }
 
     /// Commits a batch as one, or answers Stopped where the ledger stopped before or has no places left. Where a growth

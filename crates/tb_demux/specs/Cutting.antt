@@ -1,6 +1,7 @@
 -- The replies to the packets of one batch.
-use Rattle.std.specs.Prelude.{◌≡◌, ◌≤◌, ◌^◌, ℕ, ◌+◌, true, not, List, [], ◌∷◌, length, map}
+use Rattle.std.specs.Prelude.{◌≡◌, ◌≤◌, ℕ, ◌+◌, true, not, List, [], ◌∷◌, length, map}
 use Rattle.std.specs.List.{list_all}
+use Rattle.tb_layout.specs.Limits.{places_max}
 use Rattle.tb_layout.specs.declared.failure.Failure.{Failure}
 use Rattle.tb_layout.specs.Failures.{RiseWithin, failures_within}
 use Rattle.tb_layout.specs.declared.answer.Answer.{Answer}
@@ -40,6 +41,6 @@ IsAnswerToAll (Accounts accounts) jobs =
     (job : Numbered) × (jobs ≡ job ∷ []) × (is_lookup job.packet ≡ true) × (length accounts ≤ count_of job.packet)
 
 abbrev pub IsOutcomeOfAll : Outcome → List Numbered → Type 0
-IsOutcomeOfAll (Committed place answer) jobs = (place + length jobs ≤ 2 ^ 63) × IsAnswerToAll answer jobs
+IsOutcomeOfAll (Committed place answer) jobs = (place + length jobs ≤ places_max) × IsAnswerToAll answer jobs
 IsOutcomeOfAll Shutdown jobs = Unit {0}
 IsOutcomeOfAll Stopped jobs = Unit {0}

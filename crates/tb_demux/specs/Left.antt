@@ -1,6 +1,7 @@
 -- What a cutter has left.
-use Rattle.std.specs.Prelude.{◌≡◌, ◌≤◌, ◌^◌, ◌+◌, true, not, List, [], ◌∷◌, length, map, drop}
+use Rattle.std.specs.Prelude.{◌≡◌, ◌≤◌, ◌+◌, true, not, List, [], ◌∷◌, length, map, drop}
 use Rattle.std.specs.List.{list_all}
+use Rattle.tb_layout.specs.Limits.{places_max}
 use Rattle.tb_layout.specs.declared.failure.Failure.{Failure}
 use Rattle.tb_layout.specs.Failures.{RiseWithin}
 use Rattle.tb_work.specs.declared.outcome.Outcome.{Outcome}
@@ -19,7 +20,7 @@ failures_left uncut = drop uncut.taken uncut.failures
 
 -- the failures left are those of the packets still to come
 pub record IsUncut (uncut : Uncut) (jobs : List Numbered) : Type 0 where
-  pub places : uncut.place + length jobs ≤ 2 ^ 63
+  pub places : uncut.place + length jobs ≤ places_max
   pub taken : uncut.taken ≤ length uncut.failures
   pub rise : RiseWithin uncut.offset (uncut.offset + count_of_all jobs) (failures_left uncut)
   pub no_lookup : list_all (λ job. not (is_lookup job.packet)) jobs ≡ true

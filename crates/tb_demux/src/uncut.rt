@@ -1,6 +1,7 @@
 //! The failures of a batch that aren't cut yet.
 
-ghost use Rattle.std.specs.Prelude.{◌≡◌, ◌⊎◌, ◌<◌, ◌≤◌, ◌+◌, ◌^◌, ℕ, [], false, length, drop};
+ghost use Rattle.std.specs.Prelude.{◌≡◌, ◌⊎◌, ◌<◌, ◌≤◌, ◌+◌, ℕ, [], false, length, drop};
+ghost use Rattle.tb_layout.specs.Limits.{places_max};
 ghost use Rattle.tb_layout.specs.Failures.{RiseWithin, failures_within};
 ghost use Rattle.tb_work.specs.Admission.{count_of};
 ghost use Rattle.tb_work.specs.Job.{is_lookup};
@@ -59,7 +60,7 @@ fn offset_behind(failures_left: &[Failure], offset: u32, end: u64) -> u32
 impl Uncut {
     /// The reply to the next packet.
     pub(crate) fn reply(&mut self, job: Job) -> Reply
-        requires place { self.old.place < 2 ^ 63 }
+        requires place { self.old.place < places_max }
         requires taken { self.old.taken ≤ length self.old.failures }
         requires rise { (high : ℕ) × RiseWithin self.old.offset high (failures_left self.old) }
         requires no_lookup { is_lookup job.packet ≡ false }

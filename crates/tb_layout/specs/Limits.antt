@@ -1,4 +1,4 @@
--- The bounds that packets, moments and clocks keep.
+-- The bounds that packets, moments, clocks and counts keep.
 use Rattle.std.specs.Prelude.{ℕ, ◌^◌, ◌-◌}
 
 -- the most events of a batch
@@ -16,6 +16,14 @@ moment_max = 2 ^ 62
 -- the greatest clock, in nanoseconds
 abbrev pub clock_max : ℕ
 clock_max = 2 ^ 63 - 1
+
+-- the most packets that a submitter queues, or pulses that the control does
+abbrev pub queued_max : ℕ
+queued_max = 2 ^ 56
+
+-- the most places of a journal: committed packets and pulses
+abbrev pub places_max : ℕ
+places_max = 2 ^ 63
 
 -- the nanoseconds of a second
 abbrev pub nanoseconds_per_second : ℕ

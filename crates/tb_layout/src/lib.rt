@@ -30,7 +30,8 @@ pub use chunk::is_chunk_linked;
 pub use failure::{Failure, read_failure, write_failure};
 pub use id::{read_id, write_id};
 pub use limits::{
-    BATCH_MAX, CAPACITY_MAX, CLOCK_MAX, MOMENT_MAX, NANOSECONDS_PER_SECOND, SUBMITTERS_MAX,
+    BATCH_MAX, CAPACITY_MAX, CLOCK_MAX, MOMENT_MAX, NANOSECONDS_PER_SECOND, PLACES_MAX, QUEUED_MAX,
+    SUBMITTERS_MAX,
 };
 pub use no_memory::NoMemory;
 pub use operation::{CREATE_ACCOUNTS, CREATE_TRANSFERS, LOOKUP_ACCOUNTS};

@@ -1,4 +1,4 @@
-//! The bounds that packets, moments and clocks keep.
+//! The bounds that packets, moments, clocks and counts keep.
 
 /// The most events of a batch, and so of a packet: what fits a message of TigerBeetle's, 1 MiB less
 /// its header, at 128 bytes an event.
@@ -14,6 +14,12 @@ pub const MOMENT_MAX: u64 = 1 << 62;
 
 /// The greatest clock, in nanoseconds. TigerBeetle keeps the topmost bit of a timestamp free.
 pub const CLOCK_MAX: u64 = 0x7fff_ffff_ffff_ffff;
+
+/// The most packets that a submitter queues in a run, or pulses that the control does. At 10^9 a second it takes two years.
+pub const QUEUED_MAX: u64 = 1 << 56;
+
+/// The most places of a journal, one for each committed packet and pulse.
+pub const PLACES_MAX: u64 = 1 << 63;
 
 /// The nanoseconds of a second: a timeout is in seconds, a timestamp in nanoseconds.
 pub const NANOSECONDS_PER_SECOND: u64 = 1_000_000_000;

@@ -1,6 +1,7 @@
 //! The lines of `list`.
 
-ghost use Rattle.std.specs.Prelude.{◌≡◌, ◌<◌, ◌^◌, ◌++◌, ℕ, IfSome, OnOk, List, Some, map, string_bytes};
+ghost use Rattle.std.specs.Prelude.{◌≡◌, ◌<◌, ◌++◌, ℕ, IfSome, OnOk, List, Some, map, string_bytes};
+ghost use Rattle.tb_layout.specs.Limits.{places_max};
 ghost use Rattle.tb_core.specs.Run.{IsListed};
 ghost use Rattle.tb_list.specs.Halves.{line_of};
 ghost use Rattle.tb_text.specs.Plan.{Planned, queue_of};
@@ -25,7 +26,7 @@ struct Pending<'a> {
 impl<'a> Pending<'a> {
     /// Goes on to the next place, where there is one.
     fn go_on(&mut self)
-        requires { IfSome self.old.place (λ place. place < 2 ^ 63) }
+        requires { IfSome self.old.place (λ place. place < places_max) }
         ensures place { self.new.place ≡ one_further self.old.place }
         ensures replies { self.new.replies.now ≡ self.old.replies.now }
     {
@@ -36,7 +37,7 @@ impl<'a> Pending<'a> {
 
     /// Adds the line of the next reply.
     fn put_packet(&mut self, out: &mut String) -> Result<(), AllocError>
-        requires { IfSome self.old.place (λ place. place < 2 ^ 63) }
+        requires { IfSome self.old.place (λ place. place < places_max) }
         ensures text { OnOk result (string_bytes out.new
             ≡ string_bytes out.old ++ first_text Line.Packet self.old.place self.old.replies.now) }
         ensures rest { OnOk result (pending self.new.place self.new.replies.now
@@ -52,7 +53,7 @@ impl<'a> Pending<'a> {
 
     /// Adds the line of a pulse at the next place.
     fn put_pulse(&mut self, out: &mut String) -> Result<(), AllocError>
-        requires { IfSome self.old.place (λ place. place < 2 ^ 63) }
+        requires { IfSome self.old.place (λ place. place < places_max) }
         ensures text { OnOk result (string_bytes out.new
             ≡ string_bytes out.old ++ first_text Line.Pulse self.old.place self.old.replies.now) }
         ensures rest { OnOk result (pending self.new.place self.new.replies.now
@@ -67,7 +68,7 @@ impl<'a> Pending<'a> {
 
     /// Adds the line of an item.
     fn put_line(&mut self, out: &mut String, line: Line) -> Result<(), AllocError>
-        requires { IfSome self.old.place (λ place. place < 2 ^ 63) }
+        requires { IfSome self.old.place (λ place. place < places_max) }
         ensures text { OnOk result (string_bytes out.new
             ≡ string_bytes out.old ++ first_text line self.old.place self.old.replies.now) }
         ensures rest { OnOk result (pending self.new.place self.new.replies.now

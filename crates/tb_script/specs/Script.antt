@@ -176,10 +176,14 @@ with_words said (word ∷ words) = if slice_index word 0 == 35 then Ok said else
 abbrev pub is_text : List ℕ → Bool
 is_text line = list_all (λ byte. nat_le 32 byte && nat_le byte 126) line
 
+-- the most bytes of a line
+abbrev pub line_max : ℕ
+line_max = 65536
+
 -- a line after what the lines before it say: what they say together, or the first fault that applies
 unfoldable pub after_line : Said → List ℕ → Result Said Fault
 after_line said line =
-    if nat_lt 65536 (length line) then Err LineTooLong
+    if nat_lt line_max (length line) then Err LineTooLong
     else if not (is_text line) then Err BadByte
     else with_words said (words_of line)
 

@@ -1,6 +1,7 @@
 //! The control.
 
-ghost use Rattle.std.specs.Prelude.{◌≡◌, ◌<◌, ◌≤◌, ◌^◌, [], length, OnOk, IfOk, IfErr, Err};
+ghost use Rattle.std.specs.Prelude.{◌≡◌, ◌<◌, ◌≤◌, [], length, OnOk, IfOk, IfErr, Err};
+ghost use Rattle.tb_layout.specs.Limits.{moment_max, queued_max};
 ghost use Rattle.tb_submit.specs.Ends.{sender_with};
 ghost use Rattle.tb_work.specs.declared.item.Item.TheVariants as item;
 ghost use Rattle.tb_work.specs.declared.refusal.Refusal.TheVariants as refusal;
@@ -52,11 +53,11 @@ impl Control {
     /// a full queue as `Full`. A refused pulse changes nothing. Fewer than 2^56 pulses were queued before. Takes no
     /// memory.
     pub fn pulse<R: Wait>(&mut self, rt: &R, moment: u64) -> Result<(), Refusal>
-        requires { length self.old.queued < 2 ^ 56 }
+        requires { length self.old.queued < queued_max }
         ensures ok { OnOk result (self.new ≡ sender_with self.old (item.Pulse moment)) }
         ensures refused { IfErr result (λ why. self.new ≡ self.old) }
-        ensures large { 2 ^ 62 < moment → result ≡ Err refusal.MomentTooLarge }
-        ensures full { moment ≤ 2 ^ 62 → IfErr result (λ why. why ≡ refusal.Full) }
+        ensures large { moment_max < moment → result ≡ Err refusal.MomentTooLarge }
+        ensures full { moment ≤ moment_max → IfErr result (λ why. why ≡ refusal.Full) }
     {
         if moment > MOMENT_MAX {
             return Err(Refusal::MomentTooLarge);

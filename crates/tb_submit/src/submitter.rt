@@ -1,7 +1,7 @@
 //! Submitters.
 
-ghost use Rattle.std.specs.Prelude.{◌≡◌, ◌<◌, ◌≤◌, ◌^◌, [], ◌∷◌, ◌++◌, length, None, OnOk, IfOk, IfErr, IfSome, IfNone, IsSomeAnd};
-ghost use Rattle.tb_layout.specs.Limits.{batch_max, capacity_max};
+ghost use Rattle.std.specs.Prelude.{◌≡◌, ◌<◌, ◌≤◌, [], ◌∷◌, ◌++◌, length, None, OnOk, IfOk, IfErr, IfSome, IfNone, IsSomeAnd};
+ghost use Rattle.tb_layout.specs.Limits.{batch_max, capacity_max, queued_max};
 ghost use Rattle.tb_rings.specs.Ends.{inlet_ring, taken, lies};
 ghost use Rattle.tb_submit.specs.Ends.{ended_with, with_item, new_submitter};
 ghost use Rattle.tb_submit.specs.Refusals as spec;
@@ -123,7 +123,7 @@ impl Submitter {
         alloc: Global,
         packet: Packet,
     ) -> Result<u64, (Packet, Refusal)>
-        requires { length self.old.queued < 2 ^ 56 }
+        requires { length self.old.queued < queued_max }
         ensures ok { IfOk result (λ number. (number ≡ length self.old.queued)
             × (self.new ≡ with_item self.old (item.Packet
             (numbered_packet self.old.origin.seat.number number packet)))) }

@@ -116,10 +116,14 @@ abbrev pub script_text : Result Said (ℕ × Fault) → List ℕ
 script_text (Ok said) = listing said
 script_text (Err (number, fault)) = fault_line number (fault_text fault)
 
+-- the most bytes of a script
+abbrev pub script_max : ℕ
+script_max = 16777216
+
 -- the output for the bytes of a script
 abbrev pub out : List ℕ → List ℕ
 out bytes =
-    if nat_lt 16777216 (length bytes) then fault_line 0 (codes "script too long") else script_text (script_of bytes)
+    if nat_lt script_max (length bytes) then fault_line 0 (codes "script too long") else script_text (script_of bytes)
 
 abbrev pub is_ok_script : Result Said (ℕ × Fault) → Bool
 is_ok_script (Ok said) = true
@@ -127,9 +131,9 @@ is_ok_script (Err fault) = false
 
 -- whether a script has no fault
 abbrev pub is_faultless : List ℕ → Bool
-is_faultless bytes = if nat_lt 16777216 (length bytes) then false else is_ok_script (script_of bytes)
+is_faultless bytes = if nat_lt script_max (length bytes) then false else is_ok_script (script_of bytes)
 
 -- the text that was read is all of the bytes, or there are too many
 abbrev pub IsWhole : Option (Vec ℕ Global) → List ℕ → Type 0
-IsWhole None bytes = 16777216 < length bytes
-IsWhole (Some text) bytes = (text.items ≡ bytes) × (length bytes ≤ 16777216)
+IsWhole None bytes = script_max < length bytes
+IsWhole (Some text) bytes = (text.items ≡ bytes) × (length bytes ≤ script_max)

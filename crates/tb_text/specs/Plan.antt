@@ -1,7 +1,8 @@
 -- What each item of a script comes to: a packet that is admitted, a pulse and the Close are queued, and all else is
 -- refused.
-use Rattle.std.specs.Prelude.{ℕ, ◌==◌, ◌^◌, nat_lt, Bool, false, List, [], ◌∷◌, ◌++◌, count_by, Result, Ok, Err, if◌then◌else◌}
+use Rattle.std.specs.Prelude.{ℕ, ◌==◌, nat_lt, Bool, false, List, [], ◌∷◌, ◌++◌, count_by, Result, Ok, Err, if◌then◌else◌}
 use Rattle.std.specs.List.{flat_map}
+use Rattle.tb_layout.specs.Limits.{moment_max}
 use Rattle.tb_work.specs.Admission.{admission_of}
 use Rattle.tb_work.specs.Packet.{Numbered}
 use Rattle.tb_work.specs.Job.{numbered_packet}
@@ -53,7 +54,7 @@ packet_as items submission (Err refusal) = RefusedPacket submission.submitter re
 
 -- a moment above 2^62 is refused
 abbrev pub pulse_as : ℕ → Planned
-pulse_as moment = if nat_lt (2 ^ 62) moment then RefusedPulse else Pulse moment
+pulse_as moment = if nat_lt moment_max moment then RefusedPulse else Pulse moment
 
 abbrev pub planned_as : ℕ → List work.Item → Item → Planned
 planned_as limit items (script.Packet submission) =

@@ -8,7 +8,7 @@ use std::io::Read;
 use tb_command::ProgramFault;
 
 /// The most bytes of a script.
-const MOST_BYTES: usize = 16_777_216;
+const SCRIPT_MAX: usize = 16_777_216;
 
 /// The most reads of a script, which has at least one byte in each but the last.
 const MOST_READS: u32 = 16_777_217;
@@ -29,7 +29,7 @@ pub fn read_script<R: Read>(alloc: Global, reader: &mut R) -> Result<Option<Vec<
             return Ok(Some(text));
         }
         text.extend_from_slice(&buffer[..count])?;
-        if text.len() > MOST_BYTES {
+        if text.len() > SCRIPT_MAX {
             return Ok(None);
         }
     }
