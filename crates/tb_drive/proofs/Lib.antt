@@ -1,3 +1,4 @@
 mod Control
+mod Pulsed
 mod Seen
 mod Refusing

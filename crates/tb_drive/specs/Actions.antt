@@ -1,5 +1,10 @@
 -- What comes of a driver's action.
+use Rattle.std.specs.Prelude.{ℕ}
+use Rattle.tb_work.specs.declared.item.Item.{Item}
+use Rattle.tb_work.specs.declared.item.Item.TheVariants as item
 use Rattle.tb_work.specs.declared.packet.Packet as packets
+use Rattle.tb_drive.specs.declared.control_driver.ControlAction.{ControlAction}
+use Rattle.tb_drive.specs.declared.control_driver.ControlAction.TheVariants as control
 use Rattle.tb_drive.specs.declared.driver.Action.{Action}
 use Rattle.tb_drive.specs.declared.driver.Action.TheVariants.{Submit, Receive, End}
 
@@ -8,3 +13,9 @@ abbrev pub GoesOn : Action → (packets.Packet → Type 0) → Type 0 → Type 0
 GoesOn (Submit packet) asks keeps ends = asks packet
 GoesOn Receive asks keeps ends = keeps
 GoesOn End asks keeps ends = keeps × ends
+
+-- one thing is so of the moment of the pulse that is to be queued, another of the item by which the control ends
+abbrev pub ControlsOn : ControlAction → (ℕ → Type 0) → (Item → Type 0) → Type 0
+ControlsOn (control.Pulse moment) asks ends = asks moment
+ControlsOn control.Close asks ends = ends item.Close
+ControlsOn control.End asks ends = ends item.End

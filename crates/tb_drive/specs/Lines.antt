@@ -1,10 +1,11 @@
--- What the control queues of its lines.
-use Rattle.std.specs.Prelude.{ℕ, nat_lt, Bool, true, false, List, [], ◌∷◌, ◌++◌, if◌then◌else◌}
+-- What the control queues, and what a driver of lines has had queued.
+use Rattle.std.specs.Prelude.{◌≡◌, ◌<◌, ◌+◌, ◌^◌, ℕ, nat_lt, Bool, true, false, List, [], ◌∷◌, ◌++◌, Some, slice_get, take, if◌then◌else◌}
 use Rattle.std.specs.List.{count_by, flat_map}
 use Rattle.tb_layout.specs.Limits.{moment_max}
 use Rattle.tb_submit.specs.Ends.{SenderState}
 use Rattle.tb_work.specs.declared.item.Item.{Item}
 use Rattle.tb_work.specs.declared.item.Item.TheVariants as item
+use Rattle.tb_drive.specs.declared.lines.LinesDriver.{LinesDriver}
 
 -- a pulse is refused where its moment is out of range
 abbrev pub is_refused : ℕ → Bool
@@ -31,3 +32,25 @@ lines_of moments shuts = pulses_of moments ++ last_item shuts ∷ []
 
 abbrev pub with_items : SenderState → List Item → SenderState
 with_items control items = record control { queued = control.queued ++ items }
+
+-- ---- a driver of lines
+
+-- it has asked for this many of its pulses; those in range are queued, and it has counted the others
+abbrev pub HasPulsed : LinesDriver → LinesDriver → ℕ → List Item → Type 0
+HasPulsed first driver asked items =
+    (driver.moments ≡ first.moments) × (driver.shuts ≡ first.shuts)
+    × (items ≡ pulses_of (take asked first.moments.items)) × (driver.refused ≡ refused_of (take asked first.moments.items))
+
+abbrev pub HasQueuedOf : LinesDriver → LinesDriver → List Item → Type 0
+HasQueuedOf first driver items = HasPulsed first driver driver.next items
+
+-- the same, while it wasn't told of the last pulse yet
+abbrev pub HasAskedOf : LinesDriver → LinesDriver → ℕ → List Item → Type 0
+HasAskedOf first driver moment items =
+    (asked : ℕ) × (driver.next ≡ asked + 1) × (asked + 1 < 2 ^ 64)
+    × (slice_get first.moments.items asked ≡ Some moment) × HasPulsed first driver asked items
+
+-- all of its lines are queued except the pulses that were refused, which it has counted
+abbrev pub HasEndedOf : LinesDriver → LinesDriver → List Item → Type 0
+HasEndedOf first driver items =
+    (items ≡ lines_of first.moments.items first.shuts) × (driver.refused ≡ refused_of first.moments.items)

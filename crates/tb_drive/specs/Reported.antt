@@ -1,5 +1,5 @@
 -- A pipeline that was driven until all of its senders had ended.
-use Rattle.std.specs.Prelude.{◌≡◌, ◌<◌, ℕ, true, List, Some, map, length, slice_get, All}
+use Rattle.std.specs.Prelude.{◌≡◌, ◌<◌, ◌++◌, ℕ, true, List, Some, map, length, slice_get, All}
 use Rattle.tb_core.specs.Grouping.{IsGrouping}
 use Rattle.tb_core.specs.Headline.{moments_in, moments_queued}
 use Rattle.tb_core.specs.Journal.{LedgerState, works}
@@ -50,9 +50,17 @@ pub record HasReported {D : Type 0} (has_seen has_ended : D → ℕ → List Num
 
 -- a run of a pipeline with this clock and this intake, with these submitters before it and a control that queued these
 -- items, has reported so
-abbrev pub HasFinished : {D : Type 0} → (D → ℕ → List Numbered → List Replied → Type 0)
+abbrev pub HasFinished : {D C : Type 0} → (D → ℕ → List Numbered → List Replied → Type 0)
     → (D → ℕ → List Numbered → List Replied → Type 0) → ℕ → IntakeState → List SubmitterState → List Item
-    → Finished D → Type 0
+    → Finished D C → Type 0
 HasFinished has_seen has_ended clock intake before controlled finished =
     HasReported has_seen has_ended clock intake.limit intake.submitters before controlled finished.drivers.items
     finished.report.ledger finished.report.ends.items
+
+-- the same, if the control queued some items after those that it had queued before, and its driver has ended with them
+abbrev pub HasFinishedWith : {D C : Type 0} → (D → ℕ → List Numbered → List Replied → Type 0)
+    → (D → ℕ → List Numbered → List Replied → Type 0) → (C → List Item → Type 0) → ℕ → IntakeState
+    → List SubmitterState → List Item → Finished D C → Type 0
+HasFinishedWith has_seen has_ended ended_with clock intake before queued finished =
+    (items : List Item) × ended_with finished.control items
+    × HasFinished has_seen has_ended clock intake before (queued ++ items) finished

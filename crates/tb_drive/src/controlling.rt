@@ -1,71 +1,48 @@
 //! The control's thread.
 
-ghost use Rattle.std.specs.Prelude.{◌≡◌, [], ◌⊎◌, ◌<◌, ◌≤◌, ◌^◌, length, true, false, Err, IfErr, IfSome, OnOk, OnSome};
+ghost use Rattle.std.specs.Prelude.{◌≡◌, [], ◌∷◌, ◌++◌, List, ◌⊎◌, ◌<◌, ◌≤◌, ◌^◌, length, true, false, Err, IfErr, IfSome, OnOk, OnSome};
 ghost use Rattle.tb_submit.specs.Ends.{sender_with};
+ghost use Rattle.tb_work.specs.declared.item.Item.{Item as ItemValue};
 ghost use Rattle.tb_work.specs.declared.refusal.Refusal.TheVariants as refusal;
-ghost use Rattle.tb_drive.specs.Lines.{is_refused, last_item, pulse_of, pulses_of, refused_of, with_items};
-ghost use Rattle.tb_drive.specs.Threads.{IsControlEnd, IsPromiseOf};
+ghost use Rattle.tb_drive.specs.Lines.{is_refused, last_item, pulse_of, with_items};
+ghost use Rattle.tb_drive.specs.Threads.{HasQueued, IsControlLeft};
 
+use crate::control_driver::{ControlAction, ControlDriver};
 use crate::most_queued::MOST_QUEUED;
 use crate::stop::Stop;
 use crossbeam_utils::Backoff;
-use std::alloc::Global;
 use std::snapshot::Snapshot;
 use std::sync::Wait;
 use std::thread::Promise;
 use tb_submit::{Control, ControlEnd};
 use tb_work::Refusal;
 
-/// What the control queues: pulses, and then its end or the Close.
+/// The control with its driver.
 #[derive(Drop)]
-pub struct ControlLines {
-    /// The moments of its pulses, in nanoseconds, in their order. A pulse above 2^62 is refused.
-    pub moments: Vec<u64>,
-    /// Whether it ends by the Close, which stands after all its pulses.
-    pub shuts: bool,
-}
-
-impl ControlLines {
-    /// No pulse and no Close.
-    pub fn none(alloc: Global) -> ControlLines
-        ensures moments { result.moments.items ≡ [] }
-        ensures open { result.shuts ≡ false }
-    {
-        ControlLines {
-            moments: Vec::new(alloc),
-            shuts: false,
-        }
-    }
-}
-
-/// The control with what it is to queue.
-#[derive(Drop)]
-pub(crate) struct ControlDriver {
+pub(crate) struct SeatedControl<C: ControlDriver> {
     pub(crate) control: Control,
-    pub(crate) lines: ControlLines,
+    pub(crate) driver: C,
 }
 
-/// What the control's thread leaves: the control's end, and how many pulses were refused.
+/// What the control's thread leaves: the control's end, and the driver.
 #[derive(Drop)]
-pub(crate) struct ControlLeft {
+pub(crate) struct ControlLeft<C: ControlDriver> {
     pub(crate) end: ControlEnd,
-    pub(crate) refused: u64,
+    pub(crate) driver: C,
 }
 
 /// The promise that the end that comes back, unless the thread was told to stop, is that of the control that was handed
-/// over, and that its lines are queued but for the pulses that were refused, which are counted.
+/// over, and that its driver, which comes back too, has ended with what was queued.
 #[derive(Drop)]
-pub(crate) struct EndOfControl {
-    control: Snapshot<Control>,
-    moments: Snapshot<Vec<u64>>,
-    shuts: bool,
+pub(crate) struct EndOfControl<C: ControlDriver> {
+    pub(crate) seated: Snapshot<SeatedControl<C>>,
 }
 
-impl Promise<Option<ControlLeft>> for EndOfControl {
+impl<C: ControlDriver> Promise<Option<ControlLeft<C>>> for EndOfControl<C> {
     ghost use Rattle.std.specs.Prelude.{IfSome};
-    ghost use Rattle.tb_drive.specs.Threads.{IsEndPromised};
+    ghost use Rattle.tb_drive.specs.Threads.{IsControlLeft};
 
-    ghost kept_by = { λ p r. IfSome r (λ left. IsEndPromised p left) };
+    ghost kept_by = { λ p r. IfSome r (IsControlLeft C.has_ended p.seated.value) };
 }
 
 /// Queues a pulse once, as `Control::pulse` does. After 2^56 pulses the queue is full, whatever else there is to
@@ -73,7 +50,7 @@ impl Promise<Option<ControlLeft>> for EndOfControl {
 fn pulse_once<R: Wait>(rt: &R, control: &mut Control, moment: u64) -> Result<(), Refusal>
     ensures ok { OnOk result ((control.new ≡ with_items control.old (pulse_of moment)) × (is_refused moment ≡ false)) }
     ensures refused { IfErr result (λ why. (control.new ≡ control.old)
-        × ((why ≡ refusal.Full) ⊎ (is_refused moment ≡ true))) }
+        × ((why ≡ refusal.Full) ⊎ ((why ≡ refusal.MomentTooLarge) × (is_refused moment ≡ true)))) }
     ensures large { length control.old.queued < 2 ^ 56 → 2 ^ 62 < moment → result ≡ Err refusal.MomentTooLarge }
     ensures full { 2 ^ 56 ≤ length control.old.queued → result ≡ Err refusal.Full }
 {
@@ -83,18 +60,25 @@ fn pulse_once<R: Wait>(rt: &R, control: &mut Control, moment: u64) -> Result<(),
     control.pulse(rt, moment)
 }
 
-/// Queues a pulse, and while the queue is full tries again. Answers whether it is refused, or None where it is told to
-/// stop.
-fn pulse<R: Wait>(rt: &R, control: &mut Control, moment: u64, stop: &Stop) -> Option<bool>
+/// Queues a pulse, and while the queue is full tries again. The driver is told what became of it. None if the thread is
+/// told to stop.
+fn pulse<C: ControlDriver, R: Wait>(
+    rt: &R,
+    control: &mut Control,
+    driver: &mut C,
+    moment: u64,
+    stop: &Stop,
+) -> Option<()>
     ensures queued { OnSome result (control.new ≡ with_items control.old (pulse_of moment)) }
-    ensures refused { IfSome result (λ refused. refused ≡ is_refused moment) }
+    ensures told { (first : C) (items : List ItemValue) → C.has_asked first driver.old moment items
+        → OnSome result (C.has_queued first driver.new (items ++ pulse_of moment)) }
 {
     let backoff = Backoff::new();
     for _ in rt.forever() {
         match pulse_once(rt, control, moment) {
-            Ok(()) => return Some(false),
+            Ok(()) => return Some(driver.pulsed(Ok(()))),
             Err(Refusal::Full) => {}
-            Err(_) => return Some(true),
+            Err(refusal) => return Some(driver.pulsed(Err(refusal))),
         }
         if stop.is_asked() {
             return None;
@@ -104,23 +88,28 @@ fn pulse<R: Wait>(rt: &R, control: &mut Control, moment: u64, stop: &Stop) -> Op
     unreachable!()
 }
 
-/// Queues pulses in their order; how many were refused. None where it is told to stop.
-fn pulse_all<R: Wait>(
+/// Queues the pulses that the driver asks for, until it ends. Returns whether it ends by the Close, and None if the
+/// thread is told to stop.
+fn follow<C: ControlDriver, R: Wait>(
     rt: &R,
     control: &mut Control,
-    moments: Vec<u64>,
+    driver: &mut C,
     stop: &Stop,
-) -> Option<u64>
-    ensures queued { OnSome result (control.new ≡ with_items control.old (pulses_of moments.items)) }
-    ensures refused { IfSome result (λ refused. refused ≡ refused_of moments.items) }
+) -> Option<bool>
+    ensures { C.has_queued driver.old driver.old [] → IfSome result (λ shuts. HasQueued control.old control.new
+        (λ items. C.has_ended driver.old driver.new (items ++ last_item shuts ∷ []))) }
 {
-    let mut refused = 0u64;
-    for moment in moments {
-        if pulse(rt, control, moment, stop)? {
-            refused += 1;
+    for _ in rt.forever() {
+        if stop.is_asked() {
+            return None;
+        }
+        match driver.next(rt) {
+            ControlAction::Pulse(moment) => pulse(rt, control, driver, moment, stop)?,
+            ControlAction::Close => return Some(true),
+            ControlAction::End => return Some(false),
         }
     }
-    Some(refused)
+    unreachable!()
 }
 
 /// Queues the Close or the control's end, and while the queue is full tries again. None where it is told to stop.
@@ -147,25 +136,18 @@ fn end<R: Wait>(rt: &R, control: Control, shuts: bool, stop: &Stop) -> Option<Co
     unreachable!()
 }
 
-impl ControlDriver {
-    /// What the thread promises.
-    pub(crate) fn promise(&self) -> EndOfControl
-        ensures { IsPromiseOf self.now result }
+impl<C: ControlDriver> SeatedControl<C> {
+    /// Does what the driver says, and then ends the control. None if the thread is told to stop.
+    pub(crate) fn drive<R: Wait>(self, rt: &R, stop: &Stop) -> Option<ControlLeft<C>>
+        requires { C.has_queued self.driver self.driver [] }
+        ensures { IfSome result (IsControlLeft C.has_ended self) }
     {
-        EndOfControl {
-            control: Snapshot::of(&self.control),
-            moments: Snapshot::of(&self.lines.moments),
-            shuts: self.lines.shuts,
-        }
-    }
-
-    /// Queues the lines and then the control's end. None where it is told to stop.
-    pub(crate) fn drive<R: Wait>(self, rt: &R, stop: &Stop) -> Option<ControlLeft>
-        ensures { IsControlEnd self result }
-    {
-        let ControlDriver { mut control, lines } = self;
-        let refused = pulse_all(rt, &mut control, lines.moments, stop)?;
-        let end = end(rt, control, lines.shuts, stop)?;
-        Some(ControlLeft { end, refused })
+        let SeatedControl {
+            mut control,
+            mut driver,
+        } = self;
+        let shuts = follow(rt, &mut control, &mut driver, stop)?;
+        let end = end(rt, control, shuts, stop)?;
+        Some(ControlLeft { end, driver })
     }
 }

@@ -6,13 +6,13 @@ ghost use Rattle.tb_submit.specs.Refusals.{IsSubmitRefusal, submit_refusal};
 ghost use Rattle.tb_work.specs.declared.refusal.Refusal.TheVariants as refusal;
 ghost use Rattle.tb_drive.specs.declared.driving.DriveFault.TheVariants as fault;
 ghost use Rattle.tb_drive.specs.Ahead.{with_packet};
-ghost use Rattle.tb_drive.specs.Lines.{lines_of, refused_of};
 ghost use Rattle.tb_drive.specs.Seen.{AreFronts, HaveSeen, IsFront};
-ghost use Rattle.tb_drive.specs.Reported.{AreTogether, HasFinished};
+ghost use Rattle.tb_drive.specs.Reported.{AreTogether, HasFinished, HasFinishedWith};
 ghost use Rattle.tb_drive.specs.Seated.{IsLeftBy, nothing_left, seated_origin, seated_share, seated_submitter};
-ghost use Rattle.tb_drive.specs.Threads.{IsControlEnd, IsEndPromised, IsPromiseOf, items_promised, items_to_queue, refused_promised, started_from};
+ghost use Rattle.tb_drive.specs.Threads.{IsControlLeft, started_from};
 
-use crate::controlling::{ControlDriver, ControlLeft, ControlLines, EndOfControl};
+use crate::control_driver::ControlDriver;
+use crate::controlling::{ControlLeft, EndOfControl, SeatedControl};
 use crate::driver::Driver;
 use crate::stop::Stop;
 use crate::submitting::{Driven, EndOfSubmitter, Seated, submit_once};
@@ -27,12 +27,12 @@ use tb_pipe::{Open, Opened, Pipeline, Report, Served, settle};
 use tb_submit::{Ended, Submitter};
 use tb_work::{Packet, Refusal};
 
-/// A run that has ended: its report, the drivers in the order of their submitters, and how many pulses were refused.
+/// A run that has ended: its report, the drivers in the order of their submitters, and the control's driver.
 #[derive(Drop)]
-pub struct Finished<D> {
+pub struct Finished<D, C> {
     pub report: Report,
     pub drivers: Vec<D>,
-    pub refused_pulses: u64,
+    pub control: C,
 }
 
 /// Why a run was given up.
@@ -97,7 +97,7 @@ impl<D: Driver> Model for Left<D> {
 
 type Started<D> = PromisedHandle<Driven<D>, EndOfSubmitter<D>>;
 
-type StartedControl = PromisedHandle<Option<ControlLeft>, EndOfControl>;
+type StartedControl<C> = PromisedHandle<Option<ControlLeft<C>>, EndOfControl<C>>;
 
 impl<D: Driver> Left<D> {
     /// What no thread left yet, with room for what so many leave.
@@ -237,52 +237,58 @@ fn start_submitters<'s, E, D: Driver + Send + 's, R: Wait + Sync>(
 }
 
 /// Starts the control's thread.
-fn start_control<'s, E, R: Wait + Sync>(
+fn start_control<'s, E, C: ControlDriver + Send + 's, R: Wait + Sync>(
     scope: &Scope<'s, E>,
     rt: &'s R,
     stop: &'s Stop,
-    control_driver: ControlDriver,
-) -> Result<StartedControl, DriveFault>
-    ensures { IfOk result (λ handle. IsPromiseOf control_driver handle.promise) }
+    seated_control: SeatedControl<C>,
+) -> Result<StartedControl<C>, DriveFault>
+    requires { C.has_queued seated_control.driver seated_control.driver [] }
+    ensures { IfOk result (λ handle. handle.promise.seated.value ≡ seated_control) }
 {
+    let promise = EndOfControl {
+        seated: Snapshot::of(&seated_control),
+    };
     let started = scope.spawn_with(
-        control_driver.promise(),
-        move || -> Option<ControlLeft>
-            ensures { IsControlEnd control_driver result }
-        { control_driver.drive(rt, stop) },
+        promise,
+        move || -> Option<ControlLeft<C>>
+            requires { C.has_queued seated_control.driver seated_control.driver [] }
+            ensures { IfSome result (IsControlLeft C.has_ended seated_control) }
+        { seated_control.drive(rt, stop) },
     );
     started.ok().ok_or(DriveFault::NoThread)
 }
 
 /// The threads of all senders, with room for what those of the submitters leave.
 #[derive(Drop)]
-struct Running<D: Driver> {
+struct Running<D: Driver, C: ControlDriver> {
     submitters: Vec<Started<D>>,
-    control: StartedControl,
+    control: StartedControl<C>,
     room: Left<D>,
 }
 
 /// Starts the threads of all senders, once there is room for all that they leave.
-fn start<'s, E, D: Driver + Send + 's, R: Wait + Sync>(
+fn start<'s, E, D: Driver + Send + 's, C: ControlDriver + Send + 's, R: Wait + Sync>(
     scope: &Scope<'s, E>,
     rt: &'s R,
     alloc: Global,
     stop: &'s Stop,
     all: Vec<Seated<D>>,
-    control_driver: ControlDriver,
-) -> Result<Running<D>, DriveFault>
+    seated_control: SeatedControl<C>,
+) -> Result<Running<D, C>, DriveFault>
+    requires { C.has_queued seated_control.driver seated_control.driver [] }
     ensures submitters { IfOk result (λ running. map started_from running.submitters.items ≡ all.items) }
-    ensures control { IfOk result (λ running. IsPromiseOf control_driver running.control.promise) }
+    ensures control { IfOk result (λ running. running.control.promise.seated.value ≡ seated_control) }
     ensures room { IfOk result (λ running. running.room ≡ nothing_left) }
 {
     let (submitters, room) = match start_submitters(scope, rt, alloc, stop, all) {
         Ok(started) => started,
         Err(fault) => {
-            drop(control_driver);
+            drop(seated_control);
             return Err(fault);
         }
     };
-    match start_control(scope, rt, stop, control_driver) {
+    match start_control(scope, rt, stop, seated_control) {
         Ok(control) => Ok(Running {
             submitters,
             control,
@@ -315,8 +321,11 @@ fn join_all<D: Driver, R: Threads>(
 }
 
 /// Joins the control's thread.
-fn join_control<R: Threads>(rt: &R, handle: StartedControl) -> Result<ControlLeft, DriveFault>
-    ensures { IfOk result (λ left. IsEndPromised handle.promise left) }
+fn join_control<C: ControlDriver, R: Threads>(
+    rt: &R,
+    handle: StartedControl<C>,
+) -> Result<ControlLeft<C>, DriveFault>
+    ensures { IfOk result (IsControlLeft C.has_ended handle.promise.seated.value) }
 {
     match handle.join(rt) {
         Some(left) => Ok(left),
@@ -325,29 +334,33 @@ fn join_control<R: Threads>(rt: &R, handle: StartedControl) -> Result<ControlLef
 }
 
 /// Settles with the ends of all senders.
-fn settle_left<D: Driver>(served: Served, left: Left<D>, control: ControlLeft) -> Finished<D>
+fn settle_left<D: Driver, C: ControlDriver>(
+    served: Served,
+    left: Left<D>,
+    control: ControlLeft<C>,
+) -> Finished<D, C>
     requires own { map end_origin left.ends ≡ served.submitters }
     requires control { control.end.seat ≡ control_seat served.intake }
     requires number { length served.submitters ≡ served.intake.submitters }
     ensures reported { (before : List SubmitterState) → AreFronts before left.ends
         → HasFinished D.has_seen D.has_ended served.clock served.intake before control.end.queued result }
     ensures shares { map D.share result.drivers.items ≡ left.shares }
-    ensures refused { result.refused_pulses ≡ control.refused }
+    ensures control { result.control ≡ control.driver }
 {
     let Left { ends, drivers } = left;
-    let ControlLeft { end, refused } = control;
+    let ControlLeft { end, driver } = control;
     Finished {
         report: settle(served, ends, end),
         drivers,
-        refused_pulses: refused,
+        control: driver,
     }
 }
 
 /// Joins all threads.
-fn join<D: Driver, R: Threads>(
+fn join<D: Driver, C: ControlDriver, R: Threads>(
     rt: &R,
-    running: Running<D>,
-) -> Result<(Left<D>, ControlLeft), DriveFault>
+    running: Running<D, C>,
+) -> Result<(Left<D>, ControlLeft<C>), DriveFault>
     requires { running.room ≡ nothing_left }
     ensures own { IfOk result (λ left. map end_origin left.0.ends
         ≡ map seated_origin (map started_from running.submitters.items)) }
@@ -355,7 +368,7 @@ fn join<D: Driver, R: Threads>(
         (map seated_submitter (map started_from running.submitters.items)) left.0.ends) }
     ensures shares { IfOk result (λ left. left.0.shares
         ≡ map seated_share (map started_from running.submitters.items)) }
-    ensures control { IfOk result (λ left. IsEndPromised running.control.promise left.1) }
+    ensures control { IfOk result (λ left. IsControlLeft C.has_ended running.control.promise.seated.value left.1) }
 {
     let Running {
         submitters,
@@ -367,20 +380,20 @@ fn join<D: Driver, R: Threads>(
 }
 
 /// Joins all threads, and settles with the ends that they leave.
-fn finish<D: Driver, R: Threads>(
+fn finish<D: Driver, C: ControlDriver, R: Threads>(
     rt: &R,
     served: Served,
-    running: Running<D>,
-) -> Result<Finished<D>, DriveFault>
+    running: Running<D, C>,
+) -> Result<Finished<D, C>, DriveFault>
     requires own { map seated_origin (map started_from running.submitters.items) ≡ served.submitters }
-    requires control { running.control.promise.control.value.seat ≡ control_seat served.intake }
+    requires control { running.control.promise.seated.value.control.seat ≡ control_seat served.intake }
     requires number { length served.submitters ≡ served.intake.submitters }
     requires room { running.room ≡ nothing_left }
-    ensures reported { IfOk result (HasFinished D.has_seen D.has_ended served.clock served.intake
-        (map seated_submitter (map started_from running.submitters.items)) (items_promised running.control.promise)) }
+    ensures reported { let control = running.control.promise.seated.value in
+        IfOk result (HasFinishedWith D.has_seen D.has_ended (C.has_ended control.driver) served.clock served.intake
+        (map seated_submitter (map started_from running.submitters.items)) control.control.queued) }
     ensures shares { IfOk result (λ finished. map D.share finished.drivers.items
         ≡ map seated_share (map started_from running.submitters.items)) }
-    ensures refused { IfOk result (λ finished. finished.refused_pulses ≡ refused_promised running.control.promise) }
 {
     match join(rt, running) {
         Ok((left, control)) => Ok(settle_left(served, left, control)),
@@ -392,20 +405,20 @@ fn finish<D: Driver, R: Threads>(
 }
 
 /// Serves while the threads run, joins them and settles.
-fn serve<D: Driver, R: Threads + Wait + Sync>(
+fn serve<D: Driver, C: ControlDriver, R: Threads + Wait + Sync>(
     rt: &R,
     pipeline: Pipeline,
-    running: Running<D>,
-) -> Result<Finished<D>, DriveFault>
+    running: Running<D, C>,
+) -> Result<Finished<D, C>, DriveFault>
     requires own { map seated_origin (map started_from running.submitters.items) ≡ pipeline.submitters }
-    requires control { running.control.promise.control.value.seat ≡ control_seat pipeline.intake }
+    requires control { running.control.promise.seated.value.control.seat ≡ control_seat pipeline.intake }
     requires number { length pipeline.submitters ≡ pipeline.intake.submitters }
     requires room { running.room ≡ nothing_left }
-    ensures reported { IfOk result (HasFinished D.has_seen D.has_ended pipeline.clock pipeline.intake
-        (map seated_submitter (map started_from running.submitters.items)) (items_promised running.control.promise)) }
+    ensures reported { let control = running.control.promise.seated.value in
+        IfOk result (HasFinishedWith D.has_seen D.has_ended (C.has_ended control.driver) pipeline.clock pipeline.intake
+        (map seated_submitter (map started_from running.submitters.items)) control.control.queued) }
     ensures shares { IfOk result (λ finished. map D.share finished.drivers.items
         ≡ map seated_share (map started_from running.submitters.items)) }
-    ensures refused { IfOk result (λ finished. finished.refused_pulses ≡ refused_promised running.control.promise) }
 {
     match pipeline.serve(rt, &Open) {
         Ok(served) => finish(rt, served, running),
@@ -418,25 +431,24 @@ fn serve<D: Driver, R: Threads + Wait + Sync>(
 }
 
 /// Starts all threads, serves, and settles once all have ended.
-fn run_all<'s, E, D: Driver + Send + 's, R: Threads + Wait + Sync>(
+fn run_all<'s, E, D: Driver + Send + 's, C: ControlDriver + Send + 's, R: Threads + Wait + Sync>(
     scope: &Scope<'s, E>,
     rt: &'s R,
     alloc: Global,
     stop: &'s Stop,
     pipeline: Pipeline,
     all: Vec<Seated<D>>,
-    control_driver: ControlDriver,
-) -> Result<Finished<D>, DriveFault>
+    seated_control: SeatedControl<C>,
+) -> Result<Finished<D, C>, DriveFault>
     requires own { map seated_origin all.items ≡ pipeline.submitters }
-    requires control { control_driver.control.seat ≡ control_seat pipeline.intake }
+    requires control { seated_control.control.seat ≡ control_seat pipeline.intake }
     requires number { length pipeline.submitters ≡ pipeline.intake.submitters }
-    ensures reported { IfOk result (HasFinished D.has_seen D.has_ended pipeline.clock pipeline.intake
-        (map seated_submitter all.items) (items_to_queue control_driver)) }
+    requires queued { C.has_queued seated_control.driver seated_control.driver [] }
+    ensures reported { IfOk result (HasFinishedWith D.has_seen D.has_ended (C.has_ended seated_control.driver)
+        pipeline.clock pipeline.intake (map seated_submitter all.items) seated_control.control.queued) }
     ensures shares { IfOk result (λ finished. map D.share finished.drivers.items ≡ map seated_share all.items) }
-    ensures refused { IfOk result (λ finished. finished.refused_pulses
-        ≡ refused_of control_driver.lines.moments.items) }
 {
-    match start(scope, rt, alloc, stop, all, control_driver) {
+    match start(scope, rt, alloc, stop, all, seated_control) {
         Ok(running) => serve(rt, pipeline, running),
         Err(fault) => {
             drop(pipeline);
@@ -447,37 +459,35 @@ fn run_all<'s, E, D: Driver + Send + 's, R: Threads + Wait + Sync>(
 
 /// Runs a pipeline with a thread for each of its senders. Where one of them can't be started the others are told to
 /// stop.
-fn run_in_scope<D: Driver + Send, R: Threads + Wait + Sync>(
+fn run_in_scope<D: Driver + Send, C: ControlDriver + Send, R: Threads + Wait + Sync>(
     rt: &R,
     alloc: Global,
     pipeline: Pipeline,
     all: Vec<Seated<D>>,
-    control_driver: ControlDriver,
+    seated_control: SeatedControl<C>,
     stop: &Stop,
-) -> Result<Finished<D>, DriveFault>
+) -> Result<Finished<D, C>, DriveFault>
     requires own { map seated_origin all.items ≡ pipeline.submitters }
-    requires control { control_driver.control.seat ≡ control_seat pipeline.intake }
+    requires control { seated_control.control.seat ≡ control_seat pipeline.intake }
     requires number { length pipeline.submitters ≡ pipeline.intake.submitters }
-    ensures reported { IfOk result (HasFinished D.has_seen D.has_ended pipeline.clock pipeline.intake
-        (map seated_submitter all.items) (items_to_queue control_driver)) }
+    requires queued { C.has_queued seated_control.driver seated_control.driver [] }
+    ensures reported { IfOk result (HasFinishedWith D.has_seen D.has_ended (C.has_ended seated_control.driver)
+        pipeline.clock pipeline.intake (map seated_submitter all.items) seated_control.control.queued) }
     ensures shares { IfOk result (λ finished. map D.share finished.drivers.items ≡ map seated_share all.items) }
-    ensures refused { IfOk result (λ finished. finished.refused_pulses
-        ≡ refused_of control_driver.lines.moments.items) }
 {
     thread::scope(
         thread::scope_env(),
         rt,
-        |scope| -> Result<Finished<D>, DriveFault>
+        |scope| -> Result<Finished<D, C>, DriveFault>
             requires own { map seated_origin all.items ≡ pipeline.submitters }
-            requires control { control_driver.control.seat ≡ control_seat pipeline.intake }
+            requires control { seated_control.control.seat ≡ control_seat pipeline.intake }
             requires number { length pipeline.submitters ≡ pipeline.intake.submitters }
-            ensures reported { IfOk result (HasFinished D.has_seen D.has_ended pipeline.clock pipeline.intake
-                (map seated_submitter all.items) (items_to_queue control_driver)) }
+            requires queued { C.has_queued seated_control.driver seated_control.driver [] }
+            ensures reported { IfOk result (HasFinishedWith D.has_seen D.has_ended (C.has_ended seated_control.driver)
+                pipeline.clock pipeline.intake (map seated_submitter all.items) seated_control.control.queued) }
             ensures shares { IfOk result (λ finished. map D.share finished.drivers.items ≡ map seated_share all.items) }
-            ensures refused { IfOk result (λ finished. finished.refused_pulses
-                ≡ refused_of control_driver.lines.moments.items) }
         {
-            let finished = run_all(scope, rt, alloc, stop, pipeline, all, control_driver);
+            let finished = run_all(scope, rt, alloc, stop, pipeline, all, seated_control);
             if finished.is_err() {
                 stop.ask();
             }
@@ -519,42 +529,42 @@ pub fn submit_ahead<R: Wait>(
 }
 
 /// Runs a pipeline until all of its senders have ended. Each submitter has the driver of the same index and a thread of
-/// its own, the control has one that queues its lines, and the calling thread serves. The drivers come back in their
-/// order with the report, in which a submitter's end still gives the replies that its driver hasn't taken. Where a
-/// thread can't be started the others are told to stop, and what was queued is lost with the pipeline.
-pub fn drive_all<D: Driver + Send, R: Threads + Wait + Sync>(
+/// its own, the control has its driver and one more, and the calling thread serves. The drivers come back in their order
+/// with the report, in which a submitter's end still gives the replies that its driver hasn't taken, and the control's
+/// comes back too. Where a thread can't be started the others are told to stop, and what was queued is lost with the
+/// pipeline.
+pub fn drive_all<D: Driver + Send, C: ControlDriver + Send, R: Threads + Wait + Sync>(
     rt: &R,
     alloc: Global,
     opened: Opened,
     drivers: Vec<D>,
-    lines: ControlLines,
-) -> Result<Finished<D>, DriveFault>
+    control: C,
+) -> Result<Finished<D, C>, DriveFault>
     requires together { AreTogether opened.pipeline opened.submitters.items opened.control }
     requires number { length drivers.items ≡ length opened.pipeline.submitters }
     requires seen { HaveSeen D.has_seen drivers.items opened.submitters.items }
-    ensures reported { IfOk result (HasFinished D.has_seen D.has_ended opened.pipeline.clock opened.pipeline.intake
-        opened.submitters.items (opened.control.queued ++ lines_of lines.moments.items lines.shuts)) }
+    requires queued { C.has_queued control control [] }
+    ensures reported { IfOk result (HasFinishedWith D.has_seen D.has_ended (C.has_ended control) opened.pipeline.clock
+        opened.pipeline.intake opened.submitters.items opened.control.queued) }
     ensures shares { IfOk result (λ finished. map D.share finished.drivers.items ≡ map D.share drivers.items) }
-    ensures refused { IfOk result (λ finished. finished.refused_pulses ≡ refused_of lines.moments.items) }
 {
     let Opened {
         pipeline,
         submitters,
-        control,
+        control: sender,
     } = opened;
     let mut stop = Stop::new(alloc);
     match seat_all(alloc, submitters, drivers, &mut stop) {
-        Ok(all) => run_in_scope(
-            rt,
-            alloc,
-            pipeline,
-            all,
-            ControlDriver { control, lines },
-            &stop,
-        ),
+        Ok(all) => {
+            let seated_control = SeatedControl {
+                control: sender,
+                driver: control,
+            };
+            run_in_scope(rt, alloc, pipeline, all, seated_control, &stop)
+        }
         Err(fault) => {
             drop(pipeline);
-            drop(control);
+            drop(sender);
             Err(fault)
         }
     }

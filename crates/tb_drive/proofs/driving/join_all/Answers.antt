@@ -1,9 +1,9 @@
-use Rattle.std.proofs.Common.{rules, ◌≡◌, ◌∙◌, ◌∷◌, ◌++◌, [], Option, Some, None, length, map, refl, ap, sym, subst, arith}
+use Rattle.std.proofs.Common.{◌≡◌, ◌∙◌, ◌∷◌, ◌++◌, [], Option, Some, None, length, map, ap, arith}
 use Rattle.std.specs.Prelude.{IfSome}
 use Rattle.std.proofs.lemmas.List.{length-map, map-append}
 use Rattle.tb_submit.specs.Ends.{EndedState, end_origin, origin_of}
 use Rattle.tb_drive.specs.Seated.{SeatedState, seated_origin, seated_share, seated_submitter}
-use Rattle.tb_drive.specs.Seen.{AreFronts, IsFront}
+use Rattle.tb_drive.specs.Seen.{IsFront}
 use Rattle.tb_drive.specs.Threads.{started_from}
 use Rattle.tb_drive.proofs.driving.join_all.Goals as goal
 

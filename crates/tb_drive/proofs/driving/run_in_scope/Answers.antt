@@ -8,7 +8,7 @@ scoped-requires g c =
         c.requires.own,
         (
           c.requires.control,
-          (c.requires.number, (search rules, search rules)),
+          (c.requires.number, (c.requires.queued, (search rules, search rules, search rules))),
         ),
       );
     }

@@ -1,4 +1,4 @@
-use Rattle.std.proofs.Common.{rules, ◌≡◌, ◌∷◌, ◌++◌, [], arith, length}
+use Rattle.std.proofs.Common.{rules, ◌≡◌, ◌∷◌, ◌++◌, [], arith}
 use Rattle.std.proofs.lemmas.List.{length-append}
 use Rattle.tb_drive.specs.Seen.{HasSeenEnd, IsFront}
 use Rattle.tb_drive.proofs.Seen.{front_more, one_more}

@@ -1,5 +1,5 @@
 use Rattle.std.proofs.Common.{rules}
-use Rattle.tb_drive.proofs.controlling.ControlLines.none.Goals as goal
+use Rattle.tb_drive.proofs.lines.ControlLines.none.Goals as goal
 
 pub returns-clause-open : goal.returns-clause-open
 returns-clause-open c = search rules

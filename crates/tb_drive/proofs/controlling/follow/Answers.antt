@@ -1,0 +1,13 @@
+use Rattle.std.proofs.Common.{rules, []}
+use Rattle.tb_drive.specs.Lines.{pulse_of}
+use Rattle.tb_drive.proofs.Pulsed.{has_queued_more, nothing_queued}
+use Rattle.tb_drive.proofs.controlling.follow.Goals as goal
+
+pub loop-init : goal.loop-init
+loop-init g c = λ started. ([], nothing_queued _, started)
+
+pub loop-preserved : goal.loop-preserved
+loop-preserved g c = λ started.
+    has_queued_more _ _ _ (pulse_of c.in-Pulse.moment) _ _ (c.loop.invariant started) (search rules)
+    (λ items had. c.in_ok-pulse-in-Pulse.ensures.told c.args.driver.now items
+    (c.in-Pulse.ensures c.args.driver.now items had))

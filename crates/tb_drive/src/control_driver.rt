@@ -1,0 +1,55 @@
+//! What an application says of the control.
+
+ghost use Rattle.std.specs.Prelude.{◌≡◌, ℕ, List, [], ◌∷◌, ◌++◌, Ok, Err, true, false, ⊤};
+ghost use Rattle.tb_work.specs.declared.item.Item.{Item as ItemValue};
+ghost use Rattle.tb_work.specs.declared.item.Item.TheVariants as item;
+ghost use Rattle.tb_work.specs.declared.refusal.Refusal.TheVariants as refusal;
+ghost use Rattle.tb_drive.specs.Actions.{ControlsOn};
+ghost use Rattle.tb_drive.specs.Lines.{is_refused};
+
+use std::sync::Wait;
+use tb_work::Refusal;
+
+/// What the control does next.
+#[derive(Clone, Copy, Debug, PartialEq, Eq)]
+pub enum ControlAction {
+    /// It queues a pulse with this moment, in nanoseconds. While the queue is full it tries again.
+    Pulse(u64),
+    /// It queues the Close and ends, and its driver isn't asked again. Packets behind the Close are answered Shutdown.
+    Close,
+    /// It ends, and its driver isn't asked again.
+    End,
+}
+
+/// Says when the control queues a pulse, and how it ends. The control's own thread calls it, one call after another.
+///
+/// `next` may wait: for a clock, for a channel, for another thread. Until it returns, the control hasn't ended, so the run
+/// can't end or be given up. A pulse is queued once `next` returns it, behind all packets that are queued by then.
+///
+/// Its implementor says what is to be known of a driver after a run, by three relations, which hold of anything unless
+/// they are given. Each is between a driver as it was when the run began, the same driver later, and what it has had
+/// queued in the run. `has_queued` is of a driver that was told of all that it asked for. `has_asked` is of one that
+/// besides asked for a pulse at a moment and wasn't told yet what became of it, and `has_ended` of one that ended: the
+/// last item is its Close or its End.
+pub trait ControlDriver: Drop {
+    ghost has_queued: { Self → Self → List ItemValue → Type 0 } = { λ _ _ _. ⊤ };
+
+    ghost has_asked: { Self → Self → ℕ → List ItemValue → Type 0 } = { λ _ _ _ _. ⊤ };
+
+    ghost has_ended: { Self → Self → List ItemValue → Type 0 } = { λ _ _ _. ⊤ };
+
+    /// What the control does next. It may wait with `rt`.
+    fn next<R: Wait>(&mut self, rt: &R) -> ControlAction
+        ensures { (first : Self) (items : List ItemValue) → has_queued first self.old items
+            → ControlsOn result (λ moment. has_asked first self.new moment items)
+            (λ last. has_ended first self.new (items ++ last ∷ [])) };
+
+    /// Takes what became of the last pulse: it is queued, or it is refused as `MomentTooLarge`, since its moment is above
+    /// 2^62. `Full` isn't told: such a pulse is tried again. None is told of a pulse that is still tried when the run is
+    /// given up.
+    fn pulsed(&mut self, told: Result<(), Refusal>)
+        ensures queued { (first : Self) (moment : ℕ) (items : List ItemValue) → has_asked first self.old moment items
+            → told ≡ Ok tt → is_refused moment ≡ false → has_queued first self.new (items ++ item.Pulse moment ∷ []) }
+        ensures refused { (first : Self) (moment : ℕ) (items : List ItemValue) → has_asked first self.old moment items
+            → told ≡ Err refusal.MomentTooLarge → is_refused moment ≡ true → has_queued first self.new items };
+}
