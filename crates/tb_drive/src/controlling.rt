@@ -1,6 +1,7 @@
 //! The control's thread.
 
-ghost use Rattle.std.specs.Prelude.{◌≡◌, [], ◌∷◌, ◌++◌, List, ◌⊎◌, ◌<◌, ◌≤◌, ◌^◌, length, true, false, Err, IfErr, IfSome, OnOk, OnSome};
+ghost use Rattle.std.specs.Prelude.{◌≡◌, [], ◌∷◌, ◌++◌, List, ◌⊎◌, ◌<◌, ◌≤◌, length, true, false, Err, IfErr, IfSome, OnOk, OnSome};
+ghost use Rattle.tb_layout.specs.Limits.{moment_max, queued_max};
 ghost use Rattle.tb_submit.specs.Ends.{sender_with};
 ghost use Rattle.tb_work.specs.declared.item.Item.{Item as ItemValue};
 ghost use Rattle.tb_work.specs.declared.refusal.Refusal.TheVariants as refusal;
@@ -8,12 +9,12 @@ ghost use Rattle.tb_drive.specs.Lines.{is_refused, last_item, pulse_of, with_ite
 ghost use Rattle.tb_drive.specs.Threads.{HasQueued, IsControlLeft};
 
 use crate::control_driver::{ControlAction, ControlDriver};
-use crate::most_queued::MOST_QUEUED;
 use crate::stop::Stop;
 use crossbeam_utils::Backoff;
 use std::snapshot::Snapshot;
 use std::sync::Wait;
 use std::thread::Promise;
+use tb_layout::QUEUED_MAX;
 use tb_submit::{Control, ControlEnd};
 use tb_work::Refusal;
 
@@ -51,10 +52,10 @@ fn pulse_once<R: Wait>(rt: &R, control: &mut Control, moment: u64) -> Result<(),
     ensures ok { OnOk result ((control.new ≡ with_items control.old (pulse_of moment)) × (is_refused moment ≡ false)) }
     ensures refused { IfErr result (λ why. (control.new ≡ control.old)
         × ((why ≡ refusal.Full) ⊎ ((why ≡ refusal.MomentTooLarge) × (is_refused moment ≡ true)))) }
-    ensures large { length control.old.queued < 2 ^ 56 → 2 ^ 62 < moment → result ≡ Err refusal.MomentTooLarge }
-    ensures full { 2 ^ 56 ≤ length control.old.queued → result ≡ Err refusal.Full }
+    ensures large { length control.old.queued < queued_max → moment_max < moment → result ≡ Err refusal.MomentTooLarge }
+    ensures full { queued_max ≤ length control.old.queued → result ≡ Err refusal.Full }
 {
-    if control.queued() >= MOST_QUEUED {
+    if control.queued() >= QUEUED_MAX {
         return Err(Refusal::Full);
     }
     control.pulse(rt, moment)

@@ -1,6 +1,7 @@
 //! A run of a pipeline, with a thread for each of its senders.
 
-ghost use Rattle.std.specs.Prelude.{◌≡◌, ◌<◌, ◌≤◌, ◌∷◌, ◌++◌, ◌^◌, [], List, map, length, set, slice_get, Some, None, Err, IfOk, IfErr, IfSome, OnOk};
+ghost use Rattle.std.specs.Prelude.{◌≡◌, ◌<◌, ◌≤◌, ◌∷◌, ◌++◌, [], List, map, length, set, slice_get, Some, None, Err, IfOk, IfErr, IfSome, OnOk};
+ghost use Rattle.tb_layout.specs.Limits.{queued_max};
 ghost use Rattle.tb_submit.specs.Ends.{Origin, SubmitterState, control_seat, end_origin, origin_of};
 ghost use Rattle.tb_submit.specs.Refusals.{IsSubmitRefusal, submit_refusal};
 ghost use Rattle.tb_work.specs.declared.refusal.Refusal.TheVariants as refusal;
@@ -17,6 +18,9 @@ use crate::driver::Driver;
 use crate::stop::Stop;
 use crate::submitting::{Driven, EndOfSubmitter, Seated, submit_once};
 use std::alloc::{AllocError, AllocFailed, Global};
+use std::error::Error;
+use std::fmt;
+use std::fmt::{Display, Formatter};
 use std::marker::Model;
 use std::snapshot::Snapshot;
 use std::sync::Wait;
@@ -43,6 +47,17 @@ pub enum DriveFault {
     /// A thread couldn't be started.
     NoThread,
 }
+
+impl Display for DriveFault {
+    fn fmt<W: fmt::Write>(&self, f: &mut Formatter<W>) -> fmt::Result {
+        f.pad(match self {
+            DriveFault::NoMemory => "memory ran out",
+            DriveFault::NoThread => "a thread could not be started",
+        })
+    }
+}
+
+impl Error for DriveFault {}
 
 impl<T: Drop> From<AllocFailed<T>> for DriveFault {
     ghost use Rattle.tb_drive.specs.declared.driving.DriveFault.TheVariants as fault;
@@ -516,9 +531,9 @@ pub fn submit_ahead<R: Wait>(
     ensures back { IfErr result (λ refused. (refused.0 ≡ packet)
         × (opened.new.submitters.items ≡ opened.old.submitters.items)) }
     ensures refusal { (before : SubmitterState) → slice_get opened.old.submitters.items submitter ≡ Some before
-        → length before.queued < 2 ^ 56 → IfErr result (λ refused. IsSubmitRefusal before packet refused.1) }
+        → length before.queued < queued_max → IfErr result (λ refused. IsSubmitRefusal before packet refused.1) }
     ensures full { (before : SubmitterState) → slice_get opened.old.submitters.items submitter ≡ Some before
-        → 2 ^ 56 ≤ length before.queued → result ≡ Err (packet, refusal.Full) }
+        → queued_max ≤ length before.queued → result ≡ Err (packet, refusal.Full) }
     ensures pipeline { opened.new.pipeline ≡ opened.old.pipeline }
     ensures control { opened.new.control ≡ opened.old.control }
     ensures own { map origin_of opened.new.submitters.items ≡ map origin_of opened.old.submitters.items }

@@ -21,7 +21,6 @@ mod controlling;
 mod driver;
 mod driving;
 mod lines;
-mod most_queued;
 mod stop;
 mod submitting;
 

@@ -1,6 +1,7 @@
 //! A submitter's thread.
 
-ghost use Rattle.std.specs.Prelude.{◌≡◌, [], ◌∷◌, ◌++◌, ◌<◌, ◌≤◌, ◌^◌, length, None, Err, OnOk, IfOk, IfErr, IfSome};
+ghost use Rattle.std.specs.Prelude.{◌≡◌, [], ◌∷◌, ◌++◌, ◌<◌, ◌≤◌, length, None, Err, OnOk, IfOk, IfErr, IfSome};
+ghost use Rattle.tb_layout.specs.Limits.{queued_max};
 ghost use Rattle.tb_submit.specs.Ends.{origin_of};
 ghost use Rattle.tb_submit.specs.Refusals.{IsSubmitRefusal, submit_refusal};
 ghost use Rattle.tb_work.specs.Job.{numbered_packet};
@@ -12,7 +13,6 @@ ghost use Rattle.tb_drive.specs.Refusing.{IsFinalRefusal, final_refusal};
 ghost use Rattle.tb_drive.specs.Seated.{IsEnd, IsLeftBy};
 
 use crate::driver::{Action, Driver};
-use crate::most_queued::MOST_QUEUED;
 use crate::stop::Stop;
 use crossbeam_utils::Backoff;
 use std::alloc::Global;
@@ -20,6 +20,7 @@ use std::marker::Model;
 use std::snapshot::Snapshot;
 use std::sync::Wait;
 use std::thread::Promise;
+use tb_layout::QUEUED_MAX;
 use tb_rings::SpinWait;
 use tb_submit::{Ended, Submitter};
 use tb_work::{Packet, Refusal};
@@ -96,14 +97,14 @@ pub(crate) fn submit_once<R: Wait>(
     ensures front { IsFront submitter.old.queued submitter.new.queued }
     ensures admitted { OnOk result (submit_refusal submitter.old packet ≡ None) }
     ensures back { IfErr result (λ refused. (refused.0 ≡ packet) × (submitter.new ≡ submitter.old)) }
-    ensures refusal { length submitter.old.queued < 2 ^ 56
+    ensures refusal { length submitter.old.queued < queued_max
         → IfErr result (λ refused. IsSubmitRefusal submitter.old packet refused.1) }
-    ensures full { 2 ^ 56 ≤ length submitter.old.queued → result ≡ Err (packet, refusal.Full) }
+    ensures full { queued_max ≤ length submitter.old.queued → result ≡ Err (packet, refusal.Full) }
     ensures kept { OnOk result (final_refusal submitter.old.origin.seat.limit submitter.old.read packet ≡ None) }
     ensures told { IfErr result (λ refused. (refused.1 ≡ refusal.InFlight → ⊥) → (refused.1 ≡ refusal.Full → ⊥)
         → IsFinalRefusal submitter.old.origin.seat.limit submitter.old.read packet refused.1) }
 {
-    if submitter.queued() >= MOST_QUEUED {
+    if submitter.queued() >= QUEUED_MAX {
         return Err((packet, Refusal::Full));
     }
     submitter.submit(rt, alloc, packet)

@@ -1,5 +1,5 @@
 use Rattle.std.proofs.Common.{rules}
 use Rattle.tb_drive.proofs.controlling.pulse_once.Goals as goal
 
-pub returns-then-queued-ge-MOST_QUEUED-clause-large : goal.returns-then-queued-ge-MOST_QUEUED-clause-large
-returns-then-queued-ge-MOST_QUEUED-clause-large c = search rules
+pub returns-then-queued-ge-QUEUED_MAX-clause-large : goal.returns-then-queued-ge-QUEUED_MAX-clause-large
+returns-then-queued-ge-QUEUED_MAX-clause-large c = search rules
