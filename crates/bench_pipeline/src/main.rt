@@ -31,7 +31,7 @@ use std::io::{Read, Write};
 use std::process::ExitCode;
 use std::sync::Wait;
 use std::thread::Threads;
-use tb_drive::{ControlLines, Finished, drive_all};
+use tb_drive::{ControlLines, Finished, LinesDriver, drive_all};
 use tb_pipe::open;
 
 /// A driver for each submitter, by rising number.
@@ -51,7 +51,7 @@ fn run<R: Threads + Wait + Sync>(
     alloc: Global,
     opening: Opening,
     load: Load,
-) -> Option<Finished<LoadDriver>> {
+) -> Option<Finished<LoadDriver, LinesDriver>> {
     let Opening {
         submitters,
         capacity,
@@ -59,7 +59,10 @@ fn run<R: Threads + Wait + Sync>(
     } = opening;
     let drivers = drivers(alloc, submitters, load)?;
     match open(alloc, 0, limit, capacity, load.credit, submitters) {
-        Ok(opened) => drive_all(rt, alloc, opened, drivers, ControlLines::none(alloc)).ok(),
+        Ok(opened) => {
+            let control = ControlLines::none(alloc).driver();
+            drive_all(rt, alloc, opened, drivers, control).ok()
+        }
         Err(_) => None,
     }
 }
@@ -74,7 +77,11 @@ fn tally_of(drivers: Vec<LoadDriver>) -> Tally {
 }
 
 /// The line of a run.
-fn line_of_run(alloc: Global, finished: Finished<LoadDriver>, submitters: u32) -> Option<String> {
+fn line_of_run(
+    alloc: Global,
+    finished: Finished<LoadDriver, LinesDriver>,
+    submitters: u32,
+) -> Option<String> {
     let Finished {
         report,
         drivers,

@@ -1,5 +1,5 @@
 -- What is printed of a run.
-use Rattle.std.specs.Prelude.{◌≡◌, ℕ, ◌+◌, zero, suc, Bool, List, [], ◌∷◌, ◌++◌, Ok, Some, length, slice_get}
+use Rattle.std.specs.Prelude.{◌≡◌, ℕ, ◌+◌, zero, suc, List, [], ◌∷◌, ◌++◌, Ok, Some, length, slice_get}
 use Rattle.tb_core.specs.Grouping.{IsGrouping}
 use Rattle.tb_core.specs.Headline.{moments_in as moments_committed, moments_queued}
 use Rattle.tb_core.specs.Report.{Run, committed_in, IsPrefix, LawfulReport}

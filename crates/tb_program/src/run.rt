@@ -92,7 +92,7 @@ fn run_opened<T: Threads + Wait + Sync>(
         (map share_of drivers.items)
         (lines_of lines.moments.items lines.shuts) (refused_of lines.moments.items) (string_bytes text)) }
 {
-    match drive_all(rt, alloc, opened, drivers, lines) {
+    match drive_all(rt, alloc, opened, drivers, lines.driver()) {
         Ok(finished) => Ok(text_of(alloc, finished)?),
         Err(fault) => Err(program_fault_of(fault)),
     }

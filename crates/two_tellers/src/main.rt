@@ -6,7 +6,7 @@ use std::alloc::Global;
 use std::process::ExitCode;
 use std::sync::Wait;
 use std::thread::Threads;
-use tb_drive::{Action, ControlLines, Driver, Finished, drive_all, submit_ahead};
+use tb_drive::{Action, ControlLines, Driver, Finished, LinesDriver, drive_all, submit_ahead};
 use tb_layout::{Account, Transfer};
 use tb_pipe::open;
 use tb_work::{Packet, Refusal, Reply};
@@ -51,7 +51,7 @@ fn new_teller(id: u128, debit_account_id: u128, credit_account_id: u128, amount:
 }
 
 /// What becomes of two accounts, queued ahead, and of the tellers' transfers. None for want of memory or a thread.
-fn run<R: Threads + Wait + Sync>(rt: &R, alloc: Global) -> Option<Finished<Teller>> {
+fn run<R: Threads + Wait + Sync>(rt: &R, alloc: Global) -> Option<Finished<Teller, LinesDriver>> {
     let first = Account {
         id: 1,
         ledger: 1,
@@ -64,7 +64,8 @@ fn run<R: Threads + Wait + Sync>(rt: &R, alloc: Global) -> Option<Finished<Telle
         return None;
     };
     submit_ahead(rt, alloc, &mut opened, 0, accounts).ok()?;
-    drive_all(rt, alloc, opened, tellers, ControlLines::none(alloc)).ok()
+    let control = ControlLines::none(alloc).driver();
+    drive_all(rt, alloc, opened, tellers, control).ok()
 }
 
 fn main(rt: HostRuntime) -> ExitCode {

@@ -18,7 +18,7 @@ use std::alloc::{AllocError, Global};
 use std::marker::Model;
 use std::vec::IntoIter;
 use tb_core::{Entry, Ledger};
-use tb_drive::Finished;
+use tb_drive::{Finished, LinesDriver};
 use tb_layout::NoMemory;
 use tb_pipe::Report;
 use tb_submit::Ended;
@@ -219,24 +219,24 @@ fn text_with_room(alloc: Global, ledger: &Ledger) -> Result<String, AllocError>
 }
 
 /// A text with all lines of a run added to it.
-fn with_run(text: String, finished: Finished<ScriptDriver>) -> Result<String, NoMemory>
+fn with_run(text: String, finished: Finished<ScriptDriver, LinesDriver>) -> Result<String, NoMemory>
     requires few { length finished.drivers.items ≤ submitters_max }
     requires number { length finished.report.ends.items ≡ length finished.drivers.items }
     requires answered { AreAllAnswered finished.drivers.items finished.report.ends.items }
     ensures done { IfOk result (λ all. AreAllDone finished.drivers.items) }
     ensures text { IfOk result (λ all. string_bytes all
         ≡ string_bytes text ++ run_text (map told_of finished.drivers.items) (replies_of finished.report.ends.items)
-        (works finished.report.ledger) finished.refused_pulses
+        (works finished.report.ledger) finished.control.refused
         finished.report.ledger.state) }
 {
     let Finished {
         report,
         drivers,
-        refused_pulses,
+        control,
     } = finished;
     let Report { ledger, ends } = report;
     let mut out = text;
-    let put = put_run(&mut out, &ledger, drivers, ends, refused_pulses);
+    let put = put_run(&mut out, &ledger, drivers, ends, control.refused);
     drop(ledger);
     put?;
     Ok(out)
@@ -244,14 +244,17 @@ fn with_run(text: String, finished: Finished<ScriptDriver>) -> Result<String, No
 
 /// The text of a run: its packets, its pulses, the pulses that were refused, the clock and the accounts. It begins with
 /// room for the shortest lines of what was committed.
-pub fn text_of(alloc: Global, finished: Finished<ScriptDriver>) -> Result<String, NoMemory>
+pub fn text_of(
+    alloc: Global,
+    finished: Finished<ScriptDriver, LinesDriver>,
+) -> Result<String, NoMemory>
     requires few { length finished.drivers.items ≤ submitters_max }
     requires number { length finished.report.ends.items ≡ length finished.drivers.items }
     requires answered { AreAllAnswered finished.drivers.items finished.report.ends.items }
     ensures done { IfOk result (λ text. AreAllDone finished.drivers.items) }
     ensures text { IfOk result (λ text. string_bytes text
         ≡ run_text (map told_of finished.drivers.items) (replies_of finished.report.ends.items)
-        (works finished.report.ledger) finished.refused_pulses
+        (works finished.report.ledger) finished.control.refused
         finished.report.ledger.state) }
 {
     match text_with_room(alloc, &finished.report.ledger) {

@@ -1,9 +1,11 @@
 use Rattle.std.proofs.Common.{refl, ◌≡◌, ◌∙◌, ◌++◌, List, [], length, map, string_bytes, ap, sym, subst}
 use Rattle.std.proofs.lemmas.List.{length-map}
+use Rattle.std.specs.Prelude.{ℕ, Vec}
+use Rattle.std.specs.declared.alloc.Global.{Global}
 use Rattle.tb_core.specs.Journal.{works}
 use Rattle.tb_core.specs.Headline.{moments_in, moments_queued}
 use Rattle.tb_core.specs.Report.{IsPrefix}
-use Rattle.tb_drive.specs.Lines.{lines_of}
+use Rattle.tb_drive.specs.Lines.{lines_of, refused_of}
 use Rattle.tb_drive.specs.Seen.{jobs_in}
 use Rattle.tb_submit.specs.Ends.{replies_of}
 use Rattle.tb_work.specs.Packet.{Replied}
@@ -22,17 +24,26 @@ drive_all-requires-clause-seen g c κs within = λ k driver submitter driver_is 
     (c.requires.new limit k driver driver_is))
 
 pub text_of-requires-clause-answered : goal.text_of-requires-clause-answered
-text_of-requires-clause-answered g c = all_answered c.in-Ok.ensures.reported
+text_of-requires-clause-answered g c = all_answered c.in-Ok.ensures.reported.2
 
 pub returns-in_ok-text_of-in-Ok : goal.returns-in_ok-text_of-in-Ok
 returns-in_ok-text_of-in-Ok g c =
     let opened = c.args.opened in
-    let reported = c.in-Ok.ensures.reported in
+    let items = c.in-Ok.ensures.reported.0 in
+    let ended = c.in-Ok.ensures.reported.1 in
+    let reported = c.in-Ok.ensures.reported.2 in
     let finished = c.in-Ok.finished in
     let ledger = finished.report.ledger in
     let drivers = finished.drivers.items in
     let told = map told_of drivers in
     let lines = lines_of c.args.lines.moments.items c.args.lines.shuts in
+    let moments = c.driver.ensures.moments in
+    let queued : items ≡ lines = ended.0
+    ∙ ap (λ (m : Vec ℕ Global). lines_of m.items c.driver.result.shuts) moments
+    ∙ ap (λ shuts. lines_of c.args.lines.moments.items shuts) c.driver.ensures.shuts in
+    let counted : finished.control.refused ≡ refused_of c.args.lines.moments.items = ended.1
+    ∙ ap (λ (m : Vec ℕ Global). refused_of m.items) moments in
+    let all : opened.control.queued ++ items ≡ lines = ap (λ before. before ++ items) c.requires.silent ∙ queued in
     let replies = replies_of finished.report.ends.items in
     let shares : map share_of drivers ≡ map share_of c.args.drivers.items = c.in-Ok.ensures.shares in
     let long = length-map c.args.drivers.items share_of ∙ c.requires.number ∙ c.requires.together.2 in
@@ -51,13 +62,13 @@ returns-in_ok-text_of-in-Ok g c =
       submitters_are = sym long;
       report = reported.report;
       grouping = reported.grouping;
-      control = reported.control ∙ ap (λ queued. queued ++ lines) c.requires.silent;
-      pulses = subst (λ queued. IsPrefix (moments_in (works ledger)) (moments_queued (queued ++ lines)))
-          c.requires.silent reported.pulses;
+      control = reported.control ∙ all;
+      pulses = subst (λ controlled. IsPrefix (moments_in (works ledger)) (moments_queued controlled)) all
+          reported.pulses;
       number = length-map drivers told_of ∙ sym (length-map drivers share_of) ∙ ap length shares;
       handed = subst (λ all. AreHandedIn opened.pipeline.intake.limit replies all told reported.queued) shares
           (all_handed_in reported c.in_ok-text_of-in-Ok.ensures.done);
       printed = subst (λ refused. string_bytes c.in_ok-text_of-in-Ok.field-0
-          ≡ run_text told replies (works ledger) refused ledger.state) c.in-Ok.ensures.refused
+          ≡ run_text told replies (works ledger) refused ledger.state) counted
           c.in_ok-text_of-in-Ok.ensures.text;
     }
