@@ -1,17 +1,14 @@
 -- What a desk counts, as a function of the replies that it read.
-use Rattle.std.specs.Prelude.{◌≡◌, ℕ, ◌==◌, Bool, true, false, List, [], ◌∷◌, Some, All, length, slice_get, cond}
+use Rattle.std.specs.Prelude.{◌≡◌, ℕ, ◌==◌, Bool, true, false, List, [], ◌∷◌, Some, slice_get, cond}
 use Rattle.std.specs.List.{count_by, flat_map}
 use Rattle.std.specs.Vec.Iter.{into_iter_items}
-use Rattle.tb_drive.specs.Reported.{AreTogether}
 use Rattle.tb_layout.specs.declared.answer.Answer.TheVariants.{Failures, Accounts}
 use Rattle.tb_layout.specs.declared.failure.Failure.{Failure}
-use Rattle.tb_pipe.specs.declared.opening.Opened.{Opened}
-use Rattle.tb_submit.specs.Ends.{EndedState, SubmitterState}
+use Rattle.tb_submit.specs.Ends.{EndedState}
 use Rattle.tb_work.specs.Packet.{Numbered, Replied}
 use Rattle.tb_work.specs.declared.outcome.Outcome.{Outcome}
 use Rattle.tb_work.specs.declared.outcome.Outcome.TheVariants.{Committed, Shutdown, Stopped}
 use Rattle.tb_work.specs.declared.packet.Packet as packets
-use Rattle.payments.specs.declared.TheConstants.{DESKS}
 use Rattle.payments.specs.declared.desk.Desk.{Desk}
 use Rattle.payments.specs.declared.order.Order.{Order}
 use Rattle.payments.specs.declared.order.Order.TheVariants.{Deposit, Hold, Capture, Void}
@@ -75,9 +72,12 @@ HasSeenOf desk limit queued read = HasCounted desk.tally read
 abbrev pub HasAskedOf : Desk → packets.Packet → ℕ → List Numbered → List Replied → Type 0
 HasAskedOf desk packet limit queued read = HasCounted desk.tally read
 
--- unless it gave up, a desk that ended has submitted all of its orders
+-- unless it gave up, a desk has submitted all of its orders
+abbrev pub HasSubmittedAll : Desk → Type 0
+HasSubmittedAll desk = desk.stopped ≡ false → into_iter_items desk.orders ≡ []
+
 abbrev pub HasEndedOf : Desk → ℕ → List Numbered → List Replied → Type 0
-HasEndedOf desk limit queued read = desk.stopped ≡ false → into_iter_items desk.orders ≡ []
+HasEndedOf desk limit queued read = HasSubmittedAll desk
 
 -- a desk has counted no reply
 abbrev pub IsNew : Desk → Type 0
@@ -89,14 +89,8 @@ HaveCounted desks ends =
     (k : ℕ) (desk : Desk) (ended : EndedState) → slice_get desks k ≡ Some desk → slice_get ends k ≡ Some ended
     → HasCounted desk.tally ended.read
 
--- ---- a pipeline before its run
-
-abbrev pub IsUnread : SubmitterState → Type 0
-IsUnread submitter = submitter.read ≡ []
-
--- a pipeline has a submitter for each desk, and none has read a reply
-pub record IsReady (opened : Opened) : Type 0 where
-  pub together : AreTogether opened.pipeline opened.submitters.items opened.control
-  pub number : length opened.pipeline.submitters ≡ DESKS
-  pub desks : length opened.submitters.items ≡ DESKS
-  pub unread : All IsUnread opened.submitters.items
+-- each desk of an end has submitted all of its orders
+abbrev pub HaveEnded : List Desk → List EndedState → Type 0
+HaveEnded desks ends =
+    (k : ℕ) (desk : Desk) (ended : EndedState) → slice_get desks k ≡ Some desk → slice_get ends k ≡ Some ended
+    → HasSubmittedAll desk

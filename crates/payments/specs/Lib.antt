@@ -1,1 +1,2 @@
 pub mod Desk
+pub mod Ready

@@ -44,10 +44,8 @@ impl Desk {
     /// Returns whether it has seen its balances, and nothing is held.
     fn is_settled(&self) -> bool {
         match &self.balances {
-            Some(accounts) => accounts
-                .as_slice()
-                .iter()
-                .all(|account| account.debits_pending == 0 && account.credits_pending == 0),
+            Some(accounts) => accounts.as_slice().iter().all(|account| account.debits_pending == 0
+                && account.credits_pending == 0),
             None => false,
         }
     }

@@ -17,7 +17,8 @@
 #![tactic(auto)]
 
 ghost use Rattle.std.specs.Prelude.{◌≡◌, ◌<◌, All, IfSome, OnSome, length};
-ghost use Rattle.payments.specs.Desk.{HaveCounted, IsNew, IsReady};
+ghost use Rattle.payments.specs.Desk.{HaveCounted, HaveEnded, IsNew};
+ghost use Rattle.payments.specs.Ready.{IsReady};
 
 mod desk;
 mod order;
@@ -42,65 +43,51 @@ const HOUR: u64 = 3_600_000_000_000;
 /// All that is held.
 const ALL: u128 = u128::MAX;
 
-/// Returns the accounts of a desk.
-fn till_of(desk: u32) -> Till {
-    let bank = 10 * (u128::from(desk) + 1);
-    Till {
-        bank,
-        wallet: bank + 1,
-        shop: bank + 2,
-    }
-}
-
 /// Returns the orders of a desk that are queued ahead of all others.
 fn orders_ahead(alloc: Global, desk: u32) -> Option<Vec<Order>> {
     match desk {
-        0 => vec![in alloc; Order::Deposit { id: 100, amount: 1000 }].ok(),
-        1 => vec![in alloc; Order::Deposit { id: 200, amount: 500 }].ok(),
-        _ => vec![
-            in alloc;
-            Order::Deposit { id: 300, amount: 1000 },
-            Order::Hold { id: 301, amount: 300, timeout: 60 },
-        ].ok(),
+        0 => vec![in alloc; Order::Deposit(100, 1000)].ok(),
+        1 => vec![in alloc; Order::Deposit(200, 500)].ok(),
+        _ => vec![in alloc; Order::Deposit(300, 1000), Order::Hold(301, 300, 60)].ok(),
     }
 }
 
 /// Returns the orders that a desk queues itself.
 fn orders(alloc: Global, desk: u32) -> Option<Vec<Order>> {
     match desk {
-        0 => vec![
-            in alloc;
-            Order::Hold { id: 101, amount: 400, timeout: 0 },
-            Order::Capture { id: 102, hold: 101, amount: 250 },
-            Order::Hold { id: 103, amount: 300, timeout: 0 },
-            Order::Capture { id: 104, hold: 103, amount: ALL },
-            Order::Hold { id: 105, amount: 100, timeout: 0 },
-            Order::Void { id: 106, hold: 105 },
-            Order::Capture { id: 107, hold: 105, amount: ALL },
-        ].ok(),
-        1 => vec![
-            in alloc;
-            Order::Hold { id: 201, amount: 600, timeout: 0 },
-            Order::Hold { id: 202, amount: 200, timeout: 0 },
-            Order::Capture { id: 203, hold: 202, amount: 250 },
-            Order::Void { id: 204, hold: 202 },
-            Order::Hold { id: 205, amount: 50, timeout: 0 },
-            Order::Void { id: 206, hold: 205 },
-            Order::Hold { id: 207, amount: 75, timeout: 0 },
-            Order::Capture { id: 208, hold: 207, amount: ALL },
-        ].ok(),
-        _ => vec![
-            in alloc;
-            Order::Hold { id: 302, amount: 120, timeout: 0 },
-            Order::Capture { id: 303, hold: 302, amount: ALL },
-            Order::Void { id: 304, hold: 999 },
-        ].ok(),
+        0 => vec![in alloc;
+            Order::Hold(101, 400, 0),
+            Order::Capture(102, 101, 250),
+            Order::Hold(103, 300, 0),
+            Order::Capture(104, 103, ALL),
+            Order::Hold(105, 100, 0),
+            Order::Void(106, 105),
+            Order::Capture(107, 105, ALL),
+        ]
+        .ok(),
+        1 => vec![in alloc;
+            Order::Hold(201, 600, 0),
+            Order::Hold(202, 200, 0),
+            Order::Capture(203, 202, 250),
+            Order::Void(204, 202),
+            Order::Hold(205, 50, 0),
+            Order::Void(206, 205),
+            Order::Hold(207, 75, 0),
+            Order::Capture(208, 207, ALL),
+        ]
+        .ok(),
+        _ => vec![in alloc;
+            Order::Hold(302, 120, 0),
+            Order::Capture(303, 302, ALL),
+            Order::Void(304, 999),
+        ]
+        .ok(),
     }
 }
 
 /// Returns the packets of a desk that are queued ahead: its accounts and its first orders.
 fn packets_ahead(alloc: Global, desk: u32) -> Option<Vec<Packet>> {
-    let till = till_of(desk);
+    let till = Till::of(desk);
     let mut packets = vec![in alloc; till.opening(alloc).ok()?].ok()?;
     for order in orders_ahead(alloc, desk)? {
         packets.push(order.packet(alloc, till).ok()?).ok()?;
@@ -135,7 +122,9 @@ fn new_desks<R: Wait>(rt: &R, alloc: Global, opened: &mut Opened) -> Option<Vec<
     for desk in 0..DESKS {
         let ahead = queue_ahead(rt, alloc, opened, desk)?;
         let orders = orders(alloc, desk)?;
-        desks.push(Desk::new(alloc, till_of(desk), orders, ahead)).ok()?;
+        desks
+            .push(Desk::new(alloc, Till::of(desk), orders, ahead))
+            .ok()?;
     }
     Some(desks)
 }
@@ -152,14 +141,18 @@ fn open_for_desks(alloc: Global) -> Option<Opened>
 
 /// Runs the service. None if memory ran out before the run, or a thread couldn't be started.
 fn run<R: Threads + Wait + Sync>(rt: &R, alloc: Global) -> Option<Finished<Desk>>
-    ensures { IfSome result (λ finished. HaveCounted finished.drivers.items finished.report.ends.items) }
+    ensures counted { IfSome result (λ finished. HaveCounted finished.drivers.items finished.report.ends.items) }
+    ensures ended { IfSome result (λ finished. HaveEnded finished.drivers.items finished.report.ends.items) }
 {
     let lines = ControlLines {
         moments: vec![in alloc; HOUR].ok()?,
         shuts: false,
     };
     let mut opened = open_for_desks(alloc)?;
-    let desks = new_desks(rt, alloc, &mut opened)?;
+    let Some(desks) = new_desks(rt, alloc, &mut opened) else {
+        drop(opened);
+        return None;
+    };
     match drive_all(rt, alloc, opened, desks, lines) {
         Ok(finished) => Some(finished),
         Err(_) => None,

@@ -9,44 +9,46 @@ use tb_work::{Bytes, Packet};
 
 /// The user words of packets. A reply returns its packet's word, and a desk counts by it.
 pub const OTHER: u64 = 0;
+
 pub const CAPTURE: u64 = 1;
+
 pub const VOID: u64 = 2;
 
-/// An account's flag `debits_must_not_exceed_credits`.
-const WITHIN_CREDITS: u16 = 2;
+/// Flags of an account and of transfers.
+const DEBITS_WITHIN_CREDITS: u16 = 2;
 
-/// Flags of a transfer.
-const IS_PENDING: u16 = 2;
-const IS_POST: u16 = 4;
-const IS_VOID: u16 = 8;
+const PENDING: u16 = 2;
+
+const POST: u16 = 4;
+
+const CANCEL: u16 = 8;
 
 /// The ids of a desk's accounts: money comes from the bank, waits in the wallet and goes to the shop.
 #[derive(Clone, Copy)]
 pub struct Till {
-    pub bank: u128,
-    pub wallet: u128,
-    pub shop: u128,
+    bank: u128,
+    wallet: u128,
+    shop: u128,
 }
 
 impl Till {
+    /// Returns a desk's accounts.
+    pub fn of(desk: u32) -> Till {
+        let bank = 10 * (u128::from(desk) + 1);
+        let (wallet, shop) = (bank + 1, bank + 2);
+        Till { bank, wallet, shop }
+    }
+
     /// Returns a packet that makes the accounts. The wallet can't spend more than it has.
     pub fn opening(self, alloc: Global) -> Result<Packet, NoMemory> {
-        let bank = Account {
-            id: self.bank,
+        let mut accounts = [self.bank, self.wallet, self.shop].map(|id| Account {
+            id,
             ledger: 1,
             code: 1,
             ..Account::default()
-        };
-        let wallet = Account {
-            id: self.wallet,
-            flags: WITHIN_CREDITS,
-            ..bank
-        };
-        let shop = Account {
-            id: self.shop,
-            ..bank
-        };
-        Packet::of_accounts(alloc, &[bank, wallet, shop], OTHER)
+        });
+        accounts[1].flags = DEBITS_WITHIN_CREDITS;
+        Packet::of_accounts(alloc, &accounts, OTHER)
     }
 
     /// Returns a packet that asks for the accounts with their balances.
@@ -63,21 +65,47 @@ impl Till {
     }
 }
 
-/// What a customer asks for. Each order is a transfer with an id of its own.
+type Id = u128;
+
+type Amount = u128;
+
+type Seconds = u32;
+
+/// What a customer asks for: a transfer, whose id comes first.
 #[derive(Clone, Copy)]
 pub enum Order {
     /// Moves an amount from the bank to the wallet.
-    Deposit { id: u128, amount: u128 },
+    Deposit(Id, Amount),
     /// Reserves an amount for the shop, for some seconds; 0 is for ever.
-    Hold {
-        id: u128,
-        amount: u128,
-        timeout: u32,
-    },
+    Hold(Id, Amount, Seconds),
     /// Moves an amount of a hold to the shop and releases the rest; `u128::MAX` moves all of it.
-    Capture { id: u128, hold: u128, amount: u128 },
+    Capture(Id, Id, Amount),
     /// Releases a hold.
-    Void { id: u128, hold: u128 },
+    Void(Id, Id),
+}
+
+/// Returns a transfer that moves an amount from one account to another.
+fn moving(id: Id, from: u128, to: u128, amount: Amount) -> Transfer {
+    Transfer {
+        id,
+        debit_account_id: from,
+        credit_account_id: to,
+        amount,
+        ledger: 1,
+        code: 1,
+        ..Transfer::default()
+    }
+}
+
+/// Returns a transfer that resolves a hold. It takes accounts, ledger and code from the hold.
+fn resolving(id: Id, hold: Id, amount: Amount, flags: u16) -> Transfer {
+    Transfer {
+        id,
+        pending_id: hold,
+        amount,
+        flags,
+        ..Transfer::default()
+    }
 }
 
 impl Order {
@@ -86,53 +114,23 @@ impl Order {
         ensures { result ≡ word_of self }
     {
         match self {
-            Order::Capture { .. } => CAPTURE,
-            Order::Void { .. } => VOID,
+            Order::Capture(..) => CAPTURE,
+            Order::Void(..) => VOID,
             _ => OTHER,
         }
     }
 
-    /// Returns the transfer that asks for it. A post or void takes accounts, ledger and code from its hold.
+    /// Returns the transfer that asks for it.
     fn transfer(self, till: Till) -> Transfer {
-        let payment = Transfer {
-            debit_account_id: till.wallet,
-            credit_account_id: till.shop,
-            ledger: 1,
-            code: 1,
-            ..Transfer::default()
-        };
         match self {
-            Order::Deposit { id, amount } => Transfer {
-                id,
-                debit_account_id: till.bank,
-                credit_account_id: till.wallet,
-                amount,
-                ..payment
-            },
-            Order::Hold {
-                id,
-                amount,
+            Order::Deposit(id, amount) => moving(id, till.bank, till.wallet, amount),
+            Order::Hold(id, amount, timeout) => Transfer {
                 timeout,
-            } => Transfer {
-                id,
-                amount,
-                timeout,
-                flags: IS_PENDING,
-                ..payment
+                flags: PENDING,
+                ..moving(id, till.wallet, till.shop, amount)
             },
-            Order::Capture { id, hold, amount } => Transfer {
-                id,
-                pending_id: hold,
-                amount,
-                flags: IS_POST,
-                ..Transfer::default()
-            },
-            Order::Void { id, hold } => Transfer {
-                id,
-                pending_id: hold,
-                flags: IS_VOID,
-                ..Transfer::default()
-            },
+            Order::Capture(id, hold, amount) => resolving(id, hold, amount, POST),
+            Order::Void(id, hold) => resolving(id, hold, 0, CANCEL),
         }
     }
 

@@ -1,5 +1,6 @@
 use Rattle.std.proofs.Common.{◌≡◌, All, length}
-use Rattle.payments.specs.Desk.{IsNew, IsReady}
+use Rattle.payments.specs.Desk.{IsNew}
+use Rattle.payments.specs.Ready.{IsReady}
 use Rattle.payments.proofs.new_desks.Given as goal
 
 abbrev pub invariant-loop-desk : goal.invariant-loop-desk

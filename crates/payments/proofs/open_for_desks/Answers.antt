@@ -1,7 +1,7 @@
 use Rattle.std.proofs.Common.{rules, ◌≡◌, ◌∙◌, All, length, ap, sym, subst}
 use Rattle.std.proofs.lemmas.List.{length-map}
 use Rattle.tb_submit.specs.Ends.{control_seat, new_submitter}
-use Rattle.payments.specs.Desk.{IsUnread}
+use Rattle.payments.specs.Ready.{IsUnread}
 use Rattle.payments.proofs.Ready.{opened_unread}
 use Rattle.payments.proofs.open_for_desks.Goals as goal
 

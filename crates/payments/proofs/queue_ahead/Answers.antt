@@ -10,7 +10,7 @@ loop-packet-preserved g c =
     let is = c.in-Ok.ensures in
     let within : c.args.desk < length before.submitters.items = omega arith in
     let still = unread_still before.submitters.items after.submitters.items c.args.desk c.in-Ok._number
-        c.in-Some.packet within was.unread (λ submitter found. (is.ok submitter found).1) in
+    c.in-Some.packet within was.unread (λ submitter found. (is.ok submitter found).1) in
     record {
       together = is.together was.together;
       number = ap (λ pipeline. length pipeline.submitters) is.pipeline ∙ was.number;

@@ -1,4 +1,4 @@
-use Rattle.payments.specs.Desk.{IsReady}
+use Rattle.payments.specs.Ready.{IsReady}
 use Rattle.payments.proofs.queue_ahead.Given as goal
 
 abbrev pub invariant-loop-packet : goal.invariant-loop-packet
