@@ -144,9 +144,10 @@ fn run_live<I: Read + Drop + Send, O: Write + Drop + Send, R: Threads + Wait + S
     let over = Over::new();
     let parties = parties(alloc, request, echo, &over)?;
     match open(alloc, 0, 8190, 64, 16, request.submitters) {
-        Ok(opened) => drive_all(rt, alloc, opened, parties, ControlLines::none(alloc))
-            .ok()
-            .map(drop),
+        Ok(opened) => {
+            let control = ControlLines::none(alloc).driver();
+            drive_all(rt, alloc, opened, parties, control).ok().map(drop)
+        }
         Err(_) => None,
     }
 }

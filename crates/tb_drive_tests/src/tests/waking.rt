@@ -6,7 +6,7 @@ use std::sync::Wait;
 use std::test::Fail;
 use std::thread;
 use std::thread::Threads;
-use tb_drive::{Action, ControlLines, Driver, Finished, drive_all};
+use tb_drive::{Action, ControlLines, Driver, Finished, LinesDriver, drive_all};
 use tb_pipe::open;
 use tb_work::{Refusal, Reply};
 
@@ -63,7 +63,7 @@ impl Driver for Sender {
 }
 
 /// How many replies each driver was given.
-fn replies_to(alloc: Global, finished: Finished<Sender>) -> Result<Vec<u32>, Fail> {
+fn replies_to(alloc: Global, finished: Finished<Sender, LinesDriver>) -> Result<Vec<u32>, Fail> {
     let mut replies = Vec::new(alloc);
     for driver in &finished.drivers {
         replies.push(driver.replies)?;
@@ -84,7 +84,7 @@ fn replies_of<R: Threads + Wait + Sync>(
         drivers.push(Sender::new(packets, longest, seed))?;
     }
     let opened = open(alloc, 0, 4, 8, 1, u32::try_from(seeds.len())?)?;
-    match drive_all(rt, alloc, opened, drivers, ControlLines::none(alloc)) {
+    match drive_all(rt, alloc, opened, drivers, ControlLines::none(alloc).driver()) {
         Ok(finished) => replies_to(alloc, finished),
         Err(_) => Err("the run is given up")?,
     }
