@@ -6,13 +6,14 @@ use std::sync::Wait;
 use std::test::Fail;
 use std::thread;
 use std::thread::Threads;
-use tb_drive::{Action, ControlLines, Driver, Finished, drive_all};
+use tb_drive::{Action, ControlLines, Driver, Finished, LinesDriver, drive_all};
 use tb_pipe::open;
 use tb_submit::Ended;
 use tb_work::{Bytes, Outcome, Packet, Refusal, Reply};
 
 mod replies;
 mod tellings;
+mod turns;
 mod waking;
 
 const CREATE_ACCOUNTS: u8 = 129;
@@ -140,10 +141,11 @@ fn run<R: Threads + Wait + Sync>(
     capacity: u32,
     credit: u32,
     drivers: Vec<Noter>,
-) -> Result<Finished<Noter>, Fail> {
+) -> Result<Finished<Noter, LinesDriver>, Fail> {
     let submitters = u32::try_from(drivers.len())?;
     let opened = open(alloc, 0, 4, capacity, credit, submitters)?;
-    match drive_all(rt, alloc, opened, drivers, ControlLines::none(alloc)) {
+    let control = ControlLines::none(alloc).driver();
+    match drive_all(rt, alloc, opened, drivers, control) {
         Ok(finished) => Ok(finished),
         Err(_) => Err("the run is given up")?,
     }
@@ -170,7 +172,7 @@ fn replies_left(alloc: Global, ended: &mut Ended) -> Result<Vec<Option<Saw>>, Al
 }
 
 /// What was seen of each submitter, the drivers and the ends both in the order in which they came back.
-fn seen_in(alloc: Global, finished: Finished<Noter>) -> Result<Vec<Seen>, AllocError> {
+fn seen_in(alloc: Global, finished: Finished<Noter, LinesDriver>) -> Result<Vec<Seen>, AllocError> {
     let Finished {
         report,
         drivers,
