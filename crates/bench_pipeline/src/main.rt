@@ -25,12 +25,11 @@ use crate::live::{Echo, Over, Party};
 use crate::request::{Asked, LiveRequest, Load, Opening, Request, asked_by};
 use crate::tally::{Tally, sum_of_balances};
 use std::alloc::Global;
-use std::env;
-use std::io;
 use std::io::{Read, Write};
 use std::process::ExitCode;
 use std::sync::Wait;
 use std::thread::Threads;
+use std::{env, io};
 use tb_drive::{ControlLines, Finished, LinesDriver, drive_all};
 use tb_pipe::open;
 
@@ -146,7 +145,9 @@ fn run_live<I: Read + Drop + Send, O: Write + Drop + Send, R: Threads + Wait + S
     match open(alloc, 0, 8190, 64, 16, request.submitters) {
         Ok(opened) => {
             let control = ControlLines::none(alloc).driver();
-            drive_all(rt, alloc, opened, parties, control).ok().map(drop)
+            drive_all(rt, alloc, opened, parties, control)
+                .ok()
+                .map(drop)
         }
         Err(_) => None,
     }
@@ -157,8 +158,9 @@ fn main(rt: HostRuntime) -> ExitCode {
     let line = match env::args(&rt).ok().and_then(asked_by) {
         Some(Asked::Run(request)) => line_of(&rt, alloc, request),
         Some(Asked::Live(request)) => {
-            run_live(&rt, alloc, request, Echo::new(rt.reader(), io::writer(&rt)))
-                .map(|()| String::new(alloc))
+            run_live(&rt, alloc, request, Echo::new(rt.reader(), io::writer(&rt))).map(
+                |()| String::new(alloc),
+            )
         }
         None => {
             let _ = println!(rt;

@@ -5,7 +5,8 @@ ghost use Rattle.tb_command.specs.Ending.{ending_of, status_of, text_of};
 
 use crate::program_fault::ProgramFault;
 
-const HELP: &str = "usage: tbpipe list|run < SCRIPT\n\nCommits the packets of a script to a ledger in memory, and prints what becomes of each.\n\n  list       in one thread\n  run        in a pipeline with a thread for each submitter\n  --help     prints this\n  --version  prints the version and the kit that proved it\n\nScripts and output: docs/FORMATS.md. The exit status is 0, or 1 for a faulty script or other arguments, or 2 if the program failed.\n";
+const HELP: &str =
+    "usage: tbpipe list|run < SCRIPT\n\nCommits the packets of a script to a ledger in memory, and prints what becomes of each.\n\n  list       in one thread\n  run        in a pipeline with a thread for each submitter\n  --help     prints this\n  --version  prints the version and the kit that proved it\n\nScripts and output: docs/FORMATS.md. The exit status is 0, or 1 for a faulty script or other arguments, or 2 if the program failed.\n";
 
 const VERSION: &str = "tbpipe 0.1.0\nrattle-kit-13f logic dac8208d650f15bf\n";
 

@@ -9,8 +9,6 @@
 
 mod waiting;
 
-pub use waiting::{Sleeper, SpinWait, Waker};
-
 ghost use Rattle.std.specs.Prelude.{◌≡◌, ◌<◌, ◌≤◌, ◌+◌, [], ◌∷◌, ◌++◌, length, OnOk, IfOk, IfErr, IsOk, IfSome, IfNone, IsSomeAnd};
 ghost use Rattle.tb_rings.specs.Ends.{given, taken, lies, slots, free, IsRing, SameOutlet, SameInlet};
 
@@ -18,6 +16,7 @@ use rtrb::{Consumer, Producer, PushError, RingBuffer};
 use std::alloc::Global;
 use std::sync::Wait;
 use tb_layout::NoMemory;
+pub use waiting::{Sleeper, SpinWait, Waker};
 
 /// The end that gives.
 pub struct Outlet<T> {

@@ -35,7 +35,10 @@ impl Sender {
 
     /// The next number of the sequence, below `longest`.
     fn gap(&mut self) -> u32 {
-        self.number = self.number.wrapping_mul(1_664_525).wrapping_add(1_013_904_223);
+        self.number = self
+            .number
+            .wrapping_mul(1_664_525)
+            .wrapping_add(1_013_904_223);
         (self.number >> 8) % self.longest.max(1)
     }
 }
@@ -84,7 +87,13 @@ fn replies_of<R: Threads + Wait + Sync>(
         drivers.push(Sender::new(packets, longest, seed))?;
     }
     let opened = open(alloc, 0, 4, 8, 1, u32::try_from(seeds.len())?)?;
-    match drive_all(rt, alloc, opened, drivers, ControlLines::none(alloc).driver()) {
+    match drive_all(
+        rt,
+        alloc,
+        opened,
+        drivers,
+        ControlLines::none(alloc).driver(),
+    ) {
         Ok(finished) => replies_to(alloc, finished),
         Err(_) => Err("the run is given up")?,
     }

@@ -69,8 +69,11 @@ fn a_packet_of_one_transfer(rt: HostRuntime) {
 /// The lowest byte of each id comes first, and ids of 128 bits are whole.
 #[test]
 fn a_packet_of_two_ids(rt: HostRuntime) {
-    let Ok(packet) = Packet::of_ids(rt.alloc(), &[1, 0x0f0e_0d0c_0b0a_0908_0706_0504_0302_0100], 7)
-    else {
+    let Ok(packet) = Packet::of_ids(
+        rt.alloc(),
+        &[1, 0x0f0e_0d0c_0b0a_0908_0706_0504_0302_0100],
+        7,
+    ) else {
         rt.abort()
     };
     assert!(rt; packet.operation == 131 && packet.user == 7);
