@@ -14,8 +14,10 @@ GoesOn (Submit packet) asks keeps ends = asks packet
 GoesOn Receive asks keeps ends = keeps
 GoesOn End asks keeps ends = keeps × ends
 
--- one thing is so of the moment of the pulse that is to be queued, another of the item by which the control ends
-abbrev pub ControlsOn : ControlAction → (ℕ → Type 0) → (Item → Type 0) → Type 0
-ControlsOn (control.Pulse moment) asks ends = asks moment
-ControlsOn control.Close asks ends = ends item.Close
-ControlsOn control.End asks ends = ends item.End
+-- one thing is so of the moment of the pulse that is to be queued, one if the control waits, and one of the item by which
+-- it ends
+abbrev pub ControlsOn : ControlAction → (ℕ → Type 0) → Type 0 → (Item → Type 0) → Type 0
+ControlsOn (control.Pulse moment) asks keeps ends = asks moment
+ControlsOn control.Wait asks keeps ends = keeps
+ControlsOn control.Close asks keeps ends = ends item.Close
+ControlsOn control.End asks keeps ends = ends item.End

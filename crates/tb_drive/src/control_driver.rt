@@ -15,6 +15,8 @@ use tb_work::Refusal;
 pub enum ControlAction {
     /// It queues a pulse with this moment, in nanoseconds. While the queue is full it tries again.
     Pulse(u64),
+    /// It does nothing now: its thread yields, and the driver is asked again.
+    Wait,
     /// It queues the Close and ends, and its driver isn't asked again. Packets behind the Close are answered Shutdown.
     Close,
     /// It ends, and its driver isn't asked again.
@@ -24,7 +26,8 @@ pub enum ControlAction {
 /// Says when the control queues a pulse, and how it ends. The control's own thread calls it, one call after another.
 ///
 /// `next` may wait: for a clock, for a channel, for another thread. Until it returns, the control hasn't ended, so the run
-/// can't end or be given up. A pulse is queued once `next` returns it, behind all packets that are queued by then.
+/// can't end or be given up. If a thread can't be started, no other driver is asked any more: so what only another
+/// driver's word would end is waited for by `ControlAction::Wait`, not in `next`. A pulse is queued once `next` returns it, behind all packets that are queued by then.
 ///
 /// Its implementor says what is to be known of a driver after a run, by three relations, which hold of anything unless
 /// they are given. Each is between a driver as it was when the run began, the same driver later, and what it has had
@@ -41,7 +44,7 @@ pub trait ControlDriver: Drop {
     /// What the control does next. It may wait with `rt`.
     fn next<R: Wait>(&mut self, rt: &R) -> ControlAction
         ensures { (first : Self) (items : List ItemValue) → has_queued first self.old items
-            → ControlsOn result (λ moment. has_asked first self.new moment items)
+            → ControlsOn result (λ moment. has_asked first self.new moment items) (has_queued first self.new items)
             (λ last. has_ended first self.new (items ++ last ∷ [])) };
 
     /// Takes what became of the last pulse: it is queued, or it is refused as `MomentTooLarge`, since its moment is above

@@ -100,12 +100,14 @@ fn follow<C: ControlDriver, R: Wait>(
     ensures { C.has_queued driver.old driver.old [] → IfSome result (λ shuts. HasQueued control.old control.new
         (λ items. C.has_ended driver.old driver.new (items ++ last_item shuts ∷ []))) }
 {
+    let backoff = Backoff::new();
     for _ in rt.forever() {
         if stop.is_asked() {
             return None;
         }
         match driver.next(rt) {
             ControlAction::Pulse(moment) => pulse(rt, control, driver, moment, stop)?,
+            ControlAction::Wait => backoff.snooze(),
             ControlAction::Close => return Some(true),
             ControlAction::End => return Some(false),
         }

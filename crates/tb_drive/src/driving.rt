@@ -510,9 +510,10 @@ fn run_in_scope<D: Driver + Send, C: ControlDriver + Send, R: Threads + Wait + S
     )
 }
 
-/// Queues a packet of the submitter at an index, before any thread is started: what is queued so is ahead of all that
-/// drivers queue. It is `Submitter::submit` of that submitter, and no other end is touched; after 2^56 packets the
-/// queue is full. A refused packet comes back, and nothing is changed.
+/// Queues a packet of the submitter at an index, before any thread is started. It is `Submitter::submit` of that
+/// submitter, so it precedes what its driver queues; it precedes what other drivers queue too, since the queue is first
+/// in, first out. No other end is touched; after 2^56 packets the queue is full. A refused packet is returned, and nothing
+/// is changed.
 pub fn submit_ahead<R: Wait>(
     rt: &R,
     alloc: Global,

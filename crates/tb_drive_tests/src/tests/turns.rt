@@ -16,7 +16,7 @@ const ROUNDS: u32 = 3;
 /// How often a driver looks whether it is its turn, before it goes on out of turn.
 const MOST_LOOKS: u32 = 100_000_000;
 
-/// Waits for a turn. The control has each even one, the submitter each odd one.
+/// Waits for a turn of the submitter, which has each odd one; the control has each even one.
 fn wait_for(turn: &AtomicU32, wanted: u32) {
     for _ in 0..MOST_LOOKS {
         if turn.load(Ordering::SeqCst) >= wanted {
@@ -37,7 +37,9 @@ struct Pulser<'a> {
 
 impl<'a> ControlDriver for Pulser<'a> {
     fn next<R: Wait>(&mut self, _rt: &R) -> ControlAction {
-        wait_for(self.turn, self.own);
+        if self.turn.load(Ordering::SeqCst) < self.own {
+            return ControlAction::Wait;
+        }
         if self.own >= 2 * ROUNDS {
             return ControlAction::Close;
         }

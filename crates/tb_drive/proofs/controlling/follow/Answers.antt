@@ -8,6 +8,11 @@ loop-init g c = λ started. ([], nothing_queued _, started)
 
 pub loop-preserved : goal.loop-preserved
 loop-preserved g c = λ started.
+    let before = c.loop.invariant started in
+    (before.0, before.1, c.in-Wait.ensures c.args.driver.now before.0 before.2)
+
+pub loop-preserved-in-Continue-1 : goal.loop-preserved-in-Continue-1
+loop-preserved-in-Continue-1 g c = λ started.
     has_queued_more _ _ _ (pulse_of c.in-Pulse.moment) _ _ (c.loop.invariant started) (search rules)
     (λ items had. c.in_ok-pulse-in-Pulse.ensures.told c.args.driver.now items
     (c.in-Pulse.ensures c.args.driver.now items had))
