@@ -54,7 +54,7 @@ impl Driver for Sender {
         for _ in 0..self.gap() {
             thread::yield_now();
         }
-        self.sent += 1;
+        self.sent = self.sent.saturating_add(1);
         packet_of(alloc, CREATE_ACCOUNTS, 0, 0).map_or(Action::End, Action::Submit)
     }
 
@@ -86,7 +86,7 @@ fn replies_of<R: Threads + Wait + Sync>(
     for &seed in seeds {
         drivers.push(Sender::new(packets, longest, seed))?;
     }
-    let opened = open(alloc, 0, 4, 8, 1, u32::try_from(seeds.len())?)?;
+    let opened = open(alloc, 0, 4, 8, 1, u32::try_from(drivers.len())?)?;
     match drive_all(
         rt,
         alloc,
