@@ -39,8 +39,8 @@ pub enum Kind {
     Lookups,
 }
 
-/// The packets to make: their kind, how many events each has, and how many there are; how many accounts they use; the
-/// number of transfers to reserve capacity for, and the seed of the hashes.
+/// The packets to make: their kind, their number and the number of events in each; the number of accounts; the number
+/// of transfers to reserve capacity for; and the seed of the hashes.
 #[derive(Clone, Copy)]
 pub struct Load {
     pub kind: Kind,
@@ -109,7 +109,7 @@ fn next_kind(words: &mut Args) -> Option<Kind> {
     None
 }
 
-/// The request in the arguments, the first of which is the program's name.
+/// Reads the request from the arguments; the first argument is the program's name.
 pub fn request_of(words: Args) -> Option<Request> {
     let mut words = words;
     words.next()?;

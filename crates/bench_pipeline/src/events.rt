@@ -53,7 +53,7 @@ pub fn accounts(alloc: Global, submitter: u64) -> Result<Packet, AllocError> {
     Ok(packet_of(CREATE_ACCOUNTS, bytes))
 }
 
-/// So many plain transfers between the submitter's accounts, after so many made before.
+/// `events` plain transfers between the submitter's accounts, after those made before.
 pub fn transfers(
     alloc: Global,
     submitter: u64,

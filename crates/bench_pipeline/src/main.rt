@@ -44,7 +44,7 @@ fn drivers(alloc: Global, submitters: u32, load: Load) -> Option<Vec<LoadDriver>
     Some(drivers)
 }
 
-/// A whole run, or None where the opening is refused, or memory or a thread was wanting.
+/// A whole run, or None if the opening is refused, memory runs out or a thread can't be started.
 fn run<R: Threads + Wait + Sync>(
     rt: &R,
     alloc: Global,
@@ -66,7 +66,7 @@ fn run<R: Threads + Wait + Sync>(
     }
 }
 
-/// What all replies came to.
+/// The sums over all replies.
 fn tally_of(drivers: Vec<LoadDriver>) -> Tally {
     let mut tally = Tally::new();
     for driver in drivers {

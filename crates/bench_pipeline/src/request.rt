@@ -2,7 +2,7 @@
 
 use std::env::Args;
 
-/// What each submitter sends: so many packets of so many events, with at most `credit` of them unanswered.
+/// What each submitter sends: `packets` packets of `events` events, with at most `credit` of them unanswered.
 #[derive(Clone, Copy)]
 pub struct Load {
     pub events: u64,
@@ -25,7 +25,7 @@ pub struct Request {
     pub load: Load,
 }
 
-/// A pipeline with so many submitters. The first sends a packet for each byte of the input, `loads` others send packets of
+/// A pipeline in which the first submitter sends a packet for each byte of the input, `loads` others send packets of
 /// one event until the input ends, and the rest sleep until then.
 #[derive(Clone, Copy)]
 pub struct LiveRequest {

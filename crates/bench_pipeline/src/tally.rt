@@ -3,7 +3,7 @@
 use tb_machine::Machine;
 use tb_work::{Answer, Outcome, Reply};
 
-/// What replies came to. One that isn't committed counts as a failure.
+/// Sums over replies. One that isn't committed counts as a failure.
 #[derive(Clone, Copy)]
 pub struct Tally {
     pub replies: u64,
@@ -39,7 +39,7 @@ impl Tally {
         }
     }
 
-    /// Adds what other replies came to.
+    /// Adds the sums over other replies.
     pub fn join(&mut self, other: Tally) {
         self.replies = self.replies.wrapping_add(other.replies);
         self.failures = self.failures.wrapping_add(other.failures);

@@ -2,7 +2,7 @@
 use Rattle.std.proofs.Common.{◌≡◌, refl, sym, subst, ap, ◌∙◌, arith, ℕ, Option, Some, None, Bor, List, [], ◌∷◌, slice_get, inl, inr}
 use Rattle.std.specs.Prelude.{Result, Ok, Err, IsOk, OnOk}
 use Rattle.std.specs.Option.{option_copied}
-use Rattle.tb_work.specs.Packet.{Replied}
+use Rattle.tb_work.specs.Packet.{ReplyValue}
 use Rattle.tb_embed.specs.Engine.{EngineState}
 use Rattle.kip.specs.Handle.{Moves, IsPeek}
 use Rattle.kip.specs.declared.reading.KipReply.{KipReply}
@@ -17,7 +17,7 @@ on_ok (Ok value) is holds = holds
 on_ok (Err error) is holds = cc
 
 -- without a next reply none is unread
-pub none_to_read : (head : KipReply) (size : ℕ) (engine : EngineState) (found : Option (Bor Replied)) → found ≡ None
+pub none_to_read : (head : KipReply) (size : ℕ) (engine : EngineState) (found : Option (Bor ReplyValue)) → found ≡ None
     → option_copied found ≡ slice_get engine.unread 0 → IsPeek 102 head size engine
 none_to_read head size engine found is next = record {
   fits = λ e. absurd (omega (arith, e));
@@ -26,6 +26,6 @@ none_to_read head size engine found is next = record {
   one_of = inr (inl refl);
 }
   where
-    empty : (unread : List Replied) → None ≡ slice_get unread 0 → unread ≡ []
+    empty : (unread : List ReplyValue) → None ≡ slice_get unread 0 → unread ≡ []
     empty [] h = refl
     empty (reply ∷ unread) h = cc

@@ -1,11 +1,11 @@
--- What a call did to the engine behind a handle; a closed handle has none.
+-- what a call did to the engine inside a handle; a closed handle has none.
 use Rattle.std.specs.Prelude.{◌≡◌, ◌<◌, ◌≤◌, ◌⊎◌, ◌+◌, ◌*◌, ◌^◌, ℕ, List, [], nat_lt, if◌then◌else◌, length, slice_get, Option, Some, None}
 use Rattle.tb_layout.specs.Account.{account_bytes}
 use Rattle.tb_layout.specs.Limits.{clock_max}
 use Rattle.tb_layout.specs.declared.account.Account.{Account}
 use Rattle.tb_tables.specs.Balances.{balanced_account}
 use Rattle.tb_work.specs.Refusal.{number_of}
-use Rattle.tb_work.specs.Packet.{Replied}
+use Rattle.tb_work.specs.Packet.{ReplyValue}
 use Rattle.tb_work.specs.declared.packet.Packet.{Packet}
 use Rattle.tb_work.specs.declared.refusal.Refusal.{Refusal}
 use Rattle.tb_work.specs.declared.refusal.Refusal.TheVariants.{MomentTooLarge, NoMemory}
@@ -65,14 +65,14 @@ IsClosingStatus (Some engine) status = status ≡ 0
 
 -- a reply was read, which the head describes and whose results are in the buffer
 pub record HasRead (head : KipReply) (before after : List ℕ) (old new : EngineState) : Type 0 where
-  pub reply : Replied
+  pub reply : ReplyValue
   pub told : IsHeadOf head reply
   pub written : AreWritten (result_bytes reply.outcome) (result_size reply.outcome) before after
   pub reads : Reads old reply new
 
 -- the head describes the next reply
 pub record IsNextIn (head : KipReply) (engine : EngineState) : Type 0 where
-  pub reply : Replied
+  pub reply : ReplyValue
   pub is_next : slice_get engine.unread 0 ≡ Some reply
   pub told : IsHeadOf head reply
 

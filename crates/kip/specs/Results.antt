@@ -5,7 +5,7 @@ use Rattle.tb_layout.specs.Account.{account_bytes}
 use Rattle.tb_layout.specs.Failure.{failure_bytes}
 use Rattle.tb_layout.specs.declared.answer.Answer.{Answer}
 use Rattle.tb_layout.specs.declared.answer.Answer.TheVariants.{Failures, Accounts}
-use Rattle.tb_work.specs.Packet.{Replied}
+use Rattle.tb_work.specs.Packet.{ReplyValue}
 use Rattle.tb_work.specs.declared.outcome.Outcome.{Outcome}
 use Rattle.tb_work.specs.declared.outcome.Outcome.TheVariants.{Committed, Shutdown, Stopped}
 use Rattle.kip.specs.declared.reading.KipReply.{KipReply}
@@ -45,7 +45,7 @@ place_of Shutdown = 0
 place_of Stopped = 0
 
 -- the head describes this reply
-pub record IsHeadOf (head : KipReply) (reply : Replied) : Type 0 where
+pub record IsHeadOf (head : KipReply) (reply : ReplyValue) : Type 0 where
   pub submitter : head.submitter ≡ reply.submitter
   pub number : head.number ≡ reply.number
   pub operation : head.operation ≡ reply.packet.operation

@@ -159,7 +159,7 @@ pub extern "C" fn kip_reserve(
     status
 }
 
-/// Closes a handle and frees all that is behind it.
+/// Closes a handle and frees the engine inside it.
 #[unsafe(no_mangle)]
 pub extern "C" fn kip_close(alloc: Global, kip: &mut Kip) -> u32
     ensures closed { kip.new.held.engine ≡ None }

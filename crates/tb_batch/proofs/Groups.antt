@@ -42,7 +42,7 @@ taken_is_joins : (limit : ℕ) (jobs : List Numbered) (job : Numbered) → 0 < l
 taken_is_joins limit [] job some = absurd (omega arith)
 taken_is_joins limit (first ∷ jobs) job some = refl
 
--- what a group knows tells whether a packet joins it
+-- what is known of a group decides whether a packet joins it
 pub taken_by : (parts : Parts) (shares : Bool) (events limit : ℕ) (job : Numbered) → IsGroupOf parts shares events →
     is_taken limit parts.jobs.items job ≡ (shares
     && (can_share job && ((parts.operation == job.packet.operation)
@@ -62,19 +62,19 @@ and_more : (a b c : Bool) → (a && b) ≡ true → (b ≡ true → c ≡ true) 
 and_more true b c h f = f h
 and_more false b c h f = cc
 
-joined_behind : (limit : ℕ) (group jobs : List Numbered) (job : Numbered) → join_in_turn limit group jobs ≡ true
+joined_after : (limit : ℕ) (group jobs : List Numbered) (job : Numbered) → join_in_turn limit group jobs ≡ true
     → joins limit (group ++ jobs) job ≡ true → join_in_turn limit group (jobs ++ job ∷ []) ≡ true
-joined_behind limit group [] job h j = ap (λ b. b && true) (ap (λ l. joins limit l job) (sym (append-nil group)) ∙ j)
-joined_behind limit group (next ∷ jobs) job h j =
+joined_after limit group [] job h j = ap (λ b. b && true) (ap (λ l. joins limit l job) (sym (append-nil group)) ∙ j)
+joined_after limit group (next ∷ jobs) job h j =
     and_more (joins limit group next) (join_in_turn limit (group ++ next ∷ []) jobs)
     (join_in_turn limit (group ++ next ∷ []) (jobs ++ job ∷ [])) h
-    (λ rest. joined_behind limit (group ++ next ∷ []) jobs job rest
+    (λ rest. joined_after limit (group ++ next ∷ []) jobs job rest
     (ap (λ l. joins limit l job) (append_assoc group (next ∷ []) jobs) ∙ j))
 
 pub group_more : (limit : ℕ) (jobs : List Numbered) (job : Numbered) → IsGroup limit jobs
     → is_taken limit jobs job ≡ true → IsGroup limit (jobs ++ job ∷ [])
 group_more limit [] job h j = refl
-group_more limit (first ∷ jobs) job h j = joined_behind limit (first ∷ []) jobs job h j
+group_more limit (first ∷ jobs) job h j = joined_after limit (first ∷ []) jobs job h j
 
 -- what is held after an offer is a group
 pub offered_group : (old new : Held) (job : Numbered) (offered : Offered) → IsGroup old.limit old.jobs

@@ -20,7 +20,8 @@ body_of jobs = flat_map (λ job. job.packet.bytes) jobs
 abbrev pub AreAdmitted : List Numbered → Type 0
 AreAdmitted jobs = AllByRecursion (λ job. IsOk (admission_of batch_max job.packet)) jobs
 
--- some admitted packets of one operation, of at most 8190 events together; one that can't share its batch is alone
+-- some admitted packets of one operation, of at most 8190 events together; a packet that can't share its batch has one
+-- for itself
 pub record IsLawful (operation : ℕ) (jobs : List Numbered) : Type 0 where
   pub some : 0 < length jobs
   pub all_admitted : AreAdmitted jobs

@@ -1,4 +1,4 @@
--- Which packets may stand in one batch.
+-- Which packets may share a batch.
 use Rattle.std.specs.Prelude.{◌≡◌, ℕ, ◌+◌, ◌==◌, Bool, true, ◌&&◌, not, nat_le, List, [], ◌∷◌, ◌++◌}
 use Rattle.std.specs.List.{list_all}
 use Rattle.tb_work.specs.Admission.{count_of}
@@ -18,7 +18,7 @@ joins limit group job =
     list_all can_share group && (can_share job && (are_of job.packet.operation group
     && nat_le (count_of_all group + count_of job.packet) limit))
 
--- whether a packet stands in one batch with those held; where none is, it begins one
+-- whether a packet joins those held; if none is held, it begins a group
 abbrev pub is_taken : ℕ → List Numbered → Numbered → Bool
 is_taken limit [] job = true
 is_taken limit (first ∷ jobs) job = joins limit (first ∷ jobs) job
@@ -28,7 +28,7 @@ abbrev pub join_in_turn : ℕ → List Numbered → List Numbered → Bool
 join_in_turn limit group [] = true
 join_in_turn limit group (job ∷ jobs) = joins limit group job && join_in_turn limit (group ++ job ∷ []) jobs
 
--- the packets of one batch: a packet alone, or packets of which each joins those before it
+-- the packets of one batch: a single packet, or packets that each join those before them
 abbrev pub IsGroup : ℕ → List Numbered → Type 0
 IsGroup limit [] = Unit {0}
 IsGroup limit (job ∷ jobs) = join_in_turn limit (job ∷ []) jobs ≡ true

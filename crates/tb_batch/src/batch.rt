@@ -13,7 +13,7 @@ pub struct Batch {
 }
 
 impl Drop for Batch {
-    /// Lets all that is held go in one call, so that no owner's proof goes through it.
+    /// Frees everything held in one call, so that no owner's proof repeats it.
     fn drop(self) {
         let Batch { parts } = self;
         drop(parts);

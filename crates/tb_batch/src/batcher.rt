@@ -14,12 +14,12 @@ use std::mem;
 use tb_layout::BATCH_MAX;
 use tb_work::{Job, Refusal};
 
-/// Joins neighbouring packets to batches of at most so many events. It is seen as its limit and the
-/// jobs of the group that it holds.
+/// Joins neighbouring packets to batches of at most `limit` events. It is seen as its limit and the jobs of the group
+/// that it holds.
 ///
-/// It also notes how large the batch sealed last was: the next group that others may join begins with room for as much.
-/// So all room that it asks for stays linear in what is batched: a batch asks at most for what
-/// the one before came to and for twice what it comes to itself, and for a few jobs and failures.
+/// It also notes the size of the last sealed batch: the next group that others may join begins with room for as much.
+/// So all room that it asks for stays linear in what is batched: a batch asks at most for the size of the one before,
+/// for twice its own size, and for a few jobs and failures.
 pub struct Batcher {
     alloc: Global,
     limit: u32,
@@ -28,7 +28,7 @@ pub struct Batcher {
 }
 
 impl Drop for Batcher {
-    /// Lets all that is held go in one call, so that no owner's proof goes through it.
+    /// Frees everything held in one call, so that no owner's proof repeats it.
     fn drop(self) {
         let Batcher {
             alloc: _,
@@ -130,9 +130,9 @@ impl Batcher {
         }
     }
 
-    /// Takes the next job: it joins the group held, or has that sealed and begins the next one (batching of tb_client,
-    /// of neighbours alone). All memory is taken before anything changes; where it is refused the job comes back. The
-    /// cost is a copy of the packet's data.
+    /// Takes the next job: it joins the group held, or the group is sealed and the job begins the next one (batching of
+    /// tb_client, here only of neighbours). All memory is allocated before anything changes; if that fails, the job is
+    /// returned. The cost is a copy of the packet's data.
     pub fn offer(&mut self, job: Job) -> Offered
         ensures offers { Offers self.old job result self.new }
         ensures lawful { IsGroup self.old.limit self.old.jobs }

@@ -43,8 +43,8 @@ fn can_share(job: &Job) -> bool
 }
 
 impl Group {
-    /// A group of one job. Where others may join it, it has room for as much as the batch before came to, if memory
-    /// allows that. Where memory for the job itself is refused, the job comes back.
+    /// A group of one job. If others may join it, it has room for as much as the batch before had, if memory allows
+    /// that. If the allocation for the job itself fails, the job is returned.
     #[inline(never)]
     pub(crate) fn alone(alloc: Global, before: Size, job: Job) -> Result<Group, (Job, NoMemory)>
         ensures group { IfOk result (λ group. group ≡ job ∷ []) }

@@ -11,7 +11,7 @@ use std::alloc::Global;
 use tb_layout::{Account, Failure, LOOKUP_ACCOUNTS, NoMemory};
 use tb_work::{Job, Stub};
 
-/// A group that others may join has room for so many jobs and failures at least.
+/// A group that others may join has room for at least these numbers of jobs and failures.
 const FIRST_PACKETS: usize = 16;
 
 /// The parts of a batch: its packets' data one after the other, its jobs with their stubs, and an
@@ -60,7 +60,7 @@ impl Parts {
             .reserve((size.events as usize).max(FIRST_PACKETS));
     }
 
-    /// Makes room for one more job, and for an answer to so many events.
+    /// Makes room for one more job, and for an answer to its events.
     #[inline(always)]
     pub(crate) fn reserve_for(&mut self, job: &Job, events: u32) -> Result<(), NoMemory>
         requires { (self.old.failures.items ≡ []) × (self.old.accounts.items ≡ []) }
@@ -89,8 +89,8 @@ impl Parts {
         Ok(())
     }
 
-    /// Puts a job after those that are there, for which there is room. This copies its data into the
-    /// body, the one copy on a packet's way.
+    /// Adds a job after those that are there; there is room for it. This copies its data into the body, the only copy
+    /// on a packet's way.
     #[inline(always)]
     pub(crate) fn append(&mut self, job: Job)
         requires { (vec_len self.old.jobs < vec_capacity self.old.jobs)

@@ -5,7 +5,7 @@ ghost use Rattle.tb_work.specs.Admission.{count_of};
 
 use tb_work::Job;
 
-/// So many packets, with so many events and bytes of data.
+/// Numbers of packets, events and bytes of data.
 #[derive(Clone, Copy)]
 pub(crate) struct Size {
     pub(crate) packets: usize,

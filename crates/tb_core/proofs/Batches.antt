@@ -16,15 +16,15 @@ use Rattle.tb_machine.specs.Replay.{State, accounts_found, answer_of, after_pack
 use Rattle.tb_layout.specs.declared.answer.Answer.TheVariants.{Accounts as Looked_up}
 use Rattle.tb_work.specs.declared.outcome.Outcome.TheVariants.{Committed}
 use Rattle.tb_work.specs.Admission.{event_size, admission_of_size, count_of, count_of_size}
-use Rattle.tb_work.specs.Packet.{Numbered, events_in, reply_with, work_of}
+use Rattle.tb_work.specs.Packet.{Numbered, events_in, reply_with, input_of}
 use Rattle.tb_work.specs.Job.{count_of_all, is_lookup, stub_of, is_open as is_open_packet}
 use Rattle.tb_work.specs.declared.stub.Stub.{Stub}
 use Rattle.tb_batch.specs.Grouping.{can_share, are_of}
 use Rattle.tb_batch.specs.Batch.{body_of, IsLawful, AreAdmitted}
-use Rattle.tb_core.proofs.Answering.{answers_from}
+use Rattle.tb_core.proofs.PacketAnswers.{answers_from}
 use Rattle.tb_core.specs.Ledger.{packets_of, count_of_stubs, IsBatchEntry}
 use Rattle.tb_core.proofs.Bodies.{first_is, whole_events, packets_of-jobs}
-use Rattle.tb_core.proofs.Committing.{length-chunks, GivesEach, gives}
+use Rattle.tb_core.proofs.JoinedBatch.{length-chunks, GivesEach, gives}
 
 -- ---- operations
 
@@ -213,10 +213,10 @@ entry_is operation jobs lawful = by operation (kind_of_batch operation jobs lawf
     by op OfIds one = sized 131 16 refl one
 
 pub entry_has : (operation : ℕ) (jobs : List Numbered) → IsLawful operation jobs
-    → packets_of operation (body_of jobs) (map stub_of jobs) ≡ map work_of jobs
+    → packets_of operation (body_of jobs) (map stub_of jobs) ≡ map input_of jobs
 entry_has operation jobs lawful = by operation (kind_of_batch operation jobs lawful) lawful.one_operation
   where
-    by : (op : ℕ) → Kind op → are_of op jobs ≡ true → packets_of op (body_of jobs) (map stub_of jobs) ≡ map work_of jobs
+    by : (op : ℕ) → Kind op → are_of op jobs ≡ true → packets_of op (body_of jobs) (map stub_of jobs) ≡ map input_of jobs
     by op OfAccounts one = packets_of-jobs 129 128 jobs refl one lawful.all_admitted
     by op OfTransfers one = packets_of-jobs 130 128 jobs refl one lawful.all_admitted
     by op OfIds one = packets_of-jobs 131 16 jobs refl one lawful.all_admitted

@@ -8,7 +8,7 @@ use Rattle.std.proofs.Math.Seq.{take-append_seam, drop-append_seam}
 use Rattle.std.proofs.lemmas.Bool.{eqb-true, and_parts}
 use Rattle.tb_layout.specs.Events.{chunks}
 use Rattle.tb_work.specs.Admission.{event_size, admission_of, admission_of_size, count_of, count_of_size}
-use Rattle.tb_work.specs.Packet.{Numbered, work_of}
+use Rattle.tb_work.specs.Packet.{Numbered, input_of}
 use Rattle.tb_work.specs.Job.{stub_of}
 use Rattle.tb_work.specs.declared.packet.Packet.{Packet}
 use Rattle.tb_work.specs.declared.refusal.Refusal.{Refusal}
@@ -71,7 +71,7 @@ first_is operation job jobs all =
 -- the stubs cut the body to its packets
 pub packets_of-jobs : (operation size : ℕ) (jobs : List Numbered) → event_size operation ≡ Some size
     → are_of operation jobs ≡ true → AreAdmitted jobs
-    → packets_of operation (body_of jobs) (map stub_of jobs) ≡ map work_of jobs
+    → packets_of operation (body_of jobs) (map stub_of jobs) ≡ map input_of jobs
 packets_of-jobs operation size [] is one all = refl
 packets_of-jobs operation size (job ∷ jobs) is one all =
     let first = first_is operation job jobs one in

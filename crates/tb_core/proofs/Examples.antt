@@ -7,7 +7,7 @@ use Rattle.tb_work.specs.declared.outcome.Outcome.TheVariants.{Committed, Shutdo
 use Rattle.tb_work.specs.declared.item.Item.{Item}
 use Rattle.tb_work.specs.declared.item.Item.TheVariants as item
 use Rattle.tb_work.specs.declared.item.Ticket.{Ticket}
-use Rattle.tb_work.specs.Packet.{Numbered, Replied, work_of}
+use Rattle.tb_work.specs.Packet.{Numbered, ReplyValue, input_of}
 use Rattle.tb_work.specs.Job.{numbered_packet}
 use Rattle.tb_work.specs.Queue.{ahead}
 use Rattle.tb_machine.specs.Replay.{replay}
@@ -26,8 +26,8 @@ packet job = record { sender = job.submitter; item = item.Packet job }
 abbrev of_control : Item → Ticket
 of_control x = record { sender = 1; item = x }
 
-abbrev outcomes : List Replied → List Outcome
-outcomes replies = map (λ (reply : Replied). reply.outcome) replies
+abbrev outcomes : List ReplyValue → List Outcome
+outcomes replies = map (λ (reply : ReplyValue). reply.outcome) replies
 
 abbrev items : List Ticket → List Item
 items queue = map (λ (ticket : Ticket). ticket.item) queue
@@ -38,7 +38,7 @@ first = job 0 0 (event 1)
 abbrev second : Numbered
 second = job 0 1 (event 2)
 
--- a packet, the Close, and one behind it
+-- a packet, the Close, and a packet behind it
 abbrev shut : List Ticket
 shut = packet first ∷ of_control item.Close ∷ packet second ∷ []
 
@@ -48,11 +48,11 @@ packet_behind_shut = refl
 packet_behind_shut-clock : (replay 0 (ahead (items shut))).clock ≡ 1
 packet_behind_shut-clock = refl
 
--- the second commit's growth is refused: neither the pulse nor the packet after it is committed
+-- the allocation of the second commit fails: neither the pulse nor the packet after it is committed
 abbrev pulsed : List Ticket
 pulsed = packet first ∷ of_control (item.Pulse 5) ∷ packet second ∷ of_control item.End ∷ []
 
-refused_second_commit : outcomes (due 0 pulsed (work_of first ∷ []) 0) ≡ Committed 0 (Failures []) ∷ Stopped ∷ []
+refused_second_commit : outcomes (due 0 pulsed (input_of first ∷ []) 0) ≡ Committed 0 (Failures []) ∷ Stopped ∷ []
 refused_second_commit = refl
 
 -- where nothing is refused, a pulse takes a place

@@ -5,9 +5,9 @@ use Rattle.std.specs.List.{AllByRecursion}
 use Rattle.std.proofs.lemmas.Bool.{eq-eqb, cond_both}
 use Rattle.std.proofs.lemmas.List.Elements.{filter-append}
 use Rattle.tb_layout.specs.declared.answer.Answer.{Answer}
-use Rattle.tb_layout.specs.Work.{Work, Packet, Pulse}
+use Rattle.tb_layout.specs.Input.{Input, Packet, Pulse}
 use Rattle.tb_machine.specs.Replay.{replay, answer_of, answer_to}
-use Rattle.tb_work.specs.Packet.{Numbered, events_in, Replied, reply_with, work_of}
+use Rattle.tb_work.specs.Packet.{Numbered, events_in, ReplyValue, reply_with, input_of}
 use Rattle.tb_work.specs.Queue.{ahead, items_in, part, AreSubmitted, IsSubmitted}
 use Rattle.tb_work.specs.declared.outcome.Outcome.{Outcome}
 use Rattle.tb_work.specs.declared.outcome.Outcome.TheVariants.{Committed, Stopped}
@@ -47,46 +47,46 @@ part-cons sender ticket queue = by (ticket.sender == sender) (filter (λ (t : Ti
 
 -- a submitter's packets ahead of the Close are the first of those that it queued
 queued-ahead : (submitters submitter : ℕ) (queue : List Ticket) → AreSubmitted submitters queue →
-    IsPrefix (packets_of submitter (ahead (items_in queue))) (map work_of (packets_queued (part submitter queue)))
+    IsPrefix (packets_of submitter (ahead (items_in queue))) (map input_of (packets_queued (part submitter queue)))
 queued-ahead submitters submitter [] all = ([], refl)
 queued-ahead submitters submitter (ticket ∷ queue) all =
     subst (λ items. IsPrefix (packets_of submitter (ahead (ticket.item ∷ items_in queue)))
-    (map work_of (packets_queued items))) (sym (part-cons submitter ticket queue))
+    (map input_of (packets_queued items))) (sym (part-cons submitter ticket queue))
     (one (ticket.sender == submitter) ticket.item refl all.0 (queued-ahead submitters submitter queue all.1))
   where
     one : (own : Bool) (x : Item) → (ticket.sender == submitter) ≡ own → IsSubmitted submitters ticket.sender x →
-        IsPrefix (packets_of submitter (ahead (items_in queue))) (map work_of (packets_queued (part submitter queue)))
+        IsPrefix (packets_of submitter (ahead (items_in queue))) (map input_of (packets_queued (part submitter queue)))
         → IsPrefix (packets_of submitter (ahead (x ∷ items_in queue)))
-        (map work_of (packets_queued (part_with own x (part submitter queue))))
+        (map input_of (packets_queued (part_with own x (part submitter queue))))
     one true (item.Packet job) is own others =
-        rw (ap (λ n. n == submitter) own.0 ∙ is) (prefix-cons (work_of job) _ _ others)
+        rw (ap (λ n. n == submitter) own.0 ∙ is) (prefix-cons (input_of job) _ _ others)
     one false (item.Packet job) is own others = rw (ap (λ n. n == submitter) own.0 ∙ is) others
     one true (item.Pulse moment) is own others = others
     one false (item.Pulse moment) is own others = others
     one true item.End is own others = others
     one false item.End is own others = others
     one own item.Close is submitted others =
-        (map work_of (packets_queued (part_with own item.Close (part submitter queue))), refl)
+        (map input_of (packets_queued (part_with own item.Close (part submitter queue))), refl)
 
 -- ---- replies
 
 -- one reply for each packet of a submitter, in order
-one-each : (clock submitters submitter : ℕ) (works : List Work) (place : Place) (queue : List Ticket)
+one-each : (clock submitters submitter : ℕ) (inputs : List Input) (place : Place) (queue : List Ticket)
     → AreSubmitted submitters queue →
-    map packet_of (replies_to (all_due_from clock works place (items_in queue)) submitter)
+    map packet_of (replies_to (all_due_from clock inputs place (items_in queue)) submitter)
     ≡ packets_queued (part submitter queue)
-one-each clock submitters submitter works place [] all = refl
-one-each clock submitters submitter works place (ticket ∷ queue) all =
+one-each clock submitters submitter inputs place [] all = refl
+one-each clock submitters submitter inputs place (ticket ∷ queue) all =
     one (ticket.sender == submitter) ticket.item refl all.0
-    (one-each clock submitters submitter works (next_place place ticket.item) queue all.1)
+    (one-each clock submitters submitter inputs (next_place place ticket.item) queue all.1)
     ∙ ap packets_queued (sym (part-cons submitter ticket queue))
   where
-    replies_with : Item → List Replied
-    replies_with x = replies_to (all_due_from clock works (next_place place x) (items_in queue)) submitter
+    replies_with : Item → List ReplyValue
+    replies_with x = replies_to (all_due_from clock inputs (next_place place x) (items_in queue)) submitter
 
     one : (own : Bool) (x : Item) → (ticket.sender == submitter) ≡ own → IsSubmitted submitters ticket.sender x →
         map packet_of (replies_with x) ≡ packets_queued (part submitter queue) →
-        map packet_of (replies_to (all_due_from clock works place (x ∷ items_in queue)) submitter)
+        map packet_of (replies_to (all_due_from clock inputs place (x ∷ items_in queue)) submitter)
         ≡ packets_queued (part_with own x (part submitter queue))
     one true (item.Packet job) is own others =
         rw (ap (λ n. n == submitter) own.0 ∙ is) (ap (λ jobs. job ∷ jobs) others)
@@ -101,95 +101,95 @@ one-each clock submitters submitter works place (ticket ∷ queue) all =
 -- ---- answers
 
 -- what the headline says of a committed reply, over a list of what was committed
-abbrev IsAnswered : ℕ → List Work → Replied → Type 0
-IsAnswered clock works reply =
+abbrev IsAnswered : ℕ → List Input → ReplyValue → Type 0
+IsAnswered clock inputs reply =
     (place : ℕ) (answer : Answer) → reply.outcome ≡ Committed place answer →
-    (slice_get works place ≡ Some (work_of (packet_of reply)))
-    × (answer ≡ answer_of (replay clock (take place works)) (events_in reply.packet))
+    (slice_get inputs place ≡ Some (input_of (packet_of reply)))
+    × (answer ≡ answer_of (replay clock (take place inputs)) (events_in reply.packet))
 
-abbrev AreAnswered : ℕ → List Work → List Replied → Type 0
-AreAnswered clock works replies = AllByRecursion (IsAnswered clock works) replies
+abbrev AreAnswered : ℕ → List Input → List ReplyValue → Type 0
+AreAnswered clock inputs replies = AllByRecursion (IsAnswered clock inputs) replies
 
--- what stands at the end of some, and at the same place of their prefix
-at_place : {X : Type 0} (works rest before : List X) (x y : X) (others : List X) (place : ℕ)
-    → works ++ rest ≡ before ++ x ∷ others → place ≡ length before → slice_get works place ≡ Some y → y ≡ x
+-- what is at the end of a list, and at the same place of its prefix
+at_place : {X : Type 0} (inputs rest before : List X) (x y : X) (others : List X) (place : ℕ)
+    → inputs ++ rest ≡ before ++ x ∷ others → place ≡ length before → slice_get inputs place ≡ Some y → y ≡ x
 at_place [] rest before x y others place is at got = cc
-at_place (w ∷ works) rest [] x y others zero is at got = cc
-at_place (w ∷ works) rest [] x y others (suc place) is at got = absurd (omega (arith, at))
-at_place (w ∷ works) rest (b ∷ before) x y others zero is at got = absurd (omega (arith, at))
-at_place (w ∷ works) rest (b ∷ before) x y others (suc place) is at got =
-    at_place works rest before x y others place (cc) (omega (arith, at)) got
+at_place (w ∷ inputs) rest [] x y others zero is at got = cc
+at_place (w ∷ inputs) rest [] x y others (suc place) is at got = absurd (omega (arith, at))
+at_place (w ∷ inputs) rest (b ∷ before) x y others zero is at got = absurd (omega (arith, at))
+at_place (w ∷ inputs) rest (b ∷ before) x y others (suc place) is at got =
+    at_place inputs rest before x y others place (cc) (omega (arith, at)) got
 
 -- a packet that is committed has its own answer
-own-answer : (clock place : ℕ) (works rest before : List Work) (job : Numbered) (others : List Work)
-    → works ++ rest ≡ before ++ work_of job ∷ others → place ≡ length before →
-    IsAnswered clock works (reply_with (outcome_at clock works (Ahead place)) job)
-own-answer clock place works rest before job others is at = by (slice_get works place) refl
+own-answer : (clock place : ℕ) (inputs rest before : List Input) (job : Numbered) (others : List Input)
+    → inputs ++ rest ≡ before ++ input_of job ∷ others → place ≡ length before →
+    IsAnswered clock inputs (reply_with (outcome_at clock inputs (Ahead place)) job)
+own-answer clock place inputs rest before job others is at = by (slice_get inputs place) refl
   where
-    outcome_of_found : Option Work → Outcome
-    outcome_of_found found = outcome_with place (answer_to (replay clock (take place works)) found)
+    outcome_of_found : Option Input → Outcome
+    outcome_of_found found = outcome_with place (answer_to (replay clock (take place inputs)) found)
 
-    by : (found : Option Work) → slice_get works place ≡ found
-        → IsAnswered clock works (reply_with (outcome_at clock works (Ahead place)) job)
+    by : (found : Option Input) → slice_get inputs place ≡ found
+        → IsAnswered clock inputs (reply_with (outcome_at clock inputs (Ahead place)) job)
     by None nowhere = λ its answer committed.
         let stopped : Stopped ≡ Committed its answer = sym (ap outcome_of_found nowhere) ∙ committed in cc
-    by (Some work) found = λ its answer committed.
-        let same : work ≡ work_of job = at_place works rest before (work_of job) work others place is at found in
-        let stands : slice_get works place ≡ Some (work_of job) = found ∙ ap (λ w. Some w) same in
-        let both : Committed place (answer_of (replay clock (take place works)) (events_in job.packet))
+    by (Some input) found = λ its answer committed.
+        let same : input ≡ input_of job = at_place inputs rest before (input_of job) input others place is at found in
+        let stands : slice_get inputs place ≡ Some (input_of job) = found ∙ ap (λ w. Some w) same in
+        let both : Committed place (answer_of (replay clock (take place inputs)) (events_in job.packet))
         ≡ Committed its answer = sym (ap outcome_of_found stands) ∙ committed in
         let at_its : place ≡ its = cc in
-        let alone : answer_of (replay clock (take place works)) (events_in job.packet) ≡ answer = cc in (
-          subst (λ n. slice_get works n ≡ Some (work_of job)) at_its stands,
-          subst (λ n. answer ≡ answer_of (replay clock (take n works)) (events_in job.packet)) at_its (sym alone),
+        let alone : answer_of (replay clock (take place inputs)) (events_in job.packet) ≡ answer = cc in (
+          subst (λ n. slice_get inputs n ≡ Some (input_of job)) at_its stands,
+          subst (λ n. answer ≡ answer_of (replay clock (take n inputs)) (events_in job.packet)) at_its (sym alone),
         )
 
-answered-behind : (clock : ℕ) (works : List Work) (items : List Item)
-    → AreAnswered clock works (all_due_from clock works Behind items)
-answered-behind clock works [] = tt
-answered-behind clock works (item.Packet job ∷ items) = (λ place answer committed. cc, answered-behind clock works items)
-answered-behind clock works (item.Pulse moment ∷ items) = answered-behind clock works items
-answered-behind clock works (item.End ∷ items) = answered-behind clock works items
-answered-behind clock works (item.Close ∷ items) = answered-behind clock works items
+answered-after_close : (clock : ℕ) (inputs : List Input) (items : List Item)
+    → AreAnswered clock inputs (all_due_from clock inputs Behind items)
+answered-after_close clock inputs [] = tt
+answered-after_close clock inputs (item.Packet job ∷ items) = (λ place answer committed. cc, answered-after_close clock inputs items)
+answered-after_close clock inputs (item.Pulse moment ∷ items) = answered-after_close clock inputs items
+answered-after_close clock inputs (item.End ∷ items) = answered-after_close clock inputs items
+answered-after_close clock inputs (item.Close ∷ items) = answered-after_close clock inputs items
 
-answered-due : (clock k : ℕ) (works rest before : List Work) (items : List Item)
-    → works ++ rest ≡ before ++ ahead items → k ≡ length before →
-    AreAnswered clock works (all_due_from clock works (Ahead k) items)
-answered-due clock k works rest before [] is at = tt
-answered-due clock k works rest before (item.Packet job ∷ items) is at =
-    let one = work_of job ∷ [] in (
-      own-answer clock k works rest before job (ahead items) is at,
-      answered-due clock (k + 1) works rest (before ++ one) items (is ∙ sym (append_assoc before one (ahead items)))
+answered-due : (clock k : ℕ) (inputs rest before : List Input) (items : List Item)
+    → inputs ++ rest ≡ before ++ ahead items → k ≡ length before →
+    AreAnswered clock inputs (all_due_from clock inputs (Ahead k) items)
+answered-due clock k inputs rest before [] is at = tt
+answered-due clock k inputs rest before (item.Packet job ∷ items) is at =
+    let one = input_of job ∷ [] in (
+      own-answer clock k inputs rest before job (ahead items) is at,
+      answered-due clock (k + 1) inputs rest (before ++ one) items (is ∙ sym (append_assoc before one (ahead items)))
           (omega (arith, at, length-append before one)),
     )
-answered-due clock k works rest before (item.Pulse moment ∷ items) is at =
+answered-due clock k inputs rest before (item.Pulse moment ∷ items) is at =
     let one = Pulse moment ∷ [] in
-    answered-due clock (k + 1) works rest (before ++ one) items (is ∙ sym (append_assoc before one (ahead items)))
+    answered-due clock (k + 1) inputs rest (before ++ one) items (is ∙ sym (append_assoc before one (ahead items)))
     (omega (arith, at, length-append before one))
-answered-due clock k works rest before (item.End ∷ items) is at = answered-due clock k works rest before items is at
-answered-due clock k works rest before (item.Close ∷ items) is at = answered-behind clock works items
+answered-due clock k inputs rest before (item.End ∷ items) is at = answered-due clock k inputs rest before items is at
+answered-due clock k inputs rest before (item.Close ∷ items) is at = answered-after_close clock inputs items
 
-answered-among : (clock : ℕ) (works : List Work) (q : Replied → Bool) (replies : List Replied)
-    → AreAnswered clock works replies → AreAnswered clock works (filter q replies)
-answered-among clock works q [] all = tt
-answered-among clock works q (reply ∷ replies) all =
-    let others = answered-among clock works q replies all.1 in
-    cond_both (q reply) _ _ (AreAnswered clock works) (λ taken. (all.0, others)) (λ left. others)
+answered-among : (clock : ℕ) (inputs : List Input) (q : ReplyValue → Bool) (replies : List ReplyValue)
+    → AreAnswered clock inputs replies → AreAnswered clock inputs (filter q replies)
+answered-among clock inputs q [] all = tt
+answered-among clock inputs q (reply ∷ replies) all =
+    let others = answered-among clock inputs q replies all.1 in
+    cond_both (q reply) _ _ (AreAnswered clock inputs) (λ taken. (all.0, others)) (λ left. others)
 
-answered-at : (clock : ℕ) (works : List Work) (replies : List Replied) (index : ℕ) (reply : Replied)
-    → AreAnswered clock works replies → slice_get replies index ≡ Some reply → IsAnswered clock works reply
-answered-at clock works [] index reply all got = cc
-answered-at clock works (first ∷ replies) zero reply all got =
-    let same : first ≡ reply = cc in subst (IsAnswered clock works) same all.0
-answered-at clock works (first ∷ replies) (suc index) reply all got =
-    answered-at clock works replies index reply all.1 got
+answered-at : (clock : ℕ) (inputs : List Input) (replies : List ReplyValue) (index : ℕ) (reply : ReplyValue)
+    → AreAnswered clock inputs replies → slice_get replies index ≡ Some reply → IsAnswered clock inputs reply
+answered-at clock inputs [] index reply all got = cc
+answered-at clock inputs (first ∷ replies) zero reply all got =
+    let same : first ≡ reply = cc in subst (IsAnswered clock inputs) same all.0
+answered-at clock inputs (first ∷ replies) (suc index) reply all got =
+    answered-at clock inputs replies index reply all.1 got
 
 -- ---- pulses
 
-moments-append : (works others : List Work) → moments_in (works ++ others) ≡ moments_in works ++ moments_in others
+moments-append : (inputs others : List Input) → moments_in (inputs ++ others) ≡ moments_in inputs ++ moments_in others
 moments-append [] others = refl
-moments-append (Packet submitter number events ∷ works) others = moments-append works others
-moments-append (Pulse moment ∷ works) others = ap (λ moments. moment ∷ moments) (moments-append works others)
+moments-append (Packet submitter number events ∷ inputs) others = moments-append inputs others
+moments-append (Pulse moment ∷ inputs) others = ap (λ moments. moment ∷ moments) (moments-append inputs others)
 
 moments-ahead : (items : List Item) → IsPrefix (moments_in (ahead items)) (moments_queued items)
 moments-ahead [] = ([], refl)
@@ -239,7 +239,7 @@ headline run is =
     record {
       committed = λ submitter below. prefix-filter (is_packet_of submitter) (committed_in run) (ahead_in run) is.committed;
       queued = λ submitter below.
-          subst (λ items. IsPrefix (packets_of submitter (ahead_in run)) (map work_of (packets_queued items)))
+          subst (λ items. IsPrefix (packets_of submitter (ahead_in run)) (map input_of (packets_queued items)))
           (is.filled.parts submitter (omega (arith, below)))
           (queued-ahead run.submitters submitter run.queue is.filled.submitted);
       all = λ nothing submitter below. ap (packets_of submitter) (is.complete.0 nothing);
@@ -249,7 +249,7 @@ headline run is =
       answered = λ submitter index place reply answer below got committed.
           let due = answered-due run.clock 0 (committed_in run) is.committed.0 [] (items_in run.queue)
           is.committed.1 refl in
-          let its = answered-among run.clock (committed_in run) (λ (r : Replied). r.submitter == submitter) _ due in
+          let its = answered-among run.clock (committed_in run) (λ (r : ReplyValue). r.submitter == submitter) _ due in
           let found = answered-at run.clock (committed_in run) _ index reply its
           (sym (ap (λ rs. slice_get rs index) (is.replied submitter below)) ∙ got) place answer committed in
           record { stands = found.0; alone = found.1 };

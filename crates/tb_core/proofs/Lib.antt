@@ -1,14 +1,14 @@
-pub mod Passing
-pub mod Accounting
+pub mod FrontDecisions
+pub mod TicketDecisions
 mod Bodies
-mod Answering
-mod Committing
+mod PacketAnswers
+mod JoinedBatch
 mod Batches
-mod Recording
-mod Growing
-pub mod Committed
-mod Grouped
+mod RecordedBatch
+mod OneMoreEntry
+pub mod LedgerSteps
+mod JournalGroups
 pub mod Runs
 pub mod HeadlineLemmas
-mod Listing
+mod ItemList
 mod Examples

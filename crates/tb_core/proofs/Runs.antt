@@ -1,33 +1,33 @@
--- What a front and a ledger came to is what is due, and the report on it is lawful.
+-- What a front and a ledger did is what is due, and the report on it is lawful.
 use Rattle.std.proofs.Common.{refl, sym, ap, subst, ◌∙◌, arith, ◌≡◌, ◌<◌, ◌≤◌, ℕ, zero, suc, ◌+◌, Bool, true, false, List, [], ◌∷◌, ◌++◌, take, drop, length, length-append, length-take, append_assoc, append-nil, Option, Some, None}
 use Rattle.std.specs.Prelude.{◌==◌, slice_get, is_some, IfSome, filter, if◌then◌else◌}
 use Rattle.std.specs.List.{AllByRecursion}
 use Rattle.std.proofs.lemmas.Bool.{le-leb, lt-leb, eq-eqb, cond_both, both_ways, or_parts, or_from, or_right}
 use Rattle.std.proofs.lemmas.List.{take-append-drop, drop_all, nil_from_length}
 use Rattle.std.proofs.lemmas.List.Folds.{list_any-append}
-use Rattle.tb_layout.specs.Work.{Work}
-use Rattle.tb_layout.specs.Work as work
+use Rattle.tb_layout.specs.Input.{Input}
+use Rattle.tb_layout.specs.Input as input
 use Rattle.tb_machine.specs.Replay.{replay}
 use Rattle.tb_work.specs.Queue.{ahead, items_in, IsSubmitted, AreSubmitted}
-use Rattle.tb_work.specs.Packet.{Replied, reply_with, work_of}
+use Rattle.tb_work.specs.Packet.{ReplyValue, reply_with, input_of}
 use Rattle.tb_work.specs.declared.outcome.Outcome.TheVariants as outcome
 use Rattle.tb_work.specs.declared.item.Item.{Item}
 use Rattle.tb_work.specs.declared.item.Item.TheVariants as item
 use Rattle.tb_work.specs.declared.item.Ticket.{Ticket}
 use Rattle.tb_core.specs.Due.{outcome_at, reply_due, all_due_from, all_due, replies_to, Place, Ahead, Behind, next_place}
-use Rattle.tb_core.specs.inside.Passage.{works_in, replies_from, Passage, passages_from, passages_of, IsPacket, Passes}
-use Rattle.tb_core.specs.Journal.{LedgerState, works}
+use Rattle.tb_core.specs.inside.Decision.{inputs_in, replies_from, Decision, decisions_from, decisions_of, IsPacket, AreDecisions}
+use Rattle.tb_core.specs.Journal.{LedgerState, inputs}
 use Rattle.tb_core.specs.Report.{is_stopped, any_stopped, committed_in}
 use Rattle.tb_core.specs.Run.{IsListed, Commits, Ran, RunIsLawful}
-use Rattle.tb_core.proofs.Committed.{outcome_past, outcome_here, works_in-append, replies_from-append, replies_from-longer}
-use Rattle.tb_core.proofs.Passing.{never_stops}
+use Rattle.tb_core.proofs.LedgerSteps.{outcome_past, outcome_here, inputs_in-append, replies_from-append, replies_from-longer}
+use Rattle.tb_core.proofs.FrontDecisions.{never_stops}
 
 -- ---- what a front let through, and what is due to it
 
 -- after the Close each packet comes back
-behind_close : (clock place : ℕ) (stop : Option ℕ) (journal : List Work) (items : List Item) →
-    (works_in (passages_from stop Behind items) ≡ [])
-    × (replies_from clock journal place (passages_from stop Behind items)
+behind_close : (clock place : ℕ) (stop : Option ℕ) (journal : List Input) (items : List Item) →
+    (inputs_in (decisions_from stop Behind items) ≡ [])
+    × (replies_from clock journal place (decisions_from stop Behind items)
     ≡ all_due_from clock journal Behind items)
 behind_close clock place stop journal [] = (refl, refl)
 behind_close clock place stop journal (item.Packet job ∷ items) =
@@ -36,10 +36,10 @@ behind_close clock place stop journal (item.Packet job ∷ items) =
 behind_close clock place stop journal (x ∷ items) = behind_close clock place stop journal items
 
 -- from the stop on each packet comes back, as one that the journal doesn't reach
-from_stop : (clock place through k : ℕ) (journal : List Work) (items : List Item)
+from_stop : (clock place through k : ℕ) (journal : List Input) (items : List Item)
     → length journal ≤ through → through ≤ k →
-    (works_in (passages_from (Some through) (Ahead k) items) ≡ [])
-    × (replies_from clock journal place (passages_from (Some through) (Ahead k) items)
+    (inputs_in (decisions_from (Some through) (Ahead k) items) ≡ [])
+    × (replies_from clock journal place (decisions_from (Some through) (Ahead k) items)
     ≡ all_due_from clock journal (Ahead k) items)
 from_stop clock place through k journal [] far h = (refl, refl)
 from_stop clock place through k journal (item.Packet job ∷ items) far h =
@@ -55,25 +55,25 @@ from_stop clock place through k journal (item.End ∷ items) far h = from_stop c
 from_stop clock place through k journal (item.Close ∷ items) far h =
     behind_close clock place (Some through) journal items
 
--- what was let through, so many at most, is the first of what is ahead; and a journal that reaches no further answers
--- what is due
-let_through : (clock most through k : ℕ) (journal : List Work) (items : List Item)
+-- what was let through, at most this number, is the first part of what is ahead; and a journal that reaches no further
+-- gives the replies that are due
+let_through : (clock most through k : ℕ) (journal : List Input) (items : List Item)
     → length journal ≤ through → through ≡ k + most →
-    (works_in (passages_from (Some through) (Ahead k) items) ≡ take most (ahead items))
-    × (replies_from clock journal k (passages_from (Some through) (Ahead k) items)
+    (inputs_in (decisions_from (Some through) (Ahead k) items) ≡ take most (ahead items))
+    × (replies_from clock journal k (decisions_from (Some through) (Ahead k) items)
     ≡ all_due_from clock journal (Ahead k) items)
 let_through clock zero through k journal items far h = from_stop clock k through k journal items far (omega (arith, h))
 let_through clock (suc most) through k journal [] far h = (refl, refl)
 let_through clock (suc most) through k journal (item.Packet job ∷ items) far h =
     let others = let_through clock most through (k + 1) journal items far (omega (arith, h)) in
     rw (lt-leb through k (omega (arith, h))) (
-      ap (λ ws. work_of job ∷ ws) others.0,
+      ap (λ ws. input_of job ∷ ws) others.0,
       ap
           (λ rs. reply_with (outcome_at clock journal (Ahead k)) job ∷ rs) others.1,
     )
 let_through clock (suc most) through k journal (item.Pulse moment ∷ items) far h =
     let others = let_through clock most through (k + 1) journal items far (omega (arith, h)) in rw
-    (lt-leb through k (omega (arith, h))) (ap (λ ws. work.Pulse moment ∷ ws) others.0, others.1)
+    (lt-leb through k (omega (arith, h))) (ap (λ ws. input.Pulse moment ∷ ws) others.0, others.1)
 let_through clock (suc most) through k journal (item.End ∷ items) far h =
     let_through clock (suc most) through k journal items far h
 let_through clock (suc most) through k journal (item.Close ∷ items) far h =
@@ -84,43 +84,43 @@ abbrev most_of : Option ℕ → List Item → ℕ
 most_of None items = length (ahead items)
 most_of (Some through) items = through
 
-passed_through : (clock : ℕ) (stop : Option ℕ) (journal : List Work) (items : List Item)
+passed_through : (clock : ℕ) (stop : Option ℕ) (journal : List Input) (items : List Item)
     → length journal ≤ most_of stop items →
-    (works_in (passages_of stop items) ≡ take (most_of stop items) (ahead items))
-    × (replies_from clock journal 0 (passages_of stop items) ≡ all_due clock items journal)
+    (inputs_in (decisions_of stop items) ≡ take (most_of stop items) (ahead items))
+    × (replies_from clock journal 0 (decisions_of stop items) ≡ all_due clock items journal)
 passed_through clock None journal items far = let most =
     length (ahead items) in rw (never_stops 0 most items (omega arith))
     (let_through clock most most 0 journal items far (omega arith))
 passed_through clock (Some through) journal items far =
     let_through clock through through 0 journal items far (omega arith)
 
--- ---- who is told that the pipeline stopped
+-- ---- which submitters learn that the pipeline stopped
 
-none_behind : (clock : ℕ) (journal : List Work) (items : List Item)
+none_behind : (clock : ℕ) (journal : List Input) (items : List Item)
     → any_stopped (all_due_from clock journal Behind items) ≡ false
 none_behind clock journal [] = refl
 none_behind clock journal (item.Packet job ∷ items) = none_behind clock journal items
 none_behind clock journal (x ∷ items) = none_behind clock journal items
 
 -- nobody, where the journal has all that is ahead
-none_told : (clock k : ℕ) (journal before : List Work) (items : List Item) → journal ≡ before ++ ahead items
+none_told : (clock k : ℕ) (journal before : List Input) (items : List Item) → journal ≡ before ++ ahead items
     → k ≡ length before → any_stopped (all_due_from clock journal (Ahead k) items) ≡ false
 none_told clock k journal before [] all k_is = refl
 none_told clock k journal before (item.Packet job ∷ items) all k_is =
-    let one = work_of job ∷ [] in
+    let one = input_of job ∷ [] in
     let here = ap (λ ws. outcome_at clock ws (Ahead k)) all
     ∙ outcome_here clock k (replay clock before) before job (ahead items) k_is refl in
     rw here (none_told clock (k + 1) journal (before ++ one) items
     (all ∙ sym (append_assoc before one (ahead items))) (omega (arith, k_is, length-append before one)))
 none_told clock k journal before (item.Pulse moment ∷ items) all k_is =
-    let one = work.Pulse moment ∷ [] in
+    let one = input.Pulse moment ∷ [] in
     none_told clock (k + 1) journal (before ++ one) items (all ∙ sym (append_assoc before one (ahead items)))
     (omega (arith, k_is, length-append before one))
 none_told clock k journal before (item.End ∷ items) all k_is = none_told clock k journal before items all k_is
 none_told clock k journal before (item.Close ∷ items) all k_is = none_behind clock journal items
 
 -- somebody, where the journal ends in front of a packet that is ahead
-one_told : (clock k left : ℕ) (journal : List Work) (items : List Item) → length journal ≤ k + left
+one_told : (clock k left : ℕ) (journal : List Input) (items : List Item) → length journal ≤ k + left
     → IsPacket (slice_get (ahead items) left) → any_stopped (all_due_from clock journal (Ahead k) items) ≡ true
 one_told clock k left journal [] far packet = absurd packet
 one_told clock k zero journal (item.Packet job ∷ items) far packet =
@@ -134,15 +134,15 @@ one_told clock k left journal (item.End ∷ items) far packet = one_told clock k
 one_told clock k left journal (item.Close ∷ items) far packet = absurd packet
 
 -- nobody of the first of them
-pub none_of_first : (replies others all : List Replied) → replies ++ others ≡ all → any_stopped all ≡ false
+pub none_of_first : (replies others all : List ReplyValue) → replies ++ others ≡ all → any_stopped all ≡ false
     → any_stopped replies ≡ false
 none_of_first replies others all is none =
     (or_parts (any_stopped replies) (any_stopped others)
-    (sym (list_any-append (λ (reply : Replied). is_stopped reply.outcome) replies others)
+    (sym (list_any-append (λ (reply : ReplyValue). is_stopped reply.outcome) replies others)
     ∙ ap any_stopped is ∙ none)).0
 
 -- nobody of some
-pub none_among : (q : Replied → Bool) (replies : List Replied) → any_stopped replies ≡ false
+pub none_among : (q : ReplyValue → Bool) (replies : List ReplyValue) → any_stopped replies ≡ false
     → any_stopped (filter q replies) ≡ false
 none_among q [] none = refl
 none_among q (reply ∷ replies) none =
@@ -151,11 +151,11 @@ none_among q (reply ∷ replies) none =
     cond_both (q reply) _ _ (λ rs. any_stopped rs ≡ false)
     (λ taken. or_from (is_stopped reply.outcome) _ parts.0 others) (λ left. others)
 
-abbrev AreAmong : ℕ → List Replied → Type 0
-AreAmong submitters replies = AllByRecursion (λ (reply : Replied). reply.submitter < submitters) replies
+abbrev AreAmong : ℕ → List ReplyValue → Type 0
+AreAmong submitters replies = AllByRecursion (λ (reply : ReplyValue). reply.submitter < submitters) replies
 
 -- replies to a queue are replies to its submitters
-due_among : (clock submitters : ℕ) (journal : List Work) (place : Place) (queue : List Ticket)
+due_among : (clock submitters : ℕ) (journal : List Input) (place : Place) (queue : List Ticket)
     → AreSubmitted submitters queue → AreAmong submitters (all_due_from clock journal place (items_in queue))
 due_among clock submitters journal place [] all = tt
 due_among clock submitters journal place (ticket ∷ queue) all =
@@ -168,8 +168,8 @@ due_among clock submitters journal place (ticket ∷ queue) all =
     one (item.Packet job) is others = (subst (λ n. n < submitters) (sym is.0) is.1, others)
     one x is others = others
 
--- where none of the submitters is told, nobody is
-none_at_all : (submitters : ℕ) (replies : List Replied) → AreAmong submitters replies
+-- if none of the submitters learns of a stop, nobody does
+none_at_all : (submitters : ℕ) (replies : List ReplyValue) → AreAmong submitters replies
     → ((submitter : ℕ) → submitter < submitters → any_stopped (replies_to replies submitter) ≡ false)
     → any_stopped replies ≡ false
 none_at_all submitters [] all none = refl
@@ -196,68 +196,68 @@ nothing_left [] ys e = (refl, e)
 nothing_left (x ∷ xs) ys e = cc
 
 -- a ledger took some of what a front made of a queue, and the rest is on the way
-pub record SoFar (clock : ℕ) (items : List Item) (stopped : Bool) (ledger : LedgerState) (answers : List Replied)
-    (way : List Passage) : Type 0 where
-  pub behind : List Work
-  pub committed : works ledger ++ behind ≡ ahead items
-  pub later : List Replied
-  pub due : answers ++ later ≡ all_due clock items (works ledger)
-  pub replied : way ≡ [] → answers ≡ all_due clock items (works ledger)
-  -- all of it is committed or on the way where neither stopped, and then nobody is told of a stop
-  pub whole : stopped ≡ false → ledger.stopped ≡ false → works ledger ++ works_in way ≡ ahead items
-  pub untold : stopped ≡ false → ledger.stopped ≡ false → any_stopped answers ≡ false
-  -- with nothing on the way, nothing is left exactly where the ledger goes on and nobody is told of a stop
-  pub nothing_behind : way ≡ [] → ledger.stopped ≡ false → any_stopped answers ≡ false → behind ≡ []
-  pub nothing_stopped : behind ≡ [] → (ledger.stopped ≡ false) × (any_stopped answers ≡ false)
+pub record SoFar (clock : ℕ) (items : List Item) (stopped : Bool) (ledger : LedgerState) (answers : List ReplyValue)
+    (way : List Decision) : Type 0 where
+  pub remainder : List Input
+  pub committed : inputs ledger ++ remainder ≡ ahead items
+  pub later : List ReplyValue
+  pub due : answers ++ later ≡ all_due clock items (inputs ledger)
+  pub replied : way ≡ [] → answers ≡ all_due clock items (inputs ledger)
+  -- all of it is committed or on the way if neither stopped, and then nobody learns of a stop
+  pub whole : stopped ≡ false → ledger.stopped ≡ false → inputs ledger ++ inputs_in way ≡ ahead items
+  pub no_stop_seen : stopped ≡ false → ledger.stopped ≡ false → any_stopped answers ≡ false
+  -- with nothing on the way, nothing remains exactly if the ledger hasn't stopped and nobody learned of a stop
+  pub nothing_remains : way ≡ [] → ledger.stopped ≡ false → any_stopped answers ≡ false → remainder ≡ []
+  pub nothing_stopped : remainder ≡ [] → (ledger.stopped ≡ false) × (any_stopped answers ≡ false)
 
-pub so_far : (clock : ℕ) (items : List Item) (closed stopped : Bool) (applied way : List Passage)
-    (ledger : LedgerState) (answers : List Replied) → Passes items closed stopped (applied ++ way)
+pub so_far : (clock : ℕ) (items : List Item) (closed stopped : Bool) (applied way : List Decision)
+    (ledger : LedgerState) (answers : List ReplyValue) → AreDecisions items closed stopped (applied ++ way)
     → Commits clock applied ledger answers →
     SoFar clock items stopped ledger answers way
 so_far clock items closed stopped applied way ledger answers passes commits =
     record {
-      behind = (commits.behind ++ works_in way) ++ rest;
-      committed = sym (append_assoc journal (commits.behind ++ works_in way) rest)
+      remainder = (commits.remainder ++ inputs_in way) ++ rest;
+      committed = sym (append_assoc journal (commits.remainder ++ inputs_in way) rest)
           ∙ ap (λ ws. ws ++ rest) longer ∙ parts;
       later = replies_from clock journal here way;
       due = due;
       replied = replied;
       whole = λ on goes. all (journal_is (commits.whole goes)) (rest_is passes.stop refl (sym on ∙ passes.stops));
-      untold = λ on goes. let is =
+      no_stop_seen = λ on goes. let is =
           journal_is (commits.whole goes) in told is (all is (rest_is passes.stop refl (sym on ∙ passes.stops)));
-      nothing_behind = λ none goes untold. ap (λ ws. (ws ++ works_in way) ++ rest) (commits.whole goes)
-          ∙ ap (λ ps. works_in ps ++ rest) none ∙ left passes.stop refl passes.at_packet none untold;
+      nothing_remains = λ none goes no_stop_seen. ap (λ ws. (ws ++ inputs_in way) ++ rest) (commits.whole goes)
+          ∙ ap (λ ps. inputs_in ps ++ rest) none ∙ left passes.stop refl passes.at_packet none no_stop_seen;
       nothing_stopped = λ none.
-          let two = nothing_left (commits.behind ++ works_in way) rest none in
-          let one = nothing_left commits.behind (works_in way) two.0 in
+          let two = nothing_left (commits.remainder ++ inputs_in way) rest none in
+          let one = nothing_left commits.remainder (inputs_in way) two.0 in
           let is = journal_is one.0 in
           (commits.unstopped one.0, told is (all is two.1));
     }
   where
-    journal : List Work
-    journal = works ledger
+    journal : List Input
+    journal = inputs ledger
 
     most : ℕ
     most = most_of passes.stop items
 
     -- the place after what was applied
     here : ℕ
-    here = 0 + length (works_in applied)
+    here = 0 + length (inputs_in applied)
 
-    rest : List Work
+    rest : List Input
     rest = drop most (ahead items)
 
-    through : works_in (applied ++ way) ≡ take most (ahead items)
-    through = ap works_in passes.all ∙ (passed_through clock passes.stop [] items (omega arith)).0
+    through : inputs_in (applied ++ way) ≡ take most (ahead items)
+    through = ap inputs_in passes.all ∙ (passed_through clock passes.stop [] items (omega arith)).0
 
-    parts : works_in (applied ++ way) ++ rest ≡ ahead items
+    parts : inputs_in (applied ++ way) ++ rest ≡ ahead items
     parts = ap (λ ws. ws ++ rest) through ∙ take-append-drop most (ahead items)
 
-    longer : journal ++ (commits.behind ++ works_in way) ≡ works_in (applied ++ way)
-    longer = sym (append_assoc journal commits.behind (works_in way))
-        ∙ ap (λ ws. ws ++ works_in way) commits.committed ∙ sym (works_in-append applied way)
+    longer : journal ++ (commits.remainder ++ inputs_in way) ≡ inputs_in (applied ++ way)
+    longer = sym (append_assoc journal commits.remainder (inputs_in way))
+        ∙ ap (λ ws. ws ++ inputs_in way) commits.committed ∙ sym (inputs_in-append applied way)
 
-    replies_are : (now : List Work) → length now ≤ most
+    replies_are : (now : List Input) → length now ≤ most
         → replies_from clock now 0 applied ++ replies_from clock now here way ≡ all_due clock items now
     replies_are now short =
         sym (replies_from-append clock now 0 applied way) ∙ ap (replies_from clock now 0) passes.all
@@ -268,7 +268,7 @@ so_far clock items closed stopped applied way ledger answers passes commits =
       arith,
       ap length longer,
       length-append journal
-          (commits.behind ++ works_in way),
+          (commits.remainder ++ inputs_in way),
       ap length through,
       length-take most (ahead items),
     )
@@ -283,44 +283,44 @@ so_far clock items closed stopped applied way ledger answers passes commits =
     rest_is None is on = drop_all most (ahead items) (omega (arith, ap (λ stop. most_of stop items) is))
     rest_is (Some k) is on = cc
 
-    -- a front that stopped left a packet that is ahead, and that packet is told
+    -- a front that stopped rejected a packet that is ahead, and that packet's reply reports the stop
     left : (stop : Option ℕ) → passes.stop ≡ stop → IfSome stop (λ k. IsPacket (slice_get (ahead items) k))
         → way ≡ [] → any_stopped answers ≡ false → rest ≡ []
-    left None is packet none untold = rest_is None is refl
-    left (Some k) is packet none untold =
-        absurd (both_ways (any_stopped answers) untold
+    left None is packet none no_stop_seen = rest_is None is refl
+    left (Some k) is packet none no_stop_seen =
+        absurd (both_ways (any_stopped answers) no_stop_seen
         (ap any_stopped (replied none) ∙ one_told clock 0 k journal items
         (omega (arith, short, ap (λ stop. most_of stop items) is)) packet))
 
-    journal_is : commits.behind ≡ [] → journal ≡ works_in applied
+    journal_is : commits.remainder ≡ [] → journal ≡ inputs_in applied
     journal_is none = sym (append-nil journal) ∙ ap (λ ws. journal ++ ws) (sym none) ∙ commits.committed
 
-    all : journal ≡ works_in applied → rest ≡ [] → journal ++ works_in way ≡ ahead items
+    all : journal ≡ inputs_in applied → rest ≡ [] → journal ++ inputs_in way ≡ ahead items
     all is none =
-        ap (λ ws. ws ++ works_in way) is ∙ sym (works_in-append applied way) ∙ sym (append-nil _)
-        ∙ ap (λ ws. works_in (applied ++ way) ++ ws) (sym none) ∙ parts
+        ap (λ ws. ws ++ inputs_in way) is ∙ sym (inputs_in-append applied way) ∙ sym (append-nil _)
+        ∙ ap (λ ws. inputs_in (applied ++ way) ++ ws) (sym none) ∙ parts
 
     -- what is on the way doesn't change what was answered
-    told : journal ≡ works_in applied → journal ++ works_in way ≡ ahead items → any_stopped answers ≡ false
+    told : journal ≡ inputs_in applied → journal ++ inputs_in way ≡ ahead items → any_stopped answers ≡ false
     told is all_is =
-        let now = journal ++ works_in way in
+        let now = journal ++ inputs_in way in
         let same : answers ≡ replies_from clock now 0 applied = commits.replied
-        ∙ sym (replies_from-longer clock journal (works_in way) 0 applied (omega (arith, ap length is))) in
+        ∙ sym (replies_from-longer clock journal (inputs_in way) 0 applied (omega (arith, ap length is))) in
         let within : length now ≤ most = omega (
           arith,
           ap length
-              (ap (λ ws. ws ++ works_in way) is ∙ sym (works_in-append applied way) ∙ through),
+              (ap (λ ws. ws ++ inputs_in way) is ∙ sym (inputs_in-append applied way) ∙ through),
           length-take most (ahead items),
         ) in
         none_of_first answers (replies_from clock now here way) (all_due clock items now)
         (ap (λ rs. rs ++ replies_from clock now here way) same ∙ replies_are now within)
         (none_told clock 0 now [] items all_is refl)
 
-run_so_far : (clock : ℕ) (items : List Item) (ledger : LedgerState) (answers : List Replied)
+run_so_far : (clock : ℕ) (items : List Item) (ledger : LedgerState) (answers : List ReplyValue)
     (run : Ran clock items ledger answers) → SoFar clock items run.stopped ledger answers []
 run_so_far clock items ledger answers run =
-    so_far clock items run.closed run.stopped run.passages [] ledger answers
-    (subst (Passes items run.closed run.stopped) (sym (append-nil run.passages)) run.passed) run.commits
+    so_far clock items run.closed run.stopped run.decisions [] ledger answers
+    (subst (AreDecisions items run.closed run.stopped) (sym (append-nil run.decisions)) run.passed) run.commits
 
 none_after : {X : Type 0} (front rest : List X) → front ++ rest ≡ front → rest ≡ []
 none_after front rest is = nil_from_length rest (omega (arith, ap length is, length-append front rest))
@@ -333,17 +333,17 @@ run_is_lawful run answers filled ran theirs =
     (due_among run.clock run.submitters (committed_in run) (Ahead 0) run.queue filled.submitted) in
     record {
       filled = filled;
-      committed = (far.behind, far.committed);
+      committed = (far.remainder, far.committed);
       complete = (
-        λ nothing. let none = far.nothing_behind refl nothing.ledger
+        λ nothing. let none = far.nothing_remains refl nothing.ledger
             (none_at_all run.submitters answers among (λ submitter below. sym (ap any_stopped (theirs submitter below))
             ∙ nothing.replies submitter below)) in
             sym (append-nil (committed_in run)) ∙ ap (λ rest. committed_in run ++ rest) (sym none) ∙ far.committed,
-        λ all. let none = none_after (committed_in run) far.behind (far.committed ∙ sym all) in
+        λ all. let none = none_after (committed_in run) far.remainder (far.committed ∙ sym all) in
             record {
               ledger = (far.nothing_stopped none).0;
               replies = λ submitter below. ap any_stopped (theirs submitter below)
-                  ∙ none_among (λ (reply : Replied). reply.submitter == submitter) answers (far.nothing_stopped none).1;
+                  ∙ none_among (λ (reply : ReplyValue). reply.submitter == submitter) answers (far.nothing_stopped none).1;
             },
       );
       state = ran.commits.state;
@@ -351,12 +351,12 @@ run_is_lawful run answers filled ran theirs =
     }
 
 -- where neither stopped, a list has been run whole
-pub run_is_listed : (clock : ℕ) (items : List Item) (ledger : LedgerState) (answers : List Replied)
+pub run_is_listed : (clock : ℕ) (items : List Item) (ledger : LedgerState) (answers : List ReplyValue)
     (run : Ran clock items ledger answers) → ledger.stopped ≡ false → run.stopped ≡ false
     → IsListed clock items ledger answers
 run_is_listed clock items ledger answers run goes on =
     let far = run_so_far clock items ledger answers run in
-    let all = sym (append-nil (works ledger)) ∙ far.whole on goes in
+    let all = sym (append-nil (inputs ledger)) ∙ far.whole on goes in
     record {
       from = run.commits.from;
       goes_on = goes;

@@ -1,9 +1,9 @@
 -- The reply that is due to each packet of a queue.
 use Rattle.std.specs.Prelude.{ℕ, ◌+◌, ◌==◌, List, [], ◌∷◌, ◌++◌, filter, Option, Some, None}
 use Rattle.tb_layout.specs.declared.answer.Answer.{Answer}
-use Rattle.tb_layout.specs.Work.{Work}
+use Rattle.tb_layout.specs.Input.{Input}
 use Rattle.tb_machine.specs.Replay.{answer_at}
-use Rattle.tb_work.specs.Packet.{Replied, reply_with}
+use Rattle.tb_work.specs.Packet.{ReplyValue, reply_with}
 use Rattle.tb_work.specs.Queue.{items_in}
 use Rattle.tb_work.specs.declared.item.Item.{Item}
 use Rattle.tb_work.specs.declared.item.Item.TheVariants as item
@@ -30,28 +30,28 @@ outcome_with place (Some answer) = Committed place answer
 outcome_with place None = Stopped
 
 -- a packet's outcome, by its place in the queue, if these packets and pulses were committed from this clock on
-abbrev pub outcome_at : ℕ → List Work → Place → Outcome
-outcome_at clock works (Ahead place) = outcome_with place (answer_at clock works place)
-outcome_at clock works Behind = Shutdown
+abbrev pub outcome_at : ℕ → List Input → Place → Outcome
+outcome_at clock inputs (Ahead place) = outcome_with place (answer_at clock inputs place)
+outcome_at clock inputs Behind = Shutdown
 
-abbrev pub reply_due : Outcome → Item → List Replied
+abbrev pub reply_due : Outcome → Item → List ReplyValue
 reply_due outcome (item.Packet job) = reply_with outcome job ∷ []
 reply_due outcome (item.Pulse moment) = []
 reply_due outcome item.End = []
 reply_due outcome item.Close = []
 
-abbrev pub all_due_from : ℕ → List Work → Place → List Item → List Replied
-all_due_from clock works place [] = []
-all_due_from clock works place (item ∷ items) =
-    reply_due (outcome_at clock works place) item ++ all_due_from clock works (next_place place item) items
+abbrev pub all_due_from : ℕ → List Input → Place → List Item → List ReplyValue
+all_due_from clock inputs place [] = []
+all_due_from clock inputs place (item ∷ items) =
+    reply_due (outcome_at clock inputs place) item ++ all_due_from clock inputs (next_place place item) items
 
 -- the replies to a queue's packets, in order
-abbrev pub all_due : ℕ → List Item → List Work → List Replied
-all_due clock items works = all_due_from clock works (Ahead 0) items
+abbrev pub all_due : ℕ → List Item → List Input → List ReplyValue
+all_due clock items inputs = all_due_from clock inputs (Ahead 0) items
 
-abbrev pub replies_to : List Replied → ℕ → List Replied
-replies_to replies submitter = filter (λ (reply : Replied). reply.submitter == submitter) replies
+abbrev pub replies_to : List ReplyValue → ℕ → List ReplyValue
+replies_to replies submitter = filter (λ (reply : ReplyValue). reply.submitter == submitter) replies
 
 -- the replies to a submitter's packets, in order
-abbrev pub due : ℕ → List Ticket → List Work → ℕ → List Replied
-due clock queue works submitter = replies_to (all_due clock (items_in queue) works) submitter
+abbrev pub due : ℕ → List Ticket → List Input → ℕ → List ReplyValue
+due clock queue inputs submitter = replies_to (all_due clock (items_in queue) inputs) submitter

@@ -13,10 +13,10 @@ use Rattle.tb_batch.specs.Grouping.{is_taken, IsGroup}
 use Rattle.tb_core.specs.declared.parcel.Cause.TheVariants.{Shutdown, Stopped}
 use Rattle.tb_core.specs.declared.parcel.Parcel.{Parcel}
 use Rattle.tb_core.specs.declared.parcel.Parcel.TheVariants.{Batch, Pulse, Return, Last}
-use Rattle.tb_core.specs.inside.Passage.{Passage, Admitted, Pulsed, Returned}
+use Rattle.tb_core.specs.inside.Decision.{Decision, Admitted, Pulsed, Returned}
 
--- its limit and how many submitters there are, the group held, whether a Close was taken, whether a growth was refused,
--- and of each sender whether its End or Close was taken
+-- its limit and number of submitters, the group held, whether a Close was taken, whether an allocation failed, and for
+-- each sender whether its End or Close was taken
 pub record FrontState : Type 0 where
   pub limit : ℕ
   pub submitters : ℕ
@@ -32,7 +32,7 @@ opening_refusal limit submitters =
     else if nat_lt submitters 1 || nat_lt submitters_max submitters then Some BadSubmitters
     else None
 
--- a front, and what it hands out
+-- a front, and the parcels that it yields
 pub record Taken : Type 0 where
   pub front : FrontState
   pub parcels : List Parcel
@@ -55,8 +55,8 @@ all_ended front = list_all (λ ended. ended) (take (front.submitters + 1) front.
 abbrev pub with_end : FrontState → ℕ → FrontState
 with_end front sender = record front { ended = slice_set front.ended sender true }
 
--- a packet behind a Close, or after a stop, comes back; one whose growth is refused stops the front; any other joins
--- the group held, or that is sealed and the packet begins the next one
+-- a packet behind a Close, or after a stop, is returned; one whose allocation fails stops the front; any other joins
+-- the group held, or the group is sealed and the packet begins the next one
 abbrev pub step_of_packet : Bool → FrontState → Numbered → Taken
 step_of_packet refused front job =
     if front.closed then take_result front (Return job Shutdown ∷ [])
@@ -97,24 +97,24 @@ takes_memory front item.Close = false
 
 -- ---- without batches
 
-abbrev pub passages_in : Parcel → List Passage
-passages_in (Batch jobs) = map Admitted jobs
-passages_in (Pulse moment) = Pulsed moment ∷ []
-passages_in (Return job cause) = Returned job cause ∷ []
-passages_in Last = []
+abbrev pub decisions_in : Parcel → List Decision
+decisions_in (Batch jobs) = map Admitted jobs
+decisions_in (Pulse moment) = Pulsed moment ∷ []
+decisions_in (Return job cause) = Returned job cause ∷ []
+decisions_in Last = []
 
 -- parcels as packets, pulses and returned packets
-abbrev pub all_passages_in : List Parcel → List Passage
-all_passages_in parcels = flat_map passages_in parcels
+abbrev pub all_decisions_in : List Parcel → List Decision
+all_decisions_in parcels = flat_map decisions_in parcels
 
 -- the group held
-abbrev pub held_by : FrontState → List Passage
+abbrev pub held_by : FrontState → List Decision
 held_by front = map Admitted front.held
 
 -- the group that a batcher gives back, where it gives one
-abbrev pub passages_in_batch : Option (List Numbered) → List Passage
-passages_in_batch None = []
-passages_in_batch (Some jobs) = map Admitted jobs
+abbrev pub decisions_in_batch : Option (List Numbered) → List Decision
+decisions_in_batch None = []
+decisions_in_batch (Some jobs) = map Admitted jobs
 
 -- what is held is one group, and after a Close or a stop nothing is held
 pub record IsFront (front : FrontState) : Type 0 where

@@ -1,9 +1,9 @@
 -- The headline: what a lawful report says of each submitter, in the words of the README.
 use Rattle.std.specs.Prelude.{◌≡◌, ◌<◌, ℕ, ◌==◌, Bool, false, List, [], ◌∷◌, map, filter, take, slice_get, Some}
 use Rattle.tb_layout.specs.declared.answer.Answer.{Answer}
-use Rattle.tb_layout.specs.Work.{Work, Packet, Pulse}
+use Rattle.tb_layout.specs.Input.{Input, Packet, Pulse}
 use Rattle.tb_machine.specs.Replay.{replay, answer_of}
-use Rattle.tb_work.specs.Packet.{Numbered, events_in, Replied, work_of}
+use Rattle.tb_work.specs.Packet.{Numbered, events_in, ReplyValue, input_of}
 use Rattle.tb_work.specs.declared.item.Item.{Item}
 use Rattle.tb_work.specs.declared.item.Item.TheVariants as item
 use Rattle.tb_work.specs.declared.outcome.Outcome.TheVariants.{Committed}
@@ -11,19 +11,19 @@ use Rattle.tb_core.specs.Report.{Run, committed_in, ahead_in, IsPrefix, NothingS
 
 -- ---- the packets and the pulses of a list
 
-abbrev pub is_packet_of : ℕ → Work → Bool
+abbrev pub is_packet_of : ℕ → Input → Bool
 is_packet_of submitter (Packet its_submitter number events) = its_submitter == submitter
 is_packet_of submitter (Pulse moment) = false
 
 -- a submitter's packets, in order
-abbrev pub packets_of : ℕ → List Work → List Work
-packets_of submitter works = filter (is_packet_of submitter) works
+abbrev pub packets_of : ℕ → List Input → List Input
+packets_of submitter inputs = filter (is_packet_of submitter) inputs
 
 -- the moments of the pulses, in order
-abbrev pub moments_in : List Work → List ℕ
+abbrev pub moments_in : List Input → List ℕ
 moments_in [] = []
-moments_in (Packet submitter number events ∷ works) = moments_in works
-moments_in (Pulse moment ∷ works) = moment ∷ moments_in works
+moments_in (Packet submitter number events ∷ inputs) = moments_in inputs
+moments_in (Pulse moment ∷ inputs) = moment ∷ moments_in inputs
 
 -- the packets that a sender queued, in order
 abbrev pub packets_queued : List Item → List Numbered
@@ -42,30 +42,31 @@ moments_queued (item.End ∷ items) = moments_queued items
 moments_queued (item.Close ∷ items) = moments_queued items
 
 -- the packet that a reply gives back, with its submitter and number
-abbrev pub packet_of : Replied → Numbered
+abbrev pub packet_of : ReplyValue → Numbered
 packet_of reply = record { submitter = reply.submitter; number = reply.number; packet = reply.packet }
 
--- the packet of this reply has this place, and this is the state machine's answer to it alone, in the state that the
--- packets and pulses before it left
-pub record IsAnsweredAt (run : Run) (place : ℕ) (reply : Replied) (answer : Answer) : Type 0 where
-  pub stands : slice_get (committed_in run) place ≡ Some (work_of (packet_of reply))
+-- the packet of this reply has this place, and this is what the state machine gives that packet alone, in the state
+-- that the packets and pulses before it left
+pub record IsAnsweredAt (run : Run) (place : ℕ) (reply : ReplyValue) (answer : Answer) : Type 0 where
+  pub stands : slice_get (committed_in run) place ≡ Some (input_of (packet_of reply))
   pub alone : answer ≡ answer_of (replay run.clock (take place (committed_in run))) (events_in reply.packet)
 
 -- ---- the headline
 
--- The packets committed of each submitter are a prefix of those ahead of the Close, which are a prefix of what it queued;
--- they are all of them unless something stopped. Its replies are one per queued packet, in order, each committed one being
--- what the state machine answers to that packet alone at its place. Committed pulses are a prefix of the control's.
+-- The packets committed of each submitter are a prefix of those ahead of the Close, which are a prefix of what it
+-- queued; they are all of them unless something stopped. Its replies are one per queued packet, in order. Each
+-- committed reply is what the state machine gives that packet alone at its place. Committed pulses are a prefix of the
+-- control's.
 pub record Headline (run : Run) : Type 0 where
   pub committed : (submitter : ℕ) → submitter < run.submitters
       → IsPrefix (packets_of submitter (committed_in run)) (packets_of submitter (ahead_in run))
   pub queued : (submitter : ℕ) → submitter < run.submitters
-      → IsPrefix (packets_of submitter (ahead_in run)) (map work_of (packets_queued (run.queued submitter)))
+      → IsPrefix (packets_of submitter (ahead_in run)) (map input_of (packets_queued (run.queued submitter)))
   pub all : NothingStopped run → (submitter : ℕ) → submitter < run.submitters
       → packets_of submitter (committed_in run) ≡ packets_of submitter (ahead_in run)
   pub replied : (submitter : ℕ) → submitter < run.submitters
       → map packet_of (run.replies submitter) ≡ packets_queued (run.queued submitter)
-  pub answered : (submitter index place : ℕ) (reply : Replied) (answer : Answer) → submitter < run.submitters
+  pub answered : (submitter index place : ℕ) (reply : ReplyValue) (answer : Answer) → submitter < run.submitters
       → slice_get (run.replies submitter) index ≡ Some reply → reply.outcome ≡ Committed place answer
       → IsAnsweredAt run place reply answer
   pub pulses : IsPrefix (moments_in (committed_in run)) (moments_queued (run.queued run.submitters))

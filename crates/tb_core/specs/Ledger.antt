@@ -2,11 +2,11 @@
 use Rattle.std.specs.Prelude.{◌≡◌, ◌≤◌, ℕ, ◌+◌, ◌*◌, Bool, true, false, ◌||◌, fold, nat_lt, List, [], ◌∷◌, ◌++◌, length, map, take, drop, unwrap_or, IsSome, if◌then◌else◌, not}
 use Rattle.std.specs.List.{sum_by, AllByRecursion}
 use Rattle.tb_layout.specs.Events.{events_of}
-use Rattle.tb_layout.specs.Work.{Work, Packet, Pulse}
+use Rattle.tb_layout.specs.Input.{Input, Packet, Pulse}
 use Rattle.tb_layout.specs.Limits.{batch_max, clock_max, places_max}
-use Rattle.tb_machine.specs.Replay.{replay, after_work}
+use Rattle.tb_machine.specs.Replay.{replay, after_input}
 use Rattle.tb_work.specs.Admission.{event_size}
-use Rattle.tb_work.specs.Packet.{Numbered, reply_with, work_of}
+use Rattle.tb_work.specs.Packet.{Numbered, reply_with, input_of}
 use Rattle.tb_work.specs.declared.stub.Stub.{Stub}
 use Rattle.tb_work.specs.declared.outcome.Outcome.TheVariants as outcome
 use Rattle.tb_core.specs.declared.parcel.Parcel.{Parcel}
@@ -15,8 +15,8 @@ use Rattle.tb_core.specs.declared.journal.Entry.{Entry}
 use Rattle.tb_core.specs.declared.journal.Entry.TheVariants as entry
 use Rattle.tb_core.specs.declared.outcomes.Outcomes.{Outcomes}
 use Rattle.tb_core.specs.declared.outcomes.Outcomes.TheVariants.{Cut, One, Nothing, Last}
-use Rattle.tb_core.specs.Journal.{LedgerState, works}
-use Rattle.tb_core.specs.inside.Passage.{outcome_of, replies_from, Admitted}
+use Rattle.tb_core.specs.Journal.{LedgerState, inputs}
+use Rattle.tb_core.specs.inside.Decision.{outcome_of, replies_from, Admitted}
 
 -- ---- the journal
 
@@ -25,14 +25,14 @@ abbrev pub size_of : ℕ → ℕ
 size_of operation = unwrap_or (event_size operation) 0
 
 -- the packets of a batch: for each stub one, with that stub's count of the body's events
-abbrev pub packets_of : ℕ → List ℕ → List Stub → List Work
+abbrev pub packets_of : ℕ → List ℕ → List Stub → List Input
 packets_of operation body [] = []
 packets_of operation body (stub ∷ stubs) =
     let size = stub.count * size_of operation in
     Packet stub.submitter stub.number (events_of operation (take size body))
     ∷ packets_of operation (drop size body) stubs
 
-abbrev pub group_of : Entry → List Work
+abbrev pub group_of : Entry → List Input
 group_of (entry.Batch operation body stubs) = packets_of operation body.items stubs.items
 group_of (entry.Pulse moment) = Pulse moment ∷ []
 
@@ -56,15 +56,15 @@ AreEntries entries = AllByRecursion IsEntry entries
 
 -- its machine is what its journal gives from its opening clock, its places are counted, and each entry is whole
 pub record IsLedger (ledger : LedgerState) (entries : List Entry) (places : ℕ) : Type 0 where
-  pub machine : ledger.state ≡ replay ledger.opening (works ledger)
-  pub counted : places ≡ length (works ledger)
+  pub machine : ledger.state ≡ replay ledger.opening (inputs ledger)
+  pub counted : places ≡ length (inputs ledger)
   pub few : places ≤ places_max
   pub opening : ledger.opening ≤ clock_max
   pub whole : AreEntries entries
 
 -- ---- one parcel
 
--- a ledger, and what a parcel comes to
+-- a ledger, and the outcomes of a parcel
 pub record Applied : Type 0 where
   pub ledger : LedgerState
   pub outcomes : Outcomes
@@ -75,19 +75,20 @@ apply_result ledger outcomes = record { ledger = ledger; outcomes = outcomes }
 abbrev pub with_stop : LedgerState → LedgerState
 with_stop ledger = record ledger { stopped = true }
 
-abbrev pub with_entry : LedgerState → List Work → LedgerState
+abbrev pub with_entry : LedgerState → List Input → LedgerState
 with_entry ledger group =
-    record ledger { groups = ledger.groups ++ group ∷ []; state = fold after_work ledger.state group }
+    record ledger { groups = ledger.groups ++ group ∷ []; state = fold after_input ledger.state group }
 
--- whether so many packets or pulses are not committed: it had stopped, their growth is refused, or there are no places
+-- whether this number of packets or pulses isn't committed: the ledger had stopped, an allocation fails, or there are
+-- no places left
 abbrev pub must_stop : Bool → LedgerState → ℕ → Bool
-must_stop refused ledger count = ledger.stopped || (refused || nat_lt places_max (length (works ledger) + count))
+must_stop refused ledger count = ledger.stopped || (refused || nat_lt places_max (length (inputs ledger) + count))
 
 -- a batch committed as one entry: each packet is answered by its place in the journal
 abbrev pub step_of_batch : LedgerState → List Numbered → Applied
 step_of_batch ledger jobs =
-    let next = with_entry ledger (map work_of jobs) in
-    apply_result next (Cut (replies_from ledger.opening (works next) (length (works ledger)) (map Admitted jobs)))
+    let next = with_entry ledger (map input_of jobs) in
+    apply_result next (Cut (replies_from ledger.opening (inputs next) (length (inputs ledger)) (map Admitted jobs)))
 
 -- one parcel applied, where `refused` says that the growth which it needs is refused
 abbrev pub apply_step : Bool → LedgerState → Parcel → Applied

@@ -1,24 +1,24 @@
--- What a front and a ledger came to, also where a growth was refused; no batch is in it.
+-- What a front and a ledger did, also if an allocation failed; batches are left out.
 use Rattle.std.specs.Prelude.{◌≡◌, ◌<◌, ℕ, Bool, false, List, [], ◌∷◌, ◌++◌, length}
-use Rattle.tb_layout.specs.Work.{Work}
+use Rattle.tb_layout.specs.Input.{Input}
 use Rattle.tb_machine.specs.Replay.{replay}
 use Rattle.tb_work.specs.Queue.{IsQueueOf, ahead, items_in}
-use Rattle.tb_work.specs.Packet.{Replied}
+use Rattle.tb_work.specs.Packet.{ReplyValue}
 use Rattle.tb_work.specs.declared.item.Item.{Item}
 use Rattle.tb_batch.specs.Batch.{AreAdmitted}
 use Rattle.tb_core.specs.declared.outcomes.Outcomes.{Outcomes}
 use Rattle.tb_core.specs.declared.outcomes.Outcomes.TheVariants.{Cut, One, Nothing, Last}
 use Rattle.tb_core.specs.declared.parcel.Parcel.{Parcel}
 use Rattle.tb_core.specs.declared.parcel.Parcel.TheVariants as parcel
-use Rattle.tb_core.specs.inside.Passage.{works_in, replies_from, Passage, Passes}
+use Rattle.tb_core.specs.inside.Decision.{inputs_in, replies_from, Decision, AreDecisions}
 use Rattle.tb_core.specs.Due.{all_due, replies_to}
 use Rattle.tb_core.specs.Front.{FrontState, held_by}
 use Rattle.tb_core.specs.Grouping.{AreJoined}
-use Rattle.tb_core.specs.Journal.{LedgerState, works}
+use Rattle.tb_core.specs.Journal.{LedgerState, inputs}
 use Rattle.tb_core.specs.Report.{Run, IsPrefix, LawfulReport}
 
--- the replies that a parcel comes to
-abbrev pub replies_in : Outcomes → List Replied
+-- the replies that a parcel's outcomes contain
+abbrev pub replies_in : Outcomes → List ReplyValue
 replies_in (Cut replies) = replies
 replies_in (One reply) = reply ∷ []
 replies_in Nothing = []
@@ -31,78 +31,78 @@ HasPackets (parcel.Pulse moment) = Unit {0}
 HasPackets (parcel.Return job cause) = Unit {0}
 HasPackets parcel.Last = Unit {0}
 
--- a ledger took these passages from its opening clock: it committed the first of them, and all of them exactly where it
+-- a ledger took these decisions from its opening clock: it committed the first of them, and all of them exactly where it
 -- isn't marked; and these are the replies
-pub record Commits (clock : ℕ) (passages : List Passage) (ledger : LedgerState) (replies : List Replied) : Type 0 where
+pub record Commits (clock : ℕ) (decisions : List Decision) (ledger : LedgerState) (replies : List ReplyValue) : Type 0 where
   pub from : ledger.opening ≡ clock
-  pub behind : List Work
-  pub committed : works ledger ++ behind ≡ works_in passages
-  pub whole : ledger.stopped ≡ false → behind ≡ []
-  pub unstopped : behind ≡ [] → ledger.stopped ≡ false
-  pub state : ledger.state ≡ replay clock (works ledger)
-  pub replied : replies ≡ replies_from clock (works ledger) 0 passages
+  pub remainder : List Input
+  pub committed : inputs ledger ++ remainder ≡ inputs_in decisions
+  pub whole : ledger.stopped ≡ false → remainder ≡ []
+  pub unstopped : remainder ≡ [] → ledger.stopped ≡ false
+  pub state : ledger.state ≡ replay clock (inputs ledger)
+  pub replied : replies ≡ replies_from clock (inputs ledger) 0 decisions
 
--- a front took these items and a ledger all that the front handed on; these are the replies, in order
-pub record Ran (clock : ℕ) (items : List Item) (ledger : LedgerState) (replies : List Replied) : Type 0 where
+-- a front took these items and a ledger all parcels that the front yielded; these are the replies, in order
+pub record Ran (clock : ℕ) (items : List Item) (ledger : LedgerState) (replies : List ReplyValue) : Type 0 where
   pub closed : Bool
   pub stopped : Bool
-  pub passages : List Passage
-  pub passed : Passes items closed stopped passages
-  pub commits : Commits clock passages ledger replies
+  pub decisions : List Decision
+  pub passed : AreDecisions items closed stopped decisions
+  pub commits : Commits clock decisions ledger replies
 
--- a ledger that took these passages and goes on, its groups lawful under a limit
-pub record GoesOn (clock limit : ℕ) (passages : List Passage) (ledger : LedgerState)
-    (replies : List Replied) : Type 0 where
-  pub commits : Commits clock passages ledger replies
+-- a ledger that took these decisions and hasn't stopped, its groups lawful under a limit
+pub record HasNotStopped (clock limit : ℕ) (decisions : List Decision) (ledger : LedgerState)
+    (replies : List ReplyValue) : Type 0 where
+  pub commits : Commits clock decisions ledger replies
   pub unmarked : ledger.stopped ≡ false
   pub joined : AreJoined limit ledger.groups
 
 -- a front and a ledger took these items, and what the front holds is all that isn't answered; neither has stopped
 pub record IsRunning (clock limit : ℕ) (items : List Item) (front : FrontState) (ledger : LedgerState)
-    (replies : List Replied) : Type 0 where
-  pub sent : List Passage
+    (replies : List ReplyValue) : Type 0 where
+  pub sent : List Decision
   pub under : front.limit ≡ limit
-  pub passed : Passes items front.closed front.stopped (sent ++ held_by front)
-  pub goes_on : GoesOn clock limit sent ledger replies
+  pub passed : AreDecisions items front.closed front.stopped (sent ++ held_by front)
+  pub goes_on : HasNotStopped clock limit sent ledger replies
   pub unstopped : front.stopped ≡ false
 
 -- a ledger took all that a front made of these items, and nothing is held any more
-pub record IsThrough (clock limit : ℕ) (items : List Item) (ledger : LedgerState)
-    (replies : List Replied) : Type 0 where
+pub record IsDrained (clock limit : ℕ) (items : List Item) (ledger : LedgerState)
+    (replies : List ReplyValue) : Type 0 where
   pub ran : Ran clock items ledger replies
   pub unmarked : ledger.stopped ≡ false
   pub unstopped : ran.stopped ≡ false
   pub joined : AreJoined limit ledger.groups
 
--- If a front and a ledger took all of a run's queue, and each submitter got the replies with its number, the report on
--- the run is lawful, also if an allocation failed.
+-- The report on a run is lawful if a front and a ledger took all of its queue and each submitter got the replies with
+-- its number. An allocation may have failed.
 abbrev pub RunIsLawful : Type 0
 RunIsLawful =
-    (run : Run) (answers : List Replied) → IsQueueOf run.submitters run.queue run.queued →
+    (run : Run) (answers : List ReplyValue) → IsQueueOf run.submitters run.queue run.queued →
     Ran run.clock (items_in run.queue) run.ledger answers
     → ((submitter : ℕ) → submitter < run.submitters → run.replies submitter ≡ replies_to answers submitter)
     → LawfulReport run
 
 -- From a clock on all packets and pulses ahead of the Close were committed, and each packet has its reply, in order.
-pub record IsListed (clock : ℕ) (items : List Item) (ledger : LedgerState) (replies : List Replied) : Type 0 where
+pub record IsListed (clock : ℕ) (items : List Item) (ledger : LedgerState) (replies : List ReplyValue) : Type 0 where
   pub from : ledger.opening ≡ clock
   pub goes_on : ledger.stopped ≡ false
-  pub committed : works ledger ≡ ahead items
+  pub committed : inputs ledger ≡ ahead items
   pub replied : replies ≡ all_due clock items (ahead items)
 
--- A front made passages of these items, a ledger took the first of them, and the rest is on the way. What was committed is
+-- A front made decisions of these items, a ledger took the first of them, and the rest is on the way. What was committed is
 -- a prefix of what is ahead, and the replies are a prefix of those due: all of them if nothing is on the way. Unless one of
 -- both stopped, all that is ahead is committed or on the way.
-pub record IsPartial (clock : ℕ) (items : List Item) (stopped : Bool) (ledger : LedgerState) (answers : List Replied)
-    (way : List Passage) : Type 0 where
-  pub committed : IsPrefix (works ledger) (ahead items)
-  pub due : IsPrefix answers (all_due clock items (works ledger))
-  pub replied : way ≡ [] → answers ≡ all_due clock items (works ledger)
-  pub whole : stopped ≡ false → ledger.stopped ≡ false → works ledger ++ works_in way ≡ ahead items
+pub record IsPartial (clock : ℕ) (items : List Item) (stopped : Bool) (ledger : LedgerState) (answers : List ReplyValue)
+    (way : List Decision) : Type 0 where
+  pub committed : IsPrefix (inputs ledger) (ahead items)
+  pub due : IsPrefix answers (all_due clock items (inputs ledger))
+  pub replied : way ≡ [] → answers ≡ all_due clock items (inputs ledger)
+  pub whole : stopped ≡ false → ledger.stopped ≡ false → inputs ledger ++ inputs_in way ≡ ahead items
 
 -- Whatever a front made of some items, and whatever part of that a ledger took.
 abbrev pub EachPartIsLawful : Type 0
 EachPartIsLawful =
-    (clock : ℕ) (items : List Item) (closed stopped : Bool) (applied way : List Passage) (ledger : LedgerState)
-    (answers : List Replied) → Passes items closed stopped (applied ++ way) → Commits clock applied ledger answers →
+    (clock : ℕ) (items : List Item) (closed stopped : Bool) (applied way : List Decision) (ledger : LedgerState)
+    (answers : List ReplyValue) → AreDecisions items closed stopped (applied ++ way) → Commits clock applied ledger answers →
     IsPartial clock items stopped ledger answers way

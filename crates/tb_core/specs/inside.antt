@@ -1,3 +1,3 @@
 -- What proofs need and the claim doesn't mention.
-pub mod Passage
+pub mod Decision
 pub mod BatchAnswer

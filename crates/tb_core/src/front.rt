@@ -22,7 +22,7 @@ pub struct Front {
 }
 
 impl Drop for Front {
-    /// Lets all that is held go in one call, so that no owner's proof goes through it.
+    /// Frees everything held in one call, so that no owner's proof repeats it.
     fn drop(self) {
         let Front {
             batcher,
@@ -67,8 +67,8 @@ impl Front {
     ghost use Rattle.tb_work.specs.declared.item.Ticket.{Ticket as TicketValue};
     ghost use Rattle.tb_core.specs.declared.parcel.Parcel.TheVariants as parcel;
     ghost use Rattle.tb_core.specs.Grouping.{AreJoinedParcels};
-    ghost use Rattle.tb_core.specs.inside.Passage.{Passage, Passes, passages_of_item};
-    ghost use Rattle.tb_core.specs.Front.{FrontState, IsFront, opening_refusal, take_result, with_group, group_as_batch, all_ended, take_step, step_of_packet, step_of_pulse, step_of_end, step_of_close, all_passages_in, passages_in_batch, held_by, KnowsEnds, HaveAllEnded, takes_memory};
+    ghost use Rattle.tb_core.specs.inside.Decision.{Decision, AreDecisions, decisions_of_item};
+    ghost use Rattle.tb_core.specs.Front.{FrontState, IsFront, opening_refusal, take_result, with_group, group_as_batch, all_ended, take_step, step_of_packet, step_of_pulse, step_of_end, step_of_close, all_decisions_in, decisions_in_batch, held_by, KnowsEnds, HaveAllEnded, takes_memory};
 
     /// A front that took nothing. The limit is 1 to 8190 events, else it is refused as `BadLimit`, and then there are 1
     /// to 16 submitters, else as `BadSubmitters`. Takes no memory.
@@ -81,7 +81,7 @@ impl Front {
           stopped = false;
           ended = replicate 17 false;
         }) }
-        ensures passes { IfOk result (λ front. Passes [] front.closed front.stopped (held_by front)) }
+        ensures passes { IfOk result (λ front. AreDecisions [] front.closed front.stopped (held_by front)) }
         ensures ends { IfOk result (λ front. KnowsEnds [] front) }
         ensures opens { OnOk result (opening_refusal limit submitters ≡ None) }
         ensures refusal { IfErr result (λ refusal. opening_refusal limit submitters ≡ Some refusal) }
@@ -117,9 +117,9 @@ impl Front {
         ensures some { IfSome result (λ batch. (batch ≡ self.old.held) × (0 < length self.old.held)) }
         ensures none { IfNone result (self.old.held ≡ []) }
         ensures lawful { IsGroup self.old.limit self.old.held }
-        ensures passes { (items : List ItemValue) (sent : List Passage)
-            → Passes items self.old.closed self.old.stopped (sent ++ held_by self.old)
-            → Passes items self.new.closed self.new.stopped ((sent ++ passages_in_batch result) ++ held_by self.new) }
+        ensures passes { (items : List ItemValue) (sent : List Decision)
+            → AreDecisions items self.old.closed self.old.stopped (sent ++ held_by self.old)
+            → AreDecisions items self.new.closed self.new.stopped ((sent ++ decisions_in_batch result) ++ held_by self.new) }
     {
         self.batcher.seal()
     }
@@ -152,7 +152,7 @@ impl Front {
         parcels.push(parcel);
     }
 
-    /// Takes a packet. Where its growth is refused, it comes back in place of an item, and nothing else has changed.
+    /// Takes a packet. If its allocation fails, it is returned in place of an item, and nothing else has changed.
     fn offer(
         &mut self,
         parcels: &mut ArrayVec<Parcel, 2>,
@@ -186,7 +186,7 @@ impl Front {
         }
     }
 
-    /// Takes a packet whose growth is refused.
+    /// Takes a packet whose allocation fails.
     fn refuse(&mut self, parcels: &mut ArrayVec<Parcel, 2>, job: Job)
         requires { parcels.old.items ≡ [] }
         ensures took { take_result self.new parcels.new.items ≡ step_of_packet true self.old job }
@@ -239,9 +239,9 @@ impl Front {
         self.closed = true;
     }
 
-    /// Takes one ticket where its growth isn't refused, and puts what is handed on into the parcels. Where it is
-    /// refused, the ticket and all else are as before; only a packet that would be taken is ever refused. The ticket is
-    /// lent: handing up what is as large, for each of them, would cost more than the rest.
+    /// Takes one ticket whose allocation succeeds, and puts the parcels that it yields into the list. If the allocation
+    /// fails, the ticket and everything else are as before; only a packet that would be taken is ever refused. The
+    /// ticket is lent: returning a value of its size, for each ticket, would cost more than the rest.
     pub fn try_take(
         &mut self,
         parcels: &mut ArrayVec<Parcel, 2>,
@@ -264,7 +264,7 @@ impl Front {
         }
     }
 
-    /// Takes one ticket whose growth is refused, and puts what is handed on into the parcels.
+    /// Takes one ticket whose allocation fails, and puts the parcels that it yields into the list.
     pub fn step_refused(&mut self, parcels: &mut ArrayVec<Parcel, 2>, ticket: Ticket)
         requires sender { ticket.sender ≤ self.old.submitters }
         requires empty { parcels.old.items ≡ [] }
@@ -280,14 +280,14 @@ impl Front {
         }
     }
 
-    /// Takes one ticket as `take` does where its growth is refused. Takes no memory.
+    /// Takes one ticket as `take` does if its allocation fails. Takes no memory.
     pub fn take_as_refused(&mut self, ticket: Ticket) -> ArrayVec<Parcel, 2>
         requires { ticket.sender ≤ self.old.submitters }
         ensures took { take_result self.new result.items ≡ take_step true self.old ticket.sender ticket.item }
-        ensures passes { (items : List ItemValue) (sent : List Passage)
-            → Passes items self.old.closed self.old.stopped (sent ++ held_by self.old)
-            → Passes (items ++ ticket.item ∷ []) self.new.closed self.new.stopped
-            ((sent ++ all_passages_in result.items) ++ held_by self.new) }
+        ensures passes { (items : List ItemValue) (sent : List Decision)
+            → AreDecisions items self.old.closed self.old.stopped (sent ++ held_by self.old)
+            → AreDecisions (items ++ ticket.item ∷ []) self.new.closed self.new.stopped
+            ((sent ++ all_decisions_in result.items) ++ held_by self.new) }
         ensures lawful { AreJoinedParcels self.old.limit result.items }
         ensures ends { (queue : List TicketValue) → KnowsEnds queue self.old
             → KnowsEnds (queue ++ ticket ∷ []) self.new }
@@ -298,21 +298,21 @@ impl Front {
         parcels
     }
 
-    /// Takes one ticket, of a submitter or of the control, whose number comes after theirs, and gives what is handed
-    /// on. A packet joins the group held, or has that sealed and begins the next one; a pulse, a Close and the End that
-    /// makes all ended seal it (batching of tb_client, of neighbours alone). A packet behind a Close comes back; so
-    /// does one whose growth is refused, and each after that. It takes memory for a packet alone, as `Batcher::offer`
-    /// does.
+    /// Takes one ticket, of a submitter or of the control, whose number comes after theirs, and returns the parcels
+    /// that it yields. A packet joins the group held, or the group is sealed and the packet begins the next one; a
+    /// pulse, a Close and the End that makes all ended seal it (batching of tb_client, here only of neighbours). A
+    /// packet behind a Close is returned; so is one whose allocation fails, and each after that. It takes memory only
+    /// for a packet, as `Batcher::offer` does.
     pub fn take(&mut self, ticket: Ticket) -> ArrayVec<Parcel, 2>
         requires { ticket.sender ≤ self.old.submitters }
         ensures took { (refused : Bool) × (take_result self.new result.items
             ≡ take_step refused self.old ticket.sender ticket.item) }
-        ensures accounted { all_passages_in result.items ++ held_by self.new
-            ≡ held_by self.old ++ passages_of_item self.old.closed self.new.stopped ticket.item }
-        ensures passes { (items : List ItemValue) (sent : List Passage)
-            → Passes items self.old.closed self.old.stopped (sent ++ held_by self.old)
-            → Passes (items ++ ticket.item ∷ []) self.new.closed self.new.stopped
-            ((sent ++ all_passages_in result.items) ++ held_by self.new) }
+        ensures accounted { all_decisions_in result.items ++ held_by self.new
+            ≡ held_by self.old ++ decisions_of_item self.old.closed self.new.stopped ticket.item }
+        ensures passes { (items : List ItemValue) (sent : List Decision)
+            → AreDecisions items self.old.closed self.old.stopped (sent ++ held_by self.old)
+            → AreDecisions (items ++ ticket.item ∷ []) self.new.closed self.new.stopped
+            ((sent ++ all_decisions_in result.items) ++ held_by self.new) }
         ensures lawful { AreJoinedParcels self.old.limit result.items }
         ensures ends { (queue : List TicketValue) → KnowsEnds queue self.old
             → KnowsEnds (queue ++ ticket ∷ []) self.new }
@@ -323,19 +323,19 @@ impl Front {
         parcels
     }
 
-    /// Takes one ticket as `take` does, and puts what is handed on into the parcels, of which there are none yet. Where
-    /// many tickets are taken this spares moving the parcels, which are large, for each of them.
+    /// Takes one ticket as `take` does, and puts the parcels that it yields into an empty list. With many tickets this
+    /// spares moving the parcels, which are large, for each of them.
     pub fn take_into(&mut self, parcels: &mut ArrayVec<Parcel, 2>, ticket: Ticket)
         requires sender { ticket.sender ≤ self.old.submitters }
         requires empty { parcels.old.items ≡ [] }
         ensures took { (refused : Bool) × (take_result self.new parcels.new.items
             ≡ take_step refused self.old ticket.sender ticket.item) }
-        ensures accounted { all_passages_in parcels.new.items ++ held_by self.new
-            ≡ held_by self.old ++ passages_of_item self.old.closed self.new.stopped ticket.item }
-        ensures passes { (items : List ItemValue) (sent : List Passage)
-            → Passes items self.old.closed self.old.stopped (sent ++ held_by self.old)
-            → Passes (items ++ ticket.item ∷ []) self.new.closed self.new.stopped
-            ((sent ++ all_passages_in parcels.new.items) ++ held_by self.new) }
+        ensures accounted { all_decisions_in parcels.new.items ++ held_by self.new
+            ≡ held_by self.old ++ decisions_of_item self.old.closed self.new.stopped ticket.item }
+        ensures passes { (items : List ItemValue) (sent : List Decision)
+            → AreDecisions items self.old.closed self.old.stopped (sent ++ held_by self.old)
+            → AreDecisions (items ++ ticket.item ∷ []) self.new.closed self.new.stopped
+            ((sent ++ all_decisions_in parcels.new.items) ++ held_by self.new) }
         ensures lawful { AreJoinedParcels self.old.limit parcels.new.items }
         ensures ends { (queue : List TicketValue) → KnowsEnds queue self.old
             → KnowsEnds (queue ++ ticket ∷ []) self.new }

@@ -15,7 +15,7 @@ pub fn headline()
     ensures { ReportsHeadline }
 {}
 
-/// Establishes what holds while a front still holds packets, or its passages are on the way to the ledger: what was
+/// Establishes what holds while a front still holds packets, or its decisions are on the way to the ledger: what was
 /// committed is a prefix of what is ahead of the Close, and the replies are a prefix of those due.
 pub fn each_part_is_lawful()
     ensures { EachPartIsLawful }

@@ -3,13 +3,13 @@
 ghost use Rattle.std.specs.Prelude.{◌≡◌, ◌==◌, ◌<◌, ◌≤◌, ◌+◌, ◌++◌, ◌∷◌, [], ℕ, List, Bool, false, true, length, map, vec_len, vec_capacity, OnOk, OnErr, IfOk, IfErr, ◌||◌};
 ghost use Rattle.tb_layout.specs.Events.{events_of};
 ghost use Rattle.tb_layout.specs.Limits.{clock_max, places_max};
-ghost use Rattle.tb_layout.specs.Work.{Work};
+ghost use Rattle.tb_layout.specs.Input.{Input};
 ghost use Rattle.tb_machine.specs.Replay.{State, after_packet, replay};
 ghost use Rattle.tb_batch.specs.Batch.{AreAdmitted, AreParts};
-ghost use Rattle.tb_work.specs.Packet.{reply_with, work_of};
+ghost use Rattle.tb_work.specs.Packet.{reply_with, input_of};
 ghost use Rattle.tb_core.specs.inside.BatchAnswer.{AreAnswered, answer_in};
 ghost use Rattle.tb_work.specs.declared.outcome.Outcome.TheVariants.{Stopped as StoppedOutcome};
-ghost use Rattle.tb_core.specs.inside.Passage.{outcome_of, replies_from, Admitted};
+ghost use Rattle.tb_core.specs.inside.Decision.{outcome_of, replies_from, Admitted};
 ghost use Rattle.tb_core.specs.Ledger.{group_of, AreEntries};
 
 use crate::journal::Entry;
@@ -23,7 +23,7 @@ use tb_layout::{Account, Failure, LOOKUP_ACCOUNTS, NoMemory, PLACES_MAX};
 use tb_machine::{Machine, Seed, joining_is_invisible};
 use tb_work::{Accounts, Answer, Failures, Job, Moment, Outcome, Reply};
 
-/// Commits what the front hands on, and keeps a journal of it.
+/// Commits what the front yields, and keeps a journal of it.
 pub struct Ledger {
     opening: u64,
     machine: Machine,
@@ -33,7 +33,7 @@ pub struct Ledger {
 }
 
 impl Drop for Ledger {
-    /// Lets all that is held go in one call, so that no owner's proof goes through it.
+    /// Frees everything held in one call, so that no owner's proof repeats it.
     fn drop(self) {
         let Ledger {
             opening: _,
@@ -98,17 +98,16 @@ fn answer(operation: u8, failures: Vec<Failure>, accounts: Vec<Account>) -> Answ
     }
 }
 
-/// Puts a batch that was committed at a place into the journal, for which there is room, and gives its
-/// replies.
+/// Puts a batch that was committed at a place into the journal, for which there is room, and returns its replies.
 fn record(entries: &mut Vec<Entry>, place: u64, parts: Parts) -> Cutter
     requires room { vec_len entries.old < vec_capacity entries.old }
     requires answered { (state : State) × AreAnswered state parts }
     requires fits { place + length parts.jobs.items ≤ places_max }
     ensures entry { map group_of entries.new.items
-        ≡ map group_of entries.old.items ++ map work_of parts.jobs.items ∷ [] }
+        ≡ map group_of entries.old.items ++ map input_of parts.jobs.items ∷ [] }
     ensures whole { AreEntries entries.old.items → AreEntries entries.new.items }
-    ensures replies { (clock : ℕ) (before : List Work) → place ≡ length before → AreAnswered (replay clock before) parts
-        → result ≡ replies_from clock (before ++ map work_of parts.jobs.items) place (map Admitted parts.jobs.items) }
+    ensures replies { (clock : ℕ) (before : List Input) → place ≡ length before → AreAnswered (replay clock before) parts
+        → result ≡ replies_from clock (before ++ map input_of parts.jobs.items) place (map Admitted parts.jobs.items) }
 {
     let Parts {
         operation,
@@ -118,7 +117,7 @@ fn record(entries: &mut Vec<Entry>, place: u64, parts: Parts) -> Cutter
         failures,
         accounts,
     } = parts;
-    // The law by which each packet's part of the answer is its own.
+    // The law that each packet's part of the answer is its own.
     joining_is_invisible();
     let answer = answer(operation, failures, accounts);
     entries.push_reserved(Entry::Batch {
@@ -150,12 +149,12 @@ fn returned(job: Job, cause: Cause) -> Reply
 impl Ledger {
     ghost use Rattle.tb_core.specs.declared.parcel.Parcel.TheVariants as parcel;
     ghost use Rattle.tb_core.specs.declared.outcomes.Outcomes.TheVariants.{Nothing as NothingComes};
-    ghost use Rattle.tb_work.specs.Packet.{Replied};
-    ghost use Rattle.tb_core.specs.Front.{passages_in};
+    ghost use Rattle.tb_work.specs.Packet.{ReplyValue};
+    ghost use Rattle.tb_core.specs.Front.{decisions_in};
     ghost use Rattle.tb_core.specs.Grouping.{AreJoined, IsJoinedParcel};
-    ghost use Rattle.tb_core.specs.inside.Passage.{Passage};
+    ghost use Rattle.tb_core.specs.inside.Decision.{Decision};
     ghost use Rattle.tb_core.specs.Run.{Commits, HasPackets, replies_in};
-    ghost use Rattle.tb_core.specs.Journal.{LedgerState, new_ledger, works};
+    ghost use Rattle.tb_core.specs.Journal.{LedgerState, new_ledger, inputs};
     ghost use Rattle.tb_core.specs.Ledger.{apply_result, must_stop, apply_step, takes_memory};
 
     /// A ledger without entries, whose clock starts at a number of nanoseconds, 0 to `CLOCK_MAX`. Takes no memory.
@@ -198,7 +197,7 @@ impl Ledger {
         self.opening
     }
 
-    /// Whether a growth was refused, or there were no places left.
+    /// Whether an allocation failed, or there were no places left.
     pub fn stopped(&self) -> bool
         ensures { result ≡ self.now.stopped }
     {
@@ -207,7 +206,7 @@ impl Ledger {
 
     /// How many packets and pulses were committed.
     pub fn places(&self) -> u64
-        ensures { result ≡ length (works self.now) }
+        ensures { result ≡ length (inputs self.now) }
     {
         self.places
     }
@@ -215,7 +214,7 @@ impl Ledger {
     /// The machine, in the state that the journal gives.
     pub fn machine(&self) -> &Machine
         ensures own { result.now ≡ self.now.state }
-        ensures replayed { result.now ≡ replay self.now.opening (works self.now) }
+        ensures replayed { result.now ≡ replay self.now.opening (inputs self.now) }
     {
         &self.machine
     }
@@ -229,7 +228,7 @@ impl Ledger {
         self.entries.as_slice()
     }
 
-    /// Whether so many packets or pulses more aren't committed, however much memory there is.
+    /// Whether this number of packets or pulses isn't committed, however much memory there is.
     fn halts_at(&self, count: usize) -> bool
         ensures { result ≡ must_stop false self.now count }
     {
@@ -257,14 +256,14 @@ impl Ledger {
         if take_batch(&mut self.machine, &mut parts).is_err() {
             return Err(Batch::whole(parts));
         }
-        // The law by which the machine is where the packets, one by one, bring it.
+        // The law that the machine is in the state to which the packets, one by one, bring it.
         joining_is_invisible();
         let replies = record(&mut self.entries, self.places, parts);
         self.places += count as u64;
         Ok(Outcomes::Cut(replies))
     }
 
-    /// Commits a pulse, unless the ledger stopped before or has no place left. Where a growth is refused nothing has
+    /// Commits a pulse, unless the ledger stopped before or has no place left. If an allocation fails, nothing has
     /// changed.
     fn pulse(&mut self, moment: Moment) -> Result<(), NoMemory>
         ensures ok { OnOk result (apply_result self.new NothingComes
@@ -305,7 +304,7 @@ impl Ledger {
         }
     }
 
-    /// Applies one parcel whose growth is refused.
+    /// Applies one parcel whose allocation fails.
     fn refuse(&mut self, parcel: Parcel) -> Outcomes
         ensures applied { apply_result self.new result ≡ apply_step true self.old parcel }
         ensures some { HasPackets parcel }
@@ -324,27 +323,27 @@ impl Ledger {
         }
     }
 
-    /// Applies one parcel as `apply` does where its growth is refused. Takes no memory.
+    /// Applies one parcel as `apply` does if its allocation fails. Takes no memory.
     pub fn apply_as_refused(&mut self, parcel: Parcel) -> Outcomes
         ensures applied { apply_result self.new result ≡ apply_step true self.old parcel }
-        ensures commits { (clock : ℕ) (passages : List Passage) (replies : List Replied)
-            → Commits clock passages self.old replies
-            → Commits clock (passages ++ passages_in parcel) self.new (replies ++ replies_in result) }
+        ensures commits { (clock : ℕ) (decisions : List Decision) (replies : List ReplyValue)
+            → Commits clock decisions self.old replies
+            → Commits clock (decisions ++ decisions_in parcel) self.new (replies ++ replies_in result) }
         ensures joined { (limit : ℕ) → IsJoinedParcel limit parcel → AreJoined limit self.old.groups
             → AreJoined limit self.new.groups }
     {
         self.refuse(parcel)
     }
 
-    /// Applies one parcel, and gives what it comes to. A batch is committed as one and each of its packets answered; a
-    /// pulse is applied; a packet that comes back is answered with its cause. Where a growth is refused, where the
-    /// ledger stopped before, or where there are no places left, nothing is committed, the ledger stops, and each
-    /// packet of a batch is answered Stopped. It takes memory for the facts and for the journal.
+    /// Applies one parcel, and returns its outcomes. A batch is committed as one and each of its packets gets its
+    /// reply; a pulse is applied; a returned packet gets its cause. If an allocation fails, the ledger stopped before,
+    /// or there are no places left, nothing is committed, the ledger stops, and each packet of a batch gets the outcome
+    /// Stopped. It takes memory for the facts and for the journal.
     pub fn apply(&mut self, parcel: Parcel) -> Outcomes
         ensures applied { (refused : Bool) × (apply_result self.new result ≡ apply_step refused self.old parcel) }
-        ensures commits { (clock : ℕ) (passages : List Passage) (replies : List Replied)
-            → Commits clock passages self.old replies
-            → Commits clock (passages ++ passages_in parcel) self.new (replies ++ replies_in result) }
+        ensures commits { (clock : ℕ) (decisions : List Decision) (replies : List ReplyValue)
+            → Commits clock decisions self.old replies
+            → Commits clock (decisions ++ decisions_in parcel) self.new (replies ++ replies_in result) }
         ensures joined { (limit : ℕ) → IsJoinedParcel limit parcel → AreJoined limit self.old.groups
             → AreJoined limit self.new.groups }
     {

@@ -4,10 +4,10 @@ ghost use Rattle.std.specs.Prelude.{◌≡◌, ◌≤◌, ◌++◌, ◌∷◌, [
 ghost use Rattle.tb_layout.specs.Limits.{batch_max, clock_max};
 ghost use Rattle.tb_work.specs.Queue.{ahead};
 ghost use Rattle.tb_work.specs.declared.item.Item.{Item as ItemValue};
-ghost use Rattle.tb_core.specs.Front.{all_passages_in, passages_in};
+ghost use Rattle.tb_core.specs.Front.{all_decisions_in, decisions_in};
 ghost use Rattle.tb_core.specs.Grouping.{AreWithin, IsGrouping, IsJoinedParcel, AreJoinedParcels};
-ghost use Rattle.tb_core.specs.inside.Passage.{Passage};
-ghost use Rattle.tb_core.specs.Run.{IsListed, GoesOn, IsRunning, IsThrough, Ran, replies_in};
+ghost use Rattle.tb_core.specs.inside.Decision.{Decision};
+ghost use Rattle.tb_core.specs.Run.{IsListed, HasNotStopped, IsRunning, IsDrained, Ran, replies_in};
 
 use crate::front::Front;
 use crate::ledger::Ledger;
@@ -19,7 +19,7 @@ use tb_demux::Cutter;
 use tb_layout::NoMemory;
 use tb_work::{Item, Reply, Ticket};
 
-/// What a list of items came to: the ledger, and a reply to each packet, in order.
+/// The result of a list of items: the ledger, and a reply to each packet, in order.
 #[derive(Drop)]
 pub struct Listed {
     pub ledger: Ledger,
@@ -36,7 +36,7 @@ fn put_all(cutter: &mut Cutter, replies: &mut Vec<Reply>) -> Result<(), NoMemory
     Ok(())
 }
 
-/// Puts the replies that a parcel comes to after the others.
+/// Adds the replies of a parcel after the others.
 fn put(outcomes: Outcomes, replies: &mut Vec<Reply>) -> Result<(), NoMemory>
     ensures { OnOk result (replies.new.items ≡ replies.old.items ++ replies_in outcomes) }
 {
@@ -51,11 +51,12 @@ fn put(outcomes: Outcomes, replies: &mut Vec<Reply>) -> Result<(), NoMemory>
     }
 }
 
-/// Applies a parcel to a ledger that goes on, and keeps the replies. A ledger that stops is want of memory here.
+/// Applies a parcel to a ledger that hasn't stopped, and keeps the replies. A ledger that stops means here that memory
+/// ran out.
 fn apply(ledger: &mut Ledger, replies: &mut Vec<Reply>, parcel: Parcel) -> Result<(), NoMemory>
-    ensures { (clock : ℕ) (limit : ℕ) (sent : List Passage) → IsJoinedParcel limit parcel
-        → GoesOn clock limit sent ledger.old replies.old.items
-        → OnOk result (GoesOn clock limit (sent ++ passages_in parcel) ledger.new replies.new.items) }
+    ensures { (clock : ℕ) (limit : ℕ) (sent : List Decision) → IsJoinedParcel limit parcel
+        → HasNotStopped clock limit sent ledger.old replies.old.items
+        → OnOk result (HasNotStopped clock limit (sent ++ decisions_in parcel) ledger.new replies.new.items) }
 {
     match ledger.try_apply(parcel) {
         Ok(outcomes) => {
@@ -79,9 +80,9 @@ fn apply_all(
     parcels: &mut ArrayVec<Parcel, 2>,
 ) -> Result<(), NoMemory>
     ensures none { OnOk result (parcels.new.items ≡ []) }
-    ensures applied { (clock : ℕ) (limit : ℕ) (sent : List Passage) → AreJoinedParcels limit parcels.old.items
-        → GoesOn clock limit sent ledger.old replies.old.items
-        → OnOk result (GoesOn clock limit (sent ++ all_passages_in parcels.old.items) ledger.new replies.new.items) }
+    ensures applied { (clock : ℕ) (limit : ℕ) (sent : List Decision) → AreJoinedParcels limit parcels.old.items
+        → HasNotStopped clock limit sent ledger.old replies.old.items
+        → OnOk result (HasNotStopped clock limit (sent ++ all_decisions_in parcels.old.items) ledger.new replies.new.items) }
 {
     while let Some(parcel) = parcels.pop_at(0) {
         apply(ledger, replies, parcel)?;
@@ -131,7 +132,7 @@ impl Listing {
     fn finish(&mut self) -> Result<(), NoMemory>
         ensures { (clock : ℕ) (limit : ℕ) (items : List ItemValue)
             → IsRunning clock limit items self.old.front self.old.ledger self.old.replies.items
-            → OnOk result (IsThrough clock limit items self.new.ledger self.new.replies.items) }
+            → OnOk result (IsDrained clock limit items self.new.ledger self.new.replies.items) }
     {
         match self.front.idle() {
             Some(batch) => apply(&mut self.ledger, &mut self.replies, Parcel::Batch(batch)),
@@ -143,17 +144,17 @@ impl Listing {
     fn take_all_and_finish(&mut self, items: Vec<Item>) -> Result<(), NoMemory>
         ensures { (clock : ℕ) (limit : ℕ) → IsRunning clock limit [] self.old.front
             self.old.ledger self.old.replies.items
-            → OnOk result (IsThrough clock limit items.items self.new.ledger self.new.replies.items) }
+            → OnOk result (IsDrained clock limit items.items self.new.ledger self.new.replies.items) }
     {
         self.take_all(items)?;
         self.finish()
     }
 }
 
-/// Commits a list of items in order, from a clock in nanoseconds, 0 to `CLOCK_MAX`, on, and answers each packet. A
-/// packet behind a Close is answered Shutdown, a pulse there has no effect, and an End has none anywhere. The limit is
-/// 1 to 8190 events; a packet with more is a batch by itself. It takes memory for all packets at once; where that is
-/// refused nothing is handed out.
+/// Commits a list of items in order, from a clock in nanoseconds, 0 to `CLOCK_MAX`, on, and replies to each packet. A
+/// packet behind a Close gets Shutdown, a pulse there has no effect, and an End has none anywhere. The limit is 1 to
+/// 8190 events; a packet with more is a batch by itself. It takes memory for all packets at once; if that fails, no
+/// reply is returned.
 pub fn run_list(alloc: Global, clock: u64, limit: u32, items: Vec<Item>) -> Result<Listed, NoMemory>
     requires clock { clock ≤ clock_max }
     requires least { 1 ≤ limit }

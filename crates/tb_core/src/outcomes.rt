@@ -1,8 +1,8 @@
 use tb_demux::Cutter;
 use tb_work::Reply;
 
-/// What a parcel comes to: the replies to a batch's packets, the reply to a packet that comes back,
-/// nothing for a pulse, or the end.
+/// What a parcel yields: the replies to a batch's packets, the reply to a returned packet, nothing for a pulse, or the
+/// end.
 #[derive(Drop)]
 pub enum Outcomes {
     Cut(Cutter),

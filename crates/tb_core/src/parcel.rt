@@ -8,7 +8,7 @@ pub enum Cause {
     Stopped,
 }
 
-/// What the front hands on. Last, which is the default, is the end of it.
+/// What the front yields. Last, which is the default, is the end of it.
 #[derive(Drop)]
 pub enum Parcel {
     Batch(Batch),

@@ -1,4 +1,4 @@
-//! What no clause of tb_core says: worked examples by name, and growths that are refused.
+//! What no clause of tb_core says: worked examples by name, and allocations that fail.
 
 mod front;
 mod ledger;

@@ -11,11 +11,11 @@ use Rattle.tb_work.specs.Packet.{Numbered, reply_with}
 use Rattle.tb_work.specs.Job.{count_of_all, is_lookup}
 use Rattle.tb_layout.specs.declared.answer.Answer.TheVariants.{Failures}
 use Rattle.tb_work.specs.declared.outcome.Outcome.TheVariants.{Committed}
-use Rattle.tb_demux.specs.declared.uncut.Uncut.{Uncut}
+use Rattle.tb_demux.specs.declared.remaining_failures.RemainingFailures.{RemainingFailures}
 use Rattle.tb_demux.specs.Leading.{count_below}
 use Rattle.tb_work.specs.declared.outcome.Outcome.{Outcome}
-use Rattle.tb_demux.specs.Left.{failures_left, IsUncut, IsForOne}
-use Rattle.tb_demux.specs.Cutting.{reply_at, replies_from}
+use Rattle.tb_demux.specs.Remaining.{failures_remaining, AreRemaining, IsForOne}
+use Rattle.tb_demux.specs.Cutting.{reply_at, cut_replies_from}
 
 -- ---- one failure against an index
 
@@ -47,26 +47,26 @@ rise_own low high end (failure ∷ failures) rise =
     rise_own-if low high end failure failures (nat_lt failure.index end) refl rise
     (rise_own (failure.index + 1) high end failures rise.2)
 
-rise_behind-if : (low high end : ℕ) (failure : Failure) (failures : List Failure) (b : Bool)
+rise_after-if : (low high end : ℕ) (failure : Failure) (failures : List Failure) (b : Bool)
     → nat_lt failure.index end ≡ b → RiseWithin low high (failure ∷ failures) →
     RiseWithin end high (drop (count_below end failures) failures)
     → RiseWithin end high (drop (if b then suc (count_below end failures) else 0) (failure ∷ failures))
-rise_behind-if low high end failure failures true is rise behind = behind
-rise_behind-if low high end failure failures false is rise behind = (not_below failure.index end is, rise.1, rise.2)
+rise_after-if low high end failure failures true is rise remainder = remainder
+rise_after-if low high end failure failures false is rise remainder = (not_below failure.index end is, rise.1, rise.2)
 
-pub rise_behind : (low high end : ℕ) (failures : List Failure) → RiseWithin low high failures
+pub rise_after : (low high end : ℕ) (failures : List Failure) → RiseWithin low high failures
     → RiseWithin end high (drop (count_below end failures) failures)
-rise_behind low high end [] rise = tt
-rise_behind low high end (failure ∷ failures) rise =
-    rise_behind-if low high end failure failures (nat_lt failure.index end) refl rise
-    (rise_behind (failure.index + 1) high end failures rise.2)
+rise_after low high end [] rise = tt
+rise_after low high end (failure ∷ failures) rise =
+    rise_after-if low high end failure failures (nat_lt failure.index end) refl rise
+    (rise_after (failure.index + 1) high end failures rise.2)
 
 skip : (a b : Bool) (failure : Failure) (failures : List Failure) → b ≡ false
     → (if a && b then failure ∷ failures else failures) ≡ failures
 skip true b failure failures h = ap (λ c. if c then failure ∷ failures else failures) h
 skip false b failure failures h = refl
 
--- after the end of a range lies nothing of it
+-- after the end of a range there is nothing of it
 none_within : (offset count low high : ℕ) (failures : List Failure) → offset + count ≤ low
     → RiseWithin low high failures → filter (is_within offset count) failures ≡ []
 none_within offset count low high [] past rise = refl
@@ -122,20 +122,20 @@ skipped end offset count (failure ∷ failures) past =
     skipped-if end offset count failure failures (nat_lt failure.index end) refl past
     (skipped end offset count failures past)
 
-replies_behind : (end place offset : ℕ) (failures : List Failure) (jobs : List Numbered) → end ≤ offset
-    → replies_from place offset failures jobs ≡ replies_from place offset
+replies_after : (end place offset : ℕ) (failures : List Failure) (jobs : List Numbered) → end ≤ offset
+    → cut_replies_from place offset failures jobs ≡ cut_replies_from place offset
     (drop (count_below end failures) failures) jobs
-replies_behind end place offset failures [] past = refl
-replies_behind end place offset failures (job ∷ jobs) past =
+replies_after end place offset failures [] past = refl
+replies_after end place offset failures (job ∷ jobs) past =
     ap (λ fs. reply_with (Committed place (Failures (map (from_offset offset) fs))) job
-    ∷ replies_from (place + 1) (offset + count_of job.packet) failures jobs)
+    ∷ cut_replies_from (place + 1) (offset + count_of job.packet) failures jobs)
     (skipped end offset (count_of job.packet) failures past)
     ∙ ap (λ replies. reply_at place offset (drop (count_below end failures) failures) job ∷ replies)
-    (replies_behind end (place + 1) (offset + count_of job.packet) failures jobs (omega (arith, past)))
+    (replies_after end (place + 1) (offset + count_of job.packet) failures jobs (omega (arith, past)))
 
 -- where no failures are left the offset doesn't matter
 replies_empty : (place offset other : ℕ) (jobs : List Numbered)
-    → replies_from place offset [] jobs ≡ replies_from place other [] jobs
+    → cut_replies_from place offset [] jobs ≡ cut_replies_from place other [] jobs
 replies_empty place offset other [] = refl
 replies_empty place offset other (job ∷ jobs) =
     ap (λ replies. reply_at place offset [] job ∷ replies)
@@ -143,50 +143,50 @@ replies_empty place offset other (job ∷ jobs) =
 
 -- ---- the cutter after one reply
 
-rise_left : (offset other high : ℕ) (failures : List Failure) (end : ℕ) → RiseWithin end high failures
+rise_remaining : (offset other high : ℕ) (failures : List Failure) (end : ℕ) → RiseWithin end high failures
     → high ≡ end + other → (offset ≡ end) ⊎ (failures ≡ []) → RiseWithin offset (offset + other) failures
-rise_left offset other high failures end rise is (inl same) = rw (same, sym is) rise
-rise_left offset other high failures end rise is (inr empty) = rw empty tt
+rise_remaining offset other high failures end rise is (inl same) = rw (same, sym is) rise
+rise_remaining offset other high failures end rise is (inr empty) = rw empty tt
 
 -- what is left is that of the packets after it
-pub next_left : (old new : Uncut) (job : Numbered) (jobs : List Numbered) → IsUncut old (job ∷ jobs)
-    → failures_left new ≡ drop (count_below (old.offset + count_of job.packet) (failures_left old))
-    (failures_left old) →
-    new.taken ≤ length new.failures → (new.offset ≡ old.offset + count_of job.packet) ⊎ (failures_left new ≡ [])
-    → new.place ≡ old.place + 1 → IsUncut new jobs
-next_left old new job jobs h is taken offset place =
+pub next_remaining : (old new : RemainingFailures) (job : Numbered) (jobs : List Numbered) → AreRemaining old (job ∷ jobs)
+    → failures_remaining new ≡ drop (count_below (old.offset + count_of job.packet) (failures_remaining old))
+    (failures_remaining old) →
+    new.taken ≤ length new.failures → (new.offset ≡ old.offset + count_of job.packet) ⊎ (failures_remaining new ≡ [])
+    → new.place ≡ old.place + 1 → AreRemaining new jobs
+next_remaining old new job jobs h is taken offset place =
     let end = old.offset + count_of job.packet in
     let high = old.offset + (count_of job.packet + count_of_all jobs) in
-    let behind : RiseWithin end high (failures_left new) = rw is
-    (rise_behind old.offset high end (failures_left old) h.rise) in
+    let remainder : RiseWithin end high (failures_remaining new) = rw is
+    (rise_after old.offset high end (failures_remaining old) h.rise) in
     record {
       places = omega (arith, h.places, place);
       taken = taken;
-      rise = rise_left new.offset (count_of_all jobs) high (failures_left new) end behind (omega arith) offset;
+      rise = rise_remaining new.offset (count_of_all jobs) high (failures_remaining new) end remainder (omega arith) offset;
       no_lookup = (and_parts (not (is_lookup job.packet))
           (list_all (λ (j : Numbered). not (is_lookup j.packet)) jobs) h.no_lookup).1;
     }
 
-replies_left : (place offset end : ℕ) (failures : List Failure) (jobs : List Numbered)
-    → (offset ≡ end) ⊎ (failures ≡ []) → replies_from place end failures jobs
-    ≡ replies_from place offset failures jobs
-replies_left place offset end failures jobs (inl same) = ap (λ o. replies_from place o failures jobs) (sym same)
-replies_left place offset end failures jobs (inr empty) = rw empty (replies_empty place end offset jobs)
+replies_remaining : (place offset end : ℕ) (failures : List Failure) (jobs : List Numbered)
+    → (offset ≡ end) ⊎ (failures ≡ []) → cut_replies_from place end failures jobs
+    ≡ cut_replies_from place offset failures jobs
+replies_remaining place offset end failures jobs (inl same) = ap (λ o. cut_replies_from place o failures jobs) (sym same)
+replies_remaining place offset end failures jobs (inr empty) = rw empty (replies_empty place end offset jobs)
 
-pub next_replies : (old new : Uncut) (job : Numbered) (jobs : List Numbered)
-    → failures_left new ≡ drop (count_below (old.offset + count_of job.packet) (failures_left old))
-    (failures_left old) →
-    (new.offset ≡ old.offset + count_of job.packet) ⊎ (failures_left new ≡ []) → new.place ≡ old.place + 1 →
-    replies_from old.place old.offset (failures_left old) (job ∷ jobs)
-    ≡ reply_at old.place old.offset (failures_left old) job
-    ∷ replies_from new.place new.offset (failures_left new) jobs
+pub next_replies : (old new : RemainingFailures) (job : Numbered) (jobs : List Numbered)
+    → failures_remaining new ≡ drop (count_below (old.offset + count_of job.packet) (failures_remaining old))
+    (failures_remaining old) →
+    (new.offset ≡ old.offset + count_of job.packet) ⊎ (failures_remaining new ≡ []) → new.place ≡ old.place + 1 →
+    cut_replies_from old.place old.offset (failures_remaining old) (job ∷ jobs)
+    ≡ reply_at old.place old.offset (failures_remaining old) job
+    ∷ cut_replies_from new.place new.offset (failures_remaining new) jobs
 next_replies old new job jobs is offset place =
     let end = old.offset + count_of job.packet in
-    ap (λ replies. reply_at old.place old.offset (failures_left old) job ∷ replies)
-    (replies_behind end (old.place + 1) end (failures_left old) jobs (omega arith)
-    ∙ ap (λ failures. replies_from (old.place + 1) end failures jobs) (sym is)
-    ∙ replies_left (old.place + 1) new.offset end (failures_left new) jobs offset
-    ∙ ap (λ p. replies_from p new.offset (failures_left new) jobs) (sym place))
+    ap (λ replies. reply_at old.place old.offset (failures_remaining old) job ∷ replies)
+    (replies_after end (old.place + 1) end (failures_remaining old) jobs (omega arith)
+    ∙ ap (λ failures. cut_replies_from (old.place + 1) end failures jobs) (sym is)
+    ∙ replies_remaining (old.place + 1) new.offset end (failures_remaining new) jobs offset
+    ∙ ap (λ p. cut_replies_from p new.offset (failures_remaining new) jobs) (sym place))
 
 -- after a lookup nothing is left
 pub none_left : (outcome other : Outcome) (job : Numbered) (jobs : List Numbered)
@@ -194,8 +194,8 @@ pub none_left : (outcome other : Outcome) (job : Numbered) (jobs : List Numbered
 none_left outcome other job [] h = record { one = omega arith; fits = λ one is. cc }
 none_left outcome other job (next ∷ jobs) h = absurd (omega (arith, h.one))
 
-pub none_left_replies : (outcome other : Outcome) (job : Numbered) (jobs : List Numbered)
+pub none_remaining : (outcome other : Outcome) (job : Numbered) (jobs : List Numbered)
     → IsForOne outcome (job ∷ jobs) → map (reply_with outcome) (job ∷ jobs)
     ≡ reply_with outcome job ∷ map (reply_with other) jobs
-none_left_replies outcome other job [] h = refl
-none_left_replies outcome other job (next ∷ jobs) h = absurd (omega (arith, h.one))
+none_remaining outcome other job [] h = refl
+none_remaining outcome other job (next ∷ jobs) h = absurd (omega (arith, h.one))

@@ -9,31 +9,31 @@ use Rattle.tb_layout.specs.declared.answer.Answer.TheVariants.{Failures, Account
 use Rattle.tb_work.specs.declared.outcome.Outcome.{Outcome}
 use Rattle.tb_work.specs.declared.outcome.Outcome.TheVariants.{Committed, Shutdown, Stopped}
 use Rattle.tb_work.specs.Admission.{count_of}
-use Rattle.tb_work.specs.Packet.{Numbered, Replied, reply_with}
+use Rattle.tb_work.specs.Packet.{Numbered, ReplyValue, reply_with}
 use Rattle.tb_work.specs.Job.{count_of_all, is_lookup}
 
 -- the reply to one packet of a batch that failed so: its own failures, counted from its first event
-abbrev pub reply_at : ℕ → ℕ → List Failure → Numbered → Replied
+abbrev pub reply_at : ℕ → ℕ → List Failure → Numbered → ReplyValue
 reply_at place offset failures job =
     reply_with (Committed place (Failures (failures_within offset (count_of job.packet) failures))) job
 
 -- packet after packet, each one place further and after the events of those before it
-abbrev pub replies_from : ℕ → ℕ → List Failure → List Numbered → List Replied
-replies_from place offset failures [] = []
-replies_from place offset failures (job ∷ jobs) =
-    reply_at place offset failures job ∷ replies_from (place + 1) (offset + count_of job.packet) failures jobs
+abbrev pub cut_replies_from : ℕ → ℕ → List Failure → List Numbered → List ReplyValue
+cut_replies_from place offset failures [] = []
+cut_replies_from place offset failures (job ∷ jobs) =
+    reply_at place offset failures job ∷ cut_replies_from (place + 1) (offset + count_of job.packet) failures jobs
 
-abbrev pub replies_with_answer : ℕ → Answer → List Numbered → List Replied
-replies_with_answer place (Failures failures) jobs = replies_from place 0 failures jobs
+abbrev pub replies_with_answer : ℕ → Answer → List Numbered → List ReplyValue
+replies_with_answer place (Failures failures) jobs = cut_replies_from place 0 failures jobs
 replies_with_answer place (Accounts accounts) jobs = map (reply_with (Committed place (Accounts accounts))) jobs
 
 -- the replies to the packets of a batch with this outcome
-abbrev pub replies_to : Outcome → List Numbered → List Replied
-replies_to (Committed place answer) jobs = replies_with_answer place answer jobs
-replies_to Shutdown jobs = map (reply_with Shutdown) jobs
-replies_to Stopped jobs = map (reply_with Stopped) jobs
+abbrev pub cut_replies : Outcome → List Numbered → List ReplyValue
+cut_replies (Committed place answer) jobs = replies_with_answer place answer jobs
+cut_replies Shutdown jobs = map (reply_with Shutdown) jobs
+cut_replies Stopped jobs = map (reply_with Stopped) jobs
 
--- failures of the packets' events stand where no packet is a lookup, accounts where the one packet is
+-- failures are the answer of packets with events, accounts that of the one lookup
 abbrev pub IsAnswerToAll : Answer → List Numbered → Type 0
 IsAnswerToAll (Failures failures) jobs =
     RiseWithin 0 (count_of_all jobs) failures × (list_all (λ job. not (is_lookup job.packet)) jobs ≡ true)

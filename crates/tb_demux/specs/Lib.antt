@@ -1,3 +1,3 @@
 pub mod Cutting
 pub mod Leading
-pub mod Left
+pub mod Remaining

@@ -1,10 +1,10 @@
 //! The cutter.
 
 ghost use Rattle.std.specs.Prelude.{◌≡◌, ◌∷◌, [], IfSome, IfNone};
-ghost use Rattle.tb_demux.specs.Cutting.{replies_to, IsOutcomeOfAll};
+ghost use Rattle.tb_demux.specs.Cutting.{cut_replies, IsOutcomeOfAll};
 
-use crate::source::Source;
-use crate::uncut::Uncut;
+use crate::remaining_failures::RemainingFailures;
+use crate::source::ReplySource;
 use std::marker::Model;
 use std::mem;
 use std::vec::IntoIter;
@@ -13,11 +13,11 @@ use tb_work::{Answer, Job, Outcome, Reply};
 /// The packets of one batch with its outcome, seen as the replies still to come.
 pub struct Cutter {
     jobs: IntoIter<Job>,
-    source: Source,
+    source: ReplySource,
 }
 
 impl Drop for Cutter {
-    /// Lets all that is held go in one call, so that no owner's proof goes through it.
+    /// Frees everything held in one call, so that no owner's proof repeats it.
     fn drop(self) {
         let Cutter { jobs, source } = self;
         drop(jobs);
@@ -28,12 +28,12 @@ impl Drop for Cutter {
 impl Model for Cutter {
     ghost use Rattle.std.specs.Prelude.{List};
     ghost use Rattle.std.specs.Vec.Iter.{into_iter_items};
-    ghost use Rattle.tb_work.specs.Packet.{Replied};
-    ghost use Rattle.tb_demux.specs.Left.{replies_left, IsSourceOf};
+    ghost use Rattle.tb_work.specs.Packet.{ReplyValue};
+    ghost use Rattle.tb_demux.specs.Remaining.{replies_remaining, IsSourceOf};
 
-    ghost Value = { List Replied };
+    ghost Value = { List ReplyValue };
 
-    ghost view = { λ cutter. replies_left cutter.source (into_iter_items cutter.jobs) };
+    ghost view = { λ cutter. replies_remaining cutter.source (into_iter_items cutter.jobs) };
 
     ghost invariant = { λ cutter. IsSourceOf cutter.source (into_iter_items cutter.jobs) };
 }
@@ -44,23 +44,23 @@ impl Cutter {
     /// Takes no memory.
     pub fn new(jobs: Vec<Job>, outcome: Outcome) -> Cutter
         requires { IsOutcomeOfAll outcome jobs.items }
-        ensures { result ≡ replies_to outcome jobs.items }
+        ensures { result ≡ cut_replies outcome jobs.items }
     {
         let source = match outcome {
             Outcome::Committed { place, answer } => match answer {
-                Answer::Failures(failures) => Source::Failures(Uncut {
+                Answer::Failures(failures) => ReplySource::Failures(RemainingFailures {
                     place,
                     offset: 0,
                     taken: 0,
                     failures,
                 }),
-                Answer::Accounts(accounts) => Source::Lookup(Outcome::Committed {
+                Answer::Accounts(accounts) => ReplySource::Lookup(Outcome::Committed {
                     place,
                     answer: Answer::Accounts(accounts),
                 }),
             },
-            Outcome::Shutdown => Source::Shutdown,
-            Outcome::Stopped => Source::Stopped,
+            Outcome::Shutdown => ReplySource::Shutdown,
+            Outcome::Stopped => ReplySource::Stopped,
         };
         Cutter {
             jobs: jobs.into_iter(),
@@ -76,10 +76,13 @@ impl Cutter {
     {
         let job = self.jobs.next()?;
         Some(match &mut self.source {
-            Source::Failures(uncut) => uncut.reply(job),
-            Source::Lookup(outcome) => Reply::of(job, mem::replace(outcome, Outcome::Shutdown)),
-            Source::Shutdown => Reply::of(job, Outcome::Shutdown),
-            Source::Stopped => Reply::of(job, Outcome::Stopped),
+            ReplySource::Failures(remaining_failures) => remaining_failures.reply(job),
+            ReplySource::Lookup(outcome) => Reply::of(
+                job,
+                mem::replace(outcome, Outcome::Shutdown),
+            ),
+            ReplySource::Shutdown => Reply::of(job, Outcome::Shutdown),
+            ReplySource::Stopped => Reply::of(job, Outcome::Stopped),
         })
     }
 }

@@ -6,7 +6,7 @@
 #![tactic(auto)]
 
 mod cutter;
+mod remaining_failures;
 mod source;
-mod uncut;
 
 pub use cutter::Cutter;

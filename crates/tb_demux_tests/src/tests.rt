@@ -11,12 +11,12 @@ use tb_demux::Cutter;
 use tb_layout::{CREATE_ACCOUNTS, Failure, LOOKUP_ACCOUNTS, read_account};
 use tb_work::{Accounts, Answer, Bytes, Failures, Job, Outcome, Packet, Reply};
 
-/// What packets tell of the submitter that handed them in.
+/// What packets say of the submitter that queued them.
 fn user_word_of(submitter: u32) -> u64 {
     40 + u64::from(submitter)
 }
 
-/// A submitter's packet of so many events of zeros, in which no event is linked.
+/// A submitter's packet of `count` events of zeros; no event is linked.
 fn job_of(
     rt: &(impl Abort + Alloc<A = Global>),
     submitter: u32,

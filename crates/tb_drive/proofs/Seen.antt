@@ -3,7 +3,7 @@ use Rattle.std.proofs.Common.{◌≡◌, ◌∙◌, ◌<◌, ℕ, zero, suc, Lis
 use Rattle.std.specs.Prelude.{slice_index_or}
 use Rattle.std.proofs.lemmas.Option.{slice_get_within, slice_get-get_or, get_or_from_slice_get}
 use Rattle.tb_submit.specs.Ends.{EndedState, SenderState, SubmitterState, queued_by}
-use Rattle.tb_work.specs.Packet.{Numbered, Replied}
+use Rattle.tb_work.specs.Packet.{Numbered, ReplyValue}
 use Rattle.tb_work.specs.declared.item.Item.{Item}
 use Rattle.tb_drive.specs.Seen.{AreFronts, HaveSeen, HaveSeenEnds, HasSeen, HasSeenEnd, IsFront, jobs_in}
 
@@ -14,7 +14,7 @@ queued_by_end [] control k ended is = cc
 queued_by_end (first ∷ ends) control zero ended is = cc
 queued_by_end (first ∷ ends) control (suc k) ended is = queued_by_end ends control k ended is
 
-module _ {D : Type 0} (has_seen : D → ℕ → List Numbered → List Replied → Type 0) where
+module _ {D : Type 0} (has_seen : D → ℕ → List Numbered → List ReplyValue → Type 0) where
   pub one_more : (drivers : List D) (ends : List EndedState) (last : D) (ended : EndedState)
       → length drivers ≡ length ends → HaveSeenEnds has_seen drivers ends → HasSeenEnd has_seen last ended
       → HaveSeenEnds has_seen (drivers ++ last ∷ []) (ends ++ ended ∷ [])

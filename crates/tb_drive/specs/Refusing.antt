@@ -2,16 +2,16 @@
 use Rattle.std.specs.Prelude.{◌≡◌, ℕ, List, Option}
 use Rattle.tb_submit.specs.Refusals.{IsRefusal, TakesMemory, or_else, refusal_in, told_in}
 use Rattle.tb_work.specs.Admission.{admission_of}
-use Rattle.tb_work.specs.Packet.{Replied}
+use Rattle.tb_work.specs.Packet.{ReplyValue}
 use Rattle.tb_work.specs.declared.packet.Packet.{Packet}
 use Rattle.tb_work.specs.declared.refusal.Refusal.{Refusal}
 use Rattle.tb_work.specs.declared.refusal.Refusal.TheVariants.{NoMemory}
 
 -- a reply read that told of a shutdown or a stop, and then the packet itself; a credit that is used up is none
-abbrev pub final_refusal : ℕ → List Replied → Packet → Option Refusal
+abbrev pub final_refusal : ℕ → List ReplyValue → Packet → Option Refusal
 final_refusal limit read packet = or_else (told_in read) (refusal_in (admission_of limit packet))
 
 -- the refusal is the one that is due, or where none is, want of memory, if the packet takes any
-abbrev pub IsFinalRefusal : ℕ → List Replied → Packet → Refusal → Type 0
+abbrev pub IsFinalRefusal : ℕ → List ReplyValue → Packet → Refusal → Type 0
 IsFinalRefusal limit read packet refusal =
     IsRefusal (final_refusal limit read packet) (λ other. (other ≡ NoMemory) × TakesMemory packet) refusal

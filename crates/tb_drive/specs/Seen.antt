@@ -2,7 +2,7 @@
 use Rattle.std.specs.Prelude.{◌≡◌, ℕ, List, [], ◌∷◌, ◌++◌, Some, slice_get}
 use Rattle.std.specs.List.{flat_map}
 use Rattle.tb_submit.specs.Ends.{SubmitterState, EndedState}
-use Rattle.tb_work.specs.Packet.{Numbered, Replied}
+use Rattle.tb_work.specs.Packet.{Numbered, ReplyValue}
 use Rattle.tb_work.specs.declared.item.Item.{Item}
 use Rattle.tb_work.specs.declared.item.Item.TheVariants.{Packet, Pulse, End, Close}
 use Rattle.tb_work.specs.declared.packet.Packet as packets
@@ -23,7 +23,7 @@ IsFront first all = (rest : List Item) × (all ≡ first ++ rest)
 
 -- A driver's relations are about the most events of a packet, the packets that its submitter queued, and the replies
 -- that it read.
-module _ {D : Type 0} (has_seen : D → ℕ → List Numbered → List Replied → Type 0) where
+module _ {D : Type 0} (has_seen : D → ℕ → List Numbered → List ReplyValue → Type 0) where
   -- a driver has seen what its submitter queued and read
   abbrev pub HasSeen : D → SubmitterState → Type 0
   HasSeen driver submitter = has_seen driver submitter.origin.seat.limit (jobs_in submitter.queued) submitter.read
@@ -43,7 +43,7 @@ module _ {D : Type 0} (has_seen : D → ℕ → List Numbered → List Replied �
       → HasSeenEnd driver ended
 
 -- a driver has seen what its submitter queued and read, and asked for a packet to be queued
-abbrev pub HasAsked : {D : Type 0} → (D → packets.Packet → ℕ → List Numbered → List Replied → Type 0) → D
+abbrev pub HasAsked : {D : Type 0} → (D → packets.Packet → ℕ → List Numbered → List ReplyValue → Type 0) → D
     → packets.Packet → SubmitterState → Type 0
 HasAsked has_asked driver packet submitter =
     has_asked driver packet submitter.origin.seat.limit (jobs_in submitter.queued) submitter.read

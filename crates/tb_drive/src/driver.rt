@@ -1,7 +1,7 @@
 //! What an application says of a submitter.
 
 ghost use Rattle.std.specs.Prelude.{◌≡◌, ℕ, List, [], ◌∷◌, ◌++◌, None, Ok, Err, ⊤};
-ghost use Rattle.tb_work.specs.Packet.{Numbered, Replied};
+ghost use Rattle.tb_work.specs.Packet.{Numbered, ReplyValue};
 ghost use Rattle.tb_work.specs.declared.packet.Packet as packets;
 ghost use Rattle.tb_work.specs.declared.refusal.Refusal.{Refusal as RefusalValue};
 ghost use Rattle.tb_drive.specs.Actions.{GoesOn};
@@ -38,17 +38,17 @@ pub enum Action {
 /// asked until it does. `share` is what a driver was made to queue, as its implementor defines it; it stays as it is
 /// whatever the driver is asked and told, so that a caller knows its own drivers again.
 pub trait Driver: Drop {
-    ghost has_seen: { Self → ℕ → List Numbered → List Replied → Type 0 } = { λ _ _ _ _. ⊤ };
+    ghost has_seen: { Self → ℕ → List Numbered → List ReplyValue → Type 0 } = { λ _ _ _ _. ⊤ };
 
-    ghost has_asked: { Self → packets.Packet → ℕ → List Numbered → List Replied → Type 0 } = { λ _ _ _ _ _. ⊤ };
+    ghost has_asked: { Self → packets.Packet → ℕ → List Numbered → List ReplyValue → Type 0 } = { λ _ _ _ _ _. ⊤ };
 
-    ghost has_ended: { Self → ℕ → List Numbered → List Replied → Type 0 } = { λ _ _ _ _. ⊤ };
+    ghost has_ended: { Self → ℕ → List Numbered → List ReplyValue → Type 0 } = { λ _ _ _ _. ⊤ };
 
     ghost share: { Self → List packets.Packet } = { λ _. [] };
 
     /// What the submitter does next. It may wait with `rt`.
     fn next<R: Wait>(&mut self, rt: &R, alloc: Global) -> Action
-        ensures seen { (limit : ℕ) (queued : List Numbered) (read : List Replied) → has_seen self.old limit queued read
+        ensures seen { (limit : ℕ) (queued : List Numbered) (read : List ReplyValue) → has_seen self.old limit queued read
             → GoesOn result (λ packet. has_asked self.new packet limit queued read)
             (has_seen self.new limit queued read) (has_ended self.new limit queued read) }
         ensures share { share self.new ≡ share self.old };
@@ -57,22 +57,22 @@ pub trait Driver: Drop {
     /// an admitted packet is, or why it is refused. `InFlight` and `Full` aren't told: such a packet is tried again.
     /// None is told of a packet that is still tried when the run is given up.
     fn submitted(&mut self, told: Result<u64, Refusal>)
-        ensures queued { (job : Numbered) (limit : ℕ) (queued : List Numbered) (read : List Replied)
+        ensures queued { (job : Numbered) (limit : ℕ) (queued : List Numbered) (read : List ReplyValue)
             → has_asked self.old job.packet limit queued read → told ≡ Ok job.number
             → final_refusal limit read job.packet ≡ None → has_seen self.new limit (queued ++ job ∷ []) read }
         ensures refused { (packet : packets.Packet) (refusal : RefusalValue) (limit : ℕ) (queued : List Numbered)
-            (read : List Replied) → has_asked self.old packet limit queued read → told ≡ Err refusal
+            (read : List ReplyValue) → has_asked self.old packet limit queued read → told ≡ Err refusal
             → IsFinalRefusal limit read packet refusal → has_seen self.new limit queued read }
         ensures share { share self.new ≡ share self.old };
 
     /// Takes the next reply.
     fn receive(&mut self, reply: Reply)
-        ensures seen { (limit : ℕ) (queued : List Numbered) (read : List Replied) → has_seen self.old limit queued read
+        ensures seen { (limit : ℕ) (queued : List Numbered) (read : List ReplyValue) → has_seen self.old limit queued read
             → has_seen self.new limit queued (read ++ reply ∷ []) }
-        ensures asked { (packet : packets.Packet) (limit : ℕ) (queued : List Numbered) (read : List Replied)
+        ensures asked { (packet : packets.Packet) (limit : ℕ) (queued : List Numbered) (read : List ReplyValue)
             → has_asked self.old packet limit queued read
             → has_asked self.new packet limit queued (read ++ reply ∷ []) }
-        ensures ended { (limit : ℕ) (queued : List Numbered) (read : List Replied) → has_ended self.old limit queued read
+        ensures ended { (limit : ℕ) (queued : List Numbered) (read : List ReplyValue) → has_ended self.old limit queued read
             → has_ended self.new limit queued (read ++ reply ∷ []) }
         ensures share { share self.new ≡ share self.old };
 }

@@ -1,3 +1,3 @@
 mod Queued
 mod Parcels
-mod Serving
+mod EngineRun

@@ -1,17 +1,17 @@
 -- Parcels that are applied one by one, and the replies that they add.
 use Rattle.std.proofs.Common.{◌≡◌, refl, ℕ, List, [], ◌∷◌, ◌++◌, arith, remove, slice_get, Some, None}
-use Rattle.tb_work.specs.Packet.{Replied}
+use Rattle.tb_work.specs.Packet.{ReplyValue}
 use Rattle.tb_core.specs.declared.parcel.Parcel.{Parcel}
-use Rattle.tb_core.specs.Front.{all_passages_in}
+use Rattle.tb_core.specs.Front.{all_decisions_in}
 use Rattle.tb_core.specs.Journal.{LedgerState}
-use Rattle.tb_core.specs.inside.Passage.{Passage}
+use Rattle.tb_core.specs.inside.Decision.{Decision}
 use Rattle.tb_core.specs.Run.{Commits}
 
 -- all parcels in front of the rest were applied
-pub record AreApplied (clock : ℕ) (passages : List Passage) (rest : List Parcel) (ledger : LedgerState)
-    (replies : List Replied) : Type 0 where
-  pub done : List Passage
-  pub parts : done ++ all_passages_in rest ≡ passages
+pub record AreApplied (clock : ℕ) (decisions : List Decision) (rest : List Parcel) (ledger : LedgerState)
+    (replies : List ReplyValue) : Type 0 where
+  pub done : List Decision
+  pub parts : done ++ all_decisions_in rest ≡ decisions
   pub commits : Commits clock done ledger replies
 
 pub first_out : (parcels rest : List Parcel) (parcel : Parcel) → Some parcel ≡ slice_get parcels 0

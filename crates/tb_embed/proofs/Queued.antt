@@ -10,10 +10,10 @@ use Rattle.tb_work.specs.declared.item.Item.{Item}
 use Rattle.tb_work.specs.declared.item.Item.TheVariants as item
 use Rattle.tb_work.specs.declared.item.Ticket.{Ticket}
 use Rattle.tb_work.specs.declared.packet.Packet.{Packet}
-use Rattle.tb_core.specs.inside.Passage.{Passage, Passes}
-use Rattle.tb_core.proofs.Accounting.{part_push}
-use Rattle.tb_core.proofs.Committed.{all-push}
-use Rattle.tb_core.proofs.Passing.{passes_more, Stays}
+use Rattle.tb_core.specs.inside.Decision.{Decision, AreDecisions}
+use Rattle.tb_core.proofs.TicketDecisions.{part_push}
+use Rattle.tb_core.proofs.LedgerSteps.{all-push}
+use Rattle.tb_core.proofs.FrontDecisions.{passes_more, Stays}
 use Rattle.tb_embed.specs.Queued.{packets_in, HasEnded, HasQueued, AreQueued, ticket_of, packet_ticket, ends_of, ended_queue}
 
 -- ---- one sender's items
@@ -75,10 +75,10 @@ module _ (submitters : ℕ) (queue : List Ticket) (numbers : List ℕ) (shut : B
   others sender other next ended x is has =
       subst (HasQueued sender next ended) (sym (part_other sender other queue x is)) has
 
-  strangers_stay : (other : ℕ) (x : Item) → other ≤ submitters
+  no_other_sender_stays : (other : ℕ) (x : Item) → other ≤ submitters
       → (sender : ℕ) → submitters < sender → part sender (queue ++ ticket_of other x ∷ []) ≡ []
-  strangers_stay other x among sender beyond =
-      part_other sender other queue x (λ same. absurd (omega (arith, same, among, beyond))) ∙ are.strangers sender beyond
+  no_other_sender_stays other x among sender beyond =
+      part_other sender other queue x (λ same. absurd (omega (arith, same, among, beyond))) ∙ are.no_other_sender sender beyond
 
   pub packet_queued : (submitter : ℕ) (packet : Packet) → submitter < submitters → submitters ≤ length numbers →
       let number = get_or numbers submitter 0 in
@@ -99,7 +99,7 @@ module _ (submitters : ℕ) (queue : List Ticket) (numbers : List ℕ) (shut : B
       record {
         submitted = all-push (λ (t : Ticket). IsSubmitted submitters t.sender t.item) queue (ticket_of submitter x)
             are.submitted (refl, among);
-        strangers = strangers_stay submitter x (omega (arith, among));
+        no_other_sender = no_other_sender_stays submitter x (omega (arith, among));
         each = λ sender below. ⊎_elim (λ (same : submitter ≡ sender). subst Each same own)
             (λ (other : submitter ≢ sender). subst
             (λ n. HasQueued sender n false (part sender (queue ++ ticket_of submitter x ∷ [])))
@@ -115,7 +115,7 @@ module _ (submitters : ℕ) (queue : List Ticket) (numbers : List ℕ) (shut : B
   control_queued x own is none on = record {
     submitted = all-push (λ (t : Ticket). IsSubmitted submitters t.sender t.item) queue (ticket_of submitters x)
         are.submitted own;
-    strangers = strangers_stay submitters x (omega arith);
+    no_other_sender = no_other_sender_stays submitters x (omega arith);
     each = λ sender below. others sender submitters (get_or numbers sender 0) false x
         (λ same. absurd (omega (arith, same, below))) (are.each sender below);
     control = subst (λ n. HasQueued submitters n (is_end x) (part submitters (queue ++ ticket_of submitters x ∷ []))) none
@@ -153,17 +153,17 @@ part_within sender (suc count) queue within =
     ∙ part_within sender count queue (omega (arith, within, other)))
     (cases_eq count sender)
 
-pub passes_ended : (count : ℕ) (queue : List Ticket) (closed stopped : Bool) (passages : List Passage)
-    → Passes (items_in queue) closed stopped passages → Passes (items_in (queue ++ ends_of count)) closed stopped passages
-passes_ended zero queue closed stopped passages passes =
-    subst (λ (queue : List Ticket). Passes (items_in queue) closed stopped passages) (sym (append-nil queue)) passes
-passes_ended (suc count) queue closed stopped passages passes =
-    subst (λ (items : List Item). Passes items closed stopped passages)
+pub passes_ended : (count : ℕ) (queue : List Ticket) (closed stopped : Bool) (decisions : List Decision)
+    → AreDecisions (items_in queue) closed stopped decisions → AreDecisions (items_in (queue ++ ends_of count)) closed stopped decisions
+passes_ended zero queue closed stopped decisions passes =
+    subst (λ (queue : List Ticket). AreDecisions (items_in queue) closed stopped decisions) (sym (append-nil queue)) passes
+passes_ended (suc count) queue closed stopped decisions passes =
+    subst (λ (items : List Item). AreDecisions items closed stopped decisions)
     (sym (ap items_in (more_ends count queue)
     ∙ map-append (λ (t : Ticket). t.item) (queue ++ ends_of count) (ticket_of count item.End ∷ [])))
-    (passes_more false (items_in (queue ++ ends_of count)) closed stopped passages
-    (passes_ended count queue closed stopped passages passes) item.End closed stopped passages refl
-    (sym (append-nil passages)) (Stays refl))
+    (passes_more false (items_in (queue ++ ends_of count)) closed stopped decisions
+    (passes_ended count queue closed stopped decisions passes) item.End closed stopped decisions refl
+    (sym (append-nil decisions)) (Stays refl))
 
 submitted_ended : (submitters count : ℕ) (queue : List Ticket) → AreSubmitted submitters queue
     → AreSubmitted submitters (queue ++ ends_of count)
@@ -179,7 +179,7 @@ pub queue_ended : (submitters : ℕ) (queue : List Ticket) (numbers : List ℕ) 
     IsQueueOf submitters (ended_queue submitters shut queue) (λ sender. part sender (ended_queue submitters shut queue))
 queue_ended submitters queue numbers shut are = record {
   parts = λ sender among. refl;
-  strangers = λ sender beyond. part_beyond sender count queue (above shut sender beyond) ∙ are.strangers sender beyond;
+  no_other_sender = λ sender beyond. part_beyond sender count queue (above shut sender beyond) ∙ are.no_other_sender sender beyond;
   submitted = submitted_ended submitters count queue are.submitted;
   numbered = λ sender among. (each sender among).1.numbered;
   ended = λ sender among. (each sender among).1.ends;

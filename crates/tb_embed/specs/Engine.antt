@@ -4,17 +4,17 @@ use Rattle.tb_layout.specs.Limits.{batch_max, moment_max, submitters_max}
 use Rattle.tb_machine.specs.Replay.{State}
 use Rattle.tb_work.specs.Admission.{admission_of}
 use Rattle.tb_work.specs.Queue.{part, ahead, items_in}
-use Rattle.tb_work.specs.Packet.{Replied}
+use Rattle.tb_work.specs.Packet.{ReplyValue}
 use Rattle.tb_work.specs.declared.item.Item.{Item}
 use Rattle.tb_work.specs.declared.item.Ticket.{Ticket}
 use Rattle.tb_work.specs.declared.packet.Packet.{Packet}
 use Rattle.tb_work.specs.declared.refusal.Refusal.{Refusal}
 use Rattle.tb_work.specs.declared.refusal.Refusal.TheVariants.{BadSubmitters, Full, MomentTooLarge, NoMemory, Shutdown}
 use Rattle.tb_core.specs.Due.{all_due, replies_to}
-use Rattle.tb_core.specs.inside.Passage.{works_in, Passage, Passes}
+use Rattle.tb_core.specs.inside.Decision.{inputs_in, Decision, AreDecisions}
 use Rattle.tb_core.specs.Front.{FrontState, held_by}
 use Rattle.tb_core.specs.Grouping.{AreJoined}
-use Rattle.tb_core.specs.Journal.{LedgerState, works}
+use Rattle.tb_core.specs.Journal.{LedgerState, inputs}
 use Rattle.tb_core.specs.Report.{Run, IsPrefix, LawfulReport}
 use Rattle.tb_core.specs.Run.{Commits}
 use Rattle.tb_embed.specs.Queued.{AreQueued, ended_queue}
@@ -24,7 +24,7 @@ use Rattle.tb_embed.specs.Queued.{AreQueued, ended_queue}
 pub record EngineState : Type 0 where
   pub front : FrontState
   pub ledger : LedgerState
-  pub unread : List Replied
+  pub unread : List ReplyValue
   pub numbers : List ℕ
   pub shut : Bool
 
@@ -43,34 +43,34 @@ state_of engine = engine.ledger.state
 -- ---- what a call adds to the run so far
 
 -- from a clock on a front took these items and a ledger all that the front passed on; these are the replies
-pub record HasTaken (clock : ℕ) (items : List Item) (replies : List Replied) (front : FrontState)
+pub record HasTaken (clock : ℕ) (items : List Item) (replies : List ReplyValue) (front : FrontState)
     (ledger : LedgerState) : Type 0 where
-  pub sent : List Passage
-  pub passed : Passes items front.closed front.stopped (sent ++ held_by front)
+  pub sent : List Decision
+  pub passed : AreDecisions items front.closed front.stopped (sent ++ held_by front)
   pub commits : Commits clock sent ledger replies
   pub joined : AreJoined front.limit ledger.groups
 
 -- from a clock on this is what was queued in the engine, and these replies were read
-pub record Serves (clock : ℕ) (queue : List Ticket) (read : List Replied) (engine : EngineState) : Type 0 where
+pub record Serves (clock : ℕ) (queue : List Ticket) (read : List ReplyValue) (engine : EngineState) : Type 0 where
   pub taken : HasTaken clock (items_in queue) (read ++ engine.unread) engine.front engine.ledger
   pub queued : AreQueued engine.front.submitters queue engine.numbers engine.shut
 
 -- the call added this ticket to what was queued
 abbrev pub Queues : EngineState → Ticket → EngineState → Type 0
 Queues old ticket new =
-    (clock : ℕ) (queue : List Ticket) (read : List Replied) → Serves clock queue read old
+    (clock : ℕ) (queue : List Ticket) (read : List ReplyValue) → Serves clock queue read old
     → Serves clock (queue ++ ticket ∷ []) read new
 
 -- the call added this reply to those that were read
-abbrev pub Reads : EngineState → Replied → EngineState → Type 0
+abbrev pub Reads : EngineState → ReplyValue → EngineState → Type 0
 Reads old reply new =
-    (clock : ℕ) (queue : List Ticket) (read : List Replied) → Serves clock queue read old
+    (clock : ℕ) (queue : List Ticket) (read : List ReplyValue) → Serves clock queue read old
     → Serves clock queue (read ++ reply ∷ []) new
 
 -- the call added nothing
 abbrev pub Continues : EngineState → EngineState → Type 0
 Continues old new =
-    (clock : ℕ) (queue : List Ticket) (read : List Replied) → Serves clock queue read old → Serves clock queue read new
+    (clock : ℕ) (queue : List Ticket) (read : List ReplyValue) → Serves clock queue read old → Serves clock queue read new
 
 -- ---- refusals
 
@@ -109,7 +109,7 @@ IsRefusal first refusal = (first ≡ Some refusal) ⊎ ((first ≡ None) × (ref
 -- ---- what follows
 
 -- the run that ends here: each sender's end is queued after all that it queued
-abbrev pub run_of : ℕ → List Ticket → List Replied → EngineState → Run
+abbrev pub run_of : ℕ → List Ticket → List ReplyValue → EngineState → Run
 run_of clock queue read engine =
     let whole = ended_queue engine.front.submitters engine.shut queue in
     record {
@@ -125,17 +125,17 @@ run_of clock queue read engine =
 -- What was committed is a prefix of what was queued ahead of the Close, and the replies, read and unread, are a prefix of
 -- those due. Unless something stopped, what is ahead is committed or held. When nothing is held and all replies are read,
 -- the report on the run that ends here is lawful.
-pub record IsServed (clock : ℕ) (queue : List Ticket) (read : List Replied) (engine : EngineState) : Type 0 where
-  pub committed : IsPrefix (works engine.ledger) (ahead (items_in queue))
-  pub due : IsPrefix (read ++ engine.unread) (all_due clock (items_in queue) (works engine.ledger))
-  pub replied : engine.front.held ≡ [] → read ++ engine.unread ≡ all_due clock (items_in queue) (works engine.ledger)
+pub record IsServed (clock : ℕ) (queue : List Ticket) (read : List ReplyValue) (engine : EngineState) : Type 0 where
+  pub committed : IsPrefix (inputs engine.ledger) (ahead (items_in queue))
+  pub due : IsPrefix (read ++ engine.unread) (all_due clock (items_in queue) (inputs engine.ledger))
+  pub replied : engine.front.held ≡ [] → read ++ engine.unread ≡ all_due clock (items_in queue) (inputs engine.ledger)
   pub whole : engine.front.stopped ≡ false → engine.ledger.stopped ≡ false
-      → works engine.ledger ++ works_in (held_by engine.front) ≡ ahead (items_in queue)
+      → inputs engine.ledger ++ inputs_in (held_by engine.front) ≡ ahead (items_in queue)
   pub report : engine.front.held ≡ [] → engine.unread ≡ [] →
       LawfulReport (run_of clock queue read engine)
 
 -- Whatever was queued and read, in any order of calls.
 abbrev pub ServingIsLawful : Type 0
 ServingIsLawful =
-    (clock : ℕ) (queue : List Ticket) (read : List Replied) (engine : EngineState) → Serves clock queue read engine
+    (clock : ℕ) (queue : List Ticket) (read : List ReplyValue) (engine : EngineState) → Serves clock queue read engine
     → IsServed clock queue read engine

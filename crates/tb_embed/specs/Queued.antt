@@ -28,7 +28,7 @@ pub record HasQueued (sender next : ℕ) (ended : Bool) (items : List Item) : Ty
 -- what submitters and their control queued: no submitter has ended, and the control has if it is shut
 pub record AreQueued (submitters : ℕ) (queue : List Ticket) (numbers : List ℕ) (shut : Bool) : Type 0 where
   pub submitted : AreSubmitted submitters queue
-  pub strangers : (sender : ℕ) → submitters < sender → part sender queue ≡ []
+  pub no_other_sender : (sender : ℕ) → submitters < sender → part sender queue ≡ []
   pub each : (sender : ℕ) → sender < submitters
       → HasQueued sender (get_or numbers sender 0) false (part sender queue)
   pub control : HasQueued submitters 0 shut (part submitters queue)
@@ -43,7 +43,7 @@ packet_ticket submitter number packet =
 
 -- ---- a run that ends
 
--- an End of each of so many senders
+-- an End of each sender below a number
 abbrev pub ends_of : ℕ → List Ticket
 ends_of zero = []
 ends_of (suc sender) = ends_of sender ++ ticket_of sender item.End ∷ []

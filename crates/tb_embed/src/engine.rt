@@ -5,13 +5,13 @@ ghost use Rattle.std.specs.Option.{option_copied};
 ghost use Rattle.std.specs.List.{flat_map};
 ghost use Rattle.tb_layout.specs.Limits.{clock_max};
 ghost use Rattle.tb_tables.specs.Balances.{balanced_account};
-ghost use Rattle.tb_work.specs.Packet.{Replied};
+ghost use Rattle.tb_work.specs.Packet.{ReplyValue};
 ghost use Rattle.tb_work.specs.declared.item.Item.{Item as ItemValue};
 ghost use Rattle.tb_work.specs.declared.item.Item.TheVariants as item;
 ghost use Rattle.tb_work.specs.declared.refusal.Refusal.TheVariants.{NoMemory as NoMemoryRefusal};
-ghost use Rattle.tb_core.specs.Front.{opening_refusal, all_passages_in};
+ghost use Rattle.tb_core.specs.Front.{opening_refusal, all_decisions_in};
 ghost use Rattle.tb_core.specs.Grouping.{AreJoined, AreJoinedParcels};
-ghost use Rattle.tb_core.specs.inside.Passage.{Passage};
+ghost use Rattle.tb_core.specs.inside.Decision.{Decision};
 ghost use Rattle.tb_core.specs.Run.{Commits};
 ghost use Rattle.tb_embed.specs.Engine.{HasTaken, Serves, Queues, Reads, Continues, IsRefusal, sender_refusal, submit_refusal, pulse_refusal, shut_refusal, state_of};
 ghost use Rattle.tb_embed.specs.Queued.{ticket_of, packet_ticket};
@@ -36,7 +36,7 @@ pub struct Engine {
 }
 
 impl Drop for Engine {
-    /// Frees all that is held in one call, so that no owner's proof goes through it.
+    /// Frees everything held in one call, so that no owner's proof repeats it.
     fn drop(self) {
         let Engine {
             limit: _,
@@ -72,9 +72,9 @@ impl Model for Engine {
 /// Applies parcels in order, for whose outcomes there is capacity.
 fn apply_all(ledger: &mut Ledger, unread: &mut Unread, parcels: &mut ArrayVec<Parcel, 2>)
     requires room { length parcels.old.items ≤ unread.old.room }
-    ensures commits { (clock : ℕ) (sent : List Passage) (read : List Replied)
+    ensures commits { (clock : ℕ) (sent : List Decision) (read : List ReplyValue)
         → Commits clock sent ledger.old (read ++ unread.old.replies)
-        → Commits clock (sent ++ all_passages_in parcels.old.items) ledger.new (read ++ unread.new.replies) }
+        → Commits clock (sent ++ all_decisions_in parcels.old.items) ledger.new (read ++ unread.new.replies) }
     ensures joined { (limit : ℕ) → AreJoinedParcels limit parcels.old.items → AreJoined limit ledger.old.groups
         → AreJoined limit ledger.new.groups }
 {
@@ -145,11 +145,11 @@ impl Engine {
         Ok(())
     }
 
-    /// Passes a ticket through the front and the ledger. If there is no memory for its outcomes, it is returned and
+    /// AreDecisions a ticket through the front and the ledger. If there is no memory for its outcomes, it is returned and
     /// nothing has changed.
     fn take(&mut self, ticket: Ticket) -> Result<(), Ticket>
         requires { ticket.sender ≤ self.old.front.submitters }
-        ensures taken { OnOk result ((clock : ℕ) (items : List ItemValue) (read : List Replied)
+        ensures taken { OnOk result ((clock : ℕ) (items : List ItemValue) (read : List ReplyValue)
             → HasTaken clock items (read ++ self.old.unread) self.old.front self.old.ledger
             → HasTaken clock (items ++ ticket.item ∷ []) (read ++ self.new.unread) self.new.front self.new.ledger) }
         ensures same { (self.new.numbers ≡ self.old.numbers) × (self.new.shut ≡ self.old.shut)
@@ -168,9 +168,9 @@ impl Engine {
         Ok(())
     }
 
-    /// Passes an item of the control through the front and the ledger.
+    /// AreDecisions an item of the control through the front and the ledger.
     fn take_control(&mut self, item: Item) -> Result<(), Refusal>
-        ensures taken { OnOk result ((clock : ℕ) (items : List ItemValue) (read : List Replied)
+        ensures taken { OnOk result ((clock : ℕ) (items : List ItemValue) (read : List ReplyValue)
             → HasTaken clock items (read ++ self.old.unread) self.old.front self.old.ledger
             → HasTaken clock (items ++ item ∷ []) (read ++ self.new.unread) self.new.front self.new.ledger) }
         ensures same { (self.new.numbers ≡ self.old.numbers) × (self.new.shut ≡ self.old.shut)

@@ -8,7 +8,7 @@ use tb_work::{Bytes, Outcome, Packet, Refusal, Reply};
 
 #[derive(Clone, Copy)]
 enum Call {
-    /// A packet of a submitter: an operation with so many zeros as its data.
+    /// A submitter's packet: an operation with `size` zeros as its data.
     Submit(u32, u8, usize),
     Pulse(u64),
     Shut,

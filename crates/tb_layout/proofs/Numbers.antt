@@ -113,7 +113,7 @@ drop-laid ((size, number) ∷ front) back =
     (sym (length-bytes_of size number))
     ∙ drop-append-add (bytes_of size number) (bytes_in_turn (front ++ back)) (size_of front) ∙ drop-laid front back
 
--- a number is found where it lies
+-- a number is found where it was written
 pub number_at-laid : (front : List (ℕ × ℕ)) (size number : ℕ) (back : List (ℕ × ℕ)) → number < 256 ^ size →
     number_at (bytes_in_turn (front ++ (size, number) ∷ back)) (size_of front) size ≡ number
 number_at-laid front size number back h =

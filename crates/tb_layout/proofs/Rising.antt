@@ -3,7 +3,7 @@ use Rattle.std.proofs.Common.{◌≡◌, ℕ, zero, suc, ◌+◌, ◌<◌, ◌�
 use Rattle.tb_layout.specs.declared.failure.Failure.{Failure}
 use Rattle.tb_layout.specs.Failures.{RiseWithin, from_offset}
 
--- as many failures lie before one as there are indices for
+-- there are as many failures before one as there are indices for
 pub rise_at : (low high : ℕ) (failures : List Failure) (place : ℕ) (d : Failure) → RiseWithin low high failures
     → place < length failures →
     (low + place ≤ (get_or failures place d).index) × ((get_or failures place d).index < high)

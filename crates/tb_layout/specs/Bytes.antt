@@ -20,7 +20,7 @@ abbrev pub bytes_in_turn : List (ℕ × ℕ) → List ℕ
 bytes_in_turn [] = []
 bytes_in_turn ((size, number) ∷ fields) = bytes_of size number ++ bytes_in_turn fields
 
--- a list of so many bytes
+-- a list of this many bytes
 pub record IsBytes (size : ℕ) (bytes : List ℕ) : Type 0 where
   pub count : length bytes ≡ size
   pub each : All (λ byte. byte < 256) bytes

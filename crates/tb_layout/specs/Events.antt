@@ -9,7 +9,7 @@ use Rattle.tb_layout.specs.Bytes.{little_endian, number_at}
 use Rattle.tb_layout.specs.Flags.{has_flag}
 use Rattle.tb_layout.specs.Operation.{create_accounts, create_transfers}
 
--- a body cut into chunks of so many bytes
+-- a body cut into chunks of this size
 abbrev pub chunks : ℕ → List ℕ → List (List ℕ)
 chunks size body = first_chunks size (length body / size) body
 

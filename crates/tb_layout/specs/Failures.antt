@@ -8,7 +8,7 @@ RiseWithin low high [] = Unit {0}
 RiseWithin low high (failure ∷ failures) =
     (low ≤ failure.index) × (failure.index < high) × RiseWithin (failure.index + 1) high failures
 
--- whether a failure is one of so many events from an offset on
+-- whether a failure is that of one of `count` events from an offset on
 abbrev pub is_within : ℕ → ℕ → Failure → Bool
 is_within offset count failure = nat_le offset failure.index && nat_lt failure.index (offset + count)
 
@@ -16,6 +16,6 @@ is_within offset count failure = nat_le offset failure.index && nat_lt failure.i
 abbrev pub from_offset : ℕ → Failure → Failure
 from_offset offset failure = record failure { index = failure.index - offset }
 
--- the failures of so many events from an offset on, with indices from 0
+-- the failures of `count` events from an offset on, with indices from 0
 abbrev pub failures_within : ℕ → ℕ → List Failure → List Failure
 failures_within offset count failures = map (from_offset offset) (filter (is_within offset count) failures)

@@ -9,4 +9,4 @@ pub mod TransferCode
 pub mod Failure
 pub mod Events
 pub mod Failures
-pub mod Work
+pub mod Input

@@ -7,7 +7,7 @@ use crate::failure::Failure;
 use smallvec::SmallVec;
 use std::marker::Model;
 
-/// Room for failures. Those of a small packet, of up to two events, lie in the value itself and need no memory of their
+/// Room for failures. Those of a small packet, of up to two events, are in the value itself and need no memory of their
 /// own.
 pub type FailureRoom = SmallVec<Failure, 2>;
 
@@ -17,7 +17,7 @@ pub struct Failures {
 }
 
 impl Drop for Failures {
-    /// Lets all that is held go in one call, so that no owner's proof goes through it.
+    /// Frees everything held in one call, so that no owner's proof repeats it.
     fn drop(self) {
         let Failures { failures } = self;
         drop(failures);

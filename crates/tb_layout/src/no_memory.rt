@@ -7,7 +7,7 @@ use std::fmt::{Display, Formatter};
 
 /// Memory that a call asked for was refused.
 ///
-/// It is answered only where a growth was really refused, and it is the same refusal in each crate.
+/// It is returned only if an allocation really failed, and it is the same refusal in each crate.
 #[derive(Clone, Copy, Debug, PartialEq, Eq)]
 pub struct NoMemory;
 

@@ -11,7 +11,7 @@ use Rattle.tb_tables.specs.Balances.{debits_pending, debits_posted, credits_pend
 use Rattle.tb_tables.specs.Status.{status_with}
 use Rattle.tb_tables.specs.declared.status.Status.TheVariants.{Pending, Voided, Expired}
 use Rattle.tb_layout.specs.declared.answer.Answer.TheVariants as answer
-use Rattle.tb_layout.specs.Work.{Work, Packet, Pulse}
+use Rattle.tb_layout.specs.Input.{Input, Packet, Pulse}
 use Rattle.tb_machine.specs.Replay.{replay, answer_at, failures_of}
 
 abbrev most : ℕ
@@ -103,10 +103,10 @@ bad_account_fields = refl
 
 -- ---- transfers, after accounts 1 and 2
 
-abbrev two_accounts : Work
+abbrev two_accounts : Input
 two_accounts = Packet 0 0 (Accounts (account 1 ∷ account 2 ∷ []))
 
-abbrev limited_accounts : Work
+abbrev limited_accounts : Input
 limited_accounts = Packet 0 0 (Accounts (account 1 ∷ record (account 2) { flags = 2 } ∷ account 3 ∷ []))
 
 abbrev chain : Events
@@ -126,7 +126,7 @@ chains_of_transfers_joined-clock : (replay 0 (limited_accounts ∷ Packet 0 0 ch
     ∷ Packet 0 0 (Transfers (transfer 2 2 3 10 ∷ [])) ∷ [])).clock ≡ 7
 chains_of_transfers_joined-clock = refl
 
-abbrev posted : List Work
+abbrev posted : List Input
 posted = two_accounts ∷ Packet 0 0 (Transfers (pending 1 100 0 ∷ [])) ∷ Packet 0 0 (Transfers (post 2 1 most ∷ [])) ∷ []
 
 post_then_void : failures_of (replay 0 posted) (Transfers (void 3 1 0 ∷ [])) ≡ failure 0 33 ∷ []
@@ -135,7 +135,7 @@ post_then_void = refl
 post_then_void-balance : debits_posted (replay 0 posted).facts 1 ≡ 100
 post_then_void-balance = refl
 
-abbrev late : List Work
+abbrev late : List Input
 late =
     two_accounts ∷ Packet 0 0 (Transfers (pending 1 100 1 ∷ [])) ∷ Pulse 1000000002
     ∷ Packet 0 0 (Transfers (post 2 1 most ∷ [])) ∷ Pulse 0 ∷ []
@@ -143,10 +143,10 @@ late =
 late_post_then_pulse : answer_at 0 late 3 ≡ Some (answer.Failures (failure 0 35 ∷ []))
 late_post_then_pulse = refl
 
-late_post_then_pulse-between : debits_pending
+late_post_then_pulse-check_accounts : debits_pending
     (replay 0 (two_accounts ∷ Packet 0 0 (Transfers (pending 1 100 1 ∷ [])) ∷ Pulse 1000000002
     ∷ Packet 0 0 (Transfers (post 2 1 most ∷ [])) ∷ [])).facts 1 ≡ 100
-late_post_then_pulse-between = refl
+late_post_then_pulse-check_accounts = refl
 
 late_post_then_pulse-behind : debits_pending (replay 0 late).facts 1 ≡ 0
 late_post_then_pulse-behind = refl
@@ -191,7 +191,7 @@ transfer_refusals-debits = refl
 transfer_refusals-credits : credits_posted (replay 0 (two_accounts ∷ Packet 0 0 refused ∷ [])).facts 2 ≡ 30
 transfer_refusals-credits = refl
 
-abbrev three : List Work
+abbrev three : List Input
 three =
     two_accounts ∷ Packet 0 0 (Transfers (pending 1 100 1 ∷ pending 2 50 1 ∷ pending 3 7 0 ∷ []))
     ∷ Packet 0 0 (Transfers (void 4 2 0 ∷ [])) ∷
@@ -207,7 +207,7 @@ expiry_void_and_untimed-statuses = refl
 expiry_void_and_untimed-clock : (replay 0 three).clock ≡ 2000000000
 expiry_void_and_untimed-clock = refl
 
-abbrev ordered : List Work
+abbrev ordered : List Input
 ordered =
     two_accounts ∷ Packet 0 0 (Transfers (pending 1 10 2 ∷ pending 2 20 1 ∷ pending 3 30 1 ∷ [])) ∷
     Packet 0 0 (Transfers (record (post 4 2 most) { flags = 5 } ∷ transfer 0 1 2 0 ∷ []))
@@ -223,7 +223,7 @@ expiry_order-statuses = refl
 expiry_order-balance : debits_pending (replay 0 ordered).facts 1 ≡ 10
 expiry_order-balance = refl
 
-abbrev failed : List Work
+abbrev failed : List Input
 failed =
     two_accounts ∷ Packet 0 0 (Transfers (record (transfer 1 1 2 5) { flags = 1 } ∷ transfer 2 1 9 5 ∷ [])) ∷
     Packet 0 0 (Transfers (transfer 1 1 2 5 ∷ transfer 2 1 2 5 ∷ [])) ∷ Packet 0 0 (Transfers (post 3 8 most ∷ [])) ∷

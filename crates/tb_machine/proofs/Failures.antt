@@ -4,7 +4,7 @@ use Rattle.std.specs.Prelude.{if◌then◌else◌, ◌==◌, is_some}
 use Rattle.std.proofs.lemmas.List.{length-replicate, replicate_more}
 use Rattle.tb_layout.specs.declared.failure.Failure.{Failure}
 use Rattle.tb_tables.specs.Facts.{Facts}
-use Rattle.tb_machine.specs.declared.fault.Fault.{Fault}
+use Rattle.tb_machine.specs.declared.fault.ChainFault.{ChainFault}
 use Rattle.tb_machine.specs.Chain.{Operation, closed_outcome, failed_results}
 use Rattle.tb_machine.specs.Packet.{failures_from}
 use Rattle.tb_machine.specs.Examining.{LiesBelow}
@@ -57,7 +57,7 @@ failures_from-fault index place code count fault =
     (eqb-false code 0 fault)
 
 -- the last event of an open chain reports so
-pub failures_from-open : {Event : Type 0} (index count : ℕ) (fault : Option (Fault Event)) → LiesBelow count fault →
+pub failures_from-open : {Event : Type 0} (index count : ℕ) (fault : Option (ChainFault Event)) → LiesBelow count fault →
     failures_from index (failed_results count fault ++ 2 ∷ [])
     ≡ failures_from index (failed_results count fault) ++ failure (index + count) 2 ∷ []
 failures_from-open index count fault below =
@@ -67,7 +67,7 @@ failures_from-open index count fault below =
 
 -- a chain without a fault reports nothing
 pub failures_from-quiet : {Event : Type 0} (operation : Operation Event) (clock : ℕ) (facts : Facts)
-    (chain : List Event) (index : ℕ) (fault : Option (Fault Event)) → is_some fault ≡ false →
+    (chain : List Event) (index : ℕ) (fault : Option (ChainFault Event)) → is_some fault ≡ false →
     failures_from index (closed_outcome operation clock facts chain fault).results ≡ []
 failures_from-quiet operation clock facts chain index None quiet = failures_from-none index (length chain)
 failures_from-quiet operation clock facts chain index (Some fault) quiet = cc

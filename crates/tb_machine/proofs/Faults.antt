@@ -5,7 +5,7 @@ use Rattle.std.proofs.lemmas.List.{length-map, length-replicate}
 use Rattle.std.proofs.lemmas.Bool.Decides.{eqb_tells}
 use Rattle.tb_layout.specs.Events.{is_last_linked}
 use Rattle.tb_tables.specs.Facts.{Facts}
-use Rattle.tb_machine.specs.declared.fault.Fault.{Fault}
+use Rattle.tb_machine.specs.declared.fault.ChainFault.{ChainFault}
 use Rattle.tb_machine.specs.Clock.{next_timestamp, clock_after}
 use Rattle.tb_machine.specs.Chain.{Operation, Outcome, verdict_at, facts_with, first_fault, failed_results, closed_outcome, chain_outcome, all_but_last}
 use Rattle.tb_machine.specs.Examining.{LiesBelow, fault_as}
@@ -20,7 +20,7 @@ ne_from_eqb a b h =
     ⊎_elim (λ (y : (eqb a b ≡ true) × (a ≡ b)). absurd (cc (h, y.0)))
     (λ (n : (eqb a b ≡ false) × (a ≢ b)). n.1) (eqb_tells a b)
 
-chosen : {Event : Type 0} (is_ok : Bool) (code index end : ℕ) (event : Event) (rest : Option (Fault Event))
+chosen : {Event : Type 0} (is_ok : Bool) (code index end : ℕ) (event : Event) (rest : Option (ChainFault Event))
     → (code == 0) ≡ is_ok → index < end →
     LiesBelow end rest → LiesBelow end (if is_ok then rest
     else Some (record { index = index; event = event; code = code }))
@@ -45,12 +45,12 @@ fault-below operation f clock facts chunks =
     first_fault-below operation 0 clock facts (map f chunks) (length chunks) (omega (arith, length-map chunks f))
 
 -- whatever its event becomes, a fault stays one
-pub quiet_as : {A B : Type 0} (become : A → B) (fault : Option (Fault A)) → is_some fault ≡ false
+pub quiet_as : {A B : Type 0} (become : A → B) (fault : Option (ChainFault A)) → is_some fault ≡ false
     → is_some (fault_as become fault) ≡ false
 quiet_as become None h = refl
 quiet_as become (Some fault) h = h
 
-pub length-failed_results : {Event : Type 0} (count : ℕ) (fault : Option (Fault Event)) → LiesBelow count fault
+pub length-failed_results : {Event : Type 0} (count : ℕ) (fault : Option (ChainFault Event)) → LiesBelow count fault
     → length (failed_results count fault) ≡ count
 length-failed_results count None below = length-replicate count 1
 length-failed_results count (Some fault) below =
@@ -72,7 +72,7 @@ length-all_but_last is_linked (event ∷ []) h = refl
 length-all_but_last is_linked (event ∷ next ∷ events) h = omega (arith, length-all_but_last is_linked (next ∷ events) h)
 
 length-closed : {Event : Type 0} (operation : Operation Event) (clock : ℕ) (facts : Facts) (chain : List Event)
-    (fault : Option (Fault Event)) → LiesBelow (length chain) fault →
+    (fault : Option (ChainFault Event)) → LiesBelow (length chain) fault →
     length (closed_outcome operation clock facts chain fault).results ≡ length chain
 length-closed operation clock facts chain None below = length-replicate (length chain) 0
 length-closed operation clock facts chain (Some fault) below = length-failed_results (length chain) (Some fault) below

@@ -12,7 +12,7 @@ use Rattle.tb_machine.specs.Examining.{first_chain_length}
 use Rattle.tb_machine.proofs.Faults.{length-chain_outcome}
 use Rattle.tb_machine.proofs.Failures.{failures_from-append}
 
--- ---- whether a chain is open is told by its last event
+-- ---- the last event decides whether a chain is open
 
 last_linked : {Event : Type 0} (is_linked : Event → Bool) (events : List Event) (d : Event) → 0 < length events
     → is_last_linked is_linked events ≡ is_linked (get_or events (length events - 1) d)
@@ -135,7 +135,7 @@ events_outcome-first operation clock facts (event ∷ events) n h is =
     ∙ ap (λ k. take k all ∷ chains_of operation.is_linked (drop k all)) (sym is))
     ∙ ap (λ k. then_outcome first (events_outcome operation (clock_after clock k) first.facts (drop n all))) long
 
--- ---- the chains before event number i were taken, and what is left tells the whole
+-- ---- the chains before event number i were taken, and the remainder decides the whole
 
 pub record IsLeft {Event : Type 0} (operation : Operation Event) (clock : ℕ) (old : Facts) (events : List Event)
     (now : ℕ) (facts : Facts) (index : ℕ) (rest : List Event) (out : List Failure) : Type 0 where

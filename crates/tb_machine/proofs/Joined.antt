@@ -35,7 +35,7 @@ before_if-append : {Event : Type 0} (is_linked : Bool) (event : Event) (chains m
 before_if-append true event chains more some = rw some.2 refl
 before_if-append false event chains more some = refl
 
--- the chains of events of which the last is not linked end before the events that follow
+-- chains of events whose last is not linked end before the events that follow
 chains_of-append : {Event : Type 0} (is_linked : Event → Bool) (xs ys : List Event)
     → is_last_linked is_linked xs ≡ false → chains_of is_linked (xs ++ ys)
     ≡ chains_of is_linked xs ++ chains_of is_linked ys
@@ -242,7 +242,7 @@ closed-rest : (a b : Bool) → (not a && b) ≡ true → b ≡ true
 closed-rest true b h = cc
 closed-rest false b h = h
 
--- how an operation's packets stand among all packets
+-- where an operation's packets are among all packets
 pub record ArePacketsOf {Event : Type 0} (operation : Operation Event) (packet_of : List Event → Events) : Type 0 where
   pub outcome : (state : State) (events : List Event)
       → outcome_of state (packet_of events) ≡ events_outcome operation state.clock state.facts events
@@ -336,7 +336,7 @@ module _ {Event : Type 0} (operation : Operation Event) (packet_of : List Event 
       (sym (are.outcome state (events_in_turn packets)))
       (subst (λ high. RiseWithin 0 high (failures_from 0 results)) count (failures_rise 0 results))
 
-  -- packets of which none is open
+  -- packets, none of them open
   pub joining : (state : State) (packets : List (List Event)) → state.clock ≤ clock_max
       → none_open operation.is_linked packets ≡ true → GiveAsEach packet_of state packets
   joining state packets h closed = record {
@@ -346,7 +346,7 @@ module _ {Event : Type 0} (operation : Operation Event) (packet_of : List Event 
     state_after = state_after state packets h closed;
   }
 
-  -- a packet alone, open or not
+  -- one packet, open or not
   alone : (state : State) (packet : List Event) → GiveAsEach packet_of state (packet ∷ [])
   alone state packet =
       let results = (outcome_of state (packet_of packet)).results in

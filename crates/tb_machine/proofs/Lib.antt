@@ -1,6 +1,6 @@
 pub mod Faults
 pub mod Failures
 pub mod FirstChain
-mod Storing
+mod StoredEvents
 pub mod Joined
 mod Examples

@@ -13,8 +13,8 @@ abbrev pub u128_max : ℕ
 u128_max = 340282366920938463463374607431768211455
 
 -- an event whose id is that of an account
-abbrev pub against_existing : Account → Account → AccountCode
-against_existing existing event =
+abbrev pub compare_with_existing : Account → Account → AccountCode
+compare_with_existing existing event =
     first_row (
     (not (event.flags == existing.flags), ExistsWithDifferentFlags) ∷
     (not (event.user_data_128 == existing.user_data_128), ExistsWithDifferentUserData128) ∷
@@ -26,8 +26,8 @@ against_existing existing event =
     ) Exists
 
 -- an event with a new id
-abbrev pub of_new : Account → AccountCode
-of_new event =
+abbrev pub check_new_account : Account → AccountCode
+check_new_account event =
     first_row (
     (debits_must_not_exceed_credits event && credits_must_not_exceed_debits event, FlagsAreMutuallyExclusive) ∷
     (not (event.debits_pending == 0), DebitsPendingMustBeZero) ∷
@@ -40,12 +40,12 @@ of_new event =
     ) Ok
 
 abbrev pub against : Option Account → Account → AccountCode
-against (Some existing) event = against_existing existing event
-against None event = of_new event
+against (Some existing) event = compare_with_existing existing event
+against None event = check_new_account event
 
 -- an event, where the account with its id is the other, if there is one
-abbrev pub verdict_beside : Option Account → Account → AccountCode
-verdict_beside found event =
+abbrev pub verdict_given : Option Account → Account → AccountCode
+verdict_given found event =
     first_row (
     (not (event.timestamp == 0), TimestampMustBeZero) ∷
     (not (event.reserved == 0), ReservedField) ∷
@@ -56,4 +56,4 @@ verdict_beside found event =
     ) (against found event)
 
 abbrev pub account_verdict : Facts → Account → AccountCode
-account_verdict facts event = verdict_beside (account_with facts event.id) event
+account_verdict facts event = verdict_given (account_with facts event.id) event

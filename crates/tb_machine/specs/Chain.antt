@@ -1,8 +1,8 @@
--- Chains of linked events: where they end, and what becomes of one.
+-- Chains of linked events: where they end, and what each results in.
 use Rattle.std.specs.Prelude.{ℕ, ◌+◌, ◌-◌, ◌==◌, Bool, List, [], ◌∷◌, ◌++◌, length, replicate, Option, Some, None, if◌then◌else◌}
 use Rattle.tb_layout.specs.Events.{is_last_linked}
 use Rattle.tb_tables.specs.Facts.{Facts}
-use Rattle.tb_machine.specs.declared.fault.Fault.{Fault}
+use Rattle.tb_machine.specs.declared.fault.ChainFault.{ChainFault}
 use Rattle.tb_machine.specs.Clock.{next_timestamp, clock_after}
 
 abbrev pub linked_event_failed : ℕ
@@ -54,7 +54,7 @@ facts_with_all operation clock facts (event ∷ events) =
     facts_with_all operation (clock_after clock 1) (facts_with operation facts (next_timestamp clock) event) events
 
 -- the first event whose verdict, on the facts with those before it stored, is a fault; the first event has this index
-abbrev pub first_fault : {Event : Type 0} → Operation Event → ℕ → ℕ → Facts → List Event → Option (Fault Event)
+abbrev pub first_fault : {Event : Type 0} → Operation Event → ℕ → ℕ → Facts → List Event → Option (ChainFault Event)
 first_fault operation index clock facts [] = None
 first_fault operation index clock facts (event ∷ events) =
     let code = verdict_at operation facts (next_timestamp clock) event in
@@ -62,17 +62,17 @@ first_fault operation index clock facts (event ∷ events) =
     (facts_with operation facts (next_timestamp clock) event) events
     else Some (record { index = index; event = event; code = code })
 
--- the results of so many events that fail together: the first fault has its own code
-abbrev pub failed_results : {Event : Type 0} → ℕ → Option (Fault Event) → List ℕ
+-- the results of `count` events that fail together: the first fault has its own code
+abbrev pub failed_results : {Event : Type 0} → ℕ → Option (ChainFault Event) → List ℕ
 failed_results count None = replicate count linked_event_failed
 failed_results count (Some fault) =
     replicate fault.index linked_event_failed ++ fault.code
     ∷ replicate (count - fault.index - 1) linked_event_failed
 
 -- the facts that a failed chain leaves
-abbrev pub left_behind : {Event : Type 0} → Operation Event → Facts → Option (Fault Event) → Facts
-left_behind operation facts None = facts
-left_behind operation facts (Some fault) = operation.remembered facts fault.code fault.event
+abbrev pub facts_after_failure : {Event : Type 0} → Operation Event → Facts → Option (ChainFault Event) → Facts
+facts_after_failure operation facts None = facts
+facts_after_failure operation facts (Some fault) = operation.remembered facts fault.code fault.event
 
 -- the results of events, one for each, and the facts after them
 pub record Outcome : Type 0 where
@@ -80,18 +80,18 @@ pub record Outcome : Type 0 where
   pub facts : Facts
 
 -- a chain that is not open succeeds where it has no fault
-abbrev pub closed_outcome : {Event : Type 0} → Operation Event → ℕ → Facts → List Event → Option (Fault Event) → Outcome
+abbrev pub closed_outcome : {Event : Type 0} → Operation Event → ℕ → Facts → List Event → Option (ChainFault Event) → Outcome
 closed_outcome operation clock facts chain None =
     record { results = replicate (length chain) 0; facts = facts_with_all operation clock facts chain }
 closed_outcome operation clock facts chain (Some fault) =
-    record { results = failed_results (length chain) (Some fault); facts = left_behind operation facts (Some fault) }
+    record { results = failed_results (length chain) (Some fault); facts = facts_after_failure operation facts (Some fault) }
 
 -- an open chain fails, and its last event is not examined
-abbrev pub open_outcome : {Event : Type 0} → Operation Event → Facts → List Event → Option (Fault Event) → Outcome
+abbrev pub open_outcome : {Event : Type 0} → Operation Event → Facts → List Event → Option (ChainFault Event) → Outcome
 open_outcome operation facts front fault =
     record {
       results = failed_results (length front) fault ++ linked_event_chain_open ∷ [];
-      facts = left_behind operation facts fault;
+      facts = facts_after_failure operation facts fault;
     }
 
 abbrev pub chain_outcome : {Event : Type 0} → Operation Event → ℕ → Facts → List Event → Outcome

@@ -6,6 +6,6 @@ use Rattle.tb_layout.specs.Limits.{clock_max}
 abbrev pub next_timestamp : ℕ → Option ℕ
 next_timestamp clock = if nat_lt clock clock_max then Some (clock + 1) else None
 
--- the clock after so many events, whatever their results
+-- the clock after `count` events, whatever their results
 abbrev pub clock_after : ℕ → ℕ → ℕ
 clock_after clock count = min (clock + count) clock_max

@@ -1,7 +1,7 @@
 -- Words of the functions that take a packet's chains one by one.
 use Rattle.std.specs.Prelude.{◌≢◌, ◌<◌, ℕ, suc, Bool, List, [], ◌∷◌, Option, Some, None, if◌then◌else◌}
 use Rattle.tb_tables.specs.Facts.{Facts}
-use Rattle.tb_machine.specs.declared.fault.Fault.{Fault}
+use Rattle.tb_machine.specs.declared.fault.ChainFault.{ChainFault}
 use Rattle.tb_machine.specs.Chain.{Operation, Outcome, closed_outcome, first_fault}
 
 -- how many events the first chain has
@@ -9,17 +9,17 @@ abbrev pub first_chain_length : {Event : Type 0} → (Event → Bool) → List E
 first_chain_length is_linked [] = 0
 first_chain_length is_linked (event ∷ events) = if is_linked event then suc (first_chain_length is_linked events) else 1
 
--- a fault, if there is one, lies below an index and has a code
-abbrev pub LiesBelow : {Event : Type 0} → ℕ → Option (Fault Event) → Type 0
+-- a fault, if there is one, is below an index and has a code
+abbrev pub LiesBelow : {Event : Type 0} → ℕ → Option (ChainFault Event) → Type 0
 LiesBelow end None = Unit {0}
 LiesBelow end (Some fault) = (fault.index < end) × (fault.code ≢ 0)
 
 -- a fault, if there is one, of what its event becomes
-abbrev pub fault_as : {A B : Type 0} → (A → B) → Option (Fault A) → Option (Fault B)
+abbrev pub fault_as : {A B : Type 0} → (A → B) → Option (ChainFault A) → Option (ChainFault B)
 fault_as become None = None
 fault_as become (Some fault) = Some (record { index = fault.index; event = become fault.event; code = fault.code })
 
--- what becomes of an event that is a chain by itself and isn't linked
+-- the outcome of an event that is a chain by itself and isn't linked
 abbrev pub event_outcome : {Event : Type 0} → Operation Event → ℕ → Facts → Event → Outcome
 event_outcome operation clock facts event =
     closed_outcome operation clock facts (event ∷ []) (first_fault operation 0 clock facts (event ∷ []))

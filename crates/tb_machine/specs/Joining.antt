@@ -26,9 +26,9 @@ abbrev pub failures_each : State → List Events → List (List Failure)
 failures_each state [] = []
 failures_each state (packet ∷ packets) = failures_of state packet ∷ failures_each (after_packet state packet) packets
 
--- packets that may be committed as one: one packet, open or not, or several of which none is open
-abbrev pub IsGroup : {Event : Type 0} → (Event → Bool) → List (List Event) → Type 0
-IsGroup is_linked packets = 1 < length packets → none_open is_linked packets ≡ true
+-- packets that may be committed as one: one packet, open or not, or several, none of them open
+abbrev pub IsJoinable : {Event : Type 0} → (Event → Bool) → List (List Event) → Type 0
+IsJoinable is_linked packets = 1 < length packets → none_open is_linked packets ≡ true
 
 -- laid one after another they give each packet what it gives by itself, and leave the same state
 pub record GiveAsEach {Event : Type 0} (packet_of : List Event → Events) (state : State)
@@ -42,7 +42,7 @@ pub record GiveAsEach {Event : Type 0} (packet_of : List Event → Events) (stat
 -- every group gives each packet what it gives by itself, in every state that a machine can have
 abbrev pub JoiningIsInvisible : {Event : Type 0} → (List Event → Events) → (Event → Bool) → Type 0
 JoiningIsInvisible {Event} packet_of is_linked =
-    (state : State) (packets : List (List Event)) → state.clock ≤ clock_max → IsGroup is_linked packets
+    (state : State) (packets : List (List Event)) → state.clock ≤ clock_max → IsJoinable is_linked packets
     → GiveAsEach packet_of state packets
 
 -- a lookup is a group by itself: its accounts, whole, are its answer, and the state stays as it is

@@ -9,4 +9,4 @@ pub mod Operations
 pub mod Replay
 pub mod Joining
 pub mod Examining
-pub mod Settled
+pub mod Invariant

@@ -2,17 +2,17 @@
 use Rattle.std.specs.Prelude.{◌≡◌, true, false}
 use Rattle.tb_layout.specs.declared.transfer.Transfer.{Transfer}
 use Rattle.tb_layout.specs.Transfer.{is_resolving}
-use Rattle.tb_tables.specs.Facts.{Facts, IsPlaceOf, IsPlaceOfTransfer}
+use Rattle.tb_tables.specs.Facts.{Facts, IsIndexOf, IsIndexOfTransfer}
 use Rattle.tb_machine.specs.declared.prefetch.Sides.{Sides}
 use Rattle.tb_machine.specs.declared.prefetch.Target.{Target}
 use Rattle.tb_machine.specs.declared.prefetch.Target.TheVariants.{Between, Named}
 
 -- the places are those of the event's accounts
 pub record AreSides (facts : Facts) (event : Transfer) (sides : Sides) : Type 0 where
-  pub debit : IsPlaceOf facts event.debit_account_id sides.debit
-  pub credit : IsPlaceOf facts event.credit_account_id sides.credit
+  pub debit : IsIndexOf facts event.debit_account_id sides.debit
+  pub credit : IsIndexOf facts event.credit_account_id sides.credit
 
 -- a plain or pending transfer acts on its accounts, and a post or a void on the transfer that it names
 abbrev pub IsTarget : Facts → Transfer → Target → Type 0
 IsTarget facts event (Between sides) = (is_resolving event ≡ false) × AreSides facts event sides
-IsTarget facts event (Named pending) = (is_resolving event ≡ true) × IsPlaceOfTransfer facts event.pending_id pending
+IsTarget facts event (Named pending) = (is_resolving event ≡ true) × IsIndexOfTransfer facts event.pending_id pending

@@ -6,7 +6,7 @@ use Rattle.tb_layout.specs.declared.failure.Failure.{Failure}
 use Rattle.tb_layout.specs.declared.answer.Answer.{Answer}
 use Rattle.tb_layout.specs.declared.answer.Answer.TheVariants as answer
 use Rattle.tb_layout.specs.Events.{Events, Accounts, Transfers, Ids}
-use Rattle.tb_layout.specs.Work.{Work, Packet, Pulse}
+use Rattle.tb_layout.specs.Input.{Input, Packet, Pulse}
 use Rattle.tb_tables.specs.Facts.{Facts, no_facts}
 use Rattle.tb_tables.specs.Status.{expire_due}
 use Rattle.tb_tables.specs.Balances.{with_balances, balanced_account}
@@ -68,19 +68,19 @@ after_pulse state moment =
 
 -- ---- packets and pulses
 
-abbrev pub after_work : State → Work → State
-after_work state (Packet submitter number events) = after_packet state events
-after_work state (Pulse moment) = after_pulse state moment
+abbrev pub after_input : State → Input → State
+after_input state (Packet submitter number events) = after_packet state events
+after_input state (Pulse moment) = after_pulse state moment
 
 -- the state after packets and pulses in order, from a clock and no facts
-abbrev pub replay : ℕ → List Work → State
-replay clock works = fold after_work (opening clock) works
+abbrev pub replay : ℕ → List Input → State
+replay clock inputs = fold after_input (opening clock) inputs
 
-abbrev pub answer_to : State → Option Work → Option Answer
+abbrev pub answer_to : State → Option Input → Option Answer
 answer_to state None = None
 answer_to state (Some (Pulse moment)) = None
 answer_to state (Some (Packet submitter number events)) = Some (answer_of state events)
 
 -- the answer to the packet at a place, in the state that those before it left
-abbrev pub answer_at : ℕ → List Work → ℕ → Option Answer
-answer_at clock works place = answer_to (replay clock (take place works)) (slice_get works place)
+abbrev pub answer_at : ℕ → List Input → ℕ → Option Answer
+answer_at clock inputs place = answer_to (replay clock (take place inputs)) (slice_get inputs place)

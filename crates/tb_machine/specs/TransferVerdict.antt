@@ -67,8 +67,8 @@ stored_checks stored event =
     (not (event.code == stored.code), ExistsWithDifferentCode) ∷
     []
 
-abbrev pub against_stored : Transfer → Transfer → TransferCode
-against_stored stored event = first_row (stored_checks stored event) Exists
+abbrev pub compare_with_stored : Transfer → Transfer → TransferCode
+compare_with_stored stored event = first_row (stored_checks stored event) Exists
 
 -- ---- a post or a void
 
@@ -115,7 +115,7 @@ resolving_verdict facts timestamp event =
 
 -- ---- a plain or pending transfer
 
--- what an account's debits, and its credits, come to with an amount more; sums have no bound
+-- an account's debits, and its credits, with an amount more; sums have no bound
 abbrev pub debits_with : Account → ℕ → ℕ
 debits_with account amount = account.debits_pending + account.debits_posted + amount
 
@@ -138,13 +138,13 @@ balance_checks timestamp debit credit event =
     (credits_must_not_exceed_debits credit && nat_lt credit.debits_posted (credits_with credit event.amount), ExceedsDebits) ∷
     []
 
-abbrev pub between : ℕ → Account → Account → Transfer → TransferCode
-between timestamp debit credit event = first_row (balance_checks timestamp debit credit event) Ok
+abbrev pub check_accounts : ℕ → Account → Account → Transfer → TransferCode
+check_accounts timestamp debit credit event = first_row (balance_checks timestamp debit credit event) Ok
 
-abbrev pub between_found : ℕ → Option Account → Option Account → Transfer → TransferCode
-between_found timestamp None credit event = DebitAccountNotFound
-between_found timestamp (Some debit) None event = CreditAccountNotFound
-between_found timestamp (Some debit) (Some credit) event = between timestamp debit credit event
+abbrev pub check_accounts_found : ℕ → Option Account → Option Account → Transfer → TransferCode
+check_accounts_found timestamp None credit event = DebitAccountNotFound
+check_accounts_found timestamp (Some debit) None event = CreditAccountNotFound
+check_accounts_found timestamp (Some debit) (Some credit) event = check_accounts timestamp debit credit event
 
 abbrev pub moving_checks : Transfer → List (Bool × TransferCode)
 moving_checks event =
@@ -162,7 +162,7 @@ moving_checks event =
 abbrev pub moving_verdict : Facts → ℕ → Transfer → TransferCode
 moving_verdict facts timestamp event =
     first_row (moving_checks event)
-    (between_found timestamp (balanced_account facts event.debit_account_id)
+    (check_accounts_found timestamp (balanced_account facts event.debit_account_id)
     (balanced_account facts event.credit_account_id) event)
 
 -- ---- any event
@@ -179,15 +179,15 @@ new_id_checks facts event =
     (has_exclusive_flags event, FlagsAreMutuallyExclusive) ∷
     []
 
-abbrev pub of_new_id : Facts → ℕ → Transfer → TransferCode
-of_new_id facts timestamp event =
+abbrev pub check_new_transfer : Facts → ℕ → Transfer → TransferCode
+check_new_transfer facts timestamp event =
     first_row (new_id_checks facts event)
     (if is_resolving event then resolving_verdict facts timestamp event else moving_verdict facts timestamp event)
 
 abbrev pub against_id : Facts → ℕ → Option Transfer → Transfer → TransferCode
 against_id facts timestamp (Some stored) event =
-    against_stored stored (resolved_transfer_of (transfer_with facts stored.pending_id) event)
-against_id facts timestamp None event = of_new_id facts timestamp event
+    compare_with_stored stored (resolved_transfer_of (transfer_with facts stored.pending_id) event)
+against_id facts timestamp None event = check_new_transfer facts timestamp event
 
 abbrev pub event_checks : Transfer → List (Bool × TransferCode)
 event_checks event =
@@ -199,7 +199,7 @@ event_checks event =
 
 -- an event, if its id is new
 abbrev pub new_transfer_verdict : Facts → ℕ → Transfer → TransferCode
-new_transfer_verdict facts timestamp event = first_row (event_checks event) (of_new_id facts timestamp event)
+new_transfer_verdict facts timestamp event = first_row (event_checks event) (check_new_transfer facts timestamp event)
 
 abbrev pub transfer_verdict : Facts → ℕ → Transfer → TransferCode
 transfer_verdict facts timestamp event =

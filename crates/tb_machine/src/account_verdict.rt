@@ -7,8 +7,8 @@ use tb_layout::{Account, AccountCode};
 use tb_tables::Tables;
 
 /// How an event differs from the account that has its id, or that it doesn't.
-fn against_existing(existing: &Account, event: &Account) -> AccountCode
-    ensures { result ≡ spec.against_existing existing.now event.now }
+fn compare_with_existing(existing: &Account, event: &Account) -> AccountCode
+    ensures { result ≡ spec.compare_with_existing existing.now event.now }
 {
     if event.flags != existing.flags {
         return AccountCode::ExistsWithDifferentFlags;
@@ -33,8 +33,8 @@ fn against_existing(existing: &Account, event: &Account) -> AccountCode
 
 /// The first check that an event with a new id fails, or Ok.
 #[inline(always)]
-fn of_new(event: &Account) -> AccountCode
-    ensures { result ≡ spec.of_new event.now }
+fn check_new_account(event: &Account) -> AccountCode
+    ensures { result ≡ spec.check_new_account event.now }
 {
     if event.debits_must_not_exceed_credits() && event.credits_must_not_exceed_debits() {
         return AccountCode::FlagsAreMutuallyExclusive;
@@ -62,8 +62,8 @@ fn of_new(event: &Account) -> AccountCode
 
 /// The first check that an event fails, or Ok, where the account with its id is the other, if there is one.
 #[inline(always)]
-fn verdict_beside(found: Option<Account>, event: &Account) -> AccountCode
-    ensures { result ≡ spec.verdict_beside found event.now }
+fn verdict_given(found: Option<Account>, event: &Account) -> AccountCode
+    ensures { result ≡ spec.verdict_given found event.now }
 {
     if event.timestamp != 0 {
         return AccountCode::TimestampMustBeZero;
@@ -81,17 +81,17 @@ fn verdict_beside(found: Option<Account>, event: &Account) -> AccountCode
         return AccountCode::IdMustNotBeIntMax;
     }
     match found {
-        Some(existing) => against_existing(&existing, event),
-        None => of_new(event),
+        Some(existing) => compare_with_existing(&existing, event),
+        None => check_new_account(event),
     }
 }
 
 /// The first check that the event fails if no account has its id, or Ok.
 #[inline(always)]
 pub fn new_account_verdict(event: &Account) -> AccountCode
-    ensures { result ≡ spec.verdict_beside None event.now }
+    ensures { result ≡ spec.verdict_given None event.now }
 {
-    verdict_beside(None, event)
+    verdict_given(None, event)
 }
 
 /// The first check that the event fails, or Ok.
@@ -99,5 +99,5 @@ pub fn new_account_verdict(event: &Account) -> AccountCode
 pub fn account_verdict(tables: &Tables, event: &Account) -> AccountCode
     ensures { result ≡ spec.account_verdict tables.now.now event.now }
 {
-    verdict_beside(tables.account(event.id), event)
+    verdict_given(tables.account(event.id), event)
 }

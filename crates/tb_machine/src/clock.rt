@@ -18,7 +18,7 @@ pub fn next_timestamp(clock: u64) -> Option<u64>
     }
 }
 
-/// The clock after so many events: raised by their number, to `CLOCK_MAX` at most.
+/// The clock after a number of events: raised by that number, to `CLOCK_MAX` at most.
 pub fn clock_after(clock: u64, count: usize) -> u64
     requires { clock ≤ clock_max }
     ensures value { result ≡ spec.clock_after clock count }

@@ -4,14 +4,14 @@ ghost use Rattle.std.specs.Prelude.{◌≡◌, ◌≢◌, ◌+◌, ◌^◌, ◌<
 ghost use Rattle.tb_tables.specs.History.{mark_of, back_to, Extends};
 ghost use Rattle.tb_layout.specs.Limits.{clock_max};
 ghost use Rattle.tb_machine.specs.Clock as spec;
-ghost use Rattle.tb_machine.specs.Chain.{verdict_at, facts_with, facts_with_all, first_fault, left_behind, open_outcome, closed_outcome, chain_outcome};
+ghost use Rattle.tb_machine.specs.Chain.{verdict_at, facts_with, facts_with_all, first_fault, facts_after_failure, open_outcome, closed_outcome, chain_outcome};
 ghost use Rattle.tb_machine.specs.Examining.{event_outcome, fault_as, first_chain_length};
 ghost use Rattle.tb_machine.specs.Packet.{events_outcome, failures_from};
 
 use crate::chain::first_chain_length;
 use crate::clock::{clock_after, next_timestamp};
-use crate::event::Event;
-use crate::fault::Fault;
+use crate::event::CreateEvent;
+use crate::fault::ChainFault;
 use crate::report::report_failed;
 use tb_layout::{Failure, NoMemory};
 use tb_tables::{Mark, Tables};
@@ -26,10 +26,10 @@ const BLOCK: usize = 64;
 /// Up to this number the processor's cache has most accounts.
 const CACHED_ACCOUNTS: usize = 1 << 13;
 
-/// Stores the event, at the timestamp after the clock, where its checks find nothing, and answers the number of its
+/// Stores the event, at the timestamp after the clock, if its checks find nothing, and returns the number of its
 /// result. An event for which the clock can't be raised isn't checked.
 #[inline(always)]
-fn examine_at<E: Event>(clock: u64, tables: &mut Tables, event: E) -> Result<u32, NoMemory>
+fn examine_at<E: CreateEvent>(clock: u64, tables: &mut Tables, event: E) -> Result<u32, NoMemory>
     requires { clock ≤ clock_max }
     ensures extends { Extends tables.old tables.new }
     ensures code { IfOk result (λ code. code ≡ verdict_at E.operation tables.old.now
@@ -45,13 +45,13 @@ fn examine_at<E: Event>(clock: u64, tables: &mut Tables, event: E) -> Result<u32
     }
 }
 
-/// Stores the events in order up to the first fault, which is the answer, with its event's chunk: most chains have
-/// none, and a chunk's address is handed up for less than an event. No event after it is examined.
-fn examine_all<'a, E: Event>(
+/// Stores the events in order up to the first fault, which is returned with its event's chunk: most chains have none,
+/// and returning a chunk's address costs less than an event. No event after it is examined.
+fn examine_all<'a, E: CreateEvent>(
     clock: u64,
     tables: &mut Tables,
     chunks: &'a [[u8; 128]],
-) -> Result<Option<Fault<&'a [u8; 128]>>, NoMemory>
+) -> Result<Option<ChainFault<&'a [u8; 128]>>, NoMemory>
     requires { clock ≤ clock_max }
     ensures extends { Extends tables.old tables.new }
     ensures fault { IfOk result (λ fault. fault_as (λ chunk. E.event_of chunk.now) fault
@@ -63,7 +63,7 @@ fn examine_all<'a, E: Event>(
     for (index, chunk) in chunks.iter().enumerate() {
         let code = examine_at(clock, tables, E::read(chunk))?;
         if code != 0 {
-            return Ok(Some(Fault {
+            return Ok(Some(ChainFault {
                 index,
                 event: chunk,
                 code,
@@ -75,12 +75,12 @@ fn examine_all<'a, E: Event>(
 }
 
 /// A fault with its event in place of the event's chunk.
-fn with_event<E: Event>(fault: Option<Fault<&[u8; 128]>>) -> Option<Fault<E>>
+fn with_event<E: CreateEvent>(fault: Option<ChainFault<&[u8; 128]>>) -> Option<ChainFault<E>>
     ensures { result ≡ fault_as (λ chunk. E.event_of chunk.now) fault.entry }
 {
     match fault {
         None => None,
-        Some(Fault { index, event, code }) => Some(Fault {
+        Some(ChainFault { index, event, code }) => Some(ChainFault {
             index,
             event: E::read(event),
             code,
@@ -89,14 +89,14 @@ fn with_event<E: Event>(fault: Option<Fault<&[u8; 128]>>) -> Option<Fault<E>>
 }
 
 /// Takes a failed chain back, but for what its fault leaves.
-fn take_back<E: Event>(
+fn undo_chain<E: CreateEvent>(
     tables: &mut Tables,
     mark: Mark,
-    fault: Option<Fault<E>>,
+    fault: Option<ChainFault<E>>,
 ) -> Result<(), NoMemory>
     requires { mark ≤ mark_of tables.old }
     ensures extends { Extends (back_to mark tables.old) tables.new }
-    ensures facts { OnOk result (tables.new.now ≡ left_behind E.operation (back_to mark tables.old).now fault) }
+    ensures facts { OnOk result (tables.new.now ≡ facts_after_failure E.operation (back_to mark tables.old).now fault) }
 {
     tables.undo_to(mark);
     match fault {
@@ -107,7 +107,7 @@ fn take_back<E: Event>(
 
 /// Takes an event that is a chain by itself: it succeeds, or it is reported with its own code and leaves what
 /// that does. There is nothing to take back.
-fn commit_event<E: Event>(
+fn commit_event<E: CreateEvent>(
     clock: u64,
     tables: &mut Tables,
     chunk: &[u8; 128],
@@ -138,7 +138,7 @@ fn commit_event<E: Event>(
 
 /// Takes a chain whose last event isn't linked: each of its events succeeds, or each is reported, the first fault
 /// with its own code. `index` is that of its first event in the packet.
-fn commit_closed_chain<E: Event>(
+fn commit_closed_chain<E: CreateEvent>(
     clock: u64,
     tables: &mut Tables,
     chain: &[[u8; 128]],
@@ -162,7 +162,7 @@ fn commit_closed_chain<E: Event>(
     let fault = examine_all::<E>(clock, tables, chain)?;
     if fault.is_some() {
         let fault = with_event::<E>(fault);
-        take_back(tables, mark, fault)?;
+        undo_chain(tables, mark, fault)?;
         report_failed(out, index, chain.len(), fault);
     }
     Ok(())
@@ -170,7 +170,7 @@ fn commit_closed_chain<E: Event>(
 
 /// Takes a chain whose last event is linked, without that one: all of it fails, and the last event, which is never
 /// examined, reports that the chain is open. The first fault among the others has its own code.
-fn commit_open_chain<E: Event>(
+fn commit_open_chain<E: CreateEvent>(
     clock: u64,
     tables: &mut Tables,
     front: &[[u8; 128]],
@@ -192,7 +192,7 @@ fn commit_open_chain<E: Event>(
 {
     let mark = tables.mark();
     let fault = with_event::<E>(examine_all::<E>(clock, tables, front)?);
-    take_back(tables, mark, fault)?;
+    undo_chain(tables, mark, fault)?;
     report_failed(out, index, front.len(), fault);
     out.push_reserved(Failure {
         index: (index + front.len()) as u32,
@@ -202,7 +202,7 @@ fn commit_open_chain<E: Event>(
 }
 
 /// Takes one chain, whose first event has this index in its packet, and reports its events if it fails.
-fn commit_chain<E: Event>(
+fn commit_chain<E: CreateEvent>(
     clock: u64,
     tables: &mut Tables,
     chain: &[[u8; 128]],
@@ -230,9 +230,9 @@ fn commit_chain<E: Event>(
     }
 }
 
-/// Takes the first chain of some events, and answers how many events it has. Most events are chains by themselves.
+/// Takes the first chain of some events, and returns its number of events. Most events are chains by themselves.
 #[inline(always)]
-fn commit_first<E: Event>(
+fn commit_first<E: CreateEvent>(
     clock: u64,
     tables: &mut Tables,
     events: &[[u8; 128]],
@@ -266,7 +266,7 @@ fn commit_first<E: Event>(
 
 /// Looks ids up until one is stored; how many aren't.
 #[inline(never)]
-fn count_new<E: Event>(tables: &Tables, chunks: &[[u8; 128]]) -> usize
+fn count_new<E: CreateEvent>(tables: &Tables, chunks: &[[u8; 128]]) -> usize
     ensures { result ≤ length chunks.now }
 {
     for (index, chunk) in chunks.iter().enumerate() {
@@ -279,7 +279,7 @@ fn count_new<E: Event>(tables: &Tables, chunks: &[[u8; 128]]) -> usize
 
 /// Looks the accounts of events up until one isn't there; how many events have theirs.
 #[inline(never)]
-fn count_with_accounts<E: Event>(tables: &Tables, chunks: &[[u8; 128]]) -> usize
+fn count_with_accounts<E: CreateEvent>(tables: &Tables, chunks: &[[u8; 128]]) -> usize
     ensures { result ≤ length chunks.now }
 {
     for (index, chunk) in chunks.iter().enumerate() {
@@ -290,10 +290,10 @@ fn count_with_accounts<E: Event>(tables: &Tables, chunks: &[[u8; 128]]) -> usize
     chunks.len()
 }
 
-/// Looks up the ids of the events after the one at `start`, so that memory is asked for all of them at once: as each
-/// event is taken, its own look-up would wait. If there are many accounts it looks up those too. Returns the index of
-/// the first event of which not all was looked up.
-fn look_ahead<E: Event>(tables: &Tables, chunks: &[[u8; 128]], start: usize) -> usize
+/// Looks up the ids of the events after the one at `start`, so that memory is asked for all of them at once: with one
+/// look-up at a time each would wait. If there are many accounts it looks up those too. Returns the index of the first
+/// event that wasn't looked up whole.
+fn look_ahead<E: CreateEvent>(tables: &Tables, chunks: &[[u8; 128]], start: usize) -> usize
     requires { start < length chunks.now }
 {
     let end = chunks.len().min(start.saturating_add(BLOCK));
@@ -309,7 +309,7 @@ fn look_ahead<E: Event>(tables: &Tables, chunks: &[[u8; 128]], start: usize) -> 
 
 /// Takes the chains of a packet in order, and reports the events that failed. On an error, part of
 /// the changes may have been made.
-pub fn commit_chains<E: Event>(
+pub fn commit_chains<E: CreateEvent>(
     clock: u64,
     tables: &mut Tables,
     chunks: &[[u8; 128]],

@@ -10,7 +10,7 @@ ghost use Rattle.tb_tables.specs.History.{with_change, Extends};
 ghost use Rattle.tb_layout.specs.Limits.{clock_max};
 ghost use Rattle.tb_machine.specs.Chain.{Operation};
 ghost use Rattle.tb_machine.specs.TransferVerdict.{stored_transfer, new_transfer_verdict as new_verdict_of, transfer_verdict as verdict_of};
-ghost use Rattle.tb_machine.specs.AccountVerdict.{verdict_beside};
+ghost use Rattle.tb_machine.specs.AccountVerdict.{verdict_given};
 ghost use Rattle.tb_machine.specs.Prefetch.{IsTarget};
 ghost use Rattle.tb_machine.specs.declared.prefetch.Target.TheVariants.{Between, Named};
 ghost use Rattle.tb_machine.specs.Operations as spec;
@@ -25,7 +25,7 @@ use tb_layout::{
 use tb_tables::Tables;
 
 /// An event of an operation.
-pub trait Event: Copy {
+pub trait CreateEvent: Copy {
     ghost event_of: { List ℕ → Self };
 
     ghost operation: { Operation Self };
@@ -50,7 +50,7 @@ pub trait Event: Copy {
     fn has_accounts(&self, tables: &Tables) -> bool
         ensures { result ≡ has_accounts tables.now.now self.now };
 
-    /// Stores the event, which gets its timestamp, where its checks find nothing, and answers the number of its result.
+    /// Stores the event, which gets its timestamp, if its checks find nothing, and returns the number of its result.
     fn examine(&mut self, tables: &mut Tables, timestamp: u64) -> Result<u32, NoMemory>
         requires { timestamp ≤ clock_max }
         ensures code { IfOk result (λ code. code ≡ operation.verdict tables.old.now timestamp self.old) }
@@ -64,7 +64,7 @@ pub trait Event: Copy {
         ensures extends { Extends tables.old tables.new };
 }
 
-impl Event for Account {
+impl CreateEvent for Account {
     ghost event_of = { account_of };
 
     ghost operation = { spec.accounts_operation };
@@ -82,7 +82,7 @@ impl Event for Account {
     }
 
     fn is_stored(&self, tables: &Tables) -> bool {
-        tables.place(self.id).is_some()
+        tables.account_index(self.id).is_some()
     }
 
     fn has_accounts(&self, _tables: &Tables) -> bool {
@@ -102,7 +102,7 @@ impl Event for Account {
     }
 }
 
-impl Event for Transfer {
+impl CreateEvent for Transfer {
     ghost event_of = { transfer_of };
 
     ghost operation = { spec.transfers_operation };
@@ -122,13 +122,13 @@ impl Event for Transfer {
     }
 
     fn is_stored(&self, tables: &Tables) -> bool {
-        tables.place_of_transfer(self.id).is_some()
+        tables.transfer_index(self.id).is_some()
     }
 
     fn has_accounts(&self, tables: &Tables) -> bool {
         is_resolving(self)
-            || tables.place(self.debit_account_id).is_some()
-                && tables.place(self.credit_account_id).is_some()
+            || tables.account_index(self.debit_account_id).is_some()
+                && tables.account_index(self.credit_account_id).is_some()
     }
 
     fn examine(&mut self, tables: &mut Tables, timestamp: u64) -> Result<u32, NoMemory> {
@@ -159,15 +159,15 @@ fn is_transient(code: u32) -> bool
         || code == TransferCode::ExceedsDebits.number()
 }
 
-/// Stores an account that passes the checks of one with a new id, where its id is new; whether it is. The timestamp is
-/// set where the event lies.
+/// Stores an account that passes the checks of one with a new id, if its id is new; whether it is. The timestamp is set
+/// in the event itself.
 #[inline(always)]
 fn store_new_account(
     tables: &mut Tables,
     timestamp: u64,
     event: &mut Account,
 ) -> Result<bool, NoMemory>
-    requires { account_number (verdict_beside None event.old) ≡ 0 }
+    requires { account_number (verdict_given None event.old) ≡ 0 }
     ensures new { IfOk result (λ added. added ≡ not (is_some (account_with tables.old.now event.old.id))) }
     ensures added { result ≡ Ok true → tables.new
         ≡ with_change tables.old (add_account tables.old.now (record event.old { timestamp = timestamp })) }
@@ -181,8 +181,8 @@ fn store_new_account(
     Ok(added)
 }
 
-/// Stores a plain or pending transfer that passes the checks of one with a new id, where its id is new; whether it is.
-/// The timestamp is set where the event lies: a copy of it would cost more.
+/// Stores a plain or pending transfer that passes the checks of one with a new id, if its id is new; whether it is. The
+/// timestamp is set in the event itself: a copy of it would cost more.
 #[inline(always)]
 fn store_new(
     tables: &mut Tables,
@@ -213,8 +213,8 @@ fn store_new(
     Ok(added)
 }
 
-/// Stores a plain or pending transfer where its checks find nothing, and answers the number of its result. Its id is
-/// looked up where it is stored: most are new. Only an event whose id is there is checked again.
+/// Stores a plain or pending transfer if its checks find nothing, and returns the number of its result. Its id is
+/// looked up only as it is stored: most are new. Only an event whose id is there is checked again.
 #[inline(always)]
 fn examine_moving(
     tables: &mut Tables,
@@ -263,7 +263,7 @@ fn store_resolved(
     tables.resolve_new_at(&transfer, place)
 }
 
-/// Stores a post or a void where its checks find nothing, and answers the number of its result.
+/// Stores a post or a void if its checks find nothing, and returns the number of its result.
 #[inline(never)]
 fn examine_resolving(
     tables: &mut Tables,

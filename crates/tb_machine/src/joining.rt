@@ -7,11 +7,12 @@ ghost use Rattle.tb_layout.specs.Events.{Accounts, Transfers};
 ghost use Rattle.tb_machine.specs.Replay.{State};
 ghost use Rattle.tb_machine.specs.Joining.{JoiningIsInvisible, GivesAsAlone};
 
-/// Batching is invisible. The packets of a group, one packet, open or not, or several of one operation of which
-/// none is open, may be committed as one: the failures cut by the packets' ranges are those of each packet in the
-/// state that the packets before it left, and the state after them is the same. A lookup is a group by itself.
+/// Establishes that batching is invisible. The packets of a group, one packet, open or not, or several of one
+/// operation, none of them open, may be committed as one: the failures cut by the packets' ranges are those of each
+/// packet in the state that the packets before it left, and the state after them is the same. A lookup is a group by
+/// itself.
 ///
-/// Nothing is done; a caller has the law from here on.
+/// A law: nothing is done.
 pub fn joining_is_invisible()
     ensures accounts { JoiningIsInvisible Accounts is_linked_account }
     ensures transfers { JoiningIsInvisible Transfers is_linked_transfer }

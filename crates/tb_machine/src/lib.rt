@@ -1,8 +1,8 @@
-//! The state machine: what becomes of a packet's events.
+//! The state machine: the results of a packet's events.
 //!
-//! Callers see a machine as a clock and the facts of a ledger. A packet's events are cut into
-//! chains, and each chain succeeds or fails whole; a pulse lets pending transfers expire; a lookup
-//! changes nothing. The only refusal is want of memory, after which the machine is as before.
+//! Callers see a machine as a clock and the facts of a ledger. A packet's events are cut into chains, and each chain
+//! succeeds or fails whole; a pulse lets pending transfers expire; a lookup changes nothing. The only refusal is
+//! NoMemory, after which the machine is as before.
 #![tactic(auto)]
 
 mod account_verdict;

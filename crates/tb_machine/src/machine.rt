@@ -11,7 +11,7 @@ ghost use Rattle.tb_machine.specs.Packet.{events_outcome, failures_from};
 
 use crate::clock::clock_after;
 use crate::commit::commit_chains;
-use crate::event::Event;
+use crate::event::CreateEvent;
 use crate::lookup::look_up;
 use std::alloc::Global;
 use std::marker::Model;
@@ -25,7 +25,7 @@ pub struct Machine {
 }
 
 impl Drop for Machine {
-    /// Lets all that is held go in one call, so that no owner's proof goes through it.
+    /// Frees everything held in one call, so that no owner's proof repeats it.
     fn drop(self) {
         let Machine { clock: _, tables } = self;
         drop(tables);
@@ -34,13 +34,13 @@ impl Drop for Machine {
 
 impl Model for Machine {
     ghost use Rattle.tb_machine.specs.Replay.{State};
-    ghost use Rattle.tb_machine.specs.Settled.{IsSettled};
+    ghost use Rattle.tb_machine.specs.Invariant.{IsMachine};
 
     ghost Value = { State };
 
     ghost view = { λ machine. record { clock = machine.clock; facts = machine.tables.now } };
 
-    ghost invariant = { λ machine. IsSettled machine.clock machine.tables };
+    ghost invariant = { λ machine. IsMachine machine.clock machine.tables };
 }
 
 impl Machine {
@@ -77,7 +77,7 @@ impl Machine {
 
     /// Takes the events of a packet, accounts (`CREATE_ACCOUNTS`) or transfers (`CREATE_TRANSFERS`), and reports those
     /// that failed. The data of the packet, `body`, has 128 bytes an event and at most `BATCH_MAX` events; `out` is
-    /// empty, with room for as many failures, and doesn't grow. On want of memory nothing has happened. It costs what
+    /// empty, with room for as many failures, and doesn't grow. If memory runs out nothing has happened. It costs what
     /// the events cost, and takes memory for the facts that they make (requests reference of TigerBeetle).
     pub fn commit(
         &mut self,
@@ -104,9 +104,9 @@ impl Machine {
         }
     }
 
-    /// Commits events of one kind: all of their chains, or on want of memory none. The mark set at the start is what
-    /// a refused growth goes back to.
-    fn commit_events<E: Event>(
+    /// Commits events of one kind: all of their chains, or none if memory runs out. A failed allocation undoes
+    /// everything since the mark set at the start.
+    fn commit_events<E: CreateEvent>(
         &mut self,
         body: &[u8],
         out: &mut Vec<Failure>,
@@ -143,8 +143,8 @@ impl Machine {
     }
 
     /// Raises the clock to a moment, in nanoseconds up to `MOMENT_MAX`, unless it is there already, and lets each
-    /// pending transfer expire that nothing resolved and whose timeout is over then. Costs as much as what expires,
-    /// and takes no memory.
+    /// pending transfer expire that nothing resolved and whose timeout is over then. Costs as much as what expires, and
+    /// takes no memory.
     pub fn pulse(&mut self, moment: u64)
         requires { moment ≤ moment_max }
         ensures { self.new ≡ after_pulse self.old moment }
@@ -205,7 +205,7 @@ impl Machine {
         self.tables.transfer(id)
     }
 
-    /// What became of the pending transfer with this id.
+    /// The status of the pending transfer with this id.
     pub fn status(&self, id: u128) -> Option<Status>
         ensures { result ≡ status_with self.now.facts id }
     {

@@ -49,11 +49,16 @@ fn total_credits_exceed(account: &Account, amount: u128, most: u128) -> bool
     )
 }
 
-/// The first check that a plain or pending transfer between two accounts fails, or Ok. Sums are told exactly, also
-/// past 128 bits.
+/// The first check that a plain or pending transfer between two accounts fails, or Ok. Sums are exact, also past 128
+/// bits.
 #[inline(always)]
-fn between(timestamp: u64, debit: &Account, credit: &Account, event: &Transfer) -> TransferCode
-    ensures { result ≡ spec.between timestamp debit.now credit.now event.now }
+fn check_accounts(
+    timestamp: u64,
+    debit: &Account,
+    credit: &Account,
+    event: &Transfer,
+) -> TransferCode
+    ensures { result ≡ spec.check_accounts timestamp debit.now credit.now event.now }
 {
     if debit.ledger != credit.ledger {
         return TransferCode::AccountsMustHaveTheSameLedger;
@@ -97,9 +102,14 @@ fn between(timestamp: u64, debit: &Account, credit: &Account, event: &Transfer) 
 
 /// The first check that a plain or pending transfer fails, or Ok, where one of its accounts may not be there.
 #[inline(always)]
-fn between_found(tables: &Tables, sides: Sides, timestamp: u64, event: &Transfer) -> TransferCode
+fn check_accounts_found(
+    tables: &Tables,
+    sides: Sides,
+    timestamp: u64,
+    event: &Transfer,
+) -> TransferCode
     requires { AreSides tables.now.now event.now sides }
-    ensures { result ≡ spec.between_found timestamp (balanced_account tables.now.now event.now.debit_account_id)
+    ensures { result ≡ spec.check_accounts_found timestamp (balanced_account tables.now.now event.now.debit_account_id)
         (balanced_account tables.now.now event.now.credit_account_id) event.now }
 {
     let Some(debit) = account_at(tables, sides.debit) else {
@@ -108,7 +118,7 @@ fn between_found(tables: &Tables, sides: Sides, timestamp: u64, event: &Transfer
     let Some(credit) = account_at(tables, sides.credit) else {
         return TransferCode::CreditAccountNotFound;
     };
-    between(timestamp, &debit, &credit, event)
+    check_accounts(timestamp, &debit, &credit, event)
 }
 
 /// The first check that a plain or pending transfer fails, or Ok.
@@ -149,5 +159,5 @@ pub fn moving_verdict(
     if event.code == 0 {
         return TransferCode::CodeMustNotBeZero;
     }
-    between_found(tables, sides, timestamp, event)
+    check_accounts_found(tables, sides, timestamp, event)
 }

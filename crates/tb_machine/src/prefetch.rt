@@ -1,7 +1,7 @@
 //! What is looked up for a transfer before its checks.
 
 ghost use Rattle.std.specs.Prelude.{◌≡◌, ℕ};
-ghost use Rattle.tb_tables.specs.Facts.{IsPlaceOf};
+ghost use Rattle.tb_tables.specs.Facts.{IsIndexOf};
 ghost use Rattle.tb_tables.specs.Balances.{balanced_account};
 ghost use Rattle.tb_machine.specs.Prefetch.{IsTarget};
 
@@ -16,7 +16,7 @@ pub struct Sides {
     pub credit: Option<usize>,
 }
 
-/// What a transfer acts on. From here on it is found by its place alone.
+/// What a transfer acts on. From here on it is found only by its index.
 #[derive(Clone, Copy)]
 pub enum Target {
     /// The accounts of a plain or pending transfer.
@@ -32,11 +32,11 @@ impl Target {
         ensures { IsTarget tables.now.now event.now result }
     {
         if is_resolving(event) {
-            Target::Named(tables.place_of_transfer(event.pending_id))
+            Target::Named(tables.transfer_index(event.pending_id))
         } else {
             Target::Between(Sides {
-                debit: tables.place(event.debit_account_id),
-                credit: tables.place(event.credit_account_id),
+                debit: tables.account_index(event.debit_account_id),
+                credit: tables.account_index(event.credit_account_id),
             })
         }
     }
@@ -44,7 +44,7 @@ impl Target {
 
 /// The account at a place, with its balances.
 pub fn account_at(tables: &Tables, place: Option<usize>) -> Option<Account>
-    ensures { (id : ℕ) → IsPlaceOf tables.now.now id place → result ≡ balanced_account tables.now.now id }
+    ensures { (id : ℕ) → IsIndexOf tables.now.now id place → result ≡ balanced_account tables.now.now id }
 {
     tables.account_at(place?)
 }

@@ -5,7 +5,7 @@ ghost use Rattle.tb_machine.specs.Chain.{linked_event_failed, failed_results};
 ghost use Rattle.tb_machine.specs.Packet.{failures_from};
 ghost use Rattle.tb_machine.specs.Examining.{LiesBelow};
 
-use crate::fault::Fault;
+use crate::fault::ChainFault;
 use tb_layout::Failure;
 
 const LINKED_EVENT_FAILED: u32 = 1;
@@ -31,7 +31,7 @@ pub fn report_failed<E: Copy>(
     out: &mut Vec<Failure>,
     index: usize,
     count: usize,
-    fault: Option<Fault<E>>,
+    fault: Option<ChainFault<E>>,
 )
     requires room { vec_len out.old + count ≤ vec_capacity out.old }
     requires fits { index + count < 2 ^ 32 }

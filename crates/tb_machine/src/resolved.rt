@@ -71,8 +71,8 @@ pub fn resolved(pending: &Transfer, event: &Transfer) -> Transfer
     }
 }
 
-/// A post or a void with its fields resolved against the transfer with an id. It is handed over by value, so that a
-/// transfer that is neither isn't put into memory for it.
+/// A post or a void with its fields resolved against the transfer with an id. It is passed by value, so that a transfer
+/// that is neither isn't put into memory for it.
 fn resolved_against(tables: &Tables, pending_id: u128, event: Transfer) -> Transfer
     requires { is_resolving_event event ≡ true }
     ensures { result ≡ spec.resolved_transfer_of (transfer_with tables.now.now pending_id) event }

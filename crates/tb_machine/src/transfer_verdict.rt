@@ -3,7 +3,7 @@
 ghost use Rattle.std.specs.Prelude.{◌≡◌, ◌≢◌, ℕ, Some, None, IfNone, IfSome, MatchOption};
 ghost use Rattle.tb_layout.specs.declared.transfer_code.TransferCode.{TransferCode as Code};
 ghost use Rattle.tb_layout.specs.TransferCode.{number_of};
-ghost use Rattle.tb_tables.specs.Facts.{IsPlaceOfTransfer, transfer_with};
+ghost use Rattle.tb_tables.specs.Facts.{IsIndexOfTransfer, transfer_with};
 ghost use Rattle.tb_machine.specs.TransferVerdict as spec;
 ghost use Rattle.tb_machine.specs.Table.{first_row};
 ghost use Rattle.tb_machine.specs.Prefetch.{IsTarget};
@@ -17,8 +17,8 @@ use tb_layout::{Transfer, TransferCode};
 use tb_tables::Tables;
 
 /// How an event, with its fields resolved, differs from the stored transfer that has its id, or that it doesn't.
-fn against_stored(stored: &Transfer, event: &Transfer) -> TransferCode
-    ensures { result ≡ spec.against_stored stored.now event.now }
+fn compare_with_stored(stored: &Transfer, event: &Transfer) -> TransferCode
+    ensures { result ≡ spec.compare_with_stored stored.now event.now }
 {
     if event.flags != stored.flags {
         return TransferCode::ExistsWithDifferentFlags;
@@ -58,15 +58,15 @@ fn against_stored(stored: &Transfer, event: &Transfer) -> TransferCode
 
 /// How an event differs from the transfer at a place, which has its id, or that it doesn't.
 #[inline(never)]
-fn against_place(tables: &Tables, place: usize, event: &Transfer) -> TransferCode
-    requires { IsPlaceOfTransfer tables.now.now event.now.id (Some place) }
+fn compare_with_stored_at(tables: &Tables, place: usize, event: &Transfer) -> TransferCode
+    requires { IsIndexOfTransfer tables.now.now event.now.id (Some place) }
     ensures { (timestamp : ℕ) → result ≡ spec.against_id tables.now.now timestamp
         (transfer_with tables.now.now event.now.id) event.now }
 {
     let Some(stored) = tables.transfer_at(place) else {
         unreachable!()
     };
-    against_stored(&stored, &resolved_by(tables, stored.pending_id, event))
+    compare_with_stored(&stored, &resolved_by(tables, stored.pending_id, event))
 }
 
 /// Whether more than one of pending, post and void is set.
@@ -121,9 +121,14 @@ fn new_id_fault(tables: &Tables, event: &Transfer) -> Option<TransferCode>
 /// The first check that an event fails whose id is that of no transfer, or Ok. The accounts, or the pending transfer,
 /// were looked up before.
 #[inline(always)]
-fn of_new_id(tables: &Tables, target: Target, timestamp: u64, event: &Transfer) -> TransferCode
+fn check_new_transfer(
+    tables: &Tables,
+    target: Target,
+    timestamp: u64,
+    event: &Transfer,
+) -> TransferCode
     requires { IsTarget tables.now.now event.now target }
-    ensures { result ≡ spec.of_new_id tables.now.now timestamp event.now }
+    ensures { result ≡ spec.check_new_transfer tables.now.now timestamp event.now }
 {
     if let Some(code) = new_id_fault(tables, event) {
         return code;
@@ -134,9 +139,9 @@ fn of_new_id(tables: &Tables, target: Target, timestamp: u64, event: &Transfer) 
     }
 }
 
-/// The first check that an event fails, or Ok, where the transfer with its id stands at a place, or there is none.
+/// The first check that an event fails, or Ok, if the transfer with its id has this index, or there is none.
 #[inline(always)]
-fn verdict_beside(
+fn verdict_given(
     tables: &Tables,
     target: Target,
     timestamp: u64,
@@ -144,17 +149,17 @@ fn verdict_beside(
     found: Option<usize>,
 ) -> TransferCode
     requires target { IsTarget tables.now.now event.now target }
-    requires found { (place : ℕ) → found ≡ Some place → IsPlaceOfTransfer tables.now.now event.now.id (Some place) }
+    requires found { (place : ℕ) → found ≡ Some place → IsIndexOfTransfer tables.now.now event.now.id (Some place) }
     ensures new { found ≡ None → result ≡ spec.new_transfer_verdict tables.now.now timestamp event.now }
-    ensures any { IsPlaceOfTransfer tables.now.now event.now.id found
+    ensures any { IsIndexOfTransfer tables.now.now event.now.id found
         → result ≡ spec.transfer_verdict tables.now.now timestamp event.now }
 {
     if let Some(code) = event_fault(event) {
         return code;
     }
     match found {
-        Some(place) => against_place(tables, place, event),
-        None => of_new_id(tables, target, timestamp, event),
+        Some(place) => compare_with_stored_at(tables, place, event),
+        None => check_new_transfer(tables, target, timestamp, event),
     }
 }
 
@@ -169,7 +174,7 @@ pub fn new_transfer_verdict(
     requires { IsTarget tables.now.now event.now target }
     ensures { result ≡ spec.new_transfer_verdict tables.now.now timestamp event.now }
 {
-    verdict_beside(tables, target, timestamp, event, None)
+    verdict_given(tables, target, timestamp, event, None)
 }
 
 /// A post or a void as it is stored, where its checks find nothing if no transfer has its id.
@@ -202,6 +207,6 @@ pub fn transfer_verdict(
     requires { IsTarget tables.now.now event.now target }
     ensures { result ≡ spec.transfer_verdict tables.now.now timestamp event.now }
 {
-    let found = tables.place_of_transfer(event.id);
-    verdict_beside(tables, target, timestamp, event, found)
+    let found = tables.transfer_index(event.id);
+    verdict_given(tables, target, timestamp, event, found)
 }

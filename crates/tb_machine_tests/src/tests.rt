@@ -1,4 +1,4 @@
-//! What no clause says: each call once with ample memory, and commits with each growth refused.
+//! What no clause says: each call once with ample memory, and commits with each allocation refused.
 
 ghost use Rattle.std.specs.Prelude.{◌≡◌, ◌==◌, ◌||◌, ◌/◌, ◌%◌, ◌≤◌, true, length};
 ghost use Rattle.tb_layout.specs.Limits.{batch_max};
@@ -82,7 +82,7 @@ fn is_packet(operation: u8, body: &[u8]) -> bool
         && body.len() / 128 <= BATCH_MAX as usize
 }
 
-/// Whether a packet was committed and each of its events succeeded, as they do unless memory is wanting.
+/// Whether a packet was committed and each of its events succeeded, as they do unless memory runs out.
 fn commits(rt: &impl Alloc<A = Global>, machine: &mut Machine, operation: u8, body: &[u8]) -> bool {
     if !is_packet(operation, body) {
         return false;
@@ -93,7 +93,7 @@ fn commits(rt: &impl Alloc<A = Global>, machine: &mut Machine, operation: u8, bo
     machine.commit(operation, body, &mut out).is_ok() && out.is_empty()
 }
 
-/// Makes accounts, of which none fails.
+/// Makes accounts; none fails.
 fn make_accounts(
     rt: &(impl Abort + Alloc<A = Global>),
     machine: &mut Machine,
@@ -103,7 +103,7 @@ fn make_accounts(
     assert!(rt; commits(rt, machine, CREATE_ACCOUNTS, &body));
 }
 
-/// Makes transfers, of which none fails.
+/// Makes transfers; none fails.
 fn make_transfers(
     rt: &(impl Abort + Alloc<A = Global>),
     machine: &mut Machine,

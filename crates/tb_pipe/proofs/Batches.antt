@@ -11,9 +11,9 @@ use Rattle.tb_work.specs.declared.item.Ticket.{Ticket}
 use Rattle.tb_batch.specs.Grouping.{is_taken, IsGroup}
 use Rattle.tb_core.specs.declared.parcel.Parcel.{Parcel}
 use Rattle.tb_core.specs.declared.parcel.Parcel.TheVariants as parcel
-use Rattle.tb_core.specs.Front.{FrontState, Taken, take_result, with_group, group_as_batch, with_end, all_ended, take_step, all_passages_in, passages_in, held_by, KnowsEnds, HaveAllEnded}
+use Rattle.tb_core.specs.Front.{FrontState, Taken, take_result, with_group, group_as_batch, with_end, all_ended, take_step, all_decisions_in, decisions_in, held_by, KnowsEnds, HaveAllEnded}
 use Rattle.tb_core.specs.Grouping.{AreJoinedParcels, IsJoinedParcel}
-use Rattle.tb_core.specs.inside.Passage.{Passage, Admitted, Passes}
+use Rattle.tb_core.specs.inside.Decision.{Decision, Admitted, AreDecisions}
 use Rattle.tb_submit.specs.Ends.{IntakeState, with_taken}
 use Rattle.tb_pipe.specs.Carried.{is_last, has_last, IsBatched, AllBatched}
 use Rattle.tb_pipe.proofs.Lists.{either_same, none_more, all_more}
@@ -46,9 +46,9 @@ no_last refused front sender item.Close = none_sealed front.held
 pub ticket_more : (limit submitters : ℕ) (queue : List Ticket) (ticket : Ticket) (front next : FrontState)
     (given parcels : List Parcel) → (refused : Bool)
     × (take_result next parcels ≡ take_step refused front ticket.sender ticket.item) →
-    ((items : List Item) (sent : List Passage) → Passes items front.closed front.stopped (sent ++ held_by front)
-    → Passes (items ++ ticket.item ∷ []) next.closed next.stopped
-    ((sent ++ all_passages_in parcels) ++ held_by next)) →
+    ((items : List Item) (sent : List Decision) → AreDecisions items front.closed front.stopped (sent ++ held_by front)
+    → AreDecisions (items ++ ticket.item ∷ []) next.closed next.stopped
+    ((sent ++ all_decisions_in parcels) ++ held_by next)) →
     AreJoinedParcels front.limit parcels → ((queue : List Ticket) → KnowsEnds queue front
     → KnowsEnds (queue ++ ticket ∷ []) next) → (next.limit ≡ front.limit)
     × (next.submitters ≡ front.submitters) →
@@ -57,12 +57,12 @@ pub ticket_more : (limit submitters : ℕ) (queue : List Ticket) (ticket : Ticke
 ticket_more limit submitters queue ticket front next given parcels step passes lawful ends same is = record {
   under = same.0 ∙ is.under;
   among = same.1 ∙ is.among;
-  passes = subst (λ items. Passes items next.closed next.stopped
-      (all_passages_in (given ++ parcels) ++ held_by next))
+  passes = subst (λ items. AreDecisions items next.closed next.stopped
+      (all_decisions_in (given ++ parcels) ++ held_by next))
       (sym (map-append (λ (ticket : Ticket). ticket.item) queue (ticket ∷ [])))
-      (subst (λ ps. Passes (items_in queue ++ ticket.item ∷ []) next.closed next.stopped (ps ++ held_by next))
-      (sym (flat_map-append passages_in given parcels))
-      (passes (items_in queue) (all_passages_in given) is.passes));
+      (subst (λ ps. AreDecisions (items_in queue ++ ticket.item ∷ []) next.closed next.stopped (ps ++ held_by next))
+      (sym (flat_map-append decisions_in given parcels))
+      (passes (items_in queue) (all_decisions_in given) is.passes));
   joined = all_more (IsJoinedParcel limit) given parcels is.joined
       (subst (λ n. AreJoinedParcels n parcels) is.under lawful);
   unended = none_more is_last given parcels is.unended
@@ -82,11 +82,11 @@ group_more limit submitters queue front next given batch left some lawful is =
     (record {
       under = is.under;
       among = is.among;
-      passes = subst (Passes (items_in queue) front.closed front.stopped)
-          (sym (append-nil (all_passages_in (given ++ parcel.Batch batch ∷ []))
-          ∙ flat_map-append passages_in given (parcel.Batch batch ∷ [])
-          ∙ ap (λ ps. all_passages_in given ++ ps) (append-nil (map Admitted batch))
-          ∙ ap (λ jobs. all_passages_in given ++ map Admitted jobs) some)) is.passes;
+      passes = subst (AreDecisions (items_in queue) front.closed front.stopped)
+          (sym (append-nil (all_decisions_in (given ++ parcel.Batch batch ∷ []))
+          ∙ flat_map-append decisions_in given (parcel.Batch batch ∷ [])
+          ∙ ap (λ ps. all_decisions_in given ++ ps) (append-nil (map Admitted batch))
+          ∙ ap (λ jobs. all_decisions_in given ++ map Admitted jobs) some)) is.passes;
       joined = all_more (IsJoinedParcel limit) given (parcel.Batch batch ∷ []) is.joined
           (subst (IsGroup limit) (sym some) (subst (λ n. IsGroup n front.held) is.under lawful), tt);
       unended = none_more is_last given (parcel.Batch batch ∷ []) is.unended refl;
@@ -101,8 +101,8 @@ no_group_more limit submitters queue front next given left none is =
     (record {
       under = is.under;
       among = is.among;
-      passes = subst (Passes (items_in queue) front.closed front.stopped)
-          (ap (λ jobs. all_passages_in given ++ map Admitted jobs) none) is.passes;
+      passes = subst (AreDecisions (items_in queue) front.closed front.stopped)
+          (ap (λ jobs. all_decisions_in given ++ map Admitted jobs) none) is.passes;
       joined = is.joined;
       unended = is.unended;
       knows = knows_held queue front is.knows;
@@ -119,8 +119,8 @@ all_batched limit submitters queue front given all none ended parts is = record 
   stopped = front.stopped;
   before = given;
   parts = parts;
-  passes = subst (Passes (items_in queue) front.closed front.stopped)
-      (ap (λ jobs. all_passages_in given ++ map Admitted jobs) none ∙ append-nil (all_passages_in given)) is.passes;
+  passes = subst (AreDecisions (items_in queue) front.closed front.stopped)
+      (ap (λ jobs. all_decisions_in given ++ map Admitted jobs) none ∙ append-nil (all_decisions_in given)) is.passes;
   joined = is.joined;
   unended = is.unended;
   ended = ended;

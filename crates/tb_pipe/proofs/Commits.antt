@@ -2,16 +2,16 @@
 use Rattle.std.proofs.Common.{refl, sym, ap, subst, ◌∙◌, ◌≡◌, ℕ, Bool, true, false, List, [], ◌∷◌, ◌++◌, length, append-nil}
 use Rattle.std.specs.Prelude.{◌||◌}
 use Rattle.std.proofs.lemmas.Grind.{flat_map-append}
-use Rattle.tb_work.specs.Packet.{Replied}
+use Rattle.tb_work.specs.Packet.{ReplyValue}
 use Rattle.tb_core.specs.declared.parcel.Parcel.{Parcel}
 use Rattle.tb_core.specs.declared.parcel.Parcel.TheVariants as parcel
 use Rattle.tb_core.specs.declared.outcomes.Outcomes.{Outcomes}
 use Rattle.tb_core.specs.declared.outcomes.Outcomes.TheVariants as outcomes
-use Rattle.tb_core.specs.Front.{all_passages_in, passages_in}
+use Rattle.tb_core.specs.Front.{all_decisions_in, decisions_in}
 use Rattle.tb_core.specs.Grouping.{AreJoined, AreJoinedParcels, IsJoinedParcel}
 use Rattle.tb_core.specs.Journal.{LedgerState}
 use Rattle.tb_core.specs.Ledger.{Applied, apply_result, must_stop, apply_step}
-use Rattle.tb_core.specs.inside.Passage.{Passage}
+use Rattle.tb_core.specs.inside.Decision.{Decision}
 use Rattle.tb_core.specs.Run.{Commits, replies_in}
 use Rattle.tb_pipe.specs.Carried.{is_last, is_final, has_final, answers_in, given_on, IsCommitted, CommittedTo}
 use Rattle.tb_pipe.proofs.Lists.{either_same, none_more, any_more, all_first}
@@ -55,8 +55,8 @@ last_of limit (first ∷ sent) handed all = last_of limit sent handed all.1
 pub parcel_more : (clock : ℕ) (sent : List Parcel) (handed : Parcel) (last : Bool) (ledger next : LedgerState)
     (before : List Outcomes) (given : Outcomes) → last ≡ is_last handed →
     (refused : Bool) × (apply_result next given ≡ apply_step refused ledger handed) →
-    ((clock : ℕ) (sent : List Passage) (replies : List Replied) → Commits clock sent ledger replies
-    → Commits clock (sent ++ passages_in handed) next (replies ++ replies_in given)) →
+    ((clock : ℕ) (sent : List Decision) (replies : List ReplyValue) → Commits clock sent ledger replies
+    → Commits clock (sent ++ decisions_in handed) next (replies ++ replies_in given)) →
     ((limit : ℕ) → IsJoinedParcel limit handed → AreJoined limit ledger.groups → AreJoined limit next.groups)
     → IsCommitted clock sent ledger before →
     CommittedTo last clock (sent ++ handed ∷ []) next (before ++ given_on given)
@@ -65,13 +65,13 @@ parcel_more clock sent handed last ledger next before given last_is step more jo
     final : is_final given ≡ is_last handed
     final = final_is step.0 ledger next handed given step.1
 
-    spelling : all_passages_in (sent ++ handed ∷ []) ≡ all_passages_in sent ++ passages_in handed
-    spelling = flat_map-append passages_in sent (handed ∷ [])
-        ∙ ap (λ ps. all_passages_in sent ++ ps) (append-nil (passages_in handed))
+    spelling : all_decisions_in (sent ++ handed ∷ []) ≡ all_decisions_in sent ++ decisions_in handed
+    spelling = flat_map-append decisions_in sent (handed ∷ [])
+        ∙ ap (λ ps. all_decisions_in sent ++ ps) (append-nil (decisions_in handed))
 
-    commits : Commits clock (all_passages_in (sent ++ handed ∷ [])) next (answers_in before ++ replies_in given)
+    commits : Commits clock (all_decisions_in (sent ++ handed ∷ [])) next (answers_in before ++ replies_in given)
     commits = subst (λ ps. Commits clock ps next (answers_in before ++ replies_in given)) (sym spelling)
-        (more clock (all_passages_in sent) (answers_in before) is.commits)
+        (more clock (all_decisions_in sent) (answers_in before) is.commits)
 
     joined : (limit : ℕ) → AreJoinedParcels limit (sent ++ handed ∷ []) → AreJoined limit next.groups
     joined limit all =
@@ -85,7 +85,7 @@ parcel_more clock sent handed last ledger next before given last_is step more jo
         record {
           before = before;
           parts = ap (λ (o : Outcomes). before ++ given_on o) end;
-          commits = subst (λ rs. Commits clock (all_passages_in (sent ++ handed ∷ [])) next rs)
+          commits = subst (λ rs. Commits clock (all_decisions_in (sent ++ handed ∷ [])) next rs)
               (ap (λ (o : Outcomes). answers_in before ++ replies_in o) end
               ∙ append-nil (answers_in before)) commits;
           joined = joined;
@@ -93,7 +93,7 @@ parcel_more clock sent handed last ledger next before given last_is step more jo
           unfinished = is.unfinished;
         }
     by false ends = record {
-      commits = subst (λ rs. Commits clock (all_passages_in (sent ++ handed ∷ [])) next rs)
+      commits = subst (λ rs. Commits clock (all_decisions_in (sent ++ handed ∷ [])) next rs)
           (ap (λ rs. answers_in before ++ rs) (sym (answers-given_on given))
           ∙ sym (flat_map-append replies_in before (given_on given))) commits;
       joined = joined;

@@ -5,13 +5,13 @@ use Rattle.std.specs.Simd.{first_chunks}
 use Rattle.std.proofs.lemmas.Bool.Decides.{nat_tests}
 use Rattle.std.proofs.lemmas.List.{length-map}
 use Rattle.std.proofs.lemmas.Grind.{flat_map-append}
-use Rattle.tb_layout.specs.Work.{Work}
+use Rattle.tb_layout.specs.Input.{Input}
 use Rattle.tb_layout.specs.Account.{account_of}
 use Rattle.tb_layout.specs.Bytes.{little_endian}
 use Rattle.tb_layout.specs.Transfer.{transfer_of}
 use Rattle.tb_layout.specs.Events.{Accounts, Transfers, Ids, accounts_of, transfers_of, ids_of, chunks, count_of}
 use Rattle.tb_work.specs.Admission.{admission_of, admission_of_size}
-use Rattle.tb_work.specs.Packet.{events_in, Replied}
+use Rattle.tb_work.specs.Packet.{events_in, ReplyValue}
 use Rattle.tb_work.specs.Queue.{ahead, ahead_of, items_in}
 use Rattle.tb_work.specs.declared.item.Item.{Item}
 use Rattle.tb_work.specs.declared.item.Item.TheVariants as item
@@ -23,16 +23,16 @@ use Rattle.tb_core.specs.declared.parcel.Parcel.{Parcel}
 use Rattle.tb_core.specs.declared.parcel.Parcel.TheVariants as parcel
 use Rattle.tb_core.specs.declared.outcomes.Outcomes.{Outcomes}
 use Rattle.tb_core.specs.declared.outcomes.Outcomes.TheVariants as outcomes
-use Rattle.tb_core.specs.Front.{all_passages_in, passages_in}
-use Rattle.tb_core.specs.Grouping.{AreJoined, AreJoinedParcels, IsJoinedParcel, IsGrouping, IsWithin as IsWorkWithin, AreWithin as AreWorksWithin}
-use Rattle.tb_core.specs.Journal.{LedgerState, works}
+use Rattle.tb_core.specs.Front.{all_decisions_in, decisions_in}
+use Rattle.tb_core.specs.Grouping.{AreJoined, AreJoinedParcels, IsJoinedParcel, IsGrouping, IsWithin as IsInputWithin, AreWithin as AreInputsWithin}
+use Rattle.tb_core.specs.Journal.{LedgerState, inputs}
 use Rattle.tb_core.specs.Run.{Commits, Ran, replies_in}
 use Rattle.tb_rings.specs.declared.Outlet.{Outlet}
 use Rattle.tb_submit.specs.Lists.{IsWithin, AreWithin}
 use Rattle.tb_pipe.specs.Carried.{is_last, is_final, has_final, answers_in, AllBatched, AllCommitted}
 use Rattle.tb_pipe.proofs.Lists.{all_taken, all_more, all_first}
 
-pub record HasRun (clock limit : ℕ) (queue : List Ticket) (ledger : LedgerState) (answers : List Replied) : Type 0 where
+pub record HasRun (clock limit : ℕ) (queue : List Ticket) (ledger : LedgerState) (answers : List ReplyValue) : Type 0 where
   pub ran : Ran clock (items_in queue) ledger answers
   pub joined : AreJoined limit ledger.groups
 
@@ -50,9 +50,9 @@ drained clock limit submitters queue given_parcels taken_parcels left_parcels le
     ++ parcel.Last ∷ [] =
     all_taken is_last batched.before parcel.Last taken_parcels left_parcels batched.unended
     (parcels_are ∙ batched.parts) committed.ended in
-    let spelling : all_passages_in taken_parcels ≡ all_passages_in batched.before = ap all_passages_in all_parcels
-    ∙ flat_map-append passages_in batched.before (parcel.Last ∷ [])
-    ∙ append-nil (all_passages_in batched.before) in
+    let spelling : all_decisions_in taken_parcels ≡ all_decisions_in batched.before = ap all_decisions_in all_parcels
+    ∙ flat_map-append decisions_in batched.before (parcel.Last ∷ [])
+    ∙ append-nil (all_decisions_in batched.before) in
     let all_outcomes : taken_outcomes ≡ committed.before
     ++ outcomes.Last ∷ [] =
     all_taken is_final committed.before outcomes.Last taken_outcomes left_outcomes committed.unfinished
@@ -64,9 +64,9 @@ drained clock limit submitters queue given_parcels taken_parcels left_parcels le
       ran = record {
         closed = batched.closed;
         stopped = batched.stopped;
-        passages = all_passages_in batched.before;
+        decisions = all_decisions_in batched.before;
         passed = batched.passes;
-        commits = subst (λ rs. Commits clock (all_passages_in batched.before) ledger rs) (sym answers)
+        commits = subst (λ rs. Commits clock (all_decisions_in batched.before) ledger rs) (sym answers)
             (subst (λ ps. Commits clock ps ledger (answers_in committed.before)) spelling committed.commits);
       };
       joined = committed.joined limit (subst (AreJoinedParcels limit) (sym all_parcels)
@@ -116,29 +116,29 @@ few_events limit packet ok = by (packet.operation == 129) (packet.operation == 1
     by false false true ok = few_mapped limit little_endian (chunks 16 bytes) (few limit bytes 16 ok)
     by false false false ok = absurd (true≢false (sym ok))
 
-one_within : (limit : ℕ) (x : Item) (others : List Work) → IsWithin limit x → AreWorksWithin limit others
-    → AreWorksWithin limit (ahead_of x others)
+one_within : (limit : ℕ) (x : Item) (others : List Input) → IsWithin limit x → AreInputsWithin limit others
+    → AreInputsWithin limit (ahead_of x others)
 one_within limit (item.Packet job) others within all = (few_events limit job.packet within, all)
 one_within limit (item.Pulse moment) others within all = (tt, all)
 one_within limit item.End others within all = all
 one_within limit item.Close others within all = tt
 
-ahead_within : (limit : ℕ) (queue : List Ticket) → AreWithin limit queue → AreWorksWithin limit (ahead (items_in queue))
+ahead_within : (limit : ℕ) (queue : List Ticket) → AreWithin limit queue → AreInputsWithin limit (ahead (items_in queue))
 ahead_within limit [] all = tt
 ahead_within limit (ticket ∷ queue) all =
     one_within limit ticket.item (ahead (items_in queue)) all.0 (ahead_within limit queue all.1)
 
-pub grouped : (limit : ℕ) (queue : List Ticket) (ledger : LedgerState) (behind : List Work)
-    → AreJoined limit ledger.groups → AreWithin limit queue → works ledger ++ behind ≡ ahead (items_in queue)
+pub grouped : (limit : ℕ) (queue : List Ticket) (ledger : LedgerState) (remainder : List Input)
+    → AreJoined limit ledger.groups → AreWithin limit queue → inputs ledger ++ remainder ≡ ahead (items_in queue)
     → IsGrouping limit ledger.groups
-grouped limit queue ledger behind joined within committed = record {
+grouped limit queue ledger remainder joined within committed = record {
   joined = joined;
-  within = all_first (IsWorkWithin limit) (works ledger) behind
-      (subst (AreWorksWithin limit) (sym committed) (ahead_within limit queue within));
+  within = all_first (IsInputWithin limit) (inputs ledger) remainder
+      (subst (AreInputsWithin limit) (sym committed) (ahead_within limit queue within));
 }
 
 -- ---- a reply ring of each number below theirs
 
-pub some_of : (k : ℕ) (outlets : List (Outlet Replied)) → k < length outlets → Outlet Replied
+pub some_of : (k : ℕ) (outlets : List (Outlet ReplyValue)) → k < length outlets → Outlet ReplyValue
 some_of k [] below = absurd (omega (arith, below))
 some_of k (outlet ∷ outlets) below = outlet

@@ -1,13 +1,13 @@
 -- Stages that took nothing.
 use Rattle.std.proofs.Common.{refl, sym, ap, subst, ◌≡◌, ℕ, false, List, [], All}
-use Rattle.tb_work.specs.Packet.{Replied}
+use Rattle.tb_work.specs.Packet.{ReplyValue}
 use Rattle.tb_work.specs.declared.item.Ticket.{Ticket}
 use Rattle.tb_core.specs.declared.parcel.Parcel.{Parcel}
 use Rattle.tb_core.specs.declared.outcomes.Outcomes.{Outcomes}
 use Rattle.tb_core.specs.Front.{FrontState, held_by, KnowsEnds}
 use Rattle.tb_core.specs.Grouping.{AreJoined}
 use Rattle.tb_core.specs.Journal.{LedgerState, new_ledger}
-use Rattle.tb_core.specs.inside.Passage.{Passes}
+use Rattle.tb_core.specs.inside.Decision.{AreDecisions}
 use Rattle.tb_core.specs.Run.{Commits}
 use Rattle.tb_rings.specs.Ends.{given}
 use Rattle.tb_rings.specs.declared.Outlet.{Outlet}
@@ -16,7 +16,7 @@ use Rattle.tb_pipe.specs.Outlets.{AllGiven}
 
 pub fresh_batched : (limit submitters : ℕ) (queue : List Ticket) (front : FrontState) (given : List Parcel)
     → front.limit ≡ limit → front.submitters ≡ submitters
-    → Passes [] front.closed front.stopped (held_by front) → KnowsEnds [] front →
+    → AreDecisions [] front.closed front.stopped (held_by front) → KnowsEnds [] front →
     queue ≡ [] → given ≡ [] → IsBatched limit submitters queue front given
 fresh_batched limit submitters queue front given under among passes knows no_queue none =
     subst (λ q. IsBatched limit submitters q front given) (sym no_queue)
@@ -37,6 +37,6 @@ fresh_committed clock taken ledger given new commits no_parcels none =
       unfinished = refl;
     }))
 
-pub fresh_given : (taken : List Outcomes) (outlets : List (Outlet Replied)) → taken ≡ []
-    → All (λ (outlet : Outlet Replied). given outlet ≡ []) outlets → AllGiven (answers_in taken) outlets
+pub fresh_given : (taken : List Outcomes) (outlets : List (Outlet ReplyValue)) → taken ≡ []
+    → All (λ (outlet : Outlet ReplyValue). given outlet ≡ []) outlets → AllGiven (answers_in taken) outlets
 fresh_given taken outlets none all = subst (λ t. AllGiven (answers_in t) outlets) (sym none) all

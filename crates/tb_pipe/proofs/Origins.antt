@@ -1,6 +1,6 @@
 -- Rings and origins that stay the same while the stages run.
 use Rattle.std.proofs.Common.{refl, sym, ap, subst, ◌∙◌, arith, ◌≡◌, ◌<◌, ℕ, zero, suc, ◌+◌, get_or, List, [], ◌∷◌, length}
-use Rattle.tb_work.specs.Packet.{Replied}
+use Rattle.tb_work.specs.Packet.{ReplyValue}
 use Rattle.tb_rings.specs.Ends.{given, taken, outlet_ring}
 use Rattle.tb_rings.specs.declared.Outlet.{Outlet}
 use Rattle.tb_submit.specs.Ends.{IntakeState, Origin, Seat, origins, origins_from, seat_at}
@@ -12,7 +12,7 @@ use Rattle.tb_pipe.specs.declared.stages.Stages.{Stages}
 use Rattle.tb_pipe.specs.declared.stages.Remains.{Remains}
 
 -- the same rings have the same origins
-same_origins : (seats : ℕ → Seat) (n : ℕ) (old new : List (Outlet Replied)) → SameOutlets old new
+same_origins : (seats : ℕ → Seat) (n : ℕ) (old new : List (Outlet ReplyValue)) → SameOutlets old new
     → origins_from seats n new ≡ origins_from seats n old
 same_origins seats n [] [] same = refl
 same_origins seats n [] (y ∷ ys) same = absurd (omega (arith, same.0))
@@ -28,12 +28,12 @@ same_origins seats n (x ∷ xs) (y ∷ ys) same =
 
 -- ---- each ring's origin
 
-pub length-origins : (seats : ℕ → Seat) (n : ℕ) (outlets : List (Outlet Replied))
+pub length-origins : (seats : ℕ → Seat) (n : ℕ) (outlets : List (Outlet ReplyValue))
     → length (origins_from seats n outlets) ≡ length outlets
 length-origins seats n [] = refl
 length-origins seats n (outlet ∷ outlets) = ap suc (length-origins seats (suc n) outlets)
 
-pub seat-origins : (seats : ℕ → Seat) (n : ℕ) (outlets : List (Outlet Replied)) (k : ℕ) (d : Origin)
+pub seat-origins : (seats : ℕ → Seat) (n : ℕ) (outlets : List (Outlet ReplyValue)) (k : ℕ) (d : Origin)
     → k < length outlets → (get_or (origins_from seats n outlets) k d).seat ≡ seats (n + k)
 seat-origins seats n [] k d below = absurd (omega (arith, below))
 seat-origins seats n (outlet ∷ outlets) zero d below = ap seats (omega arith)

@@ -2,16 +2,16 @@
 use Rattle.std.specs.Prelude.{◌≡◌, ℕ, ◌+◌, ◌%◌, ◌^◌, Bool, true, false, List, [], ◌∷◌, ◌++◌, if◌then◌else◌, ⊤}
 use Rattle.std.specs.List.{flat_map, list_any}
 use Rattle.tb_work.specs.Queue.{items_in}
-use Rattle.tb_work.specs.Packet.{Replied}
+use Rattle.tb_work.specs.Packet.{ReplyValue}
 use Rattle.tb_work.specs.declared.item.Ticket.{Ticket}
 use Rattle.tb_core.specs.declared.parcel.Parcel.{Parcel}
 use Rattle.tb_core.specs.declared.parcel.Parcel.TheVariants as parcel
 use Rattle.tb_core.specs.declared.outcomes.Outcomes.{Outcomes}
 use Rattle.tb_core.specs.declared.outcomes.Outcomes.TheVariants as outcomes
-use Rattle.tb_core.specs.Front.{FrontState, all_passages_in, held_by, KnowsEnds, HaveAllEnded}
+use Rattle.tb_core.specs.Front.{FrontState, all_decisions_in, held_by, KnowsEnds, HaveAllEnded}
 use Rattle.tb_core.specs.Grouping.{AreJoined, AreJoinedParcels}
 use Rattle.tb_core.specs.Journal.{LedgerState}
-use Rattle.tb_core.specs.inside.Passage.{Passes}
+use Rattle.tb_core.specs.inside.Decision.{AreDecisions}
 use Rattle.tb_core.specs.Run.{Commits, replies_in}
 
 abbrev pub is_last : Parcel → Bool
@@ -61,7 +61,7 @@ abbrev pub has_final : List Outcomes → Bool
 has_final given = list_any is_final given
 
 -- the replies that outcomes come to, in order
-abbrev pub answers_in : List Outcomes → List Replied
+abbrev pub answers_in : List Outcomes → List ReplyValue
 answers_in given = flat_map replies_in given
 
 -- what the committer gives on: nothing for a pulse
@@ -76,7 +76,7 @@ pub record IsBatched (limit submitters : ℕ) (queue : List Ticket) (front : Fro
     (given : List Parcel) : Type 0 where
   pub under : front.limit ≡ limit
   pub among : front.submitters ≡ submitters
-  pub passes : Passes (items_in queue) front.closed front.stopped (all_passages_in given ++ held_by front)
+  pub passes : AreDecisions (items_in queue) front.closed front.stopped (all_decisions_in given ++ held_by front)
   pub joined : AreJoinedParcels limit given
   pub unended : has_last given ≡ false
   pub knows : KnowsEnds queue front
@@ -87,14 +87,14 @@ pub record AllBatched (limit submitters : ℕ) (queue : List Ticket) (given : Li
   pub stopped : Bool
   pub before : List Parcel
   pub parts : given ≡ before ++ parcel.Last ∷ []
-  pub passes : Passes (items_in queue) closed stopped (all_passages_in before)
+  pub passes : AreDecisions (items_in queue) closed stopped (all_decisions_in before)
   pub joined : AreJoinedParcels limit before
   pub unended : has_last before ≡ false
   pub ended : HaveAllEnded submitters queue
 
 -- a ledger took these parcels, and these outcomes were given on
 pub record IsCommitted (clock : ℕ) (taken : List Parcel) (ledger : LedgerState) (given : List Outcomes) : Type 0 where
-  pub commits : Commits clock (all_passages_in taken) ledger (answers_in given)
+  pub commits : Commits clock (all_decisions_in taken) ledger (answers_in given)
   pub joined : (limit : ℕ) → AreJoinedParcels limit taken → AreJoined limit ledger.groups
   pub unended : has_last taken ≡ false
   pub unfinished : has_final given ≡ false
@@ -103,7 +103,7 @@ pub record IsCommitted (clock : ℕ) (taken : List Parcel) (ledger : LedgerState
 pub record AllCommitted (clock : ℕ) (taken : List Parcel) (ledger : LedgerState) (given : List Outcomes) : Type 0 where
   pub before : List Outcomes
   pub parts : given ≡ before ++ outcomes.Last ∷ []
-  pub commits : Commits clock (all_passages_in taken) ledger (answers_in before)
+  pub commits : Commits clock (all_decisions_in taken) ledger (answers_in before)
   pub joined : (limit : ℕ) → AreJoinedParcels limit taken → AreJoined limit ledger.groups
   pub ended : has_last taken ≡ true
   pub unfinished : has_final before ≡ false

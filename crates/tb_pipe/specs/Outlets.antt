@@ -4,33 +4,33 @@ use Rattle.tb_core.specs.Due.{replies_to}
 use Rattle.tb_core.specs.declared.outcomes.Outcomes.{Outcomes}
 use Rattle.tb_rings.specs.Ends.{given, SameOutlet}
 use Rattle.tb_rings.specs.declared.Outlet.{Outlet}
-use Rattle.tb_work.specs.Packet.{Replied}
+use Rattle.tb_work.specs.Packet.{ReplyValue}
 use Rattle.tb_pipe.specs.Carried.{answers_in, has_final}
 
 -- the same rings in the same order
-abbrev pub SameOutlets : List (Outlet Replied) → List (Outlet Replied) → Type 0
+abbrev pub SameOutlets : List (Outlet ReplyValue) → List (Outlet ReplyValue) → Type 0
 SameOutlets old new =
-    (length new ≡ length old) × ((k : ℕ) (d : Outlet Replied) → k < length old
+    (length new ≡ length old) × ((k : ℕ) (d : Outlet ReplyValue) → k < length old
     → SameOutlet (slice_index_or old k d) (slice_index_or new k d))
 
 -- each ring was given the replies to its submitter
-abbrev pub AllGiven : List Replied → List (Outlet Replied) → Type 0
+abbrev pub AllGiven : List ReplyValue → List (Outlet ReplyValue) → Type 0
 AllGiven answers outlets =
-    (k : ℕ) (d : Outlet Replied) → k < length outlets → given (slice_index_or outlets k d) ≡ replies_to answers k
+    (k : ℕ) (d : Outlet ReplyValue) → k < length outlets → given (slice_index_or outlets k d) ≡ replies_to answers k
 
 -- each ring was given, besides, those of these replies that go to its submitter
-abbrev pub AllMore : List Replied → List (Outlet Replied) → List (Outlet Replied) → Type 0
+abbrev pub AllMore : List ReplyValue → List (Outlet ReplyValue) → List (Outlet ReplyValue) → Type 0
 AllMore answers old new =
-    (k : ℕ) (d : Outlet Replied) → k < length old
+    (k : ℕ) (d : Outlet ReplyValue) → k < length old
     → given (slice_index_or new k d) ≡ given (slice_index_or old k d) ++ replies_to answers k
 
 -- each ring will have been given, besides, those that go to its submitter once the replies that are left are given too
-abbrev pub AllLeft : List Replied → List (Outlet Replied) → List Replied → List (Outlet Replied) → Type 0
+abbrev pub AllLeft : List ReplyValue → List (Outlet ReplyValue) → List ReplyValue → List (Outlet ReplyValue) → Type 0
 AllLeft answers old left new =
-    (k : ℕ) (d : Outlet Replied) → k < length old
+    (k : ℕ) (d : Outlet ReplyValue) → k < length old
     → given (slice_index_or new k d) ++ replies_to left k ≡ given (slice_index_or old k d) ++ replies_to answers k
 
 -- all outcomes that were taken, the last one among them, were handed out
-pub record AllRouted (taken : List Outcomes) (outlets : List (Outlet Replied)) : Type 0 where
+pub record AllRouted (taken : List Outcomes) (outlets : List (Outlet ReplyValue)) : Type 0 where
   pub made : AllGiven (answers_in taken) outlets
   pub ended : has_final taken ≡ true

@@ -57,7 +57,7 @@ fn give_all<R: Wait, G: Gate>(
     sealed
 }
 
-/// Passes one ticket through the front, with room for its parcels. Answers how many batches there are so far.
+/// AreDecisions one ticket through the front, with room for its parcels. Answers how many batches there are so far.
 fn pass_ticket<R: Wait, G: Gate>(
     rt: &R,
     gate: &G,

@@ -3,7 +3,7 @@
 ghost use Rattle.std.specs.Prelude.{◌≡◌, ◌<◌, ℕ, true, map, length, slice_index_or, All};
 ghost use Rattle.tb_core.specs.Grouping.{IsGrouping};
 ghost use Rattle.tb_core.specs.Headline.{Headline, moments_in, moments_queued};
-ghost use Rattle.tb_core.specs.Journal.{works};
+ghost use Rattle.tb_core.specs.Journal.{inputs};
 ghost use Rattle.tb_core.specs.Report.{IsPrefix, LawfulReport};
 ghost use Rattle.tb_submit.specs.Ends.{EndedState, control_seat, end_origin, origins, seat_at};
 ghost use Rattle.tb_pipe.specs.Run.{IsServed, run_of};
@@ -31,7 +31,7 @@ fn settle_remains(remains: Remains, ends: Vec<Ended>, control: ControlEnd) -> Re
     ensures headline { Headline (run_of remains.committed.ledger.opening remains.intake ends.items control
         result.ledger result.ends.items) }
     ensures grouping { IsGrouping remains.intake.limit result.ledger.groups }
-    ensures pulses { IsPrefix (moments_in (works result.ledger)) (moments_queued control.queued) }
+    ensures pulses { IsPrefix (moments_in (inputs result.ledger)) (moments_queued control.queued) }
     ensures ledger { result.ledger ≡ remains.committed.ledger }
     ensures long { length result.ends.items ≡ remains.intake.submitters }
     ensures read { (k : ℕ) (d : EndedState) → (slice_index_or result.ends.items k d).read
@@ -68,7 +68,7 @@ pub fn settle(served: Served, ends: Vec<Ended>, control: ControlEnd) -> Report
     ensures headline { Headline (run_of served.clock served.intake ends.items control
         result.ledger result.ends.items) }
     ensures grouping { IsGrouping served.intake.limit result.ledger.groups }
-    ensures pulses { IsPrefix (moments_in (works result.ledger)) (moments_queued control.queued) }
+    ensures pulses { IsPrefix (moments_in (inputs result.ledger)) (moments_queued control.queued) }
     ensures ledger { result.ledger ≡ served.ledger }
     ensures long { length result.ends.items ≡ served.intake.submitters }
     ensures read { (k : ℕ) (d : EndedState) → (slice_index_or result.ends.items k d).read

@@ -3,16 +3,16 @@ use Rattle.std.proofs.Common.{◌≡◌, ◌<◌, ◌⊎◌, inl, inr, ℕ, zero
 use Rattle.std.specs.Prelude.{◌==◌, slice_index_or, filter, if◌then◌else◌}
 use Rattle.std.specs.List.{AllByRecursion}
 use Rattle.std.proofs.lemmas.Bool.{eq-eqb, ne_eqb}
-use Rattle.tb_layout.specs.Work.{Work}
+use Rattle.tb_layout.specs.Input.{Input}
 use Rattle.tb_work.specs.Job.{numbered_packet}
 use Rattle.tb_work.specs.Queue.{part, items_in, ahead, ahead_of}
-use Rattle.tb_work.specs.Packet.{Replied, reply_with, work_of}
+use Rattle.tb_work.specs.Packet.{ReplyValue, reply_with, input_of}
 use Rattle.tb_work.specs.declared.item.Item.{Item}
 use Rattle.tb_work.specs.declared.item.Item.TheVariants as item
 use Rattle.tb_work.specs.declared.item.Ticket.{Ticket}
 use Rattle.tb_work.specs.declared.packet.Packet.{Packet}
 use Rattle.tb_core.specs.Due.{all_due_from, outcome_at, reply_due, replies_to, Place, Ahead, Behind, next_place}
-use Rattle.tb_core.specs.Journal.{LedgerState, works}
+use Rattle.tb_core.specs.Journal.{LedgerState, inputs}
 use Rattle.tb_submit.specs.Ends.{EndedState, IntakeState, Origin, Seat, SubmitterState, ended_with, new_submitter, replies_of, seat_at, with_item}
 use Rattle.tb_pipe_tests.specs.OnePacket.{IsReplyToOne, IsRunOfOne, one_and_end}
 
@@ -63,7 +63,7 @@ adds ticket queue (suc k) is =
           (ne_eqb ticket.sender 0 (λ e. absurd (omega (arith, is, e)))),
     )
 
-pub due_to_first : (clock : ℕ) (done : List Work) (place : Place) (queue : List Ticket) → OthersEnd queue
+pub due_to_first : (clock : ℕ) (done : List Input) (place : Place) (queue : List Ticket) → OthersEnd queue
     → all_due_from clock done place (items_in queue) ≡ all_due_from clock done place (part 0 queue)
 due_to_first clock done place [] others = refl
 due_to_first clock done place (ticket ∷ queue) others =
@@ -90,10 +90,10 @@ ahead_of_first (ticket ∷ queue) others =
 
 -- ---- one packet
 
-front_of_one : (done behind : List Work) (work : Work) → done ++ behind ≡ work ∷ [] → (done ≡ []) ⊎ (done ≡ work ∷ [])
-front_of_one [] behind work e = inl refl
-front_of_one (x ∷ []) behind work e = inr cc
-front_of_one (x ∷ y ∷ done) behind work e = cc
+front_of_one : (done remainder : List Input) (input : Input) → done ++ remainder ≡ input ∷ [] → (done ≡ []) ⊎ (done ≡ input ∷ [])
+front_of_one [] remainder input e = inl refl
+front_of_one (x ∷ []) remainder input e = inr cc
+front_of_one (x ∷ y ∷ done) remainder input e = cc
 
 others_end : (clock : ℕ) (packet : Packet) (ledger : LedgerState) (ends : List EndedState)
     (run : IsRunOfOne clock packet ledger ends) → OthersEnd run.queue
@@ -101,37 +101,37 @@ others_end clock packet ledger ends run zero above = absurd (omega (arith, above
 others_end clock packet ledger ends run (suc zero) above =
     subst AreEnds (sym (run.lawful.filled.parts 1 (omega arith) ∙ run.controlled)) (refl, tt)
 others_end clock packet ledger ends run (suc (suc k)) above =
-    subst AreEnds (sym (run.lawful.filled.strangers (suc (suc k)) (omega arith))) tt
+    subst AreEnds (sym (run.lawful.filled.no_other_sender (suc (suc k)) (omega arith))) tt
 
-abbrev one_reply : ℕ → List Work → Packet → Replied
+abbrev one_reply : ℕ → List Input → Packet → ReplyValue
 one_reply clock done packet = reply_with (outcome_at clock done (Ahead 0)) (numbered_packet 0 0 packet)
 
 pub replies_to_one : (clock : ℕ) (packet : Packet) (ledger : LedgerState) (ends : List EndedState)
-    → IsRunOfOne clock packet ledger ends → replies_of ends 0 ≡ one_reply clock (works ledger) packet ∷ []
+    → IsRunOfOne clock packet ledger ends → replies_of ends 0 ≡ one_reply clock (inputs ledger) packet ∷ []
 replies_to_one clock packet ledger ends run =
     let first : part 0 run.queue ≡ one_and_end packet = run.lawful.filled.parts 0 (omega arith) ∙ run.submitted in
     run.lawful.replied 0 (omega arith)
-    ∙ ap (λ replies. replies_to replies 0) (due_to_first clock (works ledger) (Ahead 0) run.queue
-    (others_end clock packet ledger ends run) ∙ ap (all_due_from clock (works ledger) (Ahead 0)) first)
+    ∙ ap (λ replies. replies_to replies 0) (due_to_first clock (inputs ledger) (Ahead 0) run.queue
+    (others_end clock packet ledger ends run) ∙ ap (all_due_from clock (inputs ledger) (Ahead 0)) first)
 
-reply_where : (clock : ℕ) (packet : Packet) (done : List Work)
-    → (done ≡ []) ⊎ (done ≡ work_of (numbered_packet 0 0 packet) ∷ [])
+reply_where : (clock : ℕ) (packet : Packet) (done : List Input)
+    → (done ≡ []) ⊎ (done ≡ input_of (numbered_packet 0 0 packet) ∷ [])
     → IsReplyToOne clock packet (one_reply clock done packet)
 reply_where clock packet done (inl none) = inl (ap (λ d. one_reply clock d packet) none)
 reply_where clock packet done (inr all) = inr (ap (λ d. one_reply clock d packet) all)
 
 pub is_reply : (clock : ℕ) (packet : Packet) (ledger : LedgerState) (ends : List EndedState)
-    → IsRunOfOne clock packet ledger ends → IsReplyToOne clock packet (one_reply clock (works ledger) packet)
+    → IsRunOfOne clock packet ledger ends → IsReplyToOne clock packet (one_reply clock (inputs ledger) packet)
 is_reply clock packet ledger ends run =
     let first : part 0 run.queue ≡ one_and_end packet = run.lawful.filled.parts 0 (omega arith) ∙ run.submitted in
-    reply_where clock packet (works ledger) (front_of_one (works ledger) run.lawful.committed.0
-    (work_of (numbered_packet 0 0 packet))
+    reply_where clock packet (inputs ledger) (front_of_one (inputs ledger) run.lawful.committed.0
+    (input_of (numbered_packet 0 0 packet))
     (run.lawful.committed.1 ∙ ahead_of_first run.queue (others_end clock packet ledger ends run) ∙ ap ahead first))
 
 -- the one end has the reply still to read
 pub lies_for_one : (clock : ℕ) (packet : Packet) (ledger : LedgerState) (ends front : List EndedState)
     (ended : EndedState) → IsRunOfOne clock packet ledger ends → ends ≡ front ++ ended ∷ []
-    → ended.lying ≡ one_reply clock (works ledger) packet ∷ []
+    → ended.lying ≡ one_reply clock (inputs ledger) packet ∷ []
 lies_for_one clock packet ledger ends [] ended run is =
     let unread : ended.read ≡ [] = ap (λ (l : List EndedState). (get_or l 0 ended).read) (sym is) ∙ run.unread ended in
     ap (λ read. read ++ ended.lying) (sym unread) ∙ ap (λ l. replies_of l 0) (sym is)
@@ -141,11 +141,11 @@ lies_for_one clock packet ledger ends (x ∷ front) ended run is =
     absurd (omega (arith, long, run.long))
 
 pub is_reply_read : (clock : ℕ) (packet : Packet) (ledger : LedgerState) (ends front : List EndedState)
-    (ended : EndedState) (reply : Replied) (rest : List Replied) → IsRunOfOne clock packet ledger ends →
+    (ended : EndedState) (reply : ReplyValue) (rest : List ReplyValue) → IsRunOfOne clock packet ledger ends →
     ends ≡ front ++ ended ∷ [] → ended.lying ≡ reply ∷ rest → IsReplyToOne clock packet reply
 is_reply_read clock packet ledger ends front ended reply rest run is lies =
     let known = lies_for_one clock packet ledger ends front ended run is in
-    let same : one_reply clock (works ledger) packet ≡ reply = cc in
+    let same : one_reply clock (inputs ledger) packet ≡ reply = cc in
     subst (IsReplyToOne clock packet) same (is_reply clock packet ledger ends run)
 
 -- the one submitter of a pipeline that was just opened

@@ -5,7 +5,7 @@ use Rattle.tb_core.specs.Report.{LawfulReport}
 use Rattle.tb_machine.specs.Replay.{answer_of, opening}
 use Rattle.tb_submit.specs.Ends.{EndedState}
 use Rattle.tb_pipe_tests.specs.Together.{run_with}
-use Rattle.tb_work.specs.Packet.{events_in, Replied, reply_with}
+use Rattle.tb_work.specs.Packet.{events_in, ReplyValue, reply_with}
 use Rattle.tb_work.specs.Job.{numbered_packet}
 use Rattle.tb_work.specs.declared.item.Item.{Item}
 use Rattle.tb_work.specs.declared.item.Item.TheVariants as item
@@ -29,7 +29,7 @@ pub record IsRunOfOne (clock : ℕ) (packet : Packet) (ledger : LedgerState) (en
   pub lawful : LawfulReport (run_with clock limit 1 queue queued ledger ends)
 
 -- the packet as it was handed in, Stopped, or committed at place 0 and answered by the state that was opened
-abbrev pub IsReplyToOne : ℕ → Packet → Replied → Type 0
+abbrev pub IsReplyToOne : ℕ → Packet → ReplyValue → Type 0
 IsReplyToOne clock packet reply =
     (reply ≡ reply_with Stopped (numbered_packet 0 0 packet))
     ⊎ (reply ≡ reply_with (Committed 0 (answer_of (opening clock) (events_in packet)))

@@ -260,7 +260,7 @@ fn finish_lone<R: Threads + Wait + Sync + Abort, G: Gate>(
     alloc: Global,
     lone: Lone,
     shut: bool,
-    behind: &[u8],
+    remainder: &[u8],
     gate: &G,
 ) -> Report
     requires { AreTogether lone.pipeline (lone.submitter ∷ []) lone.control }
@@ -273,7 +273,7 @@ fn finish_lone<R: Threads + Wait + Sync + Abort, G: Gate>(
         control,
     } = lone;
     let control = end_control(rt, control, shut);
-    queue_accounts(rt, alloc, &mut submitter, behind);
+    queue_accounts(rt, alloc, &mut submitter, remainder);
     let mut submitters = room_for_ends(alloc).expect(rt, "memory");
     end_one(rt, &mut submitters, submitter);
     let ends = Ends {

@@ -3,8 +3,8 @@ use Rattle.std.proofs.Common.{◌≡◌, ◌∙◌, ◌<◌, ℕ, zero, suc, Boo
 use Rattle.std.specs.Prelude.{◌==◌, slice_get, if◌then◌else◌}
 use Rattle.std.proofs.lemmas.Option.{slice_get_within}
 use Rattle.tb_core.specs.Due.{outcome_at, reply_due, all_due_from, replies_to, Place, Ahead, next_place}
-use Rattle.tb_core.specs.Journal.{LedgerState, works}
-use Rattle.tb_layout.specs.Work.{Work}
+use Rattle.tb_core.specs.Journal.{LedgerState, inputs}
+use Rattle.tb_layout.specs.Input.{Input}
 use Rattle.tb_submit.specs.Ends.{EndedState, SubmitterState, replies_of}
 use Rattle.tb_work.specs.Queue.{AreSubmitted, IsSubmitted, items_in, part}
 use Rattle.tb_work.specs.declared.item.Item.{Item}
@@ -15,7 +15,7 @@ use Rattle.tb_drive.specs.Reported.{HasReported}
 use Rattle.tb_drive.specs.Seen.{jobs_in}
 use Rattle.tb_program.specs.Answering.{AreAllAnswered, AreAllDone}
 use Rattle.tb_program.specs.Drivers.{HasEndedOf, HasSeenOf, share_of, told_of}
-use Rattle.tb_program.proofs.Handing.{handed_longer}
+use Rattle.tb_program.proofs.HandedPackets.{handed_longer}
 use Rattle.tb_program.specs.Noting.{IsHandedIn}
 use Rattle.tb_program.specs.RunText.{AreHandedIn}
 use Rattle.tb_program.specs.declared.run.driver.ScriptDriver.{ScriptDriver}
@@ -27,7 +27,7 @@ first_part submitter ticket queue true is = rw is refl
 first_part submitter ticket queue false is = rw is refl
 
 -- a packet of a submitter has one reply due to it, and nothing else has
-as_many_due : (clock submitters submitter : ℕ) (committed : List Work) (place : Place) (queue : List Ticket)
+as_many_due : (clock submitters submitter : ℕ) (committed : List Input) (place : Place) (queue : List Ticket)
     → AreSubmitted submitters queue
     → length (jobs_in (part submitter queue)) ≡ length
     (replies_to (all_due_from clock committed place (items_in queue)) submitter)
@@ -72,7 +72,7 @@ module _ {clock limit submitters : ℕ} {before : List SubmitterState} {controll
         queued = jobs_in (reported.queued k);
         seen = reported.seen k driver ended driver_is ended_is;
         number = ap (λ items. length (jobs_in items)) (sym parts)
-            ∙ as_many_due clock submitters k (works ledger) (Ahead 0) reported.queue filled.submitted
+            ∙ as_many_due clock submitters k (inputs ledger) (Ahead 0) reported.queue filled.submitted
             ∙ ap length (sym (reported.report.replied k below) ∙ replies_at ends k ended ended_is);
       }
 

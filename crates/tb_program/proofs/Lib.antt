@@ -1,7 +1,7 @@
 mod Answered
-mod Handing
+mod HandedPackets
 mod Noting
 mod Packets
 mod Pulses
-mod Refusing
+mod RefusalReasons
 mod Sharing

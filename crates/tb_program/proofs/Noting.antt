@@ -1,4 +1,4 @@
--- Lists of which each member is something.
+-- Lists whose members all have a property.
 use Rattle.std.proofs.Common.{◌≡◌, ℕ, zero, suc, List, [], ◌∷◌, ◌++◌, map, ap, sym, subst}
 use Rattle.tb_submit.specs.Ends.{Origin, SubmitterState, new_submitter}
 use Rattle.tb_program.specs.Drivers.{AreNew, HasSeenOf}

@@ -1,43 +1,43 @@
 -- The lines of pulses, entry by entry.
 use Rattle.std.proofs.Common.{◌≡◌, ◌∙◌, ◌+◌, ◌*◌, ℕ, suc, List, [], ◌∷◌, ◌++◌, append_assoc, length, map, drop, refl, ap, sym, arith}
-use Rattle.tb_layout.specs.Work.{Work, Packet, Pulse}
+use Rattle.tb_layout.specs.Input.{Input, Packet, Pulse}
 use Rattle.std.specs.List.{flat_map}
 use Rattle.std.proofs.lemmas.List.Folds.{flat_map-map}
-use Rattle.tb_core.specs.Journal.{LedgerState, works}
+use Rattle.tb_core.specs.Journal.{LedgerState, inputs}
 use Rattle.tb_core.specs.Ledger.{group_of, packets_of, size_of}
 use Rattle.tb_core.specs.declared.journal.Entry.{Entry}
 use Rattle.tb_work.specs.declared.stub.Stub.{Stub}
-use Rattle.tb_text.specs.Output.{pulse_line}
+use Rattle.tb_program_text.specs.Output.{pulse_line}
 use Rattle.tb_program.specs.RunText.{pulses_text}
 
 -- those of some packets and pulses, and of others after them
-pub pulses_behind : (place : ℕ) (works others : List Work)
-    → pulses_text place (works ++ others) ≡ pulses_text place works ++ pulses_text (place + length works) others
-pulses_behind place [] others = ap (λ p. pulses_text p others) (omega arith)
-pulses_behind place (Packet submitter number events ∷ works) others =
-    pulses_behind (suc place) works others ∙ ap (λ p.
-    pulses_text (suc place) works ++ pulses_text p others) (omega arith)
-pulses_behind place (Pulse moment ∷ works) others =
-    ap (λ text. pulse_line place ++ text) (pulses_behind (suc place) works others
-    ∙ ap (λ p. pulses_text (suc place) works ++ pulses_text p others) (omega arith))
-    ∙ sym (append_assoc (pulse_line place) (pulses_text (suc place) works)
-    (pulses_text (place + suc (length works)) others))
+pub pulses_after : (place : ℕ) (inputs others : List Input)
+    → pulses_text place (inputs ++ others) ≡ pulses_text place inputs ++ pulses_text (place + length inputs) others
+pulses_after place [] others = ap (λ p. pulses_text p others) (omega arith)
+pulses_after place (Packet submitter number events ∷ inputs) others =
+    pulses_after (suc place) inputs others ∙ ap (λ p.
+    pulses_text (suc place) inputs ++ pulses_text p others) (omega arith)
+pulses_after place (Pulse moment ∷ inputs) others =
+    ap (λ text. pulse_line place ++ text) (pulses_after (suc place) inputs others
+    ∙ ap (λ p. pulses_text (suc place) inputs ++ pulses_text p others) (omega arith))
+    ∙ sym (append_assoc (pulse_line place) (pulses_text (suc place) inputs)
+    (pulses_text (place + suc (length inputs)) others))
 
 -- those of an entry, and of the others after it
-pub first_pulses : (before after : List ℕ) (place behind : ℕ) (entry : Entry) (others all : List Entry)
-    → all ≡ entry ∷ others → behind ≡ place + length (group_of entry)
+pub first_pulses : (before after : List ℕ) (place next_place : ℕ) (entry : Entry) (others all : List Entry)
+    → all ≡ entry ∷ others → next_place ≡ place + length (group_of entry)
     → after ≡ before ++ pulses_text place (group_of entry)
-    → after ++ pulses_text behind (flat_map group_of others)
+    → after ++ pulses_text next_place (flat_map group_of others)
     ≡ before ++ pulses_text place (flat_map group_of all)
-first_pulses before after place behind entry others all all_is behind_is text =
-    ap (λ t. t ++ pulses_text behind (flat_map group_of others)) text ∙ append_assoc before _ _
-    ∙ ap (λ p. before ++ (pulses_text place (group_of entry) ++ pulses_text p (flat_map group_of others))) behind_is
-    ∙ ap (λ t. before ++ t) (sym (pulses_behind place (group_of entry) (flat_map group_of others)))
+first_pulses before after place next_place entry others all all_is after_is text =
+    ap (λ t. t ++ pulses_text next_place (flat_map group_of others)) text ∙ append_assoc before _ _
+    ∙ ap (λ p. before ++ (pulses_text place (group_of entry) ++ pulses_text p (flat_map group_of others))) after_is
+    ∙ ap (λ t. before ++ t) (sym (pulses_after place (group_of entry) (flat_map group_of others)))
     ∙ ap (λ es. before ++ pulses_text place (flat_map group_of es)) (sym all_is)
 
 -- the packets and pulses of a ledger's entries
 pub of_entries : (journal : List Entry) (ledger : LedgerState) → map group_of journal ≡ ledger.groups
-    → flat_map group_of journal ≡ works ledger
+    → flat_map group_of journal ≡ inputs ledger
 of_entries journal ledger is = sym (flat_map-map (λ group. group) group_of journal) ∙ ap (flat_map (λ group. group)) is
 
 -- a batch has no pulse

@@ -5,14 +5,14 @@ use Rattle.std.proofs.lemmas.Bool.{eq-eqb, ne_eqb}
 use Rattle.std.proofs.lemmas.Grind.{flat_map-append}
 use Rattle.std.proofs.lemmas.List.{append-nil}
 use Rattle.tb_work.specs.declared.packet.Packet as packets
-use Rattle.tb_script.specs.declared.item.Item.{Item}
-use Rattle.tb_script.specs.declared.item.Item.TheVariants.{Packet}
-use Rattle.tb_script.specs.declared.item.Submission.{Submission}
-use Rattle.tb_text.specs.Plan.{packet_of}
+use Rattle.tb_program_script.specs.declared.item.ScriptItem.{ScriptItem}
+use Rattle.tb_program_script.specs.declared.item.ScriptItem.TheVariants.{Packet}
+use Rattle.tb_program_script.specs.declared.item.Submission.{Submission}
+use Rattle.tb_program_text.specs.Plan.{packet_of}
 use Rattle.tb_program.specs.Drivers.{lists_of}
 use Rattle.tb_program.specs.Sharing.{AreDealt, packet_by, packets_by, shares_of}
 
-one_more : (submitter : ℕ) (items : List Item) (item : Item)
+one_more : (submitter : ℕ) (items : List ScriptItem) (item : ScriptItem)
     → packets_by submitter (items ++ item ∷ []) ≡ packets_by submitter items ++ packet_by submitter item
 one_more submitter items item =
     flat_map-append (packet_by submitter) items (item ∷ [])
@@ -23,7 +23,7 @@ pub not_its : (submitter : ℕ) (submission : Submission) → (submission.submit
 not_its submitter submission other = rw (ne_eqb submission.submitter submitter other) refl
 
 -- an item that is no packet of these submitters changes nothing
-pub dealt_past : (submitter : ℕ) (shares : List (Vec packets.Packet Global)) (items : List Item) (item : Item)
+pub dealt_past : (submitter : ℕ) (shares : List (Vec packets.Packet Global)) (items : List ScriptItem) (item : ScriptItem)
     → ((other : ℕ) → submitter ≤ other → other < submitter + length shares → packet_by other item ≡ [])
     → AreDealt submitter shares items → AreDealt submitter shares (items ++ item ∷ [])
 dealt_past submitter [] items item none dealt = dealt
@@ -35,7 +35,7 @@ dealt_past submitter (own ∷ shares) items item none dealt = (
 )
 
 -- a packet goes to its submitter
-pub dealt_to : (submitter k : ℕ) (shares : List (Vec packets.Packet Global)) (items : List Item)
+pub dealt_to : (submitter k : ℕ) (shares : List (Vec packets.Packet Global)) (items : List ScriptItem)
     (submission : Submission) (share : Vec packets.Packet Global)
     → submission.submitter ≡ submitter + k → k < length shares
     → share.items ≡ (get_or shares k share).items ++ packet_of submission ∷ []
@@ -58,7 +58,7 @@ dealt_to submitter (suc k) (own ∷ shares) items submission share its within is
 )
 
 -- what is dealt are the submitters' shares
-pub dealt_lists : (submitter : ℕ) (shares : List (Vec packets.Packet Global)) (items : List Item)
+pub dealt_lists : (submitter : ℕ) (shares : List (Vec packets.Packet Global)) (items : List ScriptItem)
     → AreDealt submitter shares items → lists_of shares ≡ shares_of submitter (length shares) items
 dealt_lists submitter [] items dealt = refl
 dealt_lists submitter (own ∷ shares) items dealt =

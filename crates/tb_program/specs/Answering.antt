@@ -1,20 +1,20 @@
 -- Drivers whose submitters have ended, and the replies to what they queued.
 use Rattle.std.specs.Prelude.{◌≡◌, ℕ, suc, List, [], ◌∷◌, ◌++◌, Some, length, slice_get}
 use Rattle.tb_submit.specs.Ends.{EndedState}
-use Rattle.tb_work.specs.Packet.{Numbered, Replied}
+use Rattle.tb_work.specs.Packet.{Numbered, ReplyValue}
 use Rattle.tb_program.specs.Drivers.{HasSeenOf, IsDone}
 use Rattle.tb_program.specs.declared.run.driver.ScriptDriver.{ScriptDriver}
 use Rattle.tb_program.specs.declared.run.notes.Told.{Told}
 use Rattle.tb_program.specs.declared.run.notes.Told.TheVariants.{Queued, Refused}
 
--- of how many packets a driver was told that they are queued
+-- the number of packets that a driver was told are queued
 abbrev pub queued_among : List Told → ℕ
 queued_among [] = 0
 queued_among (Queued ∷ told) = suc (queued_among told)
 queued_among (Refused refusal ∷ told) = queued_among told
 
 -- there are as many replies as such packets
-abbrev pub IsAnswered : List Told → List Replied → Type 0
+abbrev pub IsAnswered : List Told → List ReplyValue → Type 0
 IsAnswered told replies = queued_among told ≡ length replies
 
 -- a driver has seen what its end queued and read, and there are as many replies as packets

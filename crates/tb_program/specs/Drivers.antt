@@ -2,7 +2,7 @@
 use Rattle.std.specs.Prelude.{◌≡◌, ℕ, true, List, [], ◌∷◌, Some, Vec, map, slice_get}
 use Rattle.std.specs.Vec.Iter.{into_iter_items}
 use Rattle.std.specs.declared.alloc.Global.{Global}
-use Rattle.tb_work.specs.Packet.{Numbered, Replied}
+use Rattle.tb_work.specs.Packet.{Numbered, ReplyValue}
 use Rattle.tb_work.specs.declared.packet.Packet.{Packet}
 use Rattle.tb_program.specs.Noting.{HasNoted}
 use Rattle.tb_program.specs.declared.run.driver.ScriptDriver.{ScriptDriver}
@@ -15,17 +15,17 @@ abbrev pub told_of : ScriptDriver → List Told
 told_of driver = driver.notes.told.items
 
 -- a driver has noted what its submitter queued and read; the packets that it still has are left of its share
-abbrev pub HasSeenOf : ScriptDriver → ℕ → List Numbered → List Replied → Type 0
+abbrev pub HasSeenOf : ScriptDriver → ℕ → List Numbered → List ReplyValue → Type 0
 HasSeenOf driver limit queued read =
     HasNoted (share_of driver) (into_iter_items driver.packets) driver.notes limit queued read
 
--- the same, where it handed out one more packet and wasn't told of that
-abbrev pub HasAskedOf : ScriptDriver → Packet → ℕ → List Numbered → List Replied → Type 0
+-- the same, with one more packet handed in whose result isn't noted yet
+abbrev pub HasAskedOf : ScriptDriver → Packet → ℕ → List Numbered → List ReplyValue → Type 0
 HasAskedOf driver packet limit queued read =
     HasNoted (share_of driver) (packet ∷ into_iter_items driver.packets) driver.notes limit queued read
 
--- it has handed out all of its packets
-abbrev pub HasEndedOf : ScriptDriver → ℕ → List Numbered → List Replied → Type 0
+-- it has handed in all of its packets
+abbrev pub HasEndedOf : ScriptDriver → ℕ → List Numbered → List ReplyValue → Type 0
 HasEndedOf driver limit queued read = into_iter_items driver.packets ≡ []
 
 -- a driver noted all that it was to note, and has no packet left

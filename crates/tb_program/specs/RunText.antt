@@ -3,16 +3,16 @@ use Rattle.std.specs.Prelude.{◌≡◌, ℕ, ◌+◌, zero, suc, List, [], ◌�
 use Rattle.tb_core.specs.Grouping.{IsGrouping}
 use Rattle.tb_core.specs.Headline.{moments_in as moments_committed, moments_queued}
 use Rattle.tb_core.specs.Report.{Run, committed_in, IsPrefix, LawfulReport}
-use Rattle.tb_layout.specs.Work.{Work, Packet, Pulse}
+use Rattle.tb_layout.specs.Input.{Input, Packet, Pulse}
 use Rattle.tb_machine.specs.Replay.{State}
-use Rattle.tb_work.specs.Packet.{Replied}
+use Rattle.tb_work.specs.Packet.{ReplyValue}
 use Rattle.tb_work.specs.declared.item.Item.{Item}
 use Rattle.tb_work.specs.declared.packet.Packet as packets
 use Rattle.tb_drive.specs.Lines.{lines_of, refused_of}
 use Rattle.tb_drive.specs.Seen.{jobs_in}
-use Rattle.tb_script.specs.Script.{Said, clock_of, limit_of, submitters_of, items_of, script_of}
+use Rattle.tb_program_script.specs.Script.{ParsedScript, clock_of, limit_of, submitters_of, items_of, script_of}
 use Rattle.tb_program.specs.Noting.{IsHandedIn}
-use Rattle.tb_text.specs.Output.{reply_line, refused_line, pulse_line, refused_pulse_line, state_text}
+use Rattle.tb_program_text.specs.Output.{reply_line, refused_line, pulse_line, refused_pulse_line, state_text}
 use Rattle.tb_program.specs.Sharing.{moments_in, shares_of, shuts_in}
 use Rattle.tb_program.specs.declared.run.notes.Told.{Told}
 use Rattle.tb_program.specs.declared.run.notes.Told.TheVariants.{Queued, Refused}
@@ -20,26 +20,26 @@ use Rattle.tb_program.specs.declared.run.notes.Told.TheVariants.{Queued, Refused
 -- ---- a submitter's packets
 
 -- the line of a packet: the next reply, or why it was refused
-abbrev pub told_line : ℕ → Told → List Replied → List ℕ
+abbrev pub told_line : ℕ → Told → List ReplyValue → List ℕ
 told_line submitter Queued [] = []
 told_line submitter Queued (reply ∷ replies) = reply_line reply
 told_line submitter (Refused refusal) replies = refused_line submitter refusal
 
 -- the replies that are left after it
-abbrev pub behind_told : Told → List Replied → List Replied
-behind_told Queued [] = []
-behind_told Queued (reply ∷ replies) = replies
-behind_told (Refused refusal) replies = replies
+abbrev pub replies_after : Told → List ReplyValue → List ReplyValue
+replies_after Queued [] = []
+replies_after Queued (reply ∷ replies) = replies
+replies_after (Refused refusal) replies = replies
 
-unfoldable pub told_text : ℕ → List Told → List Replied → List ℕ
+unfoldable pub told_text : ℕ → List Told → List ReplyValue → List ℕ
 told_text submitter [] replies = []
 told_text submitter (told ∷ others) replies =
-    told_line submitter told replies ++ told_text submitter others (behind_told told replies)
+    told_line submitter told replies ++ told_text submitter others (replies_after told replies)
 
 -- ---- the packets of all, by rising number of their submitters
 
 -- from a submitter on, the first of whose replies are those of 0
-unfoldable pub packets_text : ℕ → List (List Told) → (ℕ → List Replied) → List ℕ
+unfoldable pub packets_text : ℕ → List (List Told) → (ℕ → List ReplyValue) → List ℕ
 packets_text submitter [] replies = []
 packets_text submitter (own ∷ others) replies =
     told_text submitter own (replies zero) ++ packets_text (submitter + 1) others (λ k. replies (suc k))
@@ -47,35 +47,35 @@ packets_text submitter (own ∷ others) replies =
 -- ---- what was committed
 
 -- the pulses, each with its place; the first of these packets and pulses has the place given
-abbrev pub pulses_text : ℕ → List Work → List ℕ
+abbrev pub pulses_text : ℕ → List Input → List ℕ
 pulses_text place [] = []
-pulses_text place (Packet submitter number events ∷ works) = pulses_text (suc place) works
-pulses_text place (Pulse moment ∷ works) = pulse_line place ++ pulses_text (suc place) works
+pulses_text place (Packet submitter number events ∷ inputs) = pulses_text (suc place) inputs
+pulses_text place (Pulse moment ∷ inputs) = pulse_line place ++ pulses_text (suc place) inputs
 
 abbrev pub refused_pulses_text : ℕ → List ℕ
 refused_pulses_text zero = []
 refused_pulses_text (suc count) = refused_pulses_text count ++ refused_pulse_line
 
-abbrev pub ledger_text : List Work → ℕ → State → List ℕ
-ledger_text works refused_pulses state = pulses_text 0 works ++ refused_pulses_text refused_pulses ++ state_text state
+abbrev pub ledger_text : List Input → ℕ → State → List ℕ
+ledger_text inputs refused_pulses state = pulses_text 0 inputs ++ refused_pulses_text refused_pulses ++ state_text state
 
 -- ---- the whole
 
-abbrev pub run_text : List (List Told) → (ℕ → List Replied) → List Work → ℕ → State → List ℕ
-run_text told replies works refused_pulses state = packets_text 0 told replies ++ ledger_text works refused_pulses state
+abbrev pub run_text : List (List Told) → (ℕ → List ReplyValue) → List Input → ℕ → State → List ℕ
+run_text told replies inputs refused_pulses state = packets_text 0 told replies ++ ledger_text inputs refused_pulses state
 
--- all of these shares were handed in: of each packet it was told what became of it, rightly under this limit and with
--- these replies, and just those are queued of which that was told
-abbrev pub AreHandedIn : ℕ → (ℕ → List Replied) → List (List packets.Packet) → List (List Told) → (ℕ → List Item)
+-- all of these shares were handed in: the right result of each packet, under this limit and with these replies, is
+-- noted, and exactly those are queued that are noted as queued
+abbrev pub AreHandedIn : ℕ → (ℕ → List ReplyValue) → List (List packets.Packet) → List (List Told) → (ℕ → List Item)
     → Type 0
 AreHandedIn limit replies shares told queued =
     (k : ℕ) (share : List packets.Packet) (own : List Told) → slice_get shares k ≡ Some share
     → slice_get told k ≡ Some own → IsHandedIn limit (replies k) share [] own (jobs_in (queued k))
 
 -- Of a run from this clock on under this limit, with a submitter for each of these shares and a control that queued
--- these items: the text is that of a lawful report of some queue, in which each submitter queued its share but for what
--- it was refused, and whose committed pulses are the first of the control's. A packet is printed as refused only for
--- what refuses it, and no packet that isn't admitted is queued.
+-- these items: the text is that of a lawful report of some queue. In it each submitter queued its share except for what
+-- was refused, and the committed pulses are the first of the control's. A packet is printed as refused only for what
+-- refuses it, and no packet that isn't admitted is queued.
 pub record IsRunText (clock limit : ℕ) (shares : List (List packets.Packet)) (controlled : List Item)
     (refused_pulses : ℕ) (text : List ℕ) : Type 0 where
   pub run : Run
@@ -92,13 +92,13 @@ pub record IsRunText (clock limit : ℕ) (shares : List (List packets.Packet)) (
 
 -- of what a script says: each submitter's share is its packets, and the control queues the pulses and the Close, or its
 -- end
-abbrev pub IsTextOf : Said → List ℕ → Type 0
-IsTextOf said text =
-    let items = items_of said in
-    IsRunText (clock_of said.settings) (limit_of said.settings) (shares_of 0 (submitters_of said.settings) items)
+abbrev pub IsTextOf : ParsedScript → List ℕ → Type 0
+IsTextOf parsed text =
+    let items = items_of parsed in
+    IsRunText (clock_of parsed.settings) (limit_of parsed.settings) (shares_of 0 (submitters_of parsed.settings) items)
     (lines_of (moments_in items) (shuts_in items))
     (refused_of (moments_in items)) text
 
 -- the same of the bytes of a script without a fault
 abbrev pub IsRunOf : List ℕ → List ℕ → Type 0
-IsRunOf bytes text = (said : Said) → script_of bytes ≡ Ok said → IsTextOf said text
+IsRunOf bytes text = (parsed : ParsedScript) → script_of bytes ≡ Ok parsed → IsTextOf parsed text

@@ -3,42 +3,42 @@ use Rattle.std.specs.Prelude.{◌≡◌, ℕ, zero, suc, ◌==◌, Bool, true, f
 use Rattle.std.specs.List.{flat_map, list_any}
 use Rattle.std.specs.declared.alloc.Global.{Global}
 use Rattle.tb_work.specs.declared.packet.Packet as packets
-use Rattle.tb_script.specs.declared.item.Item.{Item}
-use Rattle.tb_script.specs.declared.item.Item.TheVariants.{Packet, Pulse, Shut}
-use Rattle.tb_text.specs.Plan.{packet_of}
+use Rattle.tb_program_script.specs.declared.item.ScriptItem.{ScriptItem}
+use Rattle.tb_program_script.specs.declared.item.ScriptItem.TheVariants.{Packet, Pulse, Shut}
+use Rattle.tb_program_text.specs.Plan.{packet_of}
 
-abbrev pub packet_by : ℕ → Item → List packets.Packet
+abbrev pub packet_by : ℕ → ScriptItem → List packets.Packet
 packet_by submitter (Packet submission) = if submission.submitter == submitter then packet_of submission ∷ [] else []
 packet_by submitter (Pulse moment) = []
 packet_by submitter Shut = []
 
 -- the packets of a submitter, in the order of the script
-abbrev pub packets_by : ℕ → List Item → List packets.Packet
+abbrev pub packets_by : ℕ → List ScriptItem → List packets.Packet
 packets_by submitter items = flat_map (packet_by submitter) items
 
-abbrev pub moment_in : Item → List ℕ
+abbrev pub moment_in : ScriptItem → List ℕ
 moment_in (Packet submission) = []
 moment_in (Pulse moment) = moment ∷ []
 moment_in Shut = []
 
-abbrev pub moments_in : List Item → List ℕ
+abbrev pub moments_in : List ScriptItem → List ℕ
 moments_in items = flat_map moment_in items
 
-abbrev pub is_shut : Item → Bool
+abbrev pub is_shut : ScriptItem → Bool
 is_shut (Packet submission) = false
 is_shut (Pulse moment) = false
 is_shut Shut = true
 
-abbrev pub shuts_in : List Item → Bool
+abbrev pub shuts_in : List ScriptItem → Bool
 shuts_in items = list_any is_shut items
 
--- the packets of so many submitters, from a number on
-abbrev pub shares_of : ℕ → ℕ → List Item → List (List packets.Packet)
+-- the packets of `count` submitters, from a number on
+abbrev pub shares_of : ℕ → ℕ → List ScriptItem → List (List packets.Packet)
 shares_of submitter zero items = []
 shares_of submitter (suc count) items = packets_by submitter items ∷ shares_of (suc submitter) count items
 
 -- the submitters from a number on have their packets
-abbrev pub AreDealt : ℕ → List (Vec packets.Packet Global) → List Item → Type 0
+abbrev pub AreDealt : ℕ → List (Vec packets.Packet Global) → List ScriptItem → Type 0
 AreDealt submitter [] items = ⊤
 AreDealt submitter (packets ∷ others) items =
     (packets.items ≡ packets_by submitter items) × AreDealt (suc submitter) others items

@@ -7,5 +7,5 @@
 mod run;
 
 pub use run::run_threads;
-pub use tb_command::ProgramFault;
-pub use tb_list::run_script;
+pub use tb_program_command::ProgramFault;
+pub use tb_program_list::run_script;

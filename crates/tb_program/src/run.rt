@@ -7,9 +7,9 @@ ghost use Rattle.tb_drive.specs.Reported.{AreTogether};
 ghost use Rattle.tb_layout.specs.Limits.{submitters_max};
 ghost use Rattle.tb_program.specs.Drivers.{AreNew, lists_of, share_of};
 ghost use Rattle.tb_program.specs.Noting.{AreFresh, HaveCredit};
-ghost use Rattle.tb_text.specs.Output.{out, is_faultless};
+ghost use Rattle.tb_program_text.specs.Output.{out, is_faultless};
 ghost use Rattle.tb_program.specs.RunText.{IsRunOf, IsRunText, IsTextOf};
-ghost use Rattle.tb_script.specs.Script.{InBounds, capacity_of, clock_of, credit_of, limit_of, submitters_of};
+ghost use Rattle.tb_program_script.specs.Script.{InBounds, capacity_of, clock_of, credit_of, limit_of, submitters_of};
 
 mod driver;
 mod fault;
@@ -25,15 +25,15 @@ use std::alloc::Global;
 use std::io::{Read, Write};
 use std::sync::Wait;
 use std::thread::Threads;
-use tb_command::ProgramFault;
 use tb_drive::{ControlLines, drive_all};
 use tb_layout::NoMemory;
 use tb_pipe::{Opened, open};
-use tb_script::{Script, Settings};
-use tb_text::{Source, read_source, write_out};
+use tb_program_command::ProgramFault;
+use tb_program_script::{Script, Settings};
+use tb_program_text::{Source, read_source, write_out};
 use tb_work::{Packet, Refusal};
 
-/// The pipeline that a script's settings open. They are all in range, so that only want of memory refuses it.
+/// The pipeline that a script's settings open. They are all in range, so only NoMemory refuses it.
 fn open_for(alloc: Global, settings: &Settings) -> Result<Opened, NoMemory>
     requires { InBounds settings.now }
     ensures together { IfOk result (λ opened. AreTogether opened.pipeline opened.submitters.items opened.control) }
@@ -134,10 +134,10 @@ fn output_of<T: Threads + Wait + Sync, R: Read>(
 }
 
 /// Reads a script to its end and runs it through the pipeline: each submitter's packets are queued by a thread of its
-/// own, in the order of the script, the control's lines by one more, and the calling thread serves. It prints what
-/// became of each packet, the packets of submitter 0 first, then the pulses, the clock and the accounts. Answers
-/// whether the script has no fault; a fault is printed alone, and no thread is started for it. All output is made
-/// before its first byte is written.
+/// own, in the order of the script, the control's lines by one more, and the calling thread serves. It prints the
+/// result of each packet, the packets of submitter 0 first, then the pulses, the clock and the accounts. Returns
+/// whether the script has no fault; only the fault is printed if it has one, and no thread is started. All output is
+/// made before its first byte is written.
 pub fn run_threads<T: Threads + Wait + Sync, R: Read, W: Write>(
     rt: &T,
     alloc: Global,

@@ -52,7 +52,7 @@ fn assert_run<R: Abort + Threads + Wait + Sync + Alloc<A = Global>>(
     );
 }
 
-/// Asserts what both write, for a script of which the schedule decides nothing.
+/// Asserts what both write, for a script in which the schedule decides nothing.
 fn assert_both<R: Abort + Threads + Wait + Sync + Alloc<A = Global>>(
     rt: &R,
     script: &str,
@@ -62,7 +62,7 @@ fn assert_both<R: Abort + Threads + Wait + Sync + Alloc<A = Global>>(
     assert_run(rt, script, output);
 }
 
-/// The line of a packet's bytes, each of which has these two digits, after other lines.
+/// The line of a packet's bytes, all with these two digits, after other lines.
 fn bytes_after(
     rt: &(impl Abort + Alloc<A = Global>),
     lines: &str,

@@ -31,7 +31,7 @@ module _ {T : Type 0} where
   abbrev pub free : Outlet T → ℕ
   free outlet = known_free outlet.producer
 
-  -- what the inlet has seen to lie in the ring: the next takes give these
+  -- what the inlet has seen in the ring: the next takes give these
   abbrev pub lies : Inlet T → List T
   lies inlet = known_items inlet.consumer
 

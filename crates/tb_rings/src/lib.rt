@@ -25,7 +25,7 @@ pub struct Outlet<T> {
 }
 
 impl<T: Drop> Drop for Outlet<T> {
-    /// Lets all that is held go in one call, so that no owner's proof goes through it.
+    /// Frees everything held in one call, so that no owner's proof repeats it.
     fn drop(self) {
         let Outlet { producer, waker } = self;
         drop(producer);
@@ -40,7 +40,7 @@ pub struct Inlet<T> {
 }
 
 impl<T: Drop> Drop for Inlet<T> {
-    /// Lets all that is held go in one call, so that no owner's proof goes through it.
+    /// Frees everything held in one call, so that no owner's proof repeats it.
     fn drop(self) {
         let Inlet { consumer, sleeper } = self;
         drop(consumer);
@@ -48,8 +48,8 @@ impl<T: Drop> Drop for Inlet<T> {
     }
 }
 
-/// Both ends of a new ring of so many slots, in which nothing lies. With no slot it is always full. Its slots take
-/// memory here, and no call takes any later.
+/// Both ends of a new, empty ring with this number of slots. With no slot it is always full. Its slots take memory
+/// here, and no call takes any later.
 pub fn ring<T: Drop>(alloc: Global, capacity: usize) -> Result<(Outlet<T>, Inlet<T>), NoMemory>
     ensures pair { IfOk result (λ ends. IsRing ends.0 ends.1) }
     ensures slots { IfOk result (λ ends. slots ends.0 ≡ capacity) }
@@ -83,8 +83,7 @@ impl<T: Drop> Outlet<T> {
 }
 
 impl<T: Drop> Inlet<T> {
-    /// Takes the value that lies in the ring for longest; None where none is seen, and so never while some are known to
-    /// lie there.
+    /// Takes the value that was given first; None if none is seen, and so never while some are known to be in the ring.
     pub fn take(&mut self) -> Option<T>
         ensures ring { SameInlet self.old self.new }
         ensures some { IfSome result (λ value. taken self.new ≡ taken self.old ++ value ∷ []) }
@@ -97,8 +96,7 @@ impl<T: Drop> Inlet<T> {
         self.consumer.pop().ok()
     }
 
-    /// How many lie in the ring, with both ends in one thread: these and what was taken are all that
-    /// was given.
+    /// How many values are in the ring, with both ends in one thread: these and what was taken are all that was given.
     pub fn lying(&mut self, outlet: &mut Outlet<T>) -> usize
         requires { IsRing outlet.old self.old }
         ensures ring { SameInlet self.old self.new × SameOutlet outlet.old outlet.new }

@@ -52,7 +52,7 @@ pub struct Sleeper {
 }
 
 impl Drop for Sleeper {
-    /// Frees all that is held in one call, so that no owner's proof goes through it.
+    /// Frees everything held in one call, so that no owner's proof repeats it.
     fn drop(self) {
         let Sleeper { parker } = self;
         drop(parker);
@@ -65,7 +65,7 @@ pub struct Waker {
 }
 
 impl Drop for Waker {
-    /// Frees all that is held in one call, so that no owner's proof goes through it.
+    /// Frees everything held in one call, so that no owner's proof repeats it.
     fn drop(self) {
         let Waker { unparker } = self;
         drop(unparker);

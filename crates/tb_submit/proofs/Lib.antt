@@ -1,6 +1,6 @@
-pub mod Filing
-pub mod Draining
-pub mod Keeping
-pub mod Opening
-pub mod Submitting
-pub mod Telling
+pub mod QueuedItems
+pub mod DrainedQueue
+pub mod RuleSteps
+pub mod OpenedSubmitters
+pub mod SubmitterCounts
+pub mod ReplyRefusals

@@ -3,7 +3,7 @@ use Rattle.std.specs.Prelude.{ℕ, zero, suc, Bool, false, List, [], ◌∷◌, 
 use Rattle.atomic_table.specs.Seated.{TableId}
 use Rattle.tb_rings.specs.Ends.{RingId, outlet_ring}
 use Rattle.tb_rings.specs.declared.Outlet.{Outlet}
-use Rattle.tb_work.specs.Packet.{Replied}
+use Rattle.tb_work.specs.Packet.{ReplyValue}
 use Rattle.tb_work.specs.declared.item.Item.{Item}
 use Rattle.tb_work.specs.declared.item.Ticket.{Ticket}
 
@@ -31,15 +31,15 @@ pub record SubmitterState : Type 0 where
   pub origin : Origin
   pub credit : ℕ
   pub queued : List Item
-  pub read : List Replied
-  pub lying : List Replied
+  pub read : List ReplyValue
+  pub lying : List ReplyValue
 
 -- a submitter that has ended; once it was settled, all of its replies that aren't read are known to lie in its ring
 pub record EndedState : Type 0 where
   pub origin : Origin
   pub queued : List Item
-  pub read : List Replied
-  pub lying : List Replied
+  pub read : List ReplyValue
+  pub lying : List ReplyValue
   pub settled : Bool
 
 -- the intake, with what it took; its queue has so many places
@@ -63,12 +63,12 @@ abbrev pub control_seat : IntakeState → Seat
 control_seat intake = seat_at intake intake.submitters
 
 -- the submitters with these seats whose replies come by these rings, from a number on
-abbrev pub origins_from : (ℕ → Seat) → ℕ → List (Outlet Replied) → List Origin
+abbrev pub origins_from : (ℕ → Seat) → ℕ → List (Outlet ReplyValue) → List Origin
 origins_from seats number [] = []
 origins_from seats number (outlet ∷ outlets) =
     record { seat = seats number; ring = outlet_ring outlet } ∷ origins_from seats (suc number) outlets
 
-abbrev pub origins : IntakeState → List (Outlet Replied) → List Origin
+abbrev pub origins : IntakeState → List (Outlet ReplyValue) → List Origin
 origins intake outlets = origins_from (seat_at intake) 0 outlets
 
 abbrev pub origin_of : SubmitterState → Origin
@@ -117,7 +117,7 @@ queued_by (ended ∷ others) control zero = ended.queued
 queued_by (ended ∷ others) control (suc sender) = queued_by others control sender
 
 -- the replies that each submitter read, and those that lie for it
-abbrev pub replies_of : List EndedState → ℕ → List Replied
+abbrev pub replies_of : List EndedState → ℕ → List ReplyValue
 replies_of [] sender = []
 replies_of (ended ∷ others) zero = ended.read ++ ended.lying
 replies_of (ended ∷ others) (suc sender) = replies_of others sender

@@ -3,30 +3,30 @@ use Rattle.std.specs.Prelude.{◌≡◌, ℕ, ◌-◌, ◌<◌, ◌≤◌, min, 
 use Rattle.atomic_table.specs.Seated.{TableId}
 use Rattle.crossbeam_queue.specs.Passes.{Pass, view}
 use Rattle.tb_layout.specs.Limits.{batch_max, capacity_max}
-use Rattle.tb_work.specs.Packet.{Replied}
+use Rattle.tb_work.specs.Packet.{ReplyValue}
 use Rattle.tb_work.specs.declared.item.Item.{Item}
 use Rattle.tb_work.specs.declared.item.Ticket.{Ticket}
 use Rattle.tb_work.specs.declared.refusal.Refusal.{Refusal}
-use Rattle.tb_submit.specs.declared.rule.Entry.{Entry}
-use Rattle.tb_submit.specs.declared.rule.Mark.{Mark}
+use Rattle.tb_submit.specs.declared.rule.PassEntry.{PassEntry}
+use Rattle.tb_submit.specs.declared.rule.IntakeMark.{IntakeMark}
 use Rattle.tb_submit.specs.declared.rule.View.{View}
 use Rattle.tb_submit.specs.Ends.{Seat, SenderState, EndedState}
-use Rattle.tb_submit.specs.Lists.{ArePackets, IsFiled}
+use Rattle.tb_submit.specs.Lists.{ArePackets, IsCompleteQueue}
 use Rattle.tb_submit.specs.Refusals.{told_in}
 use Rattle.tb_submit.specs.Rule.{entry, sender}
 
 abbrev pub view_of : Pass Ticket View → View
 view_of pass = view pass
 
-abbrev pub first_pushed : List Entry → List Item
+abbrev pub first_pushed : List PassEntry → List Item
 first_pushed [] = []
 first_pushed (e ∷ entries) = e.pushed
 
-abbrev pub taken_of : Option Mark → List Ticket
+abbrev pub taken_of : Option IntakeMark → List Ticket
 taken_of None = []
 taken_of (Some mark) = mark.taken
 
-abbrev pub count_of : Option Mark → ℕ
+abbrev pub count_of : Option IntakeMark → ℕ
 count_of None = 0
 count_of (Some mark) = mark.count
 
@@ -35,7 +35,7 @@ count_of (Some mark) = mark.count
 pub record ReaderState : Type 0 where
   pub queue : TableId
   pub capacity : ℕ
-  pub entries : List Entry
+  pub entries : List PassEntry
   pub taken : List Ticket
   pub count : ℕ
 
@@ -59,16 +59,16 @@ abbrev pub IsLeft : Option (Pass Ticket View) → ℕ → ℕ → ℕ → Type 0
 IsLeft None submitters limit number = ⊤
 IsLeft (Some pass) submitters limit number =
     (pass.me.1 ≡ []) × (view_of pass ≡ sender number (first_pushed (view_of pass).entries))
-    × IsFiled limit submitters number (first_pushed (view_of pass).entries)
+    × IsCompleteQueue limit submitters number (first_pushed (view_of pass).entries)
 
 -- once it was settled it counts the replies that lie in its ring
-abbrev pub CountsUnread : Option ℕ → List Replied → Type 0
+abbrev pub CountsUnread : Option ℕ → List ReplyValue → Type 0
 CountsUnread None lying = ⊤
 CountsUnread (Some unread) lying = unread ≡ length lying
 
 -- a submitter's counts: of what it queued, and of the replies read, as far as 64 bits go
 pub record IsSubmitter (seat : Seat) (queued : List Item) (count credit seen : ℕ) (first : Option Refusal)
-    (read : List Replied) : Type 0 where
+    (read : List ReplyValue) : Type 0 where
   pub among : seat.number < seat.submitters
   pub limited : seat.limit ≤ batch_max
   pub packets : ArePackets seat.limit seat.number 0 queued
@@ -78,5 +78,5 @@ pub record IsSubmitter (seat : Seat) (queued : List Item) (count credit seen : �
   pub counted_read : seen ≡ min (length read) 18446744073709551615
   pub told : first ≡ told_in read
 
-abbrev pub entry_of : EndedState → Entry
+abbrev pub entry_of : EndedState → PassEntry
 entry_of ended = entry ended.origin.seat.number ended.queued

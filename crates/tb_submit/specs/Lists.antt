@@ -36,7 +36,7 @@ ArePulses (End ∷ items) = ⊥
 ArePulses (Close ∷ items) = ⊥
 
 -- all that a sender queued, with its end: each item is its own, and packets are numbered from 0 and within the limit
-pub record IsFiled (limit submitters sender : ℕ) (items : List Item) : Type 0 where
+pub record IsCompleteQueue (limit submitters sender : ℕ) (items : List Item) : Type 0 where
   pub submitted : AllByRecursion (IsSubmitted submitters sender) items
   pub within : AllByRecursion (IsWithin limit) items
   pub numbered : AreNumbered sender 0 items

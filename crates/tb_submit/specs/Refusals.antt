@@ -2,7 +2,7 @@
 use Rattle.std.specs.Prelude.{◌≡◌, ℕ, ◌-◌, ◌<◌, ◌==◌, false, ◌||◌, ◌⊎◌, if◌then◌else◌, nat_lt, List, [], ◌∷◌, length, Option, Some, None, Result, Ok, Err}
 use Rattle.tb_layout.specs.Limits.{batch_max, capacity_max, submitters_max}
 use Rattle.tb_work.specs.Admission.{admission_of, count_of}
-use Rattle.tb_work.specs.Packet.{Replied}
+use Rattle.tb_work.specs.Packet.{ReplyValue}
 use Rattle.tb_work.specs.Job.{is_lookup}
 use Rattle.tb_work.specs.declared.outcome.Outcome.{Outcome}
 use Rattle.tb_work.specs.declared.outcome.Outcome.TheVariants as outcome
@@ -41,12 +41,12 @@ IsQueueRefusal limit capacity credit submitters refusal =
 
 -- what an outcome tells of all packets that come later
 abbrev pub told_by : Outcome → Option Refusal
-told_by (outcome.Committed place answer) = None
+told_by (outcome.Committed pass answer) = None
 told_by outcome.Shutdown = Some Shutdown
 told_by outcome.Stopped = Some Stopped
 
 -- the first that replies tell
-abbrev pub told_in : List Replied → Option Refusal
+abbrev pub told_in : List ReplyValue → Option Refusal
 told_in [] = None
 told_in (reply ∷ replies) = or_else (told_by reply.outcome) (told_in replies)
 

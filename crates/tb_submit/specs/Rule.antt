@@ -6,16 +6,16 @@ use lib.ListN.{get_elem?}
 use Rattle.tb_work.specs.Queue.{part}
 use Rattle.tb_work.specs.declared.item.Item.{Item}
 use Rattle.tb_work.specs.declared.item.Ticket.{Ticket}
-use Rattle.tb_submit.specs.declared.rule.Entry.{Entry}
-use Rattle.tb_submit.specs.declared.rule.Mark.{Mark}
+use Rattle.tb_submit.specs.declared.rule.PassEntry.{PassEntry}
+use Rattle.tb_submit.specs.declared.rule.IntakeMark.{IntakeMark}
 use Rattle.tb_submit.specs.declared.rule.View.{View}
 
 -- ---- what passes know
 
-abbrev pub entry : ℕ → List Item → Entry
+abbrev pub entry : ℕ → List Item → PassEntry
 entry number pushed = record { number = number; pushed = pushed }
 
-abbrev pub view_with : List Entry → Option Mark → View
+abbrev pub view_with : List PassEntry → Option IntakeMark → View
 view_with entries mark = record { entries = entries; mark = mark }
 
 -- a sender's pass: one number, and what was pushed under it
@@ -23,7 +23,7 @@ abbrev pub sender : ℕ → List Item → View
 sender number pushed = view_with (entry number pushed ∷ []) None
 
 -- the intake's pass: what was taken, and how many numbers were given out
-abbrev pub intake : List Entry → List Ticket → ℕ → View
+abbrev pub intake : List PassEntry → List Ticket → ℕ → View
 intake entries taken count = view_with entries (Some (record { taken = taken; count = count }))
 
 abbrev pub opening : View
@@ -35,11 +35,11 @@ empty_view = view_with [] None
 
 -- ---- what a step makes of them
 
-abbrev pub next_of : Option Mark → ℕ
+abbrev pub next_of : Option IntakeMark → ℕ
 next_of None = 0
 next_of (Some mark) = mark.count
 
-abbrev pub one_number_more : Option Mark → Option Mark
+abbrev pub one_number_more : Option IntakeMark → Option IntakeMark
 one_number_more None = None
 one_number_more (Some mark) = Some (record { taken = mark.taken; count = mark.count + 1 })
 
@@ -52,14 +52,14 @@ newcomer view = sender (next_of view.mark) []
 abbrev pub both_views : View → View → View
 both_views view other = view_with (view.entries ++ other.entries) view.mark
 
-abbrev pub first_entry_with : Item → List Entry → List Entry
+abbrev pub first_entry_with : Item → List PassEntry → List PassEntry
 first_entry_with item [] = []
 first_entry_with item (e ∷ entries) = entry e.number (e.pushed ++ item ∷ []) ∷ entries
 
 abbrev pub with_pushed : View → Ticket → View
 with_pushed view ticket = view_with (first_entry_with ticket.item view.entries) view.mark
 
-abbrev pub taken_more : Ticket → Option Mark → Option Mark
+abbrev pub taken_more : Ticket → Option IntakeMark → Option IntakeMark
 taken_more ticket None = None
 taken_more ticket (Some mark) = Some (record { taken = mark.taken ++ ticket ∷ []; count = mark.count })
 
@@ -68,16 +68,16 @@ with_taken view ticket = view_with view.entries (taken_more ticket view.mark)
 
 -- ---- the rule
 
-abbrev pub Stands : ℕ → List Entry → Type 0
+abbrev pub Stands : ℕ → List PassEntry → Type 0
 Stands number [] = ⊥
 Stands number (e ∷ entries) = (e.number ≡ number) ⊎ Stands number entries
 
 -- An entry's number was given out, it stands in this pass alone, and what was pushed is its sender's part of all.
-abbrev pub FitsEntry : (ℕ → ℕ) → ℕ → List Ticket → ℕ → Entry → Type 0
+abbrev pub FitsEntry : (ℕ → ℕ) → ℕ → List Ticket → ℕ → PassEntry → Type 0
 FitsEntry pass_of count all pass e = (e.number < count) × (pass_of e.number ≡ pass) × (part e.number all ≡ e.pushed)
 
 -- Only the reader's pass has the mark, which tells what was taken and how many numbers were given out.
-abbrev pub FitsMark : ℕ → ℕ → List Ticket → ℕ → Option Mark → Type 0
+abbrev pub FitsMark : ℕ → ℕ → List Ticket → ℕ → Option IntakeMark → Type 0
 FitsMark reader count taken pass None = ⊤
 FitsMark reader count taken pass (Some mark) = (pass ≡ reader) × (mark.taken ≡ taken) × (mark.count ≡ count)
 
@@ -98,17 +98,17 @@ pub record Kept (items : List Ticket) (views : List View) : Type 0 where
   pub fits : (pass : ℕ) (view : View) → get_elem? views pass ≡ some view
       → Fits pass_of reader count taken items pass view
   pub stands : (number : ℕ) → number < count → InView views (pass_of number) number
-  pub strangers : (number : ℕ) → count ≤ number → part number (taken ++ items) ≡ []
+  pub no_other_sender : (number : ℕ) → count ≤ number → part number (taken ++ items) ≡ []
 
 -- ---- what the intake's pass learns of what is queued
 
 -- of each number that stands in the pass, taken and queued together are what was pushed
-abbrev pub IsWhole : List Entry → List Ticket → ℕ → List Ticket → Type 0
+abbrev pub IsWhole : List PassEntry → List Ticket → ℕ → List Ticket → Type 0
 IsWhole entries taken count items =
-    AllByRecursion (λ (e : Entry). part e.number (taken ++ items) ≡ e.pushed) entries
+    AllByRecursion (λ (e : PassEntry). part e.number (taken ++ items) ≡ e.pushed) entries
     × ((number : ℕ) → count ≤ number → part number (taken ++ items) ≡ [])
 
-abbrev pub TellsMark : List Entry → Option Mark → List Ticket → Type 0
+abbrev pub TellsMark : List PassEntry → Option IntakeMark → List Ticket → Type 0
 TellsMark entries None items = ⊤
 TellsMark entries (Some mark) items = IsWhole entries mark.taken mark.count items
 

@@ -2,7 +2,7 @@
 
 ghost use Rattle.std.specs.Prelude.{◌≡◌, ◌<◌, [], ◌∷◌, ◌++◌, length, true, false, Some, None, IfSome, IfNone, IsSomeAnd};
 ghost use Rattle.tb_rings.specs.Ends.{given, taken, lies, inlet_ring, outlet_ring};
-ghost use Rattle.tb_submit.specs.Lists.{IsFiled};
+ghost use Rattle.tb_submit.specs.Lists.{IsCompleteQueue};
 ghost use Rattle.tb_submit.specs.Rule.{entry};
 
 use crate::reader::Reader;
@@ -85,7 +85,7 @@ impl Ended {
           entries = reader.old.entries
               ++ entry self.old.origin.seat.number self.old.queued ∷ [];
         } }
-        ensures filed { IsFiled self.old.origin.seat.limit self.old.origin.seat.submitters
+        ensures filed { IsCompleteQueue self.old.origin.seat.limit self.old.origin.seat.submitters
             self.old.origin.seat.number self.old.queued }
         ensures replies { self.new.read ++ self.new.lying ≡ given outlet.old }
         ensures read { self.new.read ≡ self.old.read }

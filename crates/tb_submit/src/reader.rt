@@ -3,10 +3,10 @@
 ghost use Rattle.std.specs.Prelude.{◌≡◌, ◌+◌, ◌<◌, [], ◌∷◌, ◌++◌, List, Some, OnOk, IfOk, IfSome, IfNone};
 ghost use Rattle.tb_work.specs.declared.item.Ticket.{Ticket};
 ghost use Rattle.tb_submit.specs.Inside.{seat_with};
-ghost use Rattle.tb_submit.specs.Lists.{IsFiled};
+ghost use Rattle.tb_submit.specs.Lists.{IsCompleteQueue};
 ghost use Rattle.tb_submit.specs.Rule.{entry, IsWhole};
 
-use crate::rule::{Gathers, Newcomer, Place, Queue, Queued, Taken};
+use crate::rule::{Gathers, Newcomer, Queue, QueuePass, Queued, Taken};
 use crate::sender::{EndedSender, Sender};
 use std::alloc::Global;
 use std::marker::Model;
@@ -18,7 +18,7 @@ use tb_work::Ticket;
 /// Takes from the queue, gives out numbers, and takes in what ended senders know.
 pub(crate) struct Reader {
     queue: Arc<Queue, Global>,
-    place: Place,
+    pass: QueuePass,
     sleeper: Sleeper,
 }
 
@@ -27,11 +27,11 @@ impl Drop for Reader {
     fn drop(self) {
         let Reader {
             queue,
-            place,
+            pass,
             sleeper,
         } = self;
         drop(queue);
-        drop(place);
+        drop(pass);
         drop(sleeper);
     }
 }
@@ -46,16 +46,16 @@ impl Model for Reader {
     ghost Value = { ReaderState };
 
     ghost view = { λ s. record {
-      queue = s.place.table_id;
+      queue = s.pass.table_id;
       capacity = ruled_capacity (arc_value s.queue);
-      entries = (view_of s.place).entries;
-      taken = taken_of (view_of s.place).mark;
-      count = count_of (view_of s.place).mark;
+      entries = (view_of s.pass).entries;
+      taken = taken_of (view_of s.pass).mark;
+      count = count_of (view_of s.pass).mark;
     } };
 
-    ghost invariant = { λ s. IsPassOf (arc_value s.queue) s.place
-        × (view_of s.place ≡ intake (view_of s.place).entries (taken_of (view_of s.place).mark)
-        (count_of (view_of s.place).mark)) };
+    ghost invariant = { λ s. IsPassOf (arc_value s.queue) s.pass
+        × (view_of s.pass ≡ intake (view_of s.pass).entries (taken_of (view_of s.pass).mark)
+        (count_of (view_of s.pass).mark)) };
 }
 
 impl Reader {
@@ -66,11 +66,11 @@ impl Reader {
         ensures capacity { IfOk result (λ reader. reader.capacity ≡ capacity) }
     {
         let sleeper = Sleeper::new(alloc)?;
-        let (queue, place) = Queue::ruled(alloc, capacity)?;
+        let (queue, pass) = Queue::ruled(alloc, capacity)?;
         let queue = Arc::new(alloc, queue)?;
         Ok(Reader {
             queue,
-            place,
+            pass,
             sleeper,
         })
     }
@@ -91,10 +91,10 @@ impl Reader {
     {
         let waker = self.sleeper.waker()?;
         let queue = Arc::try_clone(&self.queue)?;
-        let place = self.queue.another::<Newcomer>(&mut self.place);
+        let pass = self.queue.another::<Newcomer>(&mut self.pass);
         Ok(Sender {
             queue,
-            place,
+            pass,
             waker,
             number,
             submitters,
@@ -108,7 +108,7 @@ impl Reader {
         ensures none { IfNone result (self.new ≡ self.old) }
         ensures sender { IfSome result (λ ticket. ticket.sender < self.old.count) }
     {
-        self.queue.pop_as::<Taken, R>(rt, &mut self.place)
+        self.queue.pop_as::<Taken, R>(rt, &mut self.pass)
     }
 
     /// Waits as `Sleeper::wait` does; each push wakes it.
@@ -123,12 +123,12 @@ impl Reader {
           entries = self.old.entries
               ++ entry ended.old.seat.number ended.old.queued ∷ [];
         } }
-        ensures filed { IsFiled ended.old.seat.limit ended.old.seat.submitters ended.old.seat.number ended.old.queued }
+        ensures filed { IsCompleteQueue ended.old.seat.limit ended.old.seat.submitters ended.old.seat.number ended.old.queued }
     {
-        let Some(place) = ended.place.take() else {
+        let Some(pass) = ended.pass.take() else {
             unreachable!()
         };
-        self.queue.absorb::<Gathers>(&mut self.place, place);
+        self.queue.absorb::<Gathers>(&mut self.pass, pass);
     }
 
     /// Learns that what was taken and what is queued is, of each sender that was gathered, all that it pushed.
@@ -136,6 +136,6 @@ impl Reader {
         ensures same { self.new ≡ self.old }
         ensures whole { (items : List Ticket) × IsWhole self.new.entries self.new.taken self.new.count items }
     {
-        self.queue.learn_as::<Queued>(&mut self.place);
+        self.queue.learn_as::<Queued>(&mut self.pass);
     }
 }

@@ -7,21 +7,21 @@ use std::collections::LinkedList;
 use tb_work::{Item, Ticket};
 
 /// What one sender pushed.
-pub struct Entry {
+pub struct PassEntry {
     pub number: u32,
     pub pushed: LinkedList<Item>,
 }
 
 /// What the intake took, and how many numbers were given out.
-pub struct Mark {
+pub struct IntakeMark {
     pub taken: LinkedList<Ticket>,
     pub count: u32,
 }
 
 /// What a pass knows.
 pub struct View {
-    pub entries: LinkedList<Entry>,
-    pub mark: Option<Mark>,
+    pub entries: LinkedList<PassEntry>,
+    pub mark: Option<IntakeMark>,
 }
 
 /// The rule, in the form in which the kit's queue asks for it.
@@ -102,4 +102,4 @@ impl Lesson<Ticket, View> for Queued {
 pub type Queue = RuledArrayQueue<Ticket, View, PerSender>;
 
 /// A sender's or the intake's pass.
-pub type Place = Pass<Ticket, View>;
+pub type QueuePass = Pass<Ticket, View>;

@@ -2,9 +2,9 @@
 
 ghost use Rattle.std.specs.Prelude.{◌≡◌, [], ◌∷◌, ◌++◌, OnOk, IfOk, IfErr};
 ghost use Rattle.tb_submit.specs.Ends.{sender_with};
-ghost use Rattle.tb_submit.specs.Lists.{IsFiled};
+ghost use Rattle.tb_submit.specs.Lists.{IsCompleteQueue};
 
-use crate::rule::{Place, Pushed, Queue};
+use crate::rule::{Pushed, Queue, QueuePass};
 use std::alloc::Global;
 use std::marker::Model;
 use std::sync::{Arc, Wait};
@@ -14,7 +14,7 @@ use tb_work::{Item, Ticket};
 /// One that may push.
 pub(crate) struct Sender {
     pub(crate) queue: Arc<Queue, Global>,
-    pub(crate) place: Place,
+    pub(crate) pass: QueuePass,
     pub(crate) waker: Waker,
     pub(crate) number: u32,
     pub(crate) submitters: u32,
@@ -26,14 +26,14 @@ impl Drop for Sender {
     fn drop(self) {
         let Sender {
             queue,
-            place,
+            pass,
             waker,
             number: _,
             submitters: _,
             limit: _,
         } = self;
         drop(queue);
-        drop(place);
+        drop(pass);
         drop(waker);
     }
 }
@@ -48,10 +48,10 @@ impl Model for Sender {
 
     ghost Value = { SenderState };
 
-    ghost view = { λ s. state_while_open s.place s.submitters s.limit s.number };
+    ghost view = { λ s. state_while_open s.pass s.submitters s.limit s.number };
 
-    ghost invariant = { λ s. IsPassOf (arc_value s.queue) s.place
-        × (view_of s.place ≡ sender s.number (first_pushed (view_of s.place).entries)) };
+    ghost invariant = { λ s. IsPassOf (arc_value s.queue) s.pass
+        × (view_of s.pass ≡ sender s.number (first_pushed (view_of s.pass).entries)) };
 }
 
 impl Sender {
@@ -78,7 +78,7 @@ impl Sender {
             sender: self.number,
             item,
         };
-        match self.queue.push_as::<Pushed, R>(rt, &mut self.place, ticket) {
+        match self.queue.push_as::<Pushed, R>(rt, &mut self.pass, ticket) {
             Ok(()) => {
                 self.waker.wake();
                 Ok(())
@@ -89,7 +89,7 @@ impl Sender {
 
     /// Pushes its last item, and wakes the intake if it waits. If the queue was full the sender is returned.
     pub(crate) fn end<R: Wait>(mut self, rt: &R, last: Item) -> Result<EndedSender, Sender>
-        requires { IsFiled self.seat.limit self.seat.submitters self.seat.number (self.queued ++ last ∷ []) }
+        requires { IsCompleteQueue self.seat.limit self.seat.submitters self.seat.number (self.queued ++ last ∷ []) }
         ensures ok { IfOk result (λ ended. ended ≡ sender_with self last) }
         ensures full { IfErr result (λ back. back ≡ self) }
     {
@@ -97,19 +97,19 @@ impl Sender {
             sender: self.number,
             item: last,
         };
-        match self.queue.push_as::<Pushed, R>(rt, &mut self.place, ticket) {
+        match self.queue.push_as::<Pushed, R>(rt, &mut self.pass, ticket) {
             Ok(()) => {
                 self.waker.wake();
                 let Sender {
                     queue: _,
                     waker: _,
-                    place,
+                    pass,
                     number,
                     submitters,
                     limit,
                 } = self;
                 Ok(EndedSender {
-                    place: Some(place),
+                    pass: Some(pass),
                     number,
                     submitters,
                     limit,
@@ -122,7 +122,7 @@ impl Sender {
 
 /// One that pushed its last item. Its place goes to the reader once all have ended.
 pub(crate) struct EndedSender {
-    pub(crate) place: Option<Place>,
+    pub(crate) pass: Option<QueuePass>,
     pub(crate) number: u32,
     pub(crate) submitters: u32,
     pub(crate) limit: u32,
@@ -132,12 +132,12 @@ impl Drop for EndedSender {
     /// Lets all that is held go in one call, so that no owner's proof goes through it.
     fn drop(self) {
         let EndedSender {
-            place,
+            pass,
             number: _,
             submitters: _,
             limit: _,
         } = self;
-        drop(place);
+        drop(pass);
     }
 }
 
@@ -147,7 +147,7 @@ impl Model for EndedSender {
 
     ghost Value = { SenderState };
 
-    ghost view = { λ s. state_once_ended s.place s.submitters s.limit s.number };
+    ghost view = { λ s. state_once_ended s.pass s.submitters s.limit s.number };
 
-    ghost invariant = { λ s. IsLeft s.place s.submitters s.limit s.number };
+    ghost invariant = { λ s. IsLeft s.pass s.submitters s.limit s.number };
 }

@@ -6,9 +6,9 @@ ghost use Rattle.tb_rings.specs.Ends.{given};
 ghost use Rattle.tb_rings.specs.declared.Outlet.{Outlet as OutletValue};
 ghost use Rattle.tb_submit.specs.Ends.{EndedState, IntakeState, control_seat, end_origin, origins, queued_by, replies_of, seat_at};
 ghost use Rattle.tb_submit.specs.Inside.{entry_of};
-ghost use Rattle.tb_submit.specs.Lists.{AreWithin, IsFiled};
+ghost use Rattle.tb_submit.specs.Lists.{AreWithin, IsCompleteQueue};
 ghost use Rattle.tb_work.specs.Queue.{IsQueueOf, is_end, part};
-ghost use Rattle.tb_work.specs.Packet.{Replied};
+ghost use Rattle.tb_work.specs.Packet.{ReplyValue};
 
 use crate::control::ControlEnd;
 use crate::ended::Ended;
@@ -23,11 +23,11 @@ fn settle_all(reader: &mut Reader, ends: Vec<Ended>, outlets: Vec<Outlet<Reply>>
         × (map end_origin ends.items ≡ origins intake outlets.items) }
     ensures reader { reader.new ≡ record reader.old { entries = reader.old.entries ++ map entry_of ends.items } }
     ensures filed { (k : ℕ) (d : EndedState) → k < length ends.items
-        → IsFiled (slice_index_or ends.items k d).origin.seat.limit
+        → IsCompleteQueue (slice_index_or ends.items k d).origin.seat.limit
         (slice_index_or ends.items k d).origin.seat.submitters
         (slice_index_or ends.items k d).origin.seat.number (slice_index_or ends.items k d).queued }
     ensures long { length result.items ≡ length ends.items }
-    ensures replies { (k : ℕ) (d : EndedState) (o : OutletValue Replied) → k < length ends.items
+    ensures replies { (k : ℕ) (d : EndedState) (o : OutletValue ReplyValue) → k < length ends.items
         → (slice_index_or result.items k d).read ++ (slice_index_or result.items k d).lying
         ≡ given (slice_index_or outlets.items k o) }
     ensures read { (k : ℕ) (d : EndedState) → (slice_index_or result.items k d).read
@@ -59,7 +59,7 @@ pub fn settle_queue(
     ensures queue { IsQueueOf intake.submitters intake.taken (queued_by ends.items control) }
     ensures within { AreWithin intake.limit intake.taken }
     ensures long { length result.items ≡ intake.submitters }
-    ensures replies { (sender : ℕ) (d : OutletValue Replied) → sender < intake.submitters
+    ensures replies { (sender : ℕ) (d : OutletValue ReplyValue) → sender < intake.submitters
         → replies_of result.items sender ≡ given (slice_index_or outlets.items sender d) }
     ensures read { (k : ℕ) (d : EndedState) → (slice_index_or result.items k d).read
         ≡ (slice_index_or ends.items k d).read }

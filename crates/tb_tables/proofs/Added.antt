@@ -2,7 +2,7 @@
 use Rattle.std.proofs.Common.{refl, ap, arith, ◌≡◌, ℕ, ◌+◌, ◌≤◌, Bool, true, false, not, List, [], ◌∷◌, if◌then◌else◌, ◌==◌, ◌&&◌, Some, None}
 use Rattle.tb_tables.proofs.Words.{list_any, AllByRecursion, nat_tests, Account, Transfer, is_pending, is_post, is_resolving, Facts, transfer_with, is_expired, add_transfer, is_resolved, is_reserving, status_of, status_in, MayAdd, has_id, Sums, sums_of, with_sums, with_amount, phase_of, account_rows, IsGrounded, AreGrounded, Pending, MayResolve, IsLawful, status_after, posted_if}
 use Rattle.tb_tables.specs.declared.amounts.Phase.TheVariants as phase
-use Rattle.tb_tables.proofs.Stored.{map-same}
+use Rattle.tb_tables.proofs.MapRows.{map-same}
 use Rattle.tb_tables.proofs.Sums.{amounts, amounts-push, but_for, but_for-found}
 use Rattle.tb_tables.proofs.Laws.{find-none, reserves, posts, any-push, resolved_either, reserving-same, reserves-same, reserving, reserves-but_for, total, distinct-push}
 

@@ -1,21 +1,21 @@
 -- Transfers expire: one, and all that are due.
 use Rattle.std.proofs.Common.{refl, sym, ap, subst, ◌∙◌, arith, ◌≡◌, ℕ, ◌<◌, ◌≤◌, Bool, true, false, not, List, nat_eq, slice_get, true≢false, ◌&&◌, Option, Some, None, ◌+◌, [], ◌∷◌, map, filter, suc, if◌then◌else◌, ◌==◌, ◌||◌, append-nil}
-use Rattle.tb_tables.proofs.Words.{IsDistinct, keys_of, nat_tests, set_value_at, Account, Transfer, Facts, expire_due, is_reserving, is_due, expires_at, same_pair, sums_of, with_amount, account_rows, AreAt, CanTake, row_in, transfer_rows, is_timed, is_pair_of, expects, IsGrounded, Hold, IsSound, AreHeld, is_open_status, CanExpire, expire_one, Places, Row, Expired, is_expired, IsLawful, reserves_at}
+use Rattle.tb_tables.proofs.Words.{IsDistinct, keys_of, nat_tests, set_value_at, Account, Transfer, Facts, expire_due, is_reserving, is_due, expires_at, same_pair, sums_of, with_amount, account_rows, AreAt, CanTake, row_in, transfer_rows, is_timed, is_pair_of, is_open_pair, IsGrounded, Contain, IsSound, AreContained, is_open_status, CanExpire, expire_one, Indices, Row, Expired, is_expired, IsLawful, reserves_at}
 use Rattle.tb_tables.specs.declared.amounts.Phase.TheVariants as phase
 use Rattle.tb_tables.proofs.Laws.{resolved_either, ==_swap, reserves}
-use Rattle.tb_tables.proofs.Stored.{row-placed, rows-set}
+use Rattle.tb_tables.proofs.MapRows.{row-indexed_at, rows-set}
 use Rattle.tb_tables.proofs.Added.{rows-same, AreSame}
-use Rattle.tb_tables.proofs.Grounding.{all-there}
-use Rattle.tb_tables.proofs.Keeping.{held-by}
+use Rattle.tb_tables.proofs.GroundedFacts.{all-there}
+use Rattle.tb_tables.proofs.SeenFacts.{held-by}
 use Rattle.std.proofs.lemmas.List.Elements.{filter_agree}
 use Rattle.tb_tables.proofs.Sums.{amount_if, amounts, amounts-same, but_for, but_for-found}
-use Rattle.tb_tables.proofs.Expecting.{find-at, has_id-at, one-place, one-transfer}
-use Rattle.tb_tables.proofs.Stepping.{ids-found, expired-is}
+use Rattle.tb_tables.proofs.Pairs.{find-at, has_id-at, one-index, one-transfer}
+use Rattle.tb_tables.proofs.StoredTransfers.{ids-found, expired-is}
 
 pub filter-at : (f g : Transfer → Bool) (xs : List Transfer)
-    → ((place : ℕ) (x : Transfer) → slice_get xs place ≡ Some x → f x ≡ g x) → filter f xs ≡ filter g xs
+    → ((index : ℕ) (x : Transfer) → slice_get xs index ≡ Some x → f x ≡ g x) → filter f xs ≡ filter g xs
 filter-at f g [] same = refl
-filter-at f g (x ∷ xs) same = grind (arith, same 0 x refl, filter-at f g xs (λ place. same (suc place)))
+filter-at f g (x ∷ xs) same = grind (arith, same 0 x refl, filter-at f g xs (λ index. same (suc index)))
 
 abbrev pub expires : ℕ → Facts → Transfer → Bool
 expires clock facts transfer = is_expired facts transfer.id || (is_reserving facts transfer && is_due clock transfer)
@@ -34,7 +34,7 @@ none-left clock facts ordered none =
 
 -- ---- one transfer more has expired
 
-module _ (facts : Facts) (x : Transfer) (place : ℕ) (at : slice_get facts.transfers place ≡ Some x)
+module _ (facts : Facts) (x : Transfer) (index : ℕ) (at : slice_get facts.transfers index ≡ Some x)
     (lawful : IsLawful facts) (reserving : is_reserving facts x ≡ true)
     (ordered : facts.expired ≡ map (λ (t : Transfer). t.id) (filter (λ t. is_expired facts t.id) facts.transfers)) where
   abbrev pub after : Facts
@@ -48,7 +48,7 @@ module _ (facts : Facts) (x : Transfer) (place : ℕ) (at : slice_get facts.tran
         ids-found (λ k. is_expired facts k || (x.id == k)) id facts.transfers,
         expired-is
             facts ordered id,
-        has_id-at id facts.transfers place x at,
+        has_id-at id facts.transfers index x at,
       )
 
   pub reserving-after : (y : Transfer) → is_reserving after y ≡ (is_reserving facts y && not (x.id == y.id))
@@ -63,7 +63,7 @@ module _ (facts : Facts) (x : Transfer) (place : ℕ) (at : slice_get facts.tran
       ≡ amounts (reserves side after id) facts.transfers + (if side x == id then x.amount else 0)
   reserved-after side id =
       but_for-found (reserves side facts id) x.id facts.transfers x lawful.distinct
-      (find-at facts.transfers place x lawful.distinct at)
+      (find-at facts.transfers index x lawful.distinct at)
       ∙ ap (λ n. n + amount_if (reserves side facts id) x)
       (sym (amounts-same (reserves side after id) (but_for x.id (reserves side facts id)) facts.transfers
       (reserves-after side id)))
@@ -93,30 +93,30 @@ module _ (facts : Facts) (x : Transfer) (place : ℕ) (at : slice_get facts.tran
   row-expired = grind (arith, nat_tests, reserving, resolved_either x.id facts.transfers, more x.id)
 
   pub rows-after : {entries : List (ℕ × Row)} → entries ≡ transfer_rows facts facts.transfers
-      → IsDistinct nat_eq (keys_of entries) → set_value_at entries place
+      → IsDistinct nat_eq (keys_of entries) → set_value_at entries index
       (record (row_in facts x) { status = Some Expired }) ≡ transfer_rows after facts.transfers
   rows-after is apart =
       rows-set (λ (t : Transfer). t.id) (row_in facts)
-      (row_in after) [] facts.transfers place x at row-expired row-other
+      (row_in after) [] facts.transfers index x at row-expired row-other
       (is ∙ sym (append-nil _)) apart ∙ append-nil _
 
-  -- ---- what it does to sound facts and to the index
+  -- ---- what it does to sound facts and to the set
 
   same : (p : ℕ) (y : Transfer) → slice_get facts.transfers p ≡ Some y → (x.id == y.id) ≡ true → x ≡ y
-  same p y at' is = one-transfer facts.transfers place p x y lawful.distinct at at' is
+  same p y at' is = one-transfer facts.transfers index p x y lawful.distinct at at' is
 
-  expects-after : (m p : ℕ) → expects after m p ≡ true → (expects facts m p ≡ true) × ((place == p) ≡ false)
-  expects-after m p has = by (slice_get facts.transfers p) refl has
+  is_open_pair-after : (m p : ℕ) → is_open_pair after m p ≡ true → (is_open_pair facts m p ≡ true) × ((index == p) ≡ false)
+  is_open_pair-after m p has = by (slice_get facts.transfers p) refl has
     where
       by : (o : Option Transfer) → slice_get facts.transfers p ≡ o → (is_pair_of m o && reserves_at after o) ≡ true
-          → ((is_pair_of m o && reserves_at facts o) ≡ true) × ((place == p) ≡ false)
+          → ((is_pair_of m o && reserves_at facts o) ≡ true) × ((index == p) ≡ false)
       by None at' h = grind arith
       by (Some y) at' h = let one =
-          one-place facts.transfers place p x y lawful.distinct at
+          one-index facts.transfers index p x y lawful.distinct at
           at' in (grind (arith, reserving-after y, h), grind (arith, reserving-after y, one, h))
 
   pub sound-after : (indexed next : ℕ → ℕ → Bool)
-      → ((m p : ℕ) → next m p ≡ (not (same_pair (expires_at x) place m p) && indexed m p))
+      → ((m p : ℕ) → next m p ≡ (not (same_pair (expires_at x) index m p) && indexed m p))
       → IsSound indexed facts → IsSound next after
   sound-after indexed next is sound = record {
     lawful = lawful-after;
@@ -134,7 +134,7 @@ module _ (facts : Facts) (x : Transfer) (place : ℕ) (at : slice_get facts.tran
                 (arith, more y.id, expired, reserving, one, was),
           );
     };
-    paired = λ m p has. grind (arith, is m p, expects-after m p has, sound.paired m p);
+    paired = λ m p has. grind (arith, is m p, is_open_pair-after m p has, sound.paired m p);
   }
 
   -- ---- and to what is due
@@ -150,32 +150,32 @@ module _ (facts : Facts) (x : Transfer) (place : ℕ) (at : slice_get facts.tran
           → expires clock after y ≡ expires clock facts y
       each p y at' = let one = same p y at' in grind (arith, more y.id, reserving-after y, reserving, due, one)
 
--- the entry of the transfer at a place
+-- the entry of the transfer at an index
 row-at : {facts : Facts} {accounts : List (ℕ × Account)} {transfers : List (ℕ × Row)}
-    → Hold facts accounts transfers → (place : ℕ) {t : Transfer} → slice_get facts.transfers place ≡ Some t
-    → slice_get transfers place ≡ Some (t.id, row_in facts t)
-row-at {facts} hold place at =
-    row-placed (λ (x : Transfer). x.id) (row_in facts) facts.transfers hold.transfers_are place at
+    → Contain facts accounts transfers → (index : ℕ) {t : Transfer} → slice_get facts.transfers index ≡ Some t
+    → slice_get transfers index ≡ Some (t.id, row_in facts t)
+row-at {facts} hold index at =
+    row-indexed_at (λ (x : Transfer). x.id) (row_in facts) facts.transfers hold.transfers_are index at
 
 -- ---- one expires
 
-module _ {facts : Facts} {accounts : List (ℕ × Account)} {transfers : List (ℕ × Row)} {place : ℕ}
-    (can : CanExpire facts accounts transfers place) where
+module _ {facts : Facts} {accounts : List (ℕ × Account)} {transfers : List (ℕ × Row)} {index : ℕ}
+    (can : CanExpire facts accounts transfers index) where
   pub ground : IsGrounded facts.accounts facts.transfers can.transfer
-  ground = all-there (IsGrounded facts.accounts facts.transfers) facts.transfers place can.transfer can.grounded can.at
+  ground = all-there (IsGrounded facts.accounts facts.transfers) facts.transfers index can.transfer can.grounded can.at
 
-  pub there : slice_get transfers place ≡ Some (can.transfer.id, row_in facts can.transfer)
-  there = row-at can.hold place can.at
+  pub there : slice_get transfers index ≡ Some (can.transfer.id, row_in facts can.transfer)
+  there = row-at can.hold index can.at
 
   pub released : accounts ≡ account_rows (with_amount phase.Pending can.transfer.debit_account_id
       can.transfer.credit_account_id can.transfer.amount
       (sums_of (expire_one can.transfer.id facts))) facts.accounts
   released = can.hold.accounts_are ∙ rows-same _ _ facts.accounts
-      (sums-after facts can.transfer place can.at can.lawful can.reserves can.ordered)
+      (sums-after facts can.transfer index can.at can.lawful can.reserves can.ordered)
 
-  pub can-take : {places : Places} {amount : ℕ}
-      → AreAt facts.accounts places can.transfer.debit_account_id can.transfer.credit_account_id
-      → amount ≡ can.transfer.amount → CanTake accounts places phase.Pending amount
+  pub can-take : {indices : Indices} {amount : ℕ}
+      → AreAt facts.accounts indices can.transfer.debit_account_id can.transfer.credit_account_id
+      → amount ≡ can.transfer.amount → CanTake accounts indices phase.Pending amount
   can-take are_at same = rw same (record {
     sums = sums_of (expire_one can.transfer.id facts);
     accounts = facts.accounts;
@@ -186,41 +186,41 @@ module _ {facts : Facts} {accounts : List (ℕ × Account)} {transfers : List (�
   })
 
   pub expired-row : IsDistinct nat_eq (keys_of transfers)
-      → set_value_at transfers place (record (row_in facts can.transfer) { status = Some Expired })
+      → set_value_at transfers index (record (row_in facts can.transfer) { status = Some Expired })
       ≡ transfer_rows (expire_one can.transfer.id facts) facts.transfers
   expired-row apart =
-      rows-after facts can.transfer place can.at can.lawful can.reserves can.ordered can.hold.transfers_are apart
+      rows-after facts can.transfer index can.at can.lawful can.reserves can.ordered can.hold.transfers_are apart
 
 -- ---- the loop
 
--- facts of which the same are still to expire
+-- facts with the same transfers still to expire
 pub record StillDue (clock : ℕ) (facts : Facts) (accounts : List (ℕ × Account)) (transfers : List (ℕ × Row))
     (indexed : ℕ → ℕ → Bool) : Type 0 where
   pub now : Facts
-  pub held : AreHeld accounts transfers indexed now
+  pub held : AreContained accounts transfers indexed now
   pub same : expire_due clock now ≡ expire_due clock facts
 
--- the transfer of a pair that is in the index
-pub record IsPairOf (facts : Facts) (moment place : ℕ) : Type 0 where
+-- the transfer of a pair that is in the set
+pub record IsPairOf (facts : Facts) (moment index : ℕ) : Type 0 where
   pub transfer : Transfer
-  pub at : slice_get facts.transfers place ≡ Some transfer
+  pub at : slice_get facts.transfers index ≡ Some transfer
   pub is : expires_at transfer ≡ moment
   pub timed : is_timed transfer ≡ true
 
 module _ {accounts : List (ℕ × Account)} {transfers : List (ℕ × Row)} {indexed : ℕ → ℕ → Bool} {facts : Facts}
-    (held : AreHeld accounts transfers indexed facts) {moment place : ℕ} (has : indexed moment place ≡ true) where
-  pub pair : IsPairOf facts moment place
-  pair = by (slice_get facts.transfers place) refl (held.timed moment place has)
+    (held : AreContained accounts transfers indexed facts) {moment index : ℕ} (has : indexed moment index ≡ true) where
+  pub pair : IsPairOf facts moment index
+  pair = by (slice_get facts.transfers index) refl (held.timed moment index has)
     where
-      by : (o : Option Transfer) → slice_get facts.transfers place ≡ o → is_pair_of moment o ≡ true
-          → IsPairOf facts moment place
+      by : (o : Option Transfer) → slice_get facts.transfers index ≡ o → is_pair_of moment o ≡ true
+          → IsPairOf facts moment index
       by None at h = absurd (true≢false (sym h))
       by (Some t) at h = record { transfer = t; at = at; is = grind (arith, nat_tests, h); timed = grind (arith, h) }
 
-  pub pair-row : slice_get transfers place ≡ Some (pair.transfer.id, row_in facts pair.transfer)
-  pair-row = row-at held.hold place pair.at
+  pub pair-row : slice_get transfers index ≡ Some (pair.transfer.id, row_in facts pair.transfer)
+  pair-row = row-at held.hold index pair.at
 
-  pub can-expire : is_open_status (row_in facts pair.transfer).status ≡ true → CanExpire facts accounts transfers place
+  pub can-expire : is_open_status (row_in facts pair.transfer).status ≡ true → CanExpire facts accounts transfers index
   can-expire open_one = record {
     lawful = held.sound.lawful;
     grounded = held.sound.grounded;
@@ -232,12 +232,12 @@ module _ {accounts : List (ℕ × Account)} {transfers : List (ℕ × Row)} {ind
   }
 
   module _ {clock : ℕ} (within : moment ≤ clock) {next : ℕ → ℕ → Bool}
-      (took : (m p : ℕ) → next m p ≡ (not (same_pair moment place m p) && indexed m p)) where
+      (took : (m p : ℕ) → next m p ≡ (not (same_pair moment index m p) && indexed m p)) where
     -- it expires
-    pub still-due : {old : Facts} (can : CanExpire facts accounts transfers place)
+    pub still-due : {old : Facts} (can : CanExpire facts accounts transfers index)
         → expire_due clock facts ≡ expire_due clock old
         → {accounts' : List (ℕ × Account)} {transfers' : List (ℕ × Row)}
-        → Hold (expire_one can.transfer.id facts) accounts' transfers' →
+        → Contain (expire_one can.transfer.id facts) accounts' transfers' →
         StillDue clock old accounts' transfers' next
     still-due can same hold =
         let one : can.transfer ≡ pair.transfer = cc (can.at, pair.at) in
@@ -248,10 +248,10 @@ module _ {accounts : List (ℕ × Account)} {transfers : List (ℕ × Row)} {ind
           held = record {
             hold = hold;
             timed = λ m p h. held.timed m p (grind (arith, took m p, h));
-            sound = sound-after facts can.transfer place can.at can.lawful can.reserves can.ordered indexed next
-                (λ m p. took m p ∙ ap (λ n. not (same_pair n place m p) && indexed m p) (sym moment-is)) held.sound;
+            sound = sound-after facts can.transfer index can.at can.lawful can.reserves can.ordered indexed next
+                (λ m p. took m p ∙ ap (λ n. not (same_pair n index m p) && indexed m p) (sym moment-is)) held.sound;
           };
-          same = due-after facts can.transfer place can.at can.lawful can.reserves can.ordered clock due ∙ same;
+          same = due-after facts can.transfer index can.at can.lawful can.reserves can.ordered clock due ∙ same;
         }
       where
         due-now : (t : Transfer) → is_timed t ≡ true → expires_at t ≡ moment → is_due clock t ≡ true
@@ -287,8 +287,8 @@ none-due clock indexed facts sound later p y at =
 pub all-due : {clock : ℕ} {facts : Facts} {accounts : List (ℕ × Account)} {transfers : List (ℕ × Row)}
     {indexed : ℕ → ℕ → Bool} → StillDue clock facts accounts transfers indexed
     → ((m p : ℕ) → indexed m p ≡ true → clock < m) →
-    AreHeld accounts transfers indexed (expire_due clock facts)
+    AreContained accounts transfers indexed (expire_due clock facts)
 all-due {clock} {facts} {accounts} {transfers} {indexed} due later =
-    subst (AreHeld accounts transfers indexed) (sym
+    subst (AreContained accounts transfers indexed) (sym
     (none-left clock due.now due.held.sound.expiries.ordered (none-due clock indexed due.now due.held.sound later))
     ∙ due.same) due.held

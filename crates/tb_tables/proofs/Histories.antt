@@ -8,7 +8,7 @@ without_last-push xs x =
     let e : length (xs ++ x ∷ []) - 1 ≡ length xs = omega (arith, length-append xs (x ∷ [])) in
     ap (λ n. take n (xs ++ x ∷ [])) e ∙ take-append_seam xs (x ∷ [])
 
--- `undo` takes a change back, and `seen` tells what stands as facts
+-- `undo` takes a change back, and `seen` gives the contents as facts
 module _ {T X : Type 0} (undo : Change T → X → X) (seen : X → Facts) where
   pub oldest-push : (changes : List (Change T)) (change : Change T) (now : X)
       → oldest undo (changes ++ change ∷ []) now ≡ oldest undo changes (undo change now)

@@ -3,7 +3,7 @@ use Rattle.std.proofs.Common.{refl, ap, ◌∙◌, arith, ◌≡◌, ℕ, ◌+�
 use Rattle.std.proofs.Math.Bool.{or-false}
 use Rattle.std.proofs.lemmas.List.Folds.{list_any-append}
 use Rattle.tb_tables.proofs.Words.{list_any, nat_tests, Transfer, is_post, is_void, is_resolving, Facts, add_transfer, is_reserving, is_posting, MayAdd, MayResolve, IsLawful, has_id, ids_distinct}
-use Rattle.tb_tables.proofs.Finding.{found-id}
+use Rattle.tb_tables.proofs.FoundById.{found-id}
 use Rattle.tb_tables.proofs.Sums.{amounts, amounts-push, but_for}
 
 -- which transfers reserve, or have posted, an amount at an account; `side` is the account that is debited, or credited

@@ -1,4 +1,4 @@
--- The facts before each of some changes, which are told by what each added.
+-- The facts before each of some changes, as far as what each added gives them.
 use Rattle.std.specs.Prelude.{◌-◌, List, [], ◌∷◌, length, take}
 use Rattle.tb_tables.specs.Facts.{Facts}
 use Rattle.tb_tables.specs.History.{History}
@@ -14,7 +14,7 @@ before Account facts = record facts { accounts = without_last facts.accounts }
 before (Transfer told) facts = record facts { transfers = without_last facts.transfers }
 before Failed facts = record facts { failed = without_last facts.failed }
 
--- what there was before all of the changes, of which the newest is at the end; `undo` takes one back
+-- what there was before all of the changes, the newest of which is at the end; `undo` takes one back
 abbrev pub oldest : {T X : Type 0} → (Change T → X → X) → List (Change T) → X → X
 oldest undo [] now = now
 oldest undo (change ∷ changes) now = undo change (oldest undo changes now)

@@ -4,9 +4,9 @@ use Rattle.std.specs.List.{list_any}
 use Rattle.tb_layout.specs.declared.account.Account.{Account}
 use Rattle.tb_layout.specs.declared.transfer.Transfer.{Transfer}
 
--- accounts and transfers stand in the order in which they were made, with their timestamps, and a post or a void
--- with its resolved fields; `expired` has the ids of the pending transfers that expired, in the order in which those
--- were made, and `failed` the ids that failed
+-- accounts and transfers are in the order in which they were made, with their timestamps, and a post or a void with its
+-- resolved fields; `expired` has the ids of the pending transfers that expired, in the order in which those were made,
+-- and `failed` the ids that failed
 pub record Facts : Type 0 where
   pub accounts : List Account
   pub transfers : List Transfer
@@ -23,17 +23,17 @@ account_with facts id = find (λ account. account.id == id) facts.accounts
 abbrev pub transfer_with : Facts → ℕ → Option Transfer
 transfer_with facts id = find (λ transfer. transfer.id == id) facts.transfers
 
--- where what was found among others stands, if something was found
-abbrev pub IsPlaceAmong : {X : Type 0} → List X → Option X → Option ℕ → Type 0
-IsPlaceAmong {X} others found None = found ≡ None
-IsPlaceAmong {X} others found (Some place) = (one : X) × (slice_get others place ≡ Some one) × (found ≡ Some one)
+-- the index of what was found among others, if something was found
+abbrev pub IsIndexAmong : {X : Type 0} → List X → Option X → Option ℕ → Type 0
+IsIndexAmong {X} others found None = found ≡ None
+IsIndexAmong {X} others found (Some index) = (one : X) × (slice_get others index ≡ Some one) × (found ≡ Some one)
 
--- where the account, or the transfer, with this id stands, if it is there
-abbrev pub IsPlaceOf : Facts → ℕ → Option ℕ → Type 0
-IsPlaceOf facts id = IsPlaceAmong facts.accounts (account_with facts id)
+-- the index of the account, or the transfer, with this id, if it is there
+abbrev pub IsIndexOf : Facts → ℕ → Option ℕ → Type 0
+IsIndexOf facts id = IsIndexAmong facts.accounts (account_with facts id)
 
-abbrev pub IsPlaceOfTransfer : Facts → ℕ → Option ℕ → Type 0
-IsPlaceOfTransfer facts id = IsPlaceAmong facts.transfers (transfer_with facts id)
+abbrev pub IsIndexOfTransfer : Facts → ℕ → Option ℕ → Type 0
+IsIndexOfTransfer facts id = IsIndexAmong facts.transfers (transfer_with facts id)
 
 abbrev pub is_expired : Facts → ℕ → Bool
 is_expired facts id = list_any (λ expired. expired == id) facts.expired

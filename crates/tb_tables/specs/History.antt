@@ -19,7 +19,7 @@ mark_of history = length history.past
 abbrev pub back_to : ℕ → History → History
 back_to mark history = record { now = slice_index_or history.past mark history.now; past = take mark history.past }
 
--- the changes stand
+-- the changes are kept
 abbrev pub without_past : History → History
 without_past history = record { now = history.now; past = [] }
 

@@ -8,7 +8,7 @@ pub mod Lawful
 pub mod Changes
 pub mod Sums
 pub mod Expiries
-pub mod Kept
-pub mod Held
-pub mod Storing
+pub mod Contents
+pub mod MapFields
+pub mod Changing
 pub mod Hashing

@@ -1,4 +1,4 @@
--- What stands under the id of a transfer.
+-- What a map has under the id of a transfer.
 use Rattle.std.specs.Prelude.{Option}
 use Rattle.tb_layout.specs.declared.transfer.Transfer.{Transfer}
 use Rattle.tb_tables.specs.declared.status.Status.{Status}

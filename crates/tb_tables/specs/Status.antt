@@ -1,4 +1,4 @@
--- What became of a pending transfer.
+-- The status of a pending transfer.
 use Rattle.std.specs.Prelude.{ℕ, ◌+◌, ◌*◌, Bool, not, ◌&&◌, ◌||◌, ◌==◌, nat_le, if◌then◌else◌, map, filter, Option, Some, None}
 use Rattle.std.specs.List.{list_any}
 use Rattle.tb_layout.specs.declared.transfer.Transfer.{Transfer}

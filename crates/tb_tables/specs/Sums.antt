@@ -8,7 +8,7 @@ use Rattle.tb_tables.specs.Balances.{debits_pending as debits_pending_of, debits
 use Rattle.tb_tables.specs.declared.amounts.Phase.{Phase}
 use Rattle.tb_tables.specs.declared.amounts.Phase.TheVariants.{Pending, Posted}
 use Rattle.tb_tables.specs.declared.balance.Balance.{Balance}
-use Rattle.tb_tables.specs.declared.places.Places.{Places}
+use Rattle.tb_tables.specs.declared.indices.Indices.{Indices}
 use Rattle.tb_tables.specs.declared.balance.Balance.TheVariants.{DebitsPending, DebitsPosted, CreditsPending, CreditsPosted}
 
 -- each of the four balances, by the id of the account
@@ -91,41 +91,41 @@ abbrev pub posted_if : Bool → ℕ → ℕ → ℕ → Sums → Sums
 posted_if true debit credit amount sums = with_amount Posted debit credit amount sums
 posted_if false debit credit amount sums = sums
 
--- a place has an account whose balance has room for an amount, or contains it
-pub record HasRoom (rows : List (ℕ × Account)) (place : ℕ) (balance : Balance) (amount : ℕ) : Type 0 where
+-- an index has an account whose balance has room for an amount, or contains it
+pub record HasRoom (rows : List (ℕ × Account)) (index : ℕ) (balance : Balance) (amount : ℕ) : Type 0 where
   pub row : ℕ × Account
-  pub there : slice_get rows place ≡ Some row
+  pub there : slice_get rows index ≡ Some row
   pub fits : balance_of balance row.1 + amount < 2 ^ 128
 
-pub record HasAmount (rows : List (ℕ × Account)) (place : ℕ) (balance : Balance) (amount : ℕ) : Type 0 where
+pub record HasAmount (rows : List (ℕ × Account)) (index : ℕ) (balance : Balance) (amount : ℕ) : Type 0 where
   pub row : ℕ × Account
-  pub there : slice_get rows place ≡ Some row
+  pub there : slice_get rows index ≡ Some row
   pub has : amount ≤ balance_of balance row.1
 
--- the accounts at two places
-pub record AreAt (accounts : List Account) (places : Places) (debit credit : ℕ) : Type 0 where
+-- the accounts at two indices
+pub record AreAt (accounts : List Account) (indices : Indices) (debit credit : ℕ) : Type 0 where
   pub debit_account : Account
   pub credit_account : Account
-  pub debit_at : slice_get accounts places.debit ≡ Some debit_account
-  pub credit_at : slice_get accounts places.credit ≡ Some credit_account
+  pub debit_at : slice_get accounts indices.debit ≡ Some debit_account
+  pub credit_at : slice_get accounts indices.credit ≡ Some credit_account
   pub debit_is : debit_account.id ≡ debit
   pub credit_is : credit_account.id ≡ credit
 
--- an amount can be added between the accounts at two places, or taken out again
-pub record CanAdd (rows : List (ℕ × Account)) (places : Places) (phase : Phase) (amount : ℕ) : Type 0 where
+-- an amount can be added between the accounts at two indices, or taken out again
+pub record CanAdd (rows : List (ℕ × Account)) (indices : Indices) (phase : Phase) (amount : ℕ) : Type 0 where
   pub sums : Sums
   pub accounts : List Account
   pub debit : ℕ
   pub credit : ℕ
-  pub are_at : AreAt accounts places debit credit
+  pub are_at : AreAt accounts indices debit credit
   pub are : rows ≡ account_rows sums accounts
   pub debit_fits : balance_of (debits_in phase) (with_sums sums are_at.debit_account) + amount < 2 ^ 128
   pub credit_fits : balance_of (credits_in phase) (with_sums sums are_at.credit_account) + amount < 2 ^ 128
 
-pub record CanTake (rows : List (ℕ × Account)) (places : Places) (phase : Phase) (amount : ℕ) : Type 0 where
+pub record CanTake (rows : List (ℕ × Account)) (indices : Indices) (phase : Phase) (amount : ℕ) : Type 0 where
   pub sums : Sums
   pub accounts : List Account
   pub debit : ℕ
   pub credit : ℕ
-  pub are_at : AreAt accounts places debit credit
+  pub are_at : AreAt accounts indices debit credit
   pub are : rows ≡ account_rows (with_amount phase debit credit amount sums) accounts

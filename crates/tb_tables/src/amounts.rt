@@ -7,7 +7,7 @@ ghost use Rattle.tb_tables.specs.declared.amounts.Phase.TheVariants.{Posted};
 
 use crate::balance::{Balance, lower_at, raise_at};
 use crate::by_id::ById;
-use crate::places::Places;
+use crate::indices::Indices;
 use tb_layout::{Account, Transfer};
 
 /// What an amount is among the sums of its accounts.
@@ -47,47 +47,47 @@ fn credits_in(phase: Phase) -> Balance
 }
 
 /// Adds an amount to what is pending, or to what is posted.
-pub fn add_amount(accounts: &mut ById<Account>, places: Places, phase: Phase, amount: u128)
-    requires { CanAdd accounts.old.entries places phase amount }
-    ensures { (sums : Sums) (records : List AccountRecord) (debit credit : ℕ) → AreAt records places debit credit
+pub fn add_amount(accounts: &mut ById<Account>, indices: Indices, phase: Phase, amount: u128)
+    requires { CanAdd accounts.old.entries indices phase amount }
+    ensures { (sums : Sums) (records : List AccountRecord) (debit credit : ℕ) → AreAt records indices debit credit
         → accounts.old.entries ≡ account_rows sums records
         → accounts.new.entries ≡ account_rows (with_amount phase debit credit amount sums) records }
 {
-    raise_at(accounts, places.debit, debits_in(phase), amount);
-    raise_at(accounts, places.credit, credits_in(phase), amount);
+    raise_at(accounts, indices.debit, debits_in(phase), amount);
+    raise_at(accounts, indices.credit, credits_in(phase), amount);
 }
 
 /// Takes an amount out again.
-pub fn take_amount(accounts: &mut ById<Account>, places: Places, phase: Phase, amount: u128)
-    requires { CanTake accounts.old.entries places phase amount }
-    ensures { (sums : Sums) (records : List AccountRecord) (debit credit : ℕ) → AreAt records places debit credit
+pub fn subtract_amount(accounts: &mut ById<Account>, indices: Indices, phase: Phase, amount: u128)
+    requires { CanTake accounts.old.entries indices phase amount }
+    ensures { (sums : Sums) (records : List AccountRecord) (debit credit : ℕ) → AreAt records indices debit credit
         → accounts.old.entries ≡ account_rows (with_amount phase debit credit amount sums) records
         → accounts.new.entries ≡ account_rows sums records }
 {
-    lower_at(accounts, places.credit, credits_in(phase), amount);
-    lower_at(accounts, places.debit, debits_in(phase), amount);
+    lower_at(accounts, indices.credit, credits_in(phase), amount);
+    lower_at(accounts, indices.debit, debits_in(phase), amount);
 }
 
 /// Adds what a post posts, where it is a post.
-pub fn post_if(accounts: &mut ById<Account>, places: Places, is_post: bool, amount: u128)
-    requires { is_post ≡ true → CanAdd accounts.old.entries places Posted amount }
-    ensures { (sums : Sums) (records : List AccountRecord) (debit credit : ℕ) → AreAt records places debit credit
+pub fn post_if(accounts: &mut ById<Account>, indices: Indices, is_post: bool, amount: u128)
+    requires { is_post ≡ true → CanAdd accounts.old.entries indices Posted amount }
+    ensures { (sums : Sums) (records : List AccountRecord) (debit credit : ℕ) → AreAt records indices debit credit
         → accounts.old.entries ≡ account_rows sums records
         → accounts.new.entries ≡ account_rows (posted_if is_post debit credit amount sums) records }
 {
     if is_post {
-        add_amount(accounts, places, Phase::Posted, amount);
+        add_amount(accounts, indices, Phase::Posted, amount);
     }
 }
 
 /// Takes out what a post posted, where it is a post.
-pub fn unpost_if(accounts: &mut ById<Account>, places: Places, is_post: bool, amount: u128)
-    requires { is_post ≡ true → CanTake accounts.old.entries places Posted amount }
-    ensures { (sums : Sums) (records : List AccountRecord) (debit credit : ℕ) → AreAt records places debit credit
+pub fn unpost_if(accounts: &mut ById<Account>, indices: Indices, is_post: bool, amount: u128)
+    requires { is_post ≡ true → CanTake accounts.old.entries indices Posted amount }
+    ensures { (sums : Sums) (records : List AccountRecord) (debit credit : ℕ) → AreAt records indices debit credit
         → accounts.old.entries ≡ account_rows (posted_if is_post debit credit amount sums) records
         → accounts.new.entries ≡ account_rows sums records }
 {
     if is_post {
-        take_amount(accounts, places, Phase::Posted, amount);
+        subtract_amount(accounts, indices, Phase::Posted, amount);
     }
 }

@@ -42,26 +42,26 @@ fn lower_balance(account: &mut Account, balance: Balance, amount: u128)
     }
 }
 
-/// Raises a balance of the account at a place.
-pub fn raise_at(accounts: &mut ById<Account>, place: usize, balance: Balance, amount: u128)
-    requires { HasRoom accounts.old.entries place balance amount }
+/// Raises a balance of the account at an index.
+pub fn raise_at(accounts: &mut ById<Account>, index: usize, balance: Balance, amount: u128)
+    requires { HasRoom accounts.old.entries index balance amount }
     ensures { (sums : Sums) (records : List AccountRecord) (account : AccountRecord)
-        → slice_get records place ≡ Some account
+        → slice_get records index ≡ Some account
         → accounts.old.entries ≡ account_rows sums records
         → accounts.new.entries ≡ account_rows (with_more balance account.id amount sums) records }
 {
-    let (_, account) = accounts.pair_mut(place);
+    let (_, account) = accounts.pair_mut(index);
     raise_balance(account, balance, amount);
 }
 
-/// Lowers a balance of the account at a place.
-pub fn lower_at(accounts: &mut ById<Account>, place: usize, balance: Balance, amount: u128)
-    requires { HasAmount accounts.old.entries place balance amount }
+/// Lowers a balance of the account at an index.
+pub fn lower_at(accounts: &mut ById<Account>, index: usize, balance: Balance, amount: u128)
+    requires { HasAmount accounts.old.entries index balance amount }
     ensures { (sums : Sums) (records : List AccountRecord) (account : AccountRecord)
-        → slice_get records place ≡ Some account
+        → slice_get records index ≡ Some account
         → accounts.old.entries ≡ account_rows (with_more balance account.id amount sums) records
         → accounts.new.entries ≡ account_rows sums records }
 {
-    let (_, account) = accounts.pair_mut(place);
+    let (_, account) = accounts.pair_mut(index);
     lower_balance(account, balance, amount);
 }

@@ -3,7 +3,7 @@
 use crate::hashing::IdHasher;
 use indexmap::{IndexMap, IndexSet};
 
-/// What stands under ids, in order of making.
+/// What maps have under ids, in order of making.
 pub type ById<V> = IndexMap<u128, V, IdHasher>;
 
 /// Ids, in order of making.

@@ -1,6 +1,6 @@
 //! An entry of the undo list.
 
-/// What a change added; for a transfer, with what else is told of it.
+/// What a change added; for a transfer, with what else is needed to undo it.
 #[derive(Clone, Copy)]
 pub enum Change<T> {
     Account,

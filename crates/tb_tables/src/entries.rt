@@ -5,7 +5,7 @@ ghost use Rattle.std.specs.List.{list_any};
 ghost use Rattle.indexmap.specs.IndexMap.{get, keys, index_map_len, set_value_at, IsUnique};
 ghost use Rattle.tb_tables.specs.Row.{Row as RowRecord};
 ghost use Rattle.tb_tables.specs.Changes.{without_last};
-ghost use Rattle.tb_tables.specs.Storing.{new_row, status_after};
+ghost use Rattle.tb_tables.specs.Changing.{new_row, status_after};
 
 use crate::by_id::{ById, Ids};
 use crate::row::Row;
@@ -13,7 +13,7 @@ use crate::status::Status;
 use indexmap::map::Entry;
 use tb_layout::{Account, NoMemory, Transfer};
 
-/// Puts an account after the others, unless its id is there; whether it was put. It is written where it stands.
+/// Adds an account after the others, unless its id is there; whether it was added. It is written in place.
 pub fn push_account(accounts: &mut ById<Account>, account: &Account) -> Result<bool, NoMemory>
     ensures new { IfOk result (λ added. added ≡ not (is_some (get nat_eq accounts.old account.now.id))) }
     ensures added { result ≡ Ok true → accounts.new.entries
@@ -45,8 +45,8 @@ fn new_row(transfer: &Transfer) -> Row
     Row::new(transfer, status)
 }
 
-/// Puts a transfer after the others, unless its id is there; whether it was put. Its row is written where it stands:
-/// made before, it would be moved there.
+/// Adds a transfer after the others, unless its id is there; whether it was added. Its row is written in place: made
+/// before, it would be moved there.
 pub fn push_transfer(transfers: &mut ById<Row>, transfer: &Transfer) -> Result<bool, NoMemory>
     ensures new { IfOk result (λ added. added ≡ not (is_some (get nat_eq transfers.old transfer.now.id))) }
     ensures added { result ≡ Ok true → transfers.new.entries
@@ -90,20 +90,20 @@ pub fn pop_failed(failed: &mut Ids)
     failed.truncate(failed.len().saturating_sub(1));
 }
 
-/// The place of the entry with this id.
-pub fn place_of<V: Drop>(entries: &ById<V>, id: u128) -> usize
+/// The index of the entry with this id.
+pub fn index_of<V: Drop>(entries: &ById<V>, id: u128) -> usize
     requires { IsSome (get nat_eq entries.now id) }
     ensures { slice_get (keys entries.now) result ≡ Some id }
 {
     entries.get_index_of(&id).unwrap()
 }
 
-/// The row of the transfer at a place.
-pub fn row_at(transfers: &ById<Row>, place: usize) -> &Row
-    requires { IsSome (slice_get transfers.now.entries place) }
-    ensures { (id : ℕ) (row : RowRecord) → slice_get transfers.now.entries place ≡ Some (id, row) → result.now ≡ row }
+/// The row of the transfer at an index.
+pub fn row_at(transfers: &ById<Row>, index: usize) -> &Row
+    requires { IsSome (slice_get transfers.now.entries index) }
+    ensures { (id : ℕ) (row : RowRecord) → slice_get transfers.now.entries index ≡ Some (id, row) → result.now ≡ row }
 {
-    let (_, row) = transfers.get_index(place).unwrap();
+    let (_, row) = transfers.get_index(index).unwrap();
     row
 }
 
@@ -118,22 +118,22 @@ pub fn pop_transfer(transfers: &mut ById<Row>) -> Transfer
     row.transfer()
 }
 
-/// Sets the status of the transfer at a place, and gives that transfer.
-pub fn set_status(transfers: &mut ById<Row>, place: usize, status: Status) -> Transfer
-    requires { IsSome (slice_get transfers.old.entries place) }
-    ensures transfer { (id : ℕ) (row : RowRecord) → slice_get transfers.old.entries place ≡ Some (id, row)
+/// Sets the status of the transfer at an index, and gives that transfer.
+pub fn set_status(transfers: &mut ById<Row>, index: usize, status: Status) -> Transfer
+    requires { IsSome (slice_get transfers.old.entries index) }
+    ensures transfer { (id : ℕ) (row : RowRecord) → slice_get transfers.old.entries index ≡ Some (id, row)
         → result ≡ row.transfer }
-    ensures entries { (id : ℕ) (row : RowRecord) → slice_get transfers.old.entries place ≡ Some (id, row)
-        → transfers.new.entries ≡ set_value_at transfers.old.entries place (record row { status = Some status }) }
+    ensures entries { (id : ℕ) (row : RowRecord) → slice_get transfers.old.entries index ≡ Some (id, row)
+        → transfers.new.entries ≡ set_value_at transfers.old.entries index (record row { status = Some status }) }
     ensures unique { IsUnique nat_eq transfers.old }
 {
-    let (_, row) = transfers.pair_mut(place);
+    let (_, row) = transfers.pair_mut(index);
     row.set_status(status);
     row.transfer()
 }
 
 /// The status of what a post or a void names.
-pub fn settled_status(is_post: bool) -> Status
+pub fn resolved_status(is_post: bool) -> Status
     ensures { result ≡ status_after is_post }
 {
     if is_post {

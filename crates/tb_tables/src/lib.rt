@@ -1,19 +1,19 @@
-//! The facts of a ledger, kept so that they can be looked up and taken back.
+//! The facts of a ledger, kept so that they can be looked up and undone.
 //!
-//! Callers see the tables as facts: the accounts and the transfers that were made, in order of
-//! making, the pending transfers that expired, and the ids that failed. Balances and statuses are
-//! what the facts say. Beside the facts now stand those before each change since the last `keep`, to
-//! which `undo_to` goes back. What a caller owes (a new id, accounts that are there, sums that fit) is
-//! a `requires`; the only refusal is want of memory, after which the tables are as before.
+//! Callers see the tables as facts: the accounts and the transfers that were made, in order of making, the pending
+//! transfers that expired, and the ids that failed. Balances and statuses are what the facts say. Beside the facts now,
+//! callers see those before each change since the last `keep`, to which `undo_to` returns. What a caller owes (a new
+//! id, accounts that are there, sums that fit) is a `requires`; the only refusal is NoMemory, after which the tables
+//! are as before.
 //!
-//! What stands on what, lowest first:
+//! The modules, lowest first:
 //!
-//! - `halves`, `row`: a transfer with its status as it lies in memory;
-//! - `hashing`, `by_id`: how ids are hashed, and maps of what stands under them;
+//! - `split_u128`, `row`: a transfer with its status as it is in memory;
+//! - `hashing`, `by_id`: how ids are hashed, and maps by id;
 //! - `balance`, `amounts`: one balance of an account, an amount between two;
-//! - `entries`, `expiries`: one entry of a map, one pair of the index of expiries;
-//! - `storing`, `timeouts`: all that one transfer changes, over facts that the maps hold (`AreHeld`);
-//! - `maps`: the maps and the index together, seen as facts, whose invariant is `IsKept`;
+//! - `entries`, `expiries`: one entry of a map, one pair of the set of expiries;
+//! - `storing`, `timeouts`: all that one transfer changes, over facts that the maps contain (`AreContained`);
+//! - `maps`: the maps and the set together, seen as facts, whose invariant is `AreConsistent`;
 //! - `tables`: the undo list on top, whose invariant is `AreUndoable`.
 #![tactic(auto)]
 
@@ -23,13 +23,13 @@ mod by_id;
 mod change;
 mod entries;
 mod expiries;
-mod halves;
 mod hashing;
+mod indices;
 mod maps;
 mod mark;
 mod note;
-mod places;
 mod row;
+mod split_u128;
 mod status;
 mod storing;
 mod tables;

@@ -1,4 +1,4 @@
-//! The maps: accounts, transfers and failed ids, with the index of expiries.
+//! The maps: accounts, transfers and failed ids, with the set of expiries.
 
 ghost use Rattle.std.specs.Prelude.{◌≡◌, ◌≢◌, ◌<◌, ◌^◌, ◌&&◌, ℕ, Some, None, Ok, IfOk, OnOk, OnErr, is_some, not, true, false, length, slice_get};
 ghost use Rattle.std.specs.List.{AllByRecursion};
@@ -6,19 +6,19 @@ ghost use Rattle.std.specs.Option.{option_map};
 
 use crate::by_id::{ById, Ids};
 use crate::change::Change;
-use crate::entries::{place_of, pop_account, pop_failed, push_account, push_failed, push_transfer};
+use crate::entries::{index_of, pop_account, pop_failed, push_account, push_failed, push_transfer};
 use crate::expiries::Expiries;
 use crate::hashing::{IdHasher, Seed};
-use crate::places::Places;
+use crate::indices::Indices;
 use crate::row::Row;
 use crate::status::Status;
-use crate::storing::{apply, expect, forget, forget_resolved, take_back};
+use crate::storing::{apply, insert_expiry, remove_expiry, remove_resolved, undo_transfer};
 use crate::timeouts::expire_all;
 use std::alloc::Global;
 use std::marker::Model;
 use tb_layout::{Account, NoMemory, Transfer};
 
-/// The facts now, with the index of when pending transfers expire.
+/// The facts now, with the set of when pending transfers expire.
 #[derive(Drop)]
 pub struct Maps {
     accounts: ById<Account>,
@@ -28,26 +28,26 @@ pub struct Maps {
 }
 
 impl Model for Maps {
-    ghost use Rattle.tb_tables.specs.Kept.{Indexed, IsKept};
+    ghost use Rattle.tb_tables.specs.Contents.{MapsState, AreConsistent};
 
-    ghost Value = { Indexed };
+    ghost Value = { MapsState };
 
-    ghost use Rattle.tb_tables.specs.Held.{stored_in, indexed_in};
+    ghost use Rattle.tb_tables.specs.MapFields.{contents_in, maps_state_of};
 
-    ghost view = { indexed_in };
+    ghost view = { maps_state_of };
 
-    ghost invariant = { λ maps. IsKept (stored_in maps) };
+    ghost invariant = { λ maps. AreConsistent (contents_in maps) };
 }
 
 impl Maps {
-    ghost use Rattle.tb_tables.specs.Facts.{no_facts, account_with, IsPlaceOf, IsPlaceOfTransfer, transfer_with, is_failed, add_account as with_account, add_transfer as with_transfer, add_failed as with_failed};
+    ghost use Rattle.tb_tables.specs.Facts.{no_facts, account_with, IsIndexOf, IsIndexOfTransfer, transfer_with, is_failed, add_account as with_account, add_transfer as with_transfer, add_failed as with_failed};
     ghost use Rattle.tb_layout.specs.Transfer.{is_pending};
     ghost use Rattle.tb_tables.specs.Status.{expires_at, status_with, status_if_pending, expire_due as with_due_expired};
     ghost use Rattle.tb_tables.specs.Balances.{with_balances as balanced, balanced_account};
     ghost use Rattle.tb_tables.specs.Expiries.{has_pair};
     ghost use Rattle.tb_tables.specs.Changes.{before};
     ghost use Rattle.tb_tables.specs.Conditions.{HasNoBalances, MayAdd, MayResolve};
-    ghost use Rattle.tb_tables.specs.Kept.{MayStore, HavePlaces, IsSound, IsUndoable, KeepsPairs, NamesOne, is_resolved_at, is_spent};
+    ghost use Rattle.tb_tables.specs.Contents.{MayStore, HaveIndices, IsSound, IsUndoable, KeepsPairs, NamesOne, is_resolved_at, is_spent};
 
     /// Maps without facts, whose ids are hashed with a seed. Takes no memory.
     pub fn new(alloc: Global, seed: Seed) -> Maps
@@ -97,13 +97,13 @@ impl Maps {
         Ok(())
     }
 
-    /// Adds a transfer whose accounts, and whose pending transfer, have these places, unless one with its id is
-    /// there; whether it was added. When it expires goes into the index first, and out again where it isn't added.
-    pub fn store(&mut self, transfer: &Transfer, places: Places) -> Result<bool, NoMemory>
-        requires at { HavePlaces self.old.facts transfer.now places }
+    /// Adds a transfer whose accounts, and whose pending transfer, have these indices, unless one with its id is
+    /// there; whether it was added. When it expires goes into the set first, and out again where it isn't added.
+    pub fn store(&mut self, transfer: &Transfer, indices: Indices) -> Result<bool, NoMemory>
+        requires at { HaveIndices self.old.facts transfer.now indices }
         requires fits { is_pending transfer.now ≡ true → expires_at transfer.now < 2 ^ 64 }
         requires may { transfer_with self.old.facts transfer.now.id ≡ None
-            → MayStore self.old.facts transfer.now places.pending }
+            → MayStore self.old.facts transfer.now indices.pending }
         ensures new { IfOk result (λ added. added ≡ not (is_some (transfer_with self.old.facts transfer.now.id))) }
         ensures added { result ≡ Ok true → self.new.facts ≡ with_transfer self.old.facts transfer.now }
         ensures same { result ≢ Ok true → self.new.facts ≡ self.old.facts }
@@ -111,19 +111,19 @@ impl Maps {
             (has_pair self.new.pairs) }
         ensures sound { IsSound (has_pair self.old.pairs) self.old.facts }
     {
-        let place = self.transfers.len();
-        expect(&mut self.expiries, transfer, place)?;
+        let index = self.transfers.len();
+        insert_expiry(&mut self.expiries, transfer, index)?;
         let added = push_transfer(&mut self.transfers, transfer);
         if added == Ok(true) {
-            apply(&mut self.accounts, &mut self.transfers, places, *transfer);
+            apply(&mut self.accounts, &mut self.transfers, indices, *transfer);
         } else {
-            forget(&mut self.expiries, transfer, place);
+            remove_expiry(&mut self.expiries, transfer, index);
         }
         added
     }
 
     /// Takes a change back, which is the last one.
-    pub fn undo(&mut self, change: Change<Places>)
+    pub fn undo(&mut self, change: Change<Indices>)
         requires { IsUndoable (has_pair self.old.pairs) change self.old.facts }
         ensures facts { self.new.facts ≡ before change self.old.facts }
         ensures pairs { KeepsPairs (length (before change self.old.facts).transfers) (has_pair self.old.pairs)
@@ -131,12 +131,12 @@ impl Maps {
     {
         match change {
             Change::Account => pop_account(&mut self.accounts),
-            Change::Transfer(places) => {
-                take_back(
+            Change::Transfer(indices) => {
+                undo_transfer(
                     &mut self.accounts,
                     &mut self.transfers,
                     &mut self.expiries,
-                    places,
+                    indices,
                 );
             }
             Change::Failed => pop_failed(&mut self.failed),
@@ -144,14 +144,14 @@ impl Maps {
     }
 
     /// Forgets when what some changes resolved would have expired: they won't be taken back.
-    pub fn forget(&mut self, changes: &[Change<Places>])
+    pub fn remove_resolved(&mut self, changes: &[Change<Indices>])
         requires { AllByRecursion (NamesOne self.old.facts) changes.now }
         ensures facts { self.new.facts ≡ self.old.facts }
-        ensures gone { (moment place : ℕ) → has_pair self.new.pairs moment place
-            ≡ (not (is_resolved_at place changes.now && is_spent self.old.facts moment place)
-            && has_pair self.old.pairs moment place) }
+        ensures gone { (moment index : ℕ) → has_pair self.new.pairs moment index
+            ≡ (not (is_resolved_at index changes.now && is_spent self.old.facts moment index)
+            && has_pair self.old.pairs moment index) }
     {
-        forget_resolved(&mut self.expiries, &self.transfers, changes);
+        remove_resolved(&mut self.expiries, &self.transfers, changes);
     }
 
     /// Lets each pending transfer expire that nothing resolved and whose timeout is over at a clock, in nanoseconds.
@@ -166,30 +166,30 @@ impl Maps {
         );
     }
 
-    /// Where the accounts of a plain or pending transfer stand.
-    pub fn places_of(&self, transfer: &Transfer) -> Places
+    /// The indices of the accounts of a plain or pending transfer.
+    pub fn indices_of(&self, transfer: &Transfer) -> Indices
         requires { MayAdd self.now.facts transfer.now }
-        ensures at { HavePlaces self.now.facts transfer.now result }
+        ensures at { HaveIndices self.now.facts transfer.now result }
         ensures may { MayStore self.now.facts transfer.now result.pending }
     {
-        Places {
-            debit: place_of(&self.accounts, transfer.debit_account_id),
-            credit: place_of(&self.accounts, transfer.credit_account_id),
+        Indices {
+            debit: index_of(&self.accounts, transfer.debit_account_id),
+            credit: index_of(&self.accounts, transfer.credit_account_id),
             pending: None,
         }
     }
 
-    /// Where the accounts of a post or a void stand, beside the transfer that it names.
-    pub fn places_resolved(&self, transfer: &Transfer, pending: usize) -> Places
-        requires pending { IsPlaceOfTransfer self.now.facts transfer.now.pending_id (Some pending) }
+    /// The indices of the accounts of a post or a void, and of the transfer that it names.
+    pub fn resolved_indices(&self, transfer: &Transfer, pending: usize) -> Indices
+        requires pending { IsIndexOfTransfer self.now.facts transfer.now.pending_id (Some pending) }
         requires may { MayResolve self.now.facts transfer.now }
-        ensures at { HavePlaces self.now.facts transfer.now result }
+        ensures at { HaveIndices self.now.facts transfer.now result }
         ensures may { transfer_with self.now.facts transfer.now.id ≡ None
             → MayStore self.now.facts transfer.now result.pending }
     {
-        Places {
-            debit: place_of(&self.accounts, transfer.debit_account_id),
-            credit: place_of(&self.accounts, transfer.credit_account_id),
+        Indices {
+            debit: index_of(&self.accounts, transfer.debit_account_id),
+            credit: index_of(&self.accounts, transfer.credit_account_id),
             pending: Some(pending),
         }
     }
@@ -201,18 +201,18 @@ impl Maps {
         self.accounts.get(&id).copied()
     }
 
-    /// The place of the account with this id.
-    pub fn place(&self, id: u128) -> Option<usize>
-        ensures { IsPlaceOf self.now.facts id result }
+    /// The index of the account with this id.
+    pub fn account_index(&self, id: u128) -> Option<usize>
+        ensures { IsIndexOf self.now.facts id result }
     {
         self.accounts.get_index_of(&id)
     }
 
-    /// The account at a place, with its balances.
-    pub fn account_at(&self, place: usize) -> Option<Account>
-        ensures { result ≡ option_map (balanced self.now.facts) (slice_get self.now.facts.accounts place) }
+    /// The account at an index, with its balances.
+    pub fn account_at(&self, index: usize) -> Option<Account>
+        ensures { result ≡ option_map (balanced self.now.facts) (slice_get self.now.facts.accounts index) }
     {
-        let (_, account) = self.accounts.get_index(place)?;
+        let (_, account) = self.accounts.get_index(index)?;
         Some(*account)
     }
 
@@ -230,33 +230,33 @@ impl Maps {
         self.transfers.get(&id).map(|row| row.transfer())
     }
 
-    /// The place of the transfer with this id.
-    pub fn place_of_transfer(&self, id: u128) -> Option<usize>
-        ensures { IsPlaceOfTransfer self.now.facts id result }
+    /// The index of the transfer with this id.
+    pub fn transfer_index(&self, id: u128) -> Option<usize>
+        ensures { IsIndexOfTransfer self.now.facts id result }
     {
         self.transfers.get_index_of(&id)
     }
 
-    /// The transfer at a place.
-    pub fn transfer_at(&self, place: usize) -> Option<Transfer>
-        ensures { result ≡ slice_get self.now.facts.transfers place }
+    /// The transfer at an index.
+    pub fn transfer_at(&self, index: usize) -> Option<Transfer>
+        ensures { result ≡ slice_get self.now.facts.transfers index }
     {
-        let (_, row) = self.transfers.get_index(place)?;
+        let (_, row) = self.transfers.get_index(index)?;
         Some(row.transfer())
     }
 
-    /// What became of the pending transfer with this id.
+    /// The status of the pending transfer with this id.
     pub fn status(&self, id: u128) -> Option<Status>
         ensures { result ≡ status_with self.now.facts id }
     {
         self.transfers.get(&id).and_then(|row| row.status())
     }
 
-    /// What became of the pending transfer at a place.
-    pub fn status_at(&self, place: usize) -> Option<Status>
-        ensures { result ≡ status_if_pending self.now.facts (slice_get self.now.facts.transfers place) }
+    /// The status of the pending transfer at an index.
+    pub fn status_at(&self, index: usize) -> Option<Status>
+        ensures { result ≡ status_if_pending self.now.facts (slice_get self.now.facts.transfers index) }
     {
-        let (_, row) = self.transfers.get_index(place)?;
+        let (_, row) = self.transfers.get_index(index)?;
         row.status()
     }
 

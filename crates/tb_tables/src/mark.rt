@@ -19,14 +19,14 @@ impl Model for Mark {
 }
 
 impl Mark {
-    /// A mark after so many changes.
+    /// A mark after this number of changes.
     pub(crate) fn new(changes: usize) -> Mark
         ensures { result ≡ changes }
     {
         Mark { changes }
     }
 
-    /// How many changes lie before it.
+    /// The number of changes before it.
     pub fn changes(self) -> usize
         ensures { result ≡ self }
     {

@@ -1,22 +1,21 @@
-//! What stands under the id of a transfer.
+//! What a map has under the id of a transfer.
 
 ghost use Rattle.std.specs.Prelude.{◌≡◌};
 
-use crate::halves::Halves;
+use crate::split_u128::SplitU128;
 use crate::status::Status;
 use std::marker::Model;
 use tb_layout::Transfer;
 
-/// A transfer, and its status where it is a pending one: 136 bytes, where a `Transfer` and a status beside it would be
-/// padded to 144.
+/// A transfer, and its status if it is a pending one: 136 bytes; a `Transfer` with a status would be padded to 144.
 #[derive(Clone, Copy, Default)]
 pub struct Row {
-    id: Halves,
-    debit_account_id: Halves,
-    credit_account_id: Halves,
-    amount: Halves,
-    pending_id: Halves,
-    user_data_128: Halves,
+    id: SplitU128,
+    debit_account_id: SplitU128,
+    credit_account_id: SplitU128,
+    amount: SplitU128,
+    pending_id: SplitU128,
+    user_data_128: SplitU128,
     user_data_64: u64,
     user_data_32: u32,
     timeout: u32,
@@ -70,19 +69,19 @@ impl Model for Row {
 }
 
 impl Row {
-    ghost use Rattle.tb_tables.specs.Storing.{is_open_status};
+    ghost use Rattle.tb_tables.specs.Changing.{is_open_status};
 
     /// The row of a transfer with a status.
     pub fn new(transfer: &Transfer, status: Option<Status>) -> Row
         ensures { result ≡ record { transfer = transfer.now; status = status } }
     {
         Row {
-            id: Halves::of(transfer.id),
-            debit_account_id: Halves::of(transfer.debit_account_id),
-            credit_account_id: Halves::of(transfer.credit_account_id),
-            amount: Halves::of(transfer.amount),
-            pending_id: Halves::of(transfer.pending_id),
-            user_data_128: Halves::of(transfer.user_data_128),
+            id: SplitU128::of(transfer.id),
+            debit_account_id: SplitU128::of(transfer.debit_account_id),
+            credit_account_id: SplitU128::of(transfer.credit_account_id),
+            amount: SplitU128::of(transfer.amount),
+            pending_id: SplitU128::of(transfer.pending_id),
+            user_data_128: SplitU128::of(transfer.user_data_128),
             user_data_64: transfer.user_data_64,
             user_data_32: transfer.user_data_32,
             timeout: transfer.timeout,

@@ -1,6 +1,6 @@
 //! The status of a pending transfer.
 
-/// What became of a pending transfer.
+/// The status of a pending transfer.
 #[derive(Clone, Copy, Debug, PartialEq, Eq)]
 pub enum Status {
     Pending,

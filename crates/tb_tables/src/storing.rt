@@ -1,5 +1,4 @@
-//! What a transfer changes beside its own row: balances, the status of what it names, and the index of
-//! expiries.
+//! What a transfer changes besides its own row: balances, the status of what it names, and the set of expiries.
 
 ghost use Rattle.std.specs.Prelude.{◌≡◌, ℕ, not, ◌&&◌, ◌||◌, ◌<◌, ◌^◌, ◌==◌, OnOk, OnErr, true, Some, length};
 ghost use Rattle.std.specs.List.{AllByRecursion};
@@ -7,16 +6,16 @@ ghost use Rattle.tb_layout.specs.declared.transfer.Transfer.{Transfer as Transfe
 ghost use Rattle.tb_layout.specs.Transfer.{is_pending};
 ghost use Rattle.tb_tables.specs.Facts.{Facts};
 ghost use Rattle.tb_tables.specs.Status.{expires_at as expires_at_of};
-ghost use Rattle.tb_tables.specs.Expiries.{is_indexed, same_pair};
-ghost use Rattle.tb_tables.specs.Kept.{is_timed as is_timed_of, named_by as named_by_of, resolves_at, is_resolved_at, is_spent as is_spent_at, Hold};
-ghost use Rattle.tb_tables.specs.Storing.{Step, IsBefore, IsAfter, IsStored, IsForgettable, CanForget, is_open_status};
+ghost use Rattle.tb_tables.specs.Expiries.{is_in_expiries, same_pair};
+ghost use Rattle.tb_tables.specs.Contents.{is_timed as is_timed_of, named_by as named_by_of, resolves_at, is_resolved_at, is_spent as is_spent_at, Contain};
+ghost use Rattle.tb_tables.specs.Changing.{Step, IsBefore, IsAfter, IsStored, IsRemovable, CanRemove, is_open_status};
 
-use crate::amounts::{Phase, add_amount, phase_of, post_if, take_amount, unpost_if};
+use crate::amounts::{Phase, add_amount, phase_of, post_if, subtract_amount, unpost_if};
 use crate::by_id::ById;
 use crate::change::Change;
-use crate::entries::{pop_transfer, row_at, set_status, settled_status};
-use crate::expiries::{Expiries, put_in, take_out};
-use crate::places::Places;
+use crate::entries::{pop_transfer, resolved_status, row_at, set_status};
+use crate::expiries::{Expiries, insert_pair, remove_pair};
+use crate::indices::Indices;
 use crate::row::Row;
 use crate::status::Status;
 use tb_layout::{Account, NANOSECONDS_PER_SECOND, NoMemory, Transfer};
@@ -36,131 +35,135 @@ fn expires_at(transfer: &Transfer) -> u64
     transfer.timestamp + u64::from(transfer.timeout) * NANOSECONDS_PER_SECOND
 }
 
-/// Puts the pair of a transfer at a place into the index, where it has one.
-pub fn expect(expiries: &mut Expiries, transfer: &Transfer, place: usize) -> Result<(), NoMemory>
+/// Puts the pair of a transfer at an index into the set, where it has one.
+pub fn insert_expiry(
+    expiries: &mut Expiries,
+    transfer: &Transfer,
+    index: usize,
+) -> Result<(), NoMemory>
     requires { is_pending transfer.now ≡ true → expires_at_of transfer.now < 2 ^ 64 }
-    ensures ok { OnOk result ((m p : ℕ) → is_indexed expiries.new m p
-        ≡ ((is_timed_of transfer.now && same_pair (expires_at_of transfer.now) place m p)
-        || is_indexed expiries.old m p)) }
+    ensures ok { OnOk result ((m p : ℕ) → is_in_expiries expiries.new m p
+        ≡ ((is_timed_of transfer.now && same_pair (expires_at_of transfer.now) index m p)
+        || is_in_expiries expiries.old m p)) }
     ensures err { OnErr result (expiries.new.keys ≡ expiries.old.keys) }
 {
     if is_timed(transfer) {
-        put_in(expiries, expires_at(transfer), place)?;
+        insert_pair(expiries, expires_at(transfer), index)?;
     }
     Ok(())
 }
 
-/// Takes the pair of a transfer at a place out of the index again.
-pub fn forget(expiries: &mut Expiries, transfer: &Transfer, place: usize)
+/// Takes the pair of a transfer at an index out of the set again.
+pub fn remove_expiry(expiries: &mut Expiries, transfer: &Transfer, index: usize)
     requires { is_pending transfer.now ≡ true → expires_at_of transfer.now < 2 ^ 64 }
-    ensures { (m p : ℕ) → is_indexed expiries.new m p
-        ≡ (not (is_timed_of transfer.now && same_pair (expires_at_of transfer.now) place m p)
-        && is_indexed expiries.old m p) }
+    ensures { (m p : ℕ) → is_in_expiries expiries.new m p
+        ≡ (not (is_timed_of transfer.now && same_pair (expires_at_of transfer.now) index m p)
+        && is_in_expiries expiries.old m p) }
 {
     if is_timed(transfer) {
-        take_out(expiries, expires_at(transfer), place);
+        remove_pair(expiries, expires_at(transfer), index);
     }
 }
 
 /// Moves the amount of a post, releases what was reserved, and sets the status of the transfer that it names, once
 /// the post or void is stored.
-fn settle(
+fn resolve_pending(
     accounts: &mut ById<Account>,
     transfers: &mut ById<Row>,
-    places: Places,
+    indices: Indices,
     pending: usize,
     transfer: Transfer,
 )
-    requires names { places.pending ≡ Some pending }
-    requires before { (step : Step transfer places) × IsBefore step accounts.old.entries transfers.old.entries }
-    ensures { (step : Step transfer places) → IsBefore step accounts.old.entries transfers.old.entries
+    requires names { indices.pending ≡ Some pending }
+    requires before { (step : Step transfer indices) × IsBefore step accounts.old.entries transfers.old.entries }
+    ensures { (step : Step transfer indices) → IsBefore step accounts.old.entries transfers.old.entries
         → IsAfter step accounts.new.entries transfers.new.entries }
 {
-    let reserved = set_status(transfers, pending, settled_status(transfer.is_post())).amount;
-    take_amount(accounts, places, Phase::Pending, reserved);
-    post_if(accounts, places, transfer.is_post(), transfer.amount);
+    let reserved = set_status(transfers, pending, resolved_status(transfer.is_post())).amount;
+    subtract_amount(accounts, indices, Phase::Pending, reserved);
+    post_if(accounts, indices, transfer.is_post(), transfer.amount);
 }
 
 /// Adds a stored transfer's amounts to its accounts, and resolves what it names.
 pub fn apply(
     accounts: &mut ById<Account>,
     transfers: &mut ById<Row>,
-    places: Places,
+    indices: Indices,
     transfer: Transfer,
 )
-    requires { (step : Step transfer places) × IsBefore step accounts.old.entries transfers.old.entries }
-    ensures { (step : Step transfer places) → IsBefore step accounts.old.entries transfers.old.entries
+    requires { (step : Step transfer indices) × IsBefore step accounts.old.entries transfers.old.entries }
+    ensures { (step : Step transfer indices) → IsBefore step accounts.old.entries transfers.old.entries
         → IsAfter step accounts.new.entries transfers.new.entries }
 {
-    match places.pending {
-        None => add_amount(accounts, places, phase_of(&transfer), transfer.amount),
-        Some(pending) => settle(accounts, transfers, places, pending, transfer),
+    match indices.pending {
+        None => add_amount(accounts, indices, phase_of(&transfer), transfer.amount),
+        Some(pending) => resolve_pending(accounts, transfers, indices, pending, transfer),
     }
 }
 
 /// Takes back what a post or a void changed, once it is stored no more.
-fn unsettle(
+fn unresolve_pending(
     accounts: &mut ById<Account>,
     transfers: &mut ById<Row>,
-    places: Places,
+    indices: Indices,
     pending: usize,
     transfer: Transfer,
 )
-    requires names { places.pending ≡ Some pending }
-    requires after { (step : Step transfer places) × IsAfter step accounts.old.entries transfers.old.entries }
-    ensures { (step : Step transfer places) → IsAfter step accounts.old.entries transfers.old.entries
+    requires names { indices.pending ≡ Some pending }
+    requires after { (step : Step transfer indices) × IsAfter step accounts.old.entries transfers.old.entries }
+    ensures { (step : Step transfer indices) → IsAfter step accounts.old.entries transfers.old.entries
         → IsBefore step accounts.new.entries transfers.new.entries }
 {
     let reserved = set_status(transfers, pending, Status::Pending).amount;
-    unpost_if(accounts, places, transfer.is_post(), transfer.amount);
-    add_amount(accounts, places, Phase::Pending, reserved);
+    unpost_if(accounts, indices, transfer.is_post(), transfer.amount);
+    add_amount(accounts, indices, Phase::Pending, reserved);
 }
 
 /// Takes a transfer's amounts out of its accounts, and resolves what it names no more, once it is stored no more.
 fn unapply(
     accounts: &mut ById<Account>,
     transfers: &mut ById<Row>,
-    places: Places,
+    indices: Indices,
     transfer: Transfer,
 )
-    requires { (step : Step transfer places) × IsAfter step accounts.old.entries transfers.old.entries }
-    ensures { (step : Step transfer places) → IsAfter step accounts.old.entries transfers.old.entries
+    requires { (step : Step transfer indices) × IsAfter step accounts.old.entries transfers.old.entries }
+    ensures { (step : Step transfer indices) → IsAfter step accounts.old.entries transfers.old.entries
         → IsBefore step accounts.new.entries transfers.new.entries }
 {
-    match places.pending {
-        None => take_amount(accounts, places, phase_of(&transfer), transfer.amount),
-        Some(pending) => unsettle(accounts, transfers, places, pending, transfer),
+    match indices.pending {
+        None => subtract_amount(accounts, indices, phase_of(&transfer), transfer.amount),
+        Some(pending) => unresolve_pending(accounts, transfers, indices, pending, transfer),
     }
 }
 
 /// Takes the last transfer off, with what it changed.
-pub fn take_back(
+pub fn undo_transfer(
     accounts: &mut ById<Account>,
     transfers: &mut ById<Row>,
     expiries: &mut Expiries,
-    places: Places,
+    indices: Indices,
 )
     requires { (facts : Facts) × (transfer : TransferRecord)
-        × IsStored facts transfer places accounts.old.entries transfers.old.entries }
+        × IsStored facts transfer indices accounts.old.entries transfers.old.entries }
     ensures maps { (facts : Facts) (transfer : TransferRecord)
-        → IsStored facts transfer places accounts.old.entries transfers.old.entries
-        → Hold facts accounts.new.entries transfers.new.entries }
+        → IsStored facts transfer indices accounts.old.entries transfers.old.entries
+        → Contain facts accounts.new.entries transfers.new.entries }
     ensures index { (facts : Facts) (transfer : TransferRecord)
-        → IsStored facts transfer places accounts.old.entries transfers.old.entries → (m p : ℕ)
-        → is_indexed expiries.new m p ≡ (not (is_timed_of transfer
-        && same_pair (expires_at_of transfer) (length facts.transfers) m p) && is_indexed expiries.old m p) }
+        → IsStored facts transfer indices accounts.old.entries transfers.old.entries → (m p : ℕ)
+        → is_in_expiries expiries.new m p ≡ (not (is_timed_of transfer
+        && same_pair (expires_at_of transfer) (length facts.transfers) m p) && is_in_expiries expiries.old m p) }
 {
     let transfer = pop_transfer(transfers);
-    forget(expiries, &transfer, transfers.len());
-    unapply(accounts, transfers, places, transfer);
+    remove_expiry(expiries, &transfer, transfers.len());
+    unapply(accounts, transfers, indices, transfer);
 }
 
-/// The place of the transfer that a change resolved.
-fn named_by(change: &Change<Places>) -> Option<usize>
+/// The index of the transfer that a change resolved.
+fn named_by(change: &Change<Indices>) -> Option<usize>
     ensures { result ≡ named_by_of change.now }
 {
     match change {
-        Change::Transfer(places) => places.pending,
+        Change::Transfer(indices) => indices.pending,
         Change::Account | Change::Failed => None,
     }
 }
@@ -172,45 +175,45 @@ fn is_spent(row: &Row) -> bool
     is_timed(&row.transfer()) && !row.is_open()
 }
 
-/// Takes the pair of the transfer at a place out of the index, where it reserves nothing any more.
-fn forget_at(expiries: &mut Expiries, transfers: &ById<Row>, place: usize)
+/// Takes the pair of the transfer at an index out of the set, where it reserves nothing any more.
+fn remove_expiry_at(expiries: &mut Expiries, transfers: &ById<Row>, index: usize)
     requires { (facts : Facts) × (transfer : TransferRecord)
-        × IsForgettable facts transfer transfers.now.entries place }
+        × IsRemovable facts transfer transfers.now.entries index }
     ensures { (facts : Facts) (transfer : TransferRecord)
-        → IsForgettable facts transfer transfers.now.entries place → (m p : ℕ)
-        → is_indexed expiries.new m p ≡ (not ((place == p) && is_spent_at facts m p) && is_indexed expiries.old m p) }
+        → IsRemovable facts transfer transfers.now.entries index → (m p : ℕ)
+        → is_in_expiries expiries.new m p ≡ (not ((index == p) && is_spent_at facts m p) && is_in_expiries expiries.old m p) }
 {
-    let row = row_at(transfers, place);
+    let row = row_at(transfers, index);
     if is_spent(row) {
-        take_out(expiries, expires_at(&row.transfer()), place);
+        remove_pair(expiries, expires_at(&row.transfer()), index);
     }
 }
 
-/// Takes the pair of the transfer that a change resolved out of the index.
-fn forget_change(expiries: &mut Expiries, transfers: &ById<Row>, change: &Change<Places>)
-    requires { (facts : Facts) × CanForget facts change.now transfers.now.entries }
-    ensures { (facts : Facts) → CanForget facts change.now transfers.now.entries → (m p : ℕ)
-        → is_indexed expiries.new m p ≡ (not (resolves_at p change.now && is_spent_at facts m p)
-        && is_indexed expiries.old m p) }
+/// Takes the pair of the transfer that a change resolved out of the set.
+fn remove_expiry_of(expiries: &mut Expiries, transfers: &ById<Row>, change: &Change<Indices>)
+    requires { (facts : Facts) × CanRemove facts change.now transfers.now.entries }
+    ensures { (facts : Facts) → CanRemove facts change.now transfers.now.entries → (m p : ℕ)
+        → is_in_expiries expiries.new m p ≡ (not (resolves_at p change.now && is_spent_at facts m p)
+        && is_in_expiries expiries.old m p) }
 {
-    if let Some(place) = named_by(change) {
-        forget_at(expiries, transfers, place);
+    if let Some(index) = named_by(change) {
+        remove_expiry_at(expiries, transfers, index);
     }
 }
 
-/// Takes the pairs of the transfers that some changes resolved out of the index. Where that is empty, the changes
+/// Takes the pairs of the transfers that some changes resolved out of the set. Where that is empty, the changes
 /// aren't gone through.
-pub fn forget_resolved(expiries: &mut Expiries, transfers: &ById<Row>, changes: &[Change<Places>])
-    requires { (facts : Facts) × AllByRecursion (λ change. CanForget facts change transfers.now.entries) changes.now }
+pub fn remove_resolved(expiries: &mut Expiries, transfers: &ById<Row>, changes: &[Change<Indices>])
+    requires { (facts : Facts) × AllByRecursion (λ change. CanRemove facts change transfers.now.entries) changes.now }
     ensures { (facts : Facts) → AllByRecursion (λ change.
-        CanForget facts change transfers.now.entries) changes.now → (m p : ℕ)
-        → is_indexed expiries.new m p ≡ (not (is_resolved_at p changes.now && is_spent_at facts m p)
-        && is_indexed expiries.old m p) }
+        CanRemove facts change transfers.now.entries) changes.now → (m p : ℕ)
+        → is_in_expiries expiries.new m p ≡ (not (is_resolved_at p changes.now && is_spent_at facts m p)
+        && is_in_expiries expiries.old m p) }
 {
     if expiries.is_empty() {
         return;
     }
     for change in changes {
-        forget_change(expiries, transfers, change);
+        remove_expiry_of(expiries, transfers, change);
     }
 }

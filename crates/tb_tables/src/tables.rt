@@ -5,10 +5,10 @@ ghost use Rattle.std.specs.Option.{option_map};
 
 use crate::change::Change;
 use crate::hashing::Seed;
+use crate::indices::Indices;
 use crate::maps::Maps;
 use crate::mark::Mark;
 use crate::note::note;
-use crate::places::Places;
 use crate::status::Status;
 use std::alloc::Global;
 use std::marker::Model;
@@ -17,11 +17,11 @@ use tb_layout::{Account, NoMemory, Transfer};
 /// The facts of a ledger: accounts and transfers in order of making, under their ids.
 pub struct Tables {
     maps: Maps,
-    changes: Vec<Change<Places>>,
+    changes: Vec<Change<Indices>>,
 }
 
 impl Drop for Tables {
-    /// Lets all that is held go in one call, so that no owner's proof goes through it.
+    /// Frees everything held in one call, so that no owner's proof repeats it.
     fn drop(self) {
         let Tables { maps, changes } = self;
         drop(maps);
@@ -32,7 +32,7 @@ impl Drop for Tables {
 impl Model for Tables {
     ghost use Rattle.tb_tables.specs.History.{History};
     ghost use Rattle.tb_tables.specs.Expiries.{has_pair};
-    ghost use Rattle.tb_tables.specs.Kept.{history_in, AreUndoable};
+    ghost use Rattle.tb_tables.specs.Contents.{history_in, AreUndoable};
 
     ghost Value = { History };
 
@@ -42,13 +42,13 @@ impl Model for Tables {
 }
 
 impl Tables {
-    ghost use Rattle.tb_tables.specs.Facts.{no_facts, account_with, IsPlaceOf, IsPlaceOfTransfer, transfer_with, is_failed, add_account as with_account, add_transfer as with_transfer, add_failed as with_failed};
+    ghost use Rattle.tb_tables.specs.Facts.{no_facts, account_with, IsIndexOf, IsIndexOfTransfer, transfer_with, is_failed, add_account as with_account, add_transfer as with_transfer, add_failed as with_failed};
     ghost use Rattle.tb_layout.specs.Transfer.{is_pending};
     ghost use Rattle.tb_tables.specs.Status.{expires_at, status_with, status_if_pending, expire_due as with_due_expired};
     ghost use Rattle.tb_tables.specs.Balances.{with_balances as balanced, balanced_account};
     ghost use Rattle.tb_tables.specs.Conditions.{HasNoBalances, MayAdd, MayResolve};
     ghost use Rattle.tb_tables.specs.History.{with_change, mark_of, back_to, without_past};
-    ghost use Rattle.tb_tables.specs.Kept.{MayStore, HavePlaces};
+    ghost use Rattle.tb_tables.specs.Contents.{MayStore, HaveIndices};
 
     /// Tables without facts. Takes no memory.
     pub fn new(alloc: Global) -> Tables
@@ -76,7 +76,7 @@ impl Tables {
         self.maps.reserve(accounts, transfers)
     }
 
-    /// Adds an account after those that are there, with its timestamp and no balances of its own. On want of memory
+    /// Adds an account after those that are there, with its timestamp and no balances of its own. If memory runs out
     /// nothing has changed.
     pub fn add_account(&mut self, account: Account) -> Result<(), NoMemory>
         requires new { account_with self.old.now account.id ≡ None }
@@ -89,7 +89,7 @@ impl Tables {
     }
 
     /// Adds an account after those that are there, with its timestamp and no balances of its own, unless one with its
-    /// id is there; whether it was added. The id is looked up once. On want of memory nothing has changed.
+    /// id is there; whether it was added. The id is looked up once. If memory runs out nothing has changed.
     pub fn add_new_account(&mut self, account: &Account) -> Result<bool, NoMemory>
         requires { HasNoBalances account.now }
         ensures new { IfOk result (λ added. added ≡ not (is_some (account_with self.old.now account.now.id))) }
@@ -104,7 +104,7 @@ impl Tables {
         Ok(true)
     }
 
-    /// Adds an id to those that failed, among which it isn't yet. On want of memory nothing has changed.
+    /// Adds an id to those that failed, which don't contain it yet. If memory runs out nothing has changed.
     pub fn add_failed(&mut self, id: u128) -> Result<(), NoMemory>
         requires { is_failed self.old.now id ≡ false }
         ensures ok { OnOk result (self.new ≡ with_change self.old (with_failed self.old.now id)) }
@@ -116,38 +116,38 @@ impl Tables {
         Ok(())
     }
 
-    /// Adds a transfer whose accounts, and whose pending transfer, have these places, unless one with its id is
+    /// Adds a transfer whose accounts, and whose pending transfer, have these indices, unless one with its id is
     /// there; whether it was added.
-    fn store(&mut self, transfer: &Transfer, places: Places) -> Result<bool, NoMemory>
-        requires at { HavePlaces self.old.now transfer.now places }
+    fn store(&mut self, transfer: &Transfer, indices: Indices) -> Result<bool, NoMemory>
+        requires at { HaveIndices self.old.now transfer.now indices }
         requires fits { is_pending transfer.now ≡ true → expires_at transfer.now < 2 ^ 64 }
         requires may { transfer_with self.old.now transfer.now.id ≡ None
-            → MayStore self.old.now transfer.now places.pending }
+            → MayStore self.old.now transfer.now indices.pending }
         ensures new { IfOk result (λ added. added ≡ not (is_some (transfer_with self.old.now transfer.now.id))) }
         ensures added { result ≡ Ok true → self.new ≡ with_change self.old (with_transfer self.old.now transfer.now) }
         ensures same { result ≢ Ok true → self.new ≡ self.old }
     {
         self.changes.reserve(1)?;
-        if !self.maps.store(transfer, places)? {
+        if !self.maps.store(transfer, indices)? {
             return Ok(false);
         }
-        note(&mut self.changes, Change::Transfer(places));
+        note(&mut self.changes, Change::Transfer(indices));
         Ok(true)
     }
 
-    /// Adds a plain or pending transfer after those that are there. On want of memory nothing has changed.
+    /// Adds a plain or pending transfer after those that are there. If memory runs out nothing has changed.
     pub fn add_transfer(&mut self, transfer: Transfer) -> Result<(), NoMemory>
         requires { MayAdd self.old.now transfer }
         ensures ok { OnOk result (self.new ≡ with_change self.old (with_transfer self.old.now transfer)) }
         ensures err { OnErr result (self.new ≡ self.old) }
     {
-        let places = self.maps.places_of(&transfer);
-        self.store(&transfer, places)?;
+        let indices = self.maps.indices_of(&transfer);
+        self.store(&transfer, indices)?;
         Ok(())
     }
 
-    /// Adds a plain or pending transfer after those that are there, between the accounts at two places, unless one with
-    /// its id is there; whether it was added. The id is looked up once. On want of memory nothing has changed.
+    /// Adds a plain or pending transfer after those that are there, between the accounts at two indices, unless one
+    /// with its id is there; whether it was added. The id is looked up once. If memory runs out nothing has changed.
     pub fn add_new_between(
         &mut self,
         transfer: &Transfer,
@@ -156,15 +156,15 @@ impl Tables {
     ) -> Result<bool, NoMemory>
         requires fits { is_pending transfer.now ≡ true → expires_at transfer.now < 2 ^ 64 }
         requires may { transfer_with self.old.now transfer.now.id ≡ None → MayAdd self.old.now transfer.now }
-        requires debit { IsPlaceOf self.old.now transfer.now.debit_account_id (Some debit) }
-        requires credit { IsPlaceOf self.old.now transfer.now.credit_account_id (Some credit) }
+        requires debit { IsIndexOf self.old.now transfer.now.debit_account_id (Some debit) }
+        requires credit { IsIndexOf self.old.now transfer.now.credit_account_id (Some credit) }
         ensures new { IfOk result (λ added. added ≡ not (is_some (transfer_with self.old.now transfer.now.id))) }
         ensures added { result ≡ Ok true → self.new ≡ with_change self.old (with_transfer self.old.now transfer.now) }
         ensures same { result ≢ Ok true → self.new ≡ self.old }
     {
         self.store(
             transfer,
-            Places {
+            Indices {
                 debit,
                 credit,
                 pending: None,
@@ -180,7 +180,7 @@ impl Tables {
         ensures ok { OnOk result (self.new ≡ with_change self.old (with_transfer self.old.now transfer)) }
         ensures err { OnErr result (self.new ≡ self.old) }
     {
-        let Some(pending) = self.maps.place_of_transfer(transfer.pending_id) else {
+        let Some(pending) = self.maps.transfer_index(transfer.pending_id) else {
             unreachable!()
         };
         self.resolve_new_at(&transfer, pending)?;
@@ -188,17 +188,17 @@ impl Tables {
     }
 
     /// Adds a post or a void, with its resolved fields, unless a transfer with its id is there; whether it was added.
-    /// The transfer that it names stands at this place, and is pending no more where it was. The id is looked up once,
-    /// and what it names isn't looked up again. On want of memory nothing has changed.
+    /// The transfer that it names is at this index, and is pending no more if it was. The id is looked up once, and
+    /// what it names isn't looked up again. If memory runs out nothing has changed.
     pub fn resolve_new_at(&mut self, transfer: &Transfer, pending: usize) -> Result<bool, NoMemory>
-        requires pending { IsPlaceOfTransfer self.old.now transfer.now.pending_id (Some pending) }
+        requires pending { IsIndexOfTransfer self.old.now transfer.now.pending_id (Some pending) }
         requires may { MayResolve self.old.now transfer.now }
         ensures new { IfOk result (λ added. added ≡ not (is_some (transfer_with self.old.now transfer.now.id))) }
         ensures added { result ≡ Ok true → self.new ≡ with_change self.old (with_transfer self.old.now transfer.now) }
         ensures same { result ≢ Ok true → self.new ≡ self.old }
     {
-        let places = self.maps.places_resolved(transfer, pending);
-        self.store(transfer, places)
+        let indices = self.maps.resolved_indices(transfer, pending);
+        self.store(transfer, indices)
     }
 
     /// The account with this id, with its balances.
@@ -208,18 +208,18 @@ impl Tables {
         self.maps.account(id)
     }
 
-    /// The place in the order of making of the account with this id, counted from 0.
-    pub fn place(&self, id: u128) -> Option<usize>
-        ensures { IsPlaceOf self.now.now id result }
+    /// The index in the order of making of the account with this id, counted from 0.
+    pub fn account_index(&self, id: u128) -> Option<usize>
+        ensures { IsIndexOf self.now.now id result }
     {
-        self.maps.place(id)
+        self.maps.account_index(id)
     }
 
-    /// The account at a place in the order of making, counted from 0, with its balances.
-    pub fn account_at(&self, place: usize) -> Option<Account>
-        ensures { result ≡ option_map (balanced self.now.now) (slice_get self.now.now.accounts place) }
+    /// The account at an index in the order of making, counted from 0, with its balances.
+    pub fn account_at(&self, index: usize) -> Option<Account>
+        ensures { result ≡ option_map (balanced self.now.now) (slice_get self.now.now.accounts index) }
     {
-        self.maps.account_at(place)
+        self.maps.account_at(index)
     }
 
     /// How many accounts there are.
@@ -236,32 +236,32 @@ impl Tables {
         self.maps.transfer(id)
     }
 
-    /// The place in the order of making of the transfer with this id, counted from 0.
-    pub fn place_of_transfer(&self, id: u128) -> Option<usize>
-        ensures { IsPlaceOfTransfer self.now.now id result }
+    /// The index in the order of making of the transfer with this id, counted from 0.
+    pub fn transfer_index(&self, id: u128) -> Option<usize>
+        ensures { IsIndexOfTransfer self.now.now id result }
     {
-        self.maps.place_of_transfer(id)
+        self.maps.transfer_index(id)
     }
 
-    /// The transfer at a place in the order of making, counted from 0; a post or a void with its resolved fields.
-    pub fn transfer_at(&self, place: usize) -> Option<Transfer>
-        ensures { result ≡ slice_get self.now.now.transfers place }
+    /// The transfer at an index in the order of making, counted from 0; a post or a void with its resolved fields.
+    pub fn transfer_at(&self, index: usize) -> Option<Transfer>
+        ensures { result ≡ slice_get self.now.now.transfers index }
     {
-        self.maps.transfer_at(place)
+        self.maps.transfer_at(index)
     }
 
-    /// What became of the pending transfer with this id.
+    /// The status of the pending transfer with this id.
     pub fn status(&self, id: u128) -> Option<Status>
         ensures { result ≡ status_with self.now.now id }
     {
         self.maps.status(id)
     }
 
-    /// What became of the pending transfer at a place in the order of making, counted from 0.
-    pub fn status_at(&self, place: usize) -> Option<Status>
-        ensures { result ≡ status_if_pending self.now.now (slice_get self.now.now.transfers place) }
+    /// The status of the pending transfer at an index in the order of making, counted from 0.
+    pub fn status_at(&self, index: usize) -> Option<Status>
+        ensures { result ≡ status_if_pending self.now.now (slice_get self.now.now.transfers index) }
     {
-        self.maps.status_at(place)
+        self.maps.status_at(index)
     }
 
     /// Whether an id is among those that failed.
@@ -299,11 +299,11 @@ impl Tables {
         }
     }
 
-    /// Lets the changes stand: they can't be taken back any more. Costs as much as the changes.
+    /// Keeps the changes: they can't be undone any more. Costs as much as the changes.
     pub fn keep(&mut self)
         ensures { self.new ≡ without_past self.old }
     {
-        self.maps.forget(self.changes.as_slice());
+        self.maps.remove_resolved(self.changes.as_slice());
         self.changes.clear();
     }
 

@@ -1,33 +1,33 @@
 //! Pending transfers whose timeout is over.
 
 ghost use Rattle.tb_tables.specs.Facts.{Facts};
-ghost use Rattle.tb_tables.specs.Expiries.{is_indexed};
-ghost use Rattle.tb_tables.specs.Kept.{Hold, AreHeld};
+ghost use Rattle.tb_tables.specs.Expiries.{is_in_expiries};
+ghost use Rattle.tb_tables.specs.Contents.{Contain, AreContained};
 ghost use Rattle.tb_tables.specs.Status.{expire_due};
-ghost use Rattle.tb_tables.specs.Storing.{CanExpire, expire_one};
+ghost use Rattle.tb_tables.specs.Changing.{CanExpire, expire_one};
 
-use crate::amounts::{Phase, take_amount};
+use crate::amounts::{Phase, subtract_amount};
 use crate::by_id::ById;
-use crate::entries::{place_of, row_at, set_status};
+use crate::entries::{index_of, row_at, set_status};
 use crate::expiries::{Expiries, take_due};
-use crate::places::Places;
+use crate::indices::Indices;
 use crate::row::Row;
 use crate::status::Status;
 use tb_layout::Account;
 
-/// Lets the transfer at a place expire: its amount is reserved no more.
-fn expire(accounts: &mut ById<Account>, transfers: &mut ById<Row>, place: usize)
-    requires { (facts : Facts) × CanExpire facts accounts.old.entries transfers.old.entries place }
-    ensures { (facts : Facts) (can : CanExpire facts accounts.old.entries transfers.old.entries place)
-        → Hold (expire_one can.transfer.id facts) accounts.new.entries transfers.new.entries }
+/// Lets the transfer at an index expire: its amount is reserved no more.
+fn expire(accounts: &mut ById<Account>, transfers: &mut ById<Row>, index: usize)
+    requires { (facts : Facts) × CanExpire facts accounts.old.entries transfers.old.entries index }
+    ensures { (facts : Facts) (can : CanExpire facts accounts.old.entries transfers.old.entries index)
+        → Contain (expire_one can.transfer.id facts) accounts.new.entries transfers.new.entries }
 {
-    let transfer = set_status(transfers, place, Status::Expired);
-    let places = Places {
-        debit: place_of(accounts, transfer.debit_account_id),
-        credit: place_of(accounts, transfer.credit_account_id),
+    let transfer = set_status(transfers, index, Status::Expired);
+    let indices = Indices {
+        debit: index_of(accounts, transfer.debit_account_id),
+        credit: index_of(accounts, transfer.credit_account_id),
         pending: None,
     };
-    take_amount(accounts, places, Phase::Pending, transfer.amount);
+    subtract_amount(accounts, indices, Phase::Pending, transfer.amount);
 }
 
 /// Lets each transfer expire that still reserves its amount and whose pair is due at a clock. Costs as much as what
@@ -38,13 +38,13 @@ pub fn expire_all(
     expiries: &mut Expiries,
     clock: u64,
 )
-    requires { (facts : Facts) × AreHeld accounts.old.entries transfers.old.entries (is_indexed expiries.old) facts }
-    ensures { (facts : Facts) → AreHeld accounts.old.entries transfers.old.entries (is_indexed expiries.old) facts
-        → AreHeld accounts.new.entries transfers.new.entries (is_indexed expiries.new) (expire_due clock facts) }
+    requires { (facts : Facts) × AreContained accounts.old.entries transfers.old.entries (is_in_expiries expiries.old) facts }
+    ensures { (facts : Facts) → AreContained accounts.old.entries transfers.old.entries (is_in_expiries expiries.old) facts
+        → AreContained accounts.new.entries transfers.new.entries (is_in_expiries expiries.new) (expire_due clock facts) }
 {
-    while let Some(place) = take_due(expiries, clock) {
-        if row_at(transfers, place).is_open() {
-            expire(accounts, transfers, place);
+    while let Some(index) = take_due(expiries, clock) {
+        if row_at(transfers, index).is_open() {
+            expire(accounts, transfers, index);
         }
     }
 }

@@ -9,7 +9,7 @@ use Rattle.tb_tables_tests.specs.declared.change.Change.TheVariants.{Account, Tr
 use Rattle.tb_tables.proofs.Histories.{without_last-push}
 use Rattle.tb_tables_tests.proofs.Histories.{history-push, lawful_push}
 use Rattle.std.proofs.lemmas.Option.{slice_get-get_or, slice_get_within}
-use Rattle.tb_tables.proofs.Expecting.{has_id-at, one-place}
+use Rattle.tb_tables.proofs.Pairs.{has_id-at, one-index}
 use Rattle.tb_tables.proofs.Due.{reserving-after, lawful-after, due-after, none-left}
 
 -- a new row, which isn't marked, is one transfer more
@@ -26,7 +26,7 @@ facts_of-push lists transfer =
     λ i. record { accounts = lists.accounts; transfers = transfers i; expired = expired i; failed = lists.failed }
 
 module _ (changes : List Change) (old : Lists) (all : AreLawful (plain_history changes old)) where
-  -- a history that goes on
+  -- a history that continues
   abbrev GoesOn : Change → Lists → Facts → Type 0
   GoesOn change new facts =
       AreLawful (plain_history (changes ++ change ∷ []) new)
@@ -70,7 +70,7 @@ transfer-at [] p row at = cc
 transfer-at (r ∷ rows) zero row at = cc
 transfer-at (r ∷ rows) (suc p) row at = transfer-at rows p row at
 
--- ---- a row's mark tells whether its transfer expired
+-- ---- a row's mark says whether its transfer expired
 
 unmarked : (id : ℕ) (rows : Rows) → has_id id (transfers_in rows) ≡ false
     → list_any (λ x. x == id) (expired_in rows) ≡ false
@@ -90,7 +90,7 @@ mark-is (r ∷ rows) (suc p) row distinct at =
       mark-is rows p row,
     )
 
--- what is marked, where a test of the transfer tells the mark
+-- what is marked, if a test of the transfer decides the mark
 expired-by : (test : TransferRecord → Bool) (rows : Rows)
     → ((p : ℕ) (row : TransferRecord × Bool) → slice_get rows p ≡ Some row → test row.0 ≡ row.1)
     → expired_in rows ≡ map (λ (t : TransferRecord). t.id) (filter test (transfers_in rows))
@@ -105,17 +105,17 @@ ordered rows lawful =
 
 -- ---- one more is marked
 
-transfers-set : (rows : Rows) (place : ℕ) (x : TransferRecord) (b : Bool)
-    → slice_get (transfers_in rows) place ≡ Some x → transfers_in (set rows place (x, b)) ≡ transfers_in rows
-transfers-set [] place x b at = cc
+transfers-set : (rows : Rows) (index : ℕ) (x : TransferRecord) (b : Bool)
+    → slice_get (transfers_in rows) index ≡ Some x → transfers_in (set rows index (x, b)) ≡ transfers_in rows
+transfers-set [] index x b at = cc
 transfers-set (r ∷ rows) zero x b at = cc
-transfers-set (r ∷ rows) (suc place) x b at = ap (λ ts. r.0 ∷ ts) (transfers-set rows place x b at)
+transfers-set (r ∷ rows) (suc index) x b at = ap (λ ts. r.0 ∷ ts) (transfers-set rows index x b at)
 
-expired-set : (test : TransferRecord → Bool) (rows : Rows) (place : ℕ) (x : TransferRecord)
-    → slice_get (transfers_in rows) place ≡ Some x
-    → ((p : ℕ) (row : TransferRecord × Bool) → slice_get rows p ≡ Some row → test row.0 ≡ (row.1 || (place == p))) →
-    expired_in (set rows place (x, true)) ≡ map (λ (t : TransferRecord). t.id) (filter test (transfers_in rows))
-expired-set test [] place x at same = cc
+expired-set : (test : TransferRecord → Bool) (rows : Rows) (index : ℕ) (x : TransferRecord)
+    → slice_get (transfers_in rows) index ≡ Some x
+    → ((p : ℕ) (row : TransferRecord × Bool) → slice_get rows p ≡ Some row → test row.0 ≡ (row.1 || (index == p))) →
+    expired_in (set rows index (x, true)) ≡ map (λ (t : TransferRecord). t.id) (filter test (transfers_in rows))
+expired-set test [] index x at same = cc
 expired-set test (r ∷ rows) zero x at same =
     grind (
       arith,
@@ -124,66 +124,66 @@ expired-set test (r ∷ rows) zero x at same =
       expired-by test rows
           (λ p row at'. grind (arith, nat_tests, same (suc p) row at')),
     )
-expired-set test (r ∷ rows) (suc place) x at same =
+expired-set test (r ∷ rows) (suc index) x at same =
     grind (
       arith,
       nat_tests,
       same 0 r refl,
-      expired-set test rows place x at
+      expired-set test rows index x at
           (λ p row at'. grind (arith, nat_tests, same (suc p) row at')),
     )
 
--- those before a place have expired where they are due
-pub record AreMarked (clock : ℕ) (old now : Rows) (place : ℕ) : Type 0 where
+-- those before an index have expired where they are due
+pub record AreMarked (clock : ℕ) (old now : Rows) (index : ℕ) : Type 0 where
   pub lawful : IsLawful (facts_in now)
   pub same : expire_due clock (facts_in now) ≡ expire_due clock (facts_in old)
   pub len : length now ≡ length old
-  pub done : (p : ℕ) (t : TransferRecord) → p < place → slice_get (transfers_in now) p ≡ Some t
+  pub done : (p : ℕ) (t : TransferRecord) → p < index → slice_get (transfers_in now) p ≡ Some t
       → (is_reserving (facts_in now) t && is_due clock t) ≡ false
 
-module _ (clock : ℕ) (old now : Rows) (place : ℕ) (d : TransferRecord × Bool) (within : place < length old)
-    (are : AreMarked clock old now place) where
+module _ (clock : ℕ) (old now : Rows) (index : ℕ) (d : TransferRecord × Bool) (within : index < length old)
+    (are : AreMarked clock old now index) where
   abbrev x : TransferRecord
-  x = (get_or now place d).0
+  x = (get_or now index d).0
 
-  at : slice_get (transfers_in now) place ≡ Some x
-  at = transfer-at now place (get_or now place d) (slice_get-get_or now place d (omega (arith, within, are.len)))
+  at : slice_get (transfers_in now) index ≡ Some x
+  at = transfer-at now index (get_or now index d) (slice_get-get_or now index d (omega (arith, within, are.len)))
 
   pub marked : (is_reserving (facts_in now) x && is_due clock x) ≡ true
-      → AreMarked clock old (set now place (x, true)) (place + 1)
+      → AreMarked clock old (set now index (x, true)) (index + 1)
   marked due = record {
-    lawful = subst IsLawful (sym is) (lawful-after (facts_in now) x place at are.lawful reserving
+    lawful = subst IsLawful (sym is) (lawful-after (facts_in now) x index at are.lawful reserving
         (ordered now are.lawful));
-    same = ap (expire_due clock) is ∙ due-after (facts_in now) x place at are.lawful reserving
+    same = ap (expire_due clock) is ∙ due-after (facts_in now) x index at are.lawful reserving
         (ordered now are.lawful) clock (grind (arith, due)) ∙ are.same;
-    len = length-set now place (x, true) ∙ are.len;
-    done = subst (λ (facts : Facts). (p : ℕ) (t : TransferRecord) → p < place + 1
+    len = length-set now index (x, true) ∙ are.len;
+    done = subst (λ (facts : Facts). (p : ℕ) (t : TransferRecord) → p < index + 1
         → slice_get facts.transfers p ≡ Some t → (is_reserving facts t && is_due clock t) ≡ false) (sym is) done;
   }
     where
       reserving : is_reserving (facts_in now) x ≡ true
       reserving = grind (arith, due)
 
-      is : facts_in (set now place (x, true)) ≡ expire_one x.id (facts_in now)
+      is : facts_in (set now index (x, true)) ≡ expire_one x.id (facts_in now)
       is =
-          let transfers = transfers-set now place x true at in
-          let expired = expired-set (λ t. is_expired (facts_in now) t.id || (x.id == t.id)) now place x at
+          let transfers = transfers-set now index x true at in
+          let expired = expired-set (λ t. is_expired (facts_in now) t.id || (x.id == t.id)) now index x at
           (λ p row at'. cc (
             mark-is now p row are.lawful.distinct at',
-            one-place
-                (transfers_in now) place p x row.0 are.lawful.distinct at (transfer-at now p row at'),
+            one-index
+                (transfers_in now) index p x row.0 are.lawful.distinct at (transfer-at now p row at'),
           )) in
           λ i. record (facts_in now) { transfers = transfers i; expired = expired i }
 
-      done : (p : ℕ) (t : TransferRecord) → p < place + 1 → slice_get (transfers_in now) p ≡ Some t
+      done : (p : ℕ) (t : TransferRecord) → p < index + 1 → slice_get (transfers_in now) p ≡ Some t
           → (is_reserving (expire_one x.id (facts_in now)) t && is_due clock t) ≡ false
       done p t below at' =
-          let after = reserving-after (facts_in now) x place at are.lawful reserving (ordered now are.lawful) t in
-          let here = one-place (transfers_in now) place p x t are.lawful.distinct at at' in
+          let after = reserving-after (facts_in now) x index at are.lawful reserving (ordered now are.lawful) t in
+          let here = one-index (transfers_in now) index p x t are.lawful.distinct at at' in
           let was = are.done p t in
           grind (arith, nat_tests, after, here, was, at', below)
 
-  pub passed : (is_reserving (facts_in now) x && is_due clock x) ≡ false → AreMarked clock old now (place + 1)
+  pub passed : (is_reserving (facts_in now) x && is_due clock x) ≡ false → AreMarked clock old now (index + 1)
   passed not_due =
       record {
         lawful = are.lawful;
@@ -192,9 +192,9 @@ module _ (clock : ℕ) (old now : Rows) (place : ℕ) (d : TransferRecord × Boo
         done = λ p t below at'. let was = are.done p t in grind (arith, nat_tests, not_due, was, at, at', below);
       }
 
-pub all-marked : (clock : ℕ) (old now : Rows) (place : ℕ) → length old ≤ place → AreMarked clock old now place
+pub all-marked : (clock : ℕ) (old now : Rows) (index : ℕ) → length old ≤ index → AreMarked clock old now index
     → facts_in now ≡ expire_due clock (facts_in old)
-all-marked clock old now place past are =
+all-marked clock old now index past are =
     sym (none-left clock (facts_in now) (ordered now are.lawful)
     (λ p t at. are.done p t (omega (
       arith,

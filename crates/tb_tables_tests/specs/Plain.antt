@@ -10,7 +10,7 @@ use Rattle.tb_tables.specs.Lawful.{IsLawful}
 use Rattle.tb_tables_tests.specs.declared.change.Change.{Change}
 use Rattle.tb_tables_tests.specs.declared.change.Change.TheVariants.{Account, Transfer, Failed}
 
--- the lists, each in order of making; beside each transfer stands whether it expired
+-- the lists, each in order of making; each transfer with whether it expired
 pub record Lists : Type 0 where
   pub accounts : List AccountRecord
   pub rows : List (TransferRecord × Bool)
@@ -32,7 +32,7 @@ facts_of lists =
       failed = lists.failed;
     }
 
--- the facts of rows alone, which is all that balances depend on
+-- the facts of the rows, which are all that balances depend on
 abbrev pub facts_in : List (TransferRecord × Bool) → Facts
 facts_in rows = facts_of (record { accounts = []; rows = rows; failed = [] })
 
@@ -42,7 +42,7 @@ cut_back Account lists = record lists { accounts = without_last lists.accounts }
 cut_back Transfer lists = record lists { rows = without_last lists.rows }
 cut_back Failed lists = record lists { failed = without_last lists.failed }
 
--- the lists before all of the changes, of which the newest is at the end
+-- the lists before all of the changes, the newest of which is at the end
 abbrev pub oldest : List Change → Lists → Lists
 oldest [] lists = lists
 oldest (change ∷ changes) lists = cut_back change (oldest changes lists)

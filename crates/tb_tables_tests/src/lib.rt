@@ -1,7 +1,7 @@
-//! The tests of tb_tables, among them plain lists with the contract of `Tables` but for its calls by places, in a crate
-//! of their own so that tb_tables isn't proved twice.
+//! The tests of tb_tables, among them plain lists with the contract of `Tables` but for its calls by indices, in a
+//! crate of their own so that tb_tables isn't proved twice.
 //!
-//! `change` stands outside the tests since specs/ speaks of it, which a check reads without the tests too.
+//! `change` is outside the tests since specs/ speaks of it, which a check reads without the tests too.
 #![tactic(auto)]
 
 mod change;

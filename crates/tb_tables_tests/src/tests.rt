@@ -120,8 +120,8 @@ fn makes_each_other_call(tables: &mut Tables) -> Result<(), Fail>
     holds(tables.accounts() == 1)?;
     holds(tables.account_at(0) == Some(account(1)))?;
     holds(tables.account_at(1).is_none())?;
-    holds(tables.place(1) == Some(0))?;
-    holds(tables.place(2).is_none())
+    holds(tables.account_index(1) == Some(0))?;
+    holds(tables.account_index(2).is_none())
 }
 
 #[test]
@@ -136,8 +136,8 @@ fn calls_by_places(tables: &mut Tables) -> Result<(), Fail>
     tables.add_account(account(1))?;
     tables.add_account(account(2))?;
     tables.add_transfer(transfer(1, 100, 0, 2))?;
-    holds(tables.place_of_transfer(1) == Some(0))?;
-    holds(tables.place_of_transfer(2).is_none())?;
+    holds(tables.transfer_index(1) == Some(0))?;
+    holds(tables.transfer_index(2).is_none())?;
     holds(tables.transfer_at(0) == Some(transfer(1, 100, 0, 2)))?;
     holds(tables.transfer_at(1).is_none())?;
     tables.resolve(transfer(2, 100, 1, 8))?;

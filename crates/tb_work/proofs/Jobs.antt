@@ -23,7 +23,7 @@ chosen true second x y z p q e f g = e
 chosen false true x y z p q e f g = f
 chosen false false x y z p q e f g = g
 
--- the last chunk of a packet's data tells whether it is open
+-- the last chunk of a packet's data decides whether it is open
 pub is_open-chunk : (operation : ℕ) (bytes chunk : List ℕ) (chunks : List (List ℕ)) → chunks ≡ chunks_of 128 bytes
     → Some chunk ≡ slice_get chunks (length chunks - 1)
     → is_chunk_linked operation chunk ≡ is_open (events_of operation bytes)

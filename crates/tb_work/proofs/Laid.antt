@@ -38,21 +38,21 @@ module _ (size : ℕ) (counts : (k : ℕ) → (k * size) / size ≡ k) (grows : 
 -- events that are laid so that they are read back, once one more is laid
 module _ {Event : Type 0} (write : Event → List ℕ) (read : List ℕ → Event) (events : List Event) (k : ℕ)
     (event : Event) (next : take (k + 1) events ≡ take k events ++ event ∷ []) (bytes after : List ℕ)
-    (behind : after ≡ bytes ++ write event) where
+    (grown : after ≡ bytes ++ write event) where
   pub laid-bytes : bytes ≡ flat_map write (take k events) → after ≡ flat_map write (take (k + 1) events)
   laid-bytes is =
-      behind ∙ ap (λ front. front ++ write event) is
+      grown ∙ ap (λ front. front ++ write event) is
       ∙ sym (ap (flat_map write) next ∙ flat_map-append write (take k events) (event ∷ [])
       ∙ ap (λ last. flat_map write (take k events) ++ last) (append-nil (write event)))
 
   pub laid-length : (size : ℕ) → ((k : ℕ) → (k + 1) * size ≡ size + k * size) → length bytes ≡ k * size
       → length (write event) ≡ size → length after ≡ (k + 1) * size
-  laid-length size grows is one = ap length behind ∙ omega (arith, is, one, grows k, length-append bytes (write event))
+  laid-length size grows is one = ap length grown ∙ omega (arith, is, one, grows k, length-append bytes (write event))
 
   pub laid-events : (size : ℕ) → ((k : ℕ) → (k * size) / size ≡ k) → ((k : ℕ) → suc k * size ≡ size + k * size)
       → length bytes ≡ k * size → length (write event) ≡ size → read (write event) ≡ event
       → map read (chunks size bytes) ≡ take k events → map read (chunks size after) ≡ take (k + 1) events
   laid-events size counts grows is one back same =
-      ap (λ all. map read (chunks size all)) behind
+      ap (λ all. map read (chunks size all)) grown
       ∙ events-more size counts grows read k bytes (write event) is one
       ∙ ap (λ front. front ++ read (write event) ∷ []) same ∙ ap (λ last. take k events ++ last ∷ []) back ∙ sym next

@@ -9,7 +9,7 @@ use Rattle.tb_work.specs.declared.outcome.Outcome.TheVariants.{Committed, Shutdo
 use Rattle.tb_work.specs.Admission.{count_of}
 use Rattle.tb_work.specs.Job.{is_lookup}
 
--- failures rise below the packet's count; accounts answer a lookup, and are no more than its ids
+-- failures rise below the packet's count; accounts are the answer to a lookup, and are no more than its ids
 abbrev pub IsAnswerTo : Packet → Answer → Type 0
 IsAnswerTo packet (Failures failures) = RiseWithin 0 (count_of packet) failures
 IsAnswerTo packet (Accounts accounts) = (is_lookup packet ≡ true) × (length accounts ≤ count_of packet)

@@ -36,7 +36,7 @@ is_chunk_linked operation chunk =
     if operation == create_accounts then is_linked_account (account_of chunk)
     else if operation == create_transfers then is_linked_transfer (transfer_of chunk) else false
 
--- a packet is admitted, and so many failures have room
+-- a packet is admitted, and this number of failures has room
 pub record IsJob (packet : Packet) (count : ℕ) (room : SmallVec Failure) : Type 0 where
   pub admitted : admission_of batch_max packet ≡ Ok count
   pub empty : room.items ≡ []

@@ -2,8 +2,8 @@
 -- outcome.
 use Rattle.std.specs.Prelude.{ℕ}
 use Rattle.tb_layout.specs.Events.{Events, events_of}
-use Rattle.tb_layout.specs.Work as work
-use Rattle.tb_layout.specs.Work.{Work}
+use Rattle.tb_layout.specs.Input as input
+use Rattle.tb_layout.specs.Input.{Input}
 use Rattle.tb_work.specs.declared.outcome.Outcome.{Outcome}
 use Rattle.tb_work.specs.declared.packet.Packet.{Packet}
 
@@ -17,16 +17,16 @@ abbrev pub events_in : Packet → Events
 events_in packet = events_of packet.operation packet.bytes
 
 -- what the state machine sees of a packet: neither its user word nor its buffer
-abbrev pub work_of : Numbered → Work
-work_of job = work.Packet job.submitter job.number (events_in job.packet)
+abbrev pub input_of : Numbered → Input
+input_of job = input.Packet job.submitter job.number (events_in job.packet)
 
 -- a packet as it was handed in, with its outcome
-pub record Replied : Type 0 where
+pub record ReplyValue : Type 0 where
   pub submitter : ℕ
   pub number : ℕ
   pub packet : Packet
   pub outcome : Outcome
 
-abbrev pub reply_with : Outcome → Numbered → Replied
+abbrev pub reply_with : Outcome → Numbered → ReplyValue
 reply_with outcome job =
     record { submitter = job.submitter; number = job.number; packet = job.packet; outcome = outcome }

@@ -4,22 +4,22 @@ use Rattle.std.specs.List.{list_all, AllByRecursion}
 use Rattle.tb_work.specs.declared.item.Item.{Item}
 use Rattle.tb_work.specs.declared.item.Item.TheVariants.{Packet, Pulse, End, Close}
 use Rattle.tb_work.specs.declared.item.Ticket.{Ticket}
-use Rattle.tb_layout.specs.Work.{Work}
-use Rattle.tb_work.specs.Packet.{work_of}
-use Rattle.tb_layout.specs.Work as work
+use Rattle.tb_layout.specs.Input.{Input}
+use Rattle.tb_work.specs.Packet.{input_of}
+use Rattle.tb_layout.specs.Input as input
 
 -- what a sender has in a queue, in order
 abbrev pub part : ℕ → List Ticket → List Item
 part sender queue = map (λ (ticket : Ticket). ticket.item) (filter (λ (ticket : Ticket). ticket.sender == sender) queue)
 
-abbrev pub ahead_of : Item → List Work → List Work
-ahead_of (Packet job) others = work_of job ∷ others
-ahead_of (Pulse moment) others = work.Pulse moment ∷ others
+abbrev pub ahead_of : Item → List Input → List Input
+ahead_of (Packet job) others = input_of job ∷ others
+ahead_of (Pulse moment) others = input.Pulse moment ∷ others
 ahead_of End others = others
 ahead_of Close others = []
 
 -- the packets and pulses ahead of the first Close
-abbrev pub ahead : List Item → List Work
+abbrev pub ahead : List Item → List Input
 ahead [] = []
 ahead (item ∷ items) = ahead_of item (ahead items)
 
@@ -65,11 +65,11 @@ AreNumbered sender number (Pulse moment ∷ items) = AreNumbered sender number i
 AreNumbered sender number (End ∷ items) = AreNumbered sender number items
 AreNumbered sender number (Close ∷ items) = AreNumbered sender number items
 
--- Senders 0 to `submitters`, the last of which is the control, put exactly what each of them queued into the queue, in
--- order and its end last. Packets are numbered from 0.
+-- Senders 0 to `submitters`, the control being the last, put exactly what each of them queued into the queue, in order
+-- and its end last. Packets are numbered from 0.
 pub record IsQueueOf (submitters : ℕ) (queue : List Ticket) (queued : ℕ → List Item) : Type 0 where
   pub parts : (sender : ℕ) → sender ≤ submitters → part sender queue ≡ queued sender
-  pub strangers : (sender : ℕ) → submitters < sender → part sender queue ≡ []
+  pub no_other_sender : (sender : ℕ) → submitters < sender → part sender queue ≡ []
   pub submitted : AreSubmitted submitters queue
   pub numbered : (sender : ℕ) → sender ≤ submitters → AreNumbered sender 0 (queued sender)
   pub ended : (sender : ℕ) → sender ≤ submitters → IsEnded (queued sender)

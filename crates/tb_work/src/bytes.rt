@@ -4,8 +4,7 @@ ghost use Rattle.std.specs.Prelude.{◌≡◌, ℕ, List};
 
 use std::marker::Model;
 
-/// The bytes of a packet, seen as their list: where they lie and how much room there is after them
-/// doesn't matter to a contract.
+/// The bytes of a packet, seen as their list: their address and the room after them don't matter to a contract.
 #[derive(Drop)]
 pub struct Bytes {
     bytes: Vec<u8>,

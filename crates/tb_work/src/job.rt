@@ -25,7 +25,7 @@ pub struct Job {
 }
 
 impl Drop for Job {
-    /// Lets all that is held go in one call, so that no owner's proof goes through it.
+    /// Frees everything held in one call, so that no owner's proof repeats it.
     fn drop(self) {
         let Job {
             number: _,
@@ -50,8 +50,8 @@ impl Model for Job {
     ghost invariant = { λ job. IsJob job.packet job.count job.room };
 }
 
-/// Room for the failures of a packet: none for a lookup, which has no failures, but for the two places that lie in any
-/// room. Up to as many failures take no memory.
+/// Room for the failures of a packet: none for a lookup, which has no failures, except the two slots that any room has.
+/// Up to two failures take no memory.
 fn room_for(alloc: Global, operation: u8, count: u32) -> Result<FailureRoom, AllocError>
     ensures empty { IfOk result (λ room. room.items ≡ []) }
     ensures fits { IfOk result (λ room. (operation == lookup_accounts) ≡ false → count ≤ room.capacity) }
@@ -78,9 +78,9 @@ impl Job {
     ghost use Rattle.tb_work.specs.Admission.{count_of};
     ghost use Rattle.tb_work.specs.Job.{stub_of, is_lookup, is_open, numbered_packet};
 
-    /// The packet as this submitter's packet of this number, with room for as many failures as it has events. Where it
-    /// isn't admitted under the limit, at most 8190 events, or memory is refused, it comes back as it was. It costs
-    /// that room, which for up to two events lies in the job itself, and which a lookup hasn't.
+    /// The packet as this submitter's packet of this number, with room for as many failures as it has events. If it
+    /// isn't admitted under the limit, at most 8190 events, or memory runs out, it is returned as it was. It costs that
+    /// room, which for up to two events is in the job itself, and which a lookup hasn't.
     pub fn new(
         alloc: Global,
         submitter: u32,

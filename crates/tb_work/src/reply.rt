@@ -15,7 +15,7 @@ use crate::stub::Stub;
 use std::marker::Model;
 use tb_layout::{Answer, Failure, FailureRoom, Failures};
 
-/// A packet as it was handed in, with what became of it.
+/// A packet as it was handed in, with its outcome.
 #[derive(Drop)]
 pub struct Reply {
     pub submitter: u32,
@@ -25,10 +25,10 @@ pub struct Reply {
 }
 
 impl Model for Reply {
-    ghost use Rattle.tb_work.specs.Packet.{Replied};
+    ghost use Rattle.tb_work.specs.Packet.{ReplyValue};
     ghost use Rattle.tb_work.specs.Answer.{IsOutcomeOf};
 
-    ghost Value = { Replied };
+    ghost Value = { ReplyValue };
 
     ghost view = { λ reply. record {
       submitter = reply.submitter;

@@ -1,5 +1,5 @@
-/// What is kept of a packet beside a batch's data: its submitter, its number among that submitter's packets, and how
-/// many events it has.
+/// What is kept of a packet besides a batch's data: its submitter, its number among that submitter's packets, and its
+/// number of events.
 #[derive(Clone, Copy, Debug, PartialEq, Eq)]
 pub struct Stub {
     pub number: u64,

@@ -21,7 +21,7 @@ fn account(id: u128, flags: u16) -> Account {
     }
 }
 
-/// A packet of so many zero bytes.
+/// A packet of `length` zero bytes.
 fn packet_of(rt: &(impl Abort + Alloc<A = Global>), operation: u8, length: usize) -> Packet {
     let mut bytes = Vec::new(rt.alloc());
     bytes.resize(length, 0).expect(rt, "memory");

@@ -7,7 +7,7 @@ use Rattle.tb_world.specs.declared.event.Event.{Event}
 use Rattle.tb_world.specs.declared.event.Event.TheVariants.{Push, Pop, BatchPush, BatchPop, OutcomePush, OutcomePop, ReplyPush, ReplyPop}
 use Rattle.tb_core.specs.Due.{due}
 use Rattle.tb_core.specs.Front.{HaveAllEnded}
-use Rattle.tb_core.specs.Journal.{works}
+use Rattle.tb_core.specs.Journal.{inputs}
 use Rattle.tb_core.specs.Report.{IsPrefix, LawfulReport, any_stopped}
 use Rattle.tb_world.specs.World.{WorldState, is_lawful, received_of, moved, after_event, run, new_world}
 
@@ -37,7 +37,7 @@ is_push OutcomePop = false
 is_push ReplyPush = false
 is_push (ReplyPop submitter) = false
 
--- only a push can answer true
+-- only a push can return true
 abbrev pub IsAtRest : WorldState → Type 0
 IsAtRest world = (event : Event) → is_push event ≡ false → moved world event ≡ None
 
@@ -55,11 +55,11 @@ is_refused (ReplyPop submitter) = false
 pub record IsLawfulSoFar (clock submitters : ℕ) (queue : List Ticket) (world : WorldState) : Type 0 where
   pub submitted : AreSubmitted submitters queue
   pub numbered : (sender : ℕ) → sender ≤ submitters → AreNumbered sender 0 (part sender queue)
-  pub committed : IsPrefix (works world.ledger) (ahead (items_in queue))
+  pub committed : IsPrefix (inputs world.ledger) (ahead (items_in queue))
   pub received : (submitter : ℕ) → submitter < submitters
-      → IsPrefix (received_of world submitter) (due clock queue (works world.ledger) submitter)
+      → IsPrefix (received_of world submitter) (due clock queue (inputs world.ledger) submitter)
 
--- no submitter was told of a stop
+-- no submitter learned of a stop
 abbrev pub NoneStopped : ℕ → WorldState → Type 0
 NoneStopped submitters world =
     (submitter : ℕ) → submitter < submitters → any_stopped (received_of world submitter) ≡ false
@@ -77,17 +77,17 @@ Reports clock submitters queue world =
       replies = received_of world;
     })
 
--- a World at rest, of which so much was pushed
-pub record Rests (clock submitters : ℕ) (queue : List Ticket) (world : WorldState) : Type 0 where
+-- a World at rest, after these pushes
+pub record IsLawfulAtRest (clock submitters : ℕ) (queue : List Ticket) (world : WorldState) : Type 0 where
   pub received : (submitter : ℕ) → submitter < submitters
-      → received_of world submitter ≡ due clock queue (works world.ledger) submitter
+      → received_of world submitter ≡ due clock queue (inputs world.ledger) submitter
   pub reports : HaveAllEnded submitters queue → Reports clock submitters queue world
 
--- A World after these events, whatever they are; and what is true besides where no growth was refused, and at rest.
+-- A World after these events, whatever they are; and what holds besides if no allocation failed, and at rest.
 pub record HasRun (clock limit submitters : ℕ) (events : List Event) (world : WorldState) : Type 0 where
   pub is : world ≡ run (new_world clock limit submitters) events
   pub so_far : IsLawfulSoFar clock submitters (history (new_world clock limit submitters) events) world
-  pub untold : list_any is_refused events ≡ false → NoneStopped submitters world
-  pub at_rest : IsAtRest world → Rests clock submitters (history (new_world clock limit submitters) events) world
+  pub no_stop_seen : list_any is_refused events ≡ false → NoneStopped submitters world
+  pub at_rest : IsAtRest world → IsLawfulAtRest clock submitters (history (new_world clock limit submitters) events) world
   pub whole : list_any is_refused events ≡ false → IsAtRest world
-      → works world.ledger ≡ ahead (items_in (history (new_world clock limit submitters) events))
+      → inputs world.ledger ≡ ahead (items_in (history (new_world clock limit submitters) events))

@@ -1,6 +1,6 @@
 pub mod Pushing
-pub mod Shelf
-pub mod Left
+pub mod Mailbox
+pub mod PendingReplies
 pub mod World
 pub mod EveryOrder
 pub use Rattle.tb_core.specs.Front

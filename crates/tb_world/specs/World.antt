@@ -1,6 +1,6 @@
 -- The World as one record of lists, and the table of its steps.
 use Rattle.std.specs.Prelude.{◌≡◌, ◌≤◌, ℕ, ◌+◌, Bool, true, false, not, ◌&&◌, if◌then◌else◌, List, [], ◌∷◌, ◌++◌, length, All, Option, Some, None, is_some, slice_index_or, slice_set, unwrap_or, replicate}
-use Rattle.tb_work.specs.Packet.{Numbered, Replied}
+use Rattle.tb_work.specs.Packet.{Numbered, ReplyValue}
 use Rattle.tb_work.specs.declared.item.Ticket.{Ticket}
 use Rattle.tb_core.specs.declared.outcomes.Outcomes.{Outcomes}
 use Rattle.tb_core.specs.declared.outcomes.Outcomes.TheVariants as outcomes
@@ -14,13 +14,13 @@ use Rattle.tb_core.specs.Journal.{LedgerState, new_ledger}
 use Rattle.tb_core.specs.Ledger.{apply_step, takes_memory as parcel_takes}
 use Rattle.tb_core.specs.Run.{replies_in}
 use Rattle.tb_world.specs.Pushing.{newcomer, may_push, sender_after}
-use Rattle.tb_world.specs.Shelf.{Shelf, empty_shelf, shelf_at, shelves_with, after_pop}
+use Rattle.tb_world.specs.Mailbox.{Mailbox, empty_mailbox, mailbox_at, mailboxes_with, after_pop}
 
 -- each list has its oldest first
 pub record WorldState : Type 0 where
   pub limit : ℕ
   pub submitters : ℕ
-  pub senders : List Sender  -- the submitters, and behind them the control
+  pub senders : List Sender  -- the submitters, and remainder them the control
   pub queue : List Ticket
   pub front : FrontState
   pub parcels : List Parcel  -- those that the batcher is to push
@@ -29,8 +29,8 @@ pub record WorldState : Type 0 where
   pub ledger : LedgerState
   pub outcome : Option Outcomes  -- the one that the committer is to push
   pub outcomes : List Outcomes  -- the outcome ring
-  pub replies : List Replied  -- those that the demultiplexer is to push
-  pub shelves : List Shelf  -- of each submitter its reply ring, and what it received
+  pub replies : List ReplyValue  -- those that the demultiplexer is to push
+  pub mailboxes : List Mailbox  -- of each submitter its reply ring, and what it received
 
 -- ---- the queue
 
@@ -76,17 +76,17 @@ batch_push world [] [] =
 -- ---- the committer
 
 -- a pulse leaves no outcome
-abbrev pub left_by : Outcomes → Option Outcomes
-left_by (outcomes.Cut replies) = Some (outcomes.Cut replies)
-left_by (outcomes.One reply) = Some (outcomes.One reply)
-left_by outcomes.Nothing = None
-left_by outcomes.Last = Some outcomes.Last
+abbrev pub pending_of : Outcomes → Option Outcomes
+pending_of (outcomes.Cut replies) = Some (outcomes.Cut replies)
+pending_of (outcomes.One reply) = Some (outcomes.One reply)
+pending_of outcomes.Nothing = None
+pending_of outcomes.Last = Some outcomes.Last
 
 -- it applies a parcel where it has no outcome to push
 abbrev pub batch_pop : Bool → WorldState → Option Outcomes → List Parcel → Option WorldState
 batch_pop refused world None (parcel ∷ batches) =
     let next = apply_step refused world.ledger parcel in
-    Some (record world { batches = batches; ledger = next.ledger; outcome = left_by next.outcomes })
+    Some (record world { batches = batches; ledger = next.ledger; outcome = pending_of next.outcomes })
 batch_pop refused world None [] = None
 batch_pop refused world (Some outcome) batches = None
 
@@ -97,28 +97,28 @@ outcome_push world (Some outcome) = Some (record world { outcome = None; outcome
 -- ---- the demultiplexer
 
 -- it cuts an outcome where it has no reply to push
-abbrev pub outcome_pop : WorldState → List Replied → List Outcomes → Option WorldState
+abbrev pub outcome_pop : WorldState → List ReplyValue → List Outcomes → Option WorldState
 outcome_pop world [] (outcome ∷ outcomes) = Some (record world { outcomes = outcomes; replies = replies_in outcome })
 outcome_pop world [] [] = None
 outcome_pop world (reply ∷ replies) outcomes = None
 
-abbrev pub reply_push : WorldState → List Replied → Option WorldState
+abbrev pub reply_push : WorldState → List ReplyValue → Option WorldState
 reply_push world [] = None
 reply_push world (reply ∷ replies) =
-    Some (record world { replies = replies; shelves = shelves_with world.shelves reply })
+    Some (record world { replies = replies; mailboxes = mailboxes_with world.mailboxes reply })
 
 -- ---- the submitters
 
-abbrev pub received_of : WorldState → ℕ → List Replied
-received_of world submitter = (shelf_at world.shelves submitter).received
+abbrev pub received_of : WorldState → ℕ → List ReplyValue
+received_of world submitter = (mailbox_at world.mailboxes submitter).received
 
-abbrev pub reply_pop : WorldState → ℕ → Option Shelf → Option WorldState
+abbrev pub reply_pop : WorldState → ℕ → Option Mailbox → Option WorldState
 reply_pop world submitter None = None
-reply_pop world submitter (Some shelf) = Some (record world { shelves = slice_set world.shelves submitter shelf })
+reply_pop world submitter (Some mailbox) = Some (record world { mailboxes = slice_set world.mailboxes submitter mailbox })
 
 -- ---- the table
 
--- the World after an event, or None where that answers false
+-- the World after an event, or None if it returns false
 abbrev pub moved : WorldState → Event → Option WorldState
 moved world (Push ticket) = push world ticket
 moved world (Pop refused) = pop refused world world.parcels world.queue
@@ -127,15 +127,15 @@ moved world (BatchPop refused) = batch_pop refused world world.outcome world.bat
 moved world OutcomePush = outcome_push world world.outcome
 moved world OutcomePop = outcome_pop world world.replies world.outcomes
 moved world ReplyPush = reply_push world world.replies
-moved world (ReplyPop submitter) = reply_pop world submitter (after_pop (shelf_at world.shelves submitter))
+moved world (ReplyPop submitter) = reply_pop world submitter (after_pop (mailbox_at world.mailboxes submitter))
 
 -- whether the first of these takes memory
 abbrev pub first_takes : {A : Type 0} → (A → Bool) → List A → Bool
 first_takes takes [] = false
 first_takes takes (first ∷ others) = takes first
 
--- Whether an event may be refused for want of memory: a push where its ring grows, a pop where a packet begins or joins
--- a group, or where the ledger commits. A step whose growth is refused anyway takes none.
+-- Whether an event may fail for memory: a push if its ring grows, a pop if a packet begins or joins a group, or if the
+-- ledger commits. A step with `refused` takes none.
 abbrev pub takes_memory : WorldState → Event → Bool
 takes_memory world (Push ticket) = true
 takes_memory world (Pop refused) =
@@ -160,7 +160,7 @@ abbrev pub run : WorldState → List Event → WorldState
 run world [] = world
 run world (event ∷ events) = run (after_event world event) events
 
--- one of the events, after those before it, may be refused for want of memory
+-- one of the events, after those before it, may fail for memory
 abbrev pub TakeMemory : WorldState → List Event → Type 0
 TakeMemory world events =
     (before : List Event) × (event : Event) × (after : List Event) × (events ≡ before ++ event ∷ after)
@@ -189,7 +189,7 @@ new_world clock limit submitters =
       outcome = None;
       outcomes = [];
       replies = [];
-      shelves = replicate submitters empty_shelf;
+      mailboxes = replicate submitters empty_mailbox;
     }
 
 -- what is true of a World between its steps: the front takes tickets of these senders

@@ -1,8 +1,8 @@
 use tb_work::Ticket;
 
-/// One push or one pop: on the queue, on the batch ring, on the outcome ring, or on a submitter's reply ring.
-/// `refused` says that the growth in this step is refused; it has no effect where the step takes no packet into
-/// a group and commits nothing.
+/// One push or one pop: on the queue, on the batch ring, on the outcome ring, or on a submitter's reply ring. `refused`
+/// says that the allocation in this step fails; it has no effect if the step takes no packet into a group and commits
+/// nothing.
 #[derive(Drop)]
 pub enum Event {
     Push(Ticket),

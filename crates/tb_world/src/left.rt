@@ -2,9 +2,9 @@
 
 ghost use Rattle.std.specs.Prelude.{◌≡◌, [], false, IfOk, OnErr};
 ghost use Rattle.tb_core.specs.Run.{replies_in};
-ghost use Rattle.tb_world.specs.Left.{IsGiven, is_none};
+ghost use Rattle.tb_world.specs.PendingReplies.{IsGiven, is_none};
 
-use crate::shelf::Shelves;
+use crate::mailbox::Mailboxes;
 use std::marker::Model;
 use std::mem;
 use tb_core::Outcomes;
@@ -14,29 +14,29 @@ use tb_work::Reply;
 
 /// The next reply, and the cutter that has those after it.
 #[derive(Drop)]
-pub struct Left {
+pub struct PendingReplies {
     next: Option<Reply>,
     cutter: Option<Cutter>,
 }
 
-impl Model for Left {
+impl Model for PendingReplies {
     ghost use Rattle.std.specs.Prelude.{◌≡◌, List, [], ◌++◌, option_to_list, None};
-    ghost use Rattle.tb_work.specs.Packet.{Replied};
-    ghost use Rattle.tb_world.specs.Left.{replies_of};
+    ghost use Rattle.tb_work.specs.Packet.{ReplyValue};
+    ghost use Rattle.tb_world.specs.PendingReplies.{replies_of};
 
-    ghost Value = { List Replied };
+    ghost Value = { List ReplyValue };
 
     ghost view = { λ left. option_to_list left.next ++ replies_of left.cutter };
 
     ghost invariant = { λ left. left.next ≡ None → replies_of left.cutter ≡ [] };
 }
 
-impl Left {
+impl PendingReplies {
     /// No reply is left.
-    pub(crate) fn nothing() -> Left
+    pub(crate) fn nothing() -> PendingReplies
         ensures { result ≡ [] }
     {
-        Left {
+        PendingReplies {
             next: None,
             cutter: None,
         }
@@ -47,25 +47,25 @@ impl Left {
         ensures { self.new ≡ replies_in outcomes }
     {
         // A drop by name is proved once, and one by assignment at each place.
-        drop(mem::replace(self, Left::of(outcomes)));
+        drop(mem::replace(self, PendingReplies::of(outcomes)));
     }
 
-    fn of(outcomes: Outcomes) -> Left
+    fn of(outcomes: Outcomes) -> PendingReplies
         ensures { result ≡ replies_in outcomes }
     {
         match outcomes {
             Outcomes::Cut(mut cutter) => {
                 let next = cutter.next();
-                Left {
+                PendingReplies {
                     next,
                     cutter: Some(cutter),
                 }
             }
-            Outcomes::One(reply) => Left {
+            Outcomes::One(reply) => PendingReplies {
                 next: Some(reply),
                 cutter: None,
             },
-            Outcomes::Nothing | Outcomes::Last => Left::nothing(),
+            Outcomes::Nothing | Outcomes::Last => PendingReplies::nothing(),
         }
     }
 
@@ -77,14 +77,14 @@ impl Left {
     }
 
     /// Gives the next reply, where there is one, to its submitter.
-    pub(crate) fn give(&mut self, shelves: &mut Shelves) -> Result<bool, NoMemory>
-        ensures ok { IfOk result (λ moves. IsGiven moves self.old self.new shelves.old shelves.new) }
-        ensures err { OnErr result ((is_none self.old ≡ false) × (self.new ≡ self.old) × (shelves.new ≡ shelves.old)) }
+    pub(crate) fn give(&mut self, mailboxes: &mut Mailboxes) -> Result<bool, NoMemory>
+        ensures ok { IfOk result (λ moves. IsGiven moves self.old self.new mailboxes.old mailboxes.new) }
+        ensures err { OnErr result ((is_none self.old ≡ false) × (self.new ≡ self.old) × (mailboxes.new ≡ mailboxes.old)) }
     {
         let Some(reply) = self.next.take() else {
             return Ok(false);
         };
-        match shelves.give(reply) {
+        match mailboxes.give(reply) {
             Ok(()) => {
                 let next = match &mut self.cutter {
                     Some(cutter) => cutter.next(),

@@ -7,9 +7,9 @@
 
 mod event;
 mod left;
+mod mailbox;
 mod run;
 mod sender;
-mod shelf;
 mod world;
 
 pub use event::Event;

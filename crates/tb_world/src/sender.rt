@@ -14,7 +14,7 @@ pub struct Sender {
 }
 
 impl Sender {
-    /// Whether sender `number` of so many submitters, the control being the one after them, may push an item.
+    /// Whether sender `number` may push an item; the control is the sender after the submitters.
     pub(crate) fn may_push(self, limit: u32, submitters: u32, number: u32, item: &Item) -> bool
         ensures { result ≡ may_push limit submitters number self item.now }
     {

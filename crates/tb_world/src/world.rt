@@ -5,13 +5,13 @@ ghost use Rattle.tb_layout.specs.Limits.{clock_max, submitters_max};
 ghost use Rattle.tb_work.specs.declared.refusal.Refusal.TheVariants.{NoMemory as NoMemoryRefusal};
 ghost use Rattle.tb_core.specs.Front.{opening_refusal};
 ghost use Rattle.tb_world.specs.Pushing.{newcomer};
-ghost use Rattle.tb_world.specs.Shelf.{empty_shelf};
-ghost use Rattle.tb_world.specs.World.{left_by, new_world, IsMove, batch_push};
+ghost use Rattle.tb_world.specs.Mailbox.{empty_mailbox};
+ghost use Rattle.tb_world.specs.World.{pending_of, new_world, IsMove, batch_push};
 
 use crate::event::Event;
-use crate::left::Left;
+use crate::left::PendingReplies;
+use crate::mailbox::Mailboxes;
 use crate::sender::Sender;
-use crate::shelf::Shelves;
 use arrayvec::ArrayVec;
 use std::alloc::Global;
 use std::collections::VecDeque;
@@ -35,12 +35,12 @@ pub struct World {
     ledger: Ledger,
     outcome: Option<Outcomes>,
     outcomes: VecDeque<Outcomes>,
-    left: Left,
-    shelves: Shelves,
+    left: PendingReplies,
+    mailboxes: Mailboxes,
 }
 
 impl Drop for World {
-    /// Lets all that is held go in one call, so that no owner's proof goes through it.
+    /// Frees everything held in one call, so that no owner's proof repeats it.
     fn drop(self) {
         let World {
             limit: _,
@@ -55,7 +55,7 @@ impl Drop for World {
             outcome,
             outcomes,
             left,
-            shelves,
+            mailboxes,
         } = self;
         drop(senders);
         drop(queue);
@@ -66,7 +66,7 @@ impl Drop for World {
         drop(outcome);
         drop(outcomes);
         drop(left);
-        drop(shelves);
+        drop(mailboxes);
     }
 }
 
@@ -88,13 +88,13 @@ impl Model for World {
       outcome = world.outcome;
       outcomes = world.outcomes.items;
       replies = world.left;
-      shelves = world.shelves;
+      mailboxes = world.mailboxes;
     } };
 
     ghost invariant = { λ world. IsWorld world.submitters world.front world.queue.items world.senders.items };
 }
 
-/// The submitters and the control, none of which pushed anything.
+/// The submitters and the control; none has pushed anything.
 fn newcomers(alloc: Global, submitters: u32) -> Result<Vec<Sender>, NoMemory>
     requires { submitters ≤ submitters_max }
     ensures { IfOk result (λ senders. senders.items ≡ replicate (submitters + 1) newcomer) }
@@ -109,19 +109,19 @@ fn newcomers(alloc: Global, submitters: u32) -> Result<Vec<Sender>, NoMemory>
 }
 
 /// The senders, and the submitters' rings.
-fn sides(alloc: Global, submitters: u32) -> Result<(Vec<Sender>, Shelves), NoMemory>
+fn sides(alloc: Global, submitters: u32) -> Result<(Vec<Sender>, Mailboxes), NoMemory>
     requires { submitters ≤ submitters_max }
     ensures senders { IfOk result (λ sides. sides.0.items ≡ replicate (submitters + 1) newcomer) }
-    ensures shelves { IfOk result (λ sides. sides.1 ≡ replicate submitters empty_shelf) }
+    ensures mailboxes { IfOk result (λ sides. sides.1 ≡ replicate submitters empty_mailbox) }
 {
     let senders = newcomers(alloc, submitters)?;
-    let shelves = Shelves::new(alloc, submitters)?;
-    Ok((senders, shelves))
+    let mailboxes = Mailboxes::new(alloc, submitters)?;
+    Ok((senders, mailboxes))
 }
 
-/// Keeps what a parcel came to. A pulse leaves no outcome.
+/// Keeps the outcomes of a parcel. A pulse leaves none.
 fn keep(outcome: &mut Option<Outcomes>, outcomes: Outcomes)
-    ensures { outcome.new ≡ left_by outcomes }
+    ensures { outcome.new ≡ pending_of outcomes }
 {
     let left = match outcomes {
         Outcomes::Nothing => None,
@@ -145,7 +145,7 @@ impl World {
             ⊎ ((opening_refusal limit submitters ≡ None) × (refusal ≡ NoMemoryRefusal))) }
     {
         let front = Front::new(alloc, limit, submitters)?;
-        let Ok((senders, shelves)) = sides(alloc, submitters) else {
+        let Ok((senders, mailboxes)) = sides(alloc, submitters) else {
             drop(front);
             return Err(Refusal::NoMemory);
         };
@@ -161,8 +161,8 @@ impl World {
             ledger: Ledger::new(alloc, clock),
             outcome: None,
             outcomes: VecDeque::new(alloc),
-            left: Left::nothing(),
-            shelves,
+            left: PendingReplies::nothing(),
+            mailboxes,
         })
     }
 
@@ -170,10 +170,10 @@ impl World {
     pub fn received(&self, sender: u32) -> &[Reply]
         ensures { result.now ≡ received_of self.now sender }
     {
-        self.shelves.received(sender)
+        self.mailboxes.received(sender)
     }
 
-    /// The ledger, by which journal and machine are read.
+    /// The ledger, with its journal and its machine.
     pub fn ledger(&self) -> &Ledger
         ensures { result.now ≡ self.now.ledger }
     {
@@ -331,7 +331,7 @@ impl World {
         ensures ok { IfOk result (λ moves. IsMove self.old event.ReplyPush moves self.new) }
         ensures err { OnErr result ((is_some (moved self.old event.ReplyPush) ≡ true) × (self.new ≡ self.old)) }
     {
-        self.left.give(&mut self.shelves)
+        self.left.give(&mut self.mailboxes)
     }
 
     /// Lets a submitter receive the first reply of its ring.
@@ -339,11 +339,11 @@ impl World {
         ensures ok { IfOk result (λ moves. IsMove self.old (event.ReplyPop sender) moves self.new) }
         ensures err { OnErr result ((is_some (moved self.old (event.ReplyPop sender)) ≡ true) × (self.new ≡ self.old)) }
     {
-        self.shelves.take(sender)
+        self.mailboxes.take(sender)
     }
 
-    /// Takes one event. Answers true where it may happen, and the World then moves as its table says; false changes
-    /// nothing. Where it may happen and a growth is really refused, the event comes back and nothing has changed. No
+    /// Takes one event. Returns true if it may happen, and the World then moves as its table says; false changes
+    /// nothing. If it may happen and an allocation really fails, the event is returned and nothing has changed. No
     /// memory is taken to pop an End, a Close, a pulse or a packet that is returned, nor to apply Last, a returned
     /// packet, or what must be stopped.
     pub fn step(&mut self, event: Event) -> Result<bool, (Event, NoMemory)>

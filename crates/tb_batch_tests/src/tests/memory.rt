@@ -3,7 +3,7 @@ use std::process::Abort;
 use tb_batch::{Batcher, Offered};
 use tb_work::{Bytes, Job, Packet};
 
-/// The job of a packet of an account of zeros, or None where memory is wanting.
+/// The job of a packet of an account of zeros, or None if memory runs out.
 fn job_of(alloc: Global, number: u64) -> Option<Job> {
     let mut bytes = Vec::new(alloc);
     bytes.resize(128, 0).ok()?;

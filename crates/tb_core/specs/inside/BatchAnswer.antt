@@ -12,7 +12,7 @@ use Rattle.tb_layout.specs.declared.answer.Answer.TheVariants.{Failures, Account
 use Rattle.tb_batch.specs.Batch.{body_of, IsLawful}
 use Rattle.tb_batch.specs.declared.parts.Parts.{Parts}
 
--- accounts answer a lookup, failures all else
+-- accounts are the answer to a lookup, failures to all else
 abbrev pub answer_in : ℕ → List Failure → List Account → Answer
 answer_in operation failures accounts = if operation == lookup_accounts then Accounts accounts else Failures failures
 

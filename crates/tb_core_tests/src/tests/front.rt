@@ -1,4 +1,4 @@
-//! The front alone, and a packet's way through front, ledger and cutter.
+//! The front by itself, and a packet's way through front, ledger and cutter.
 
 ghost use Rattle.std.specs.Prelude.{◌≡◌, ◌≤◌, [], IfOk, true};
 
@@ -12,10 +12,10 @@ use std::test::Fail;
 use tb_core::{Cause, Front, Ledger, Outcomes, Parcel};
 use tb_work::{Refusal, Reply, Ticket};
 
-/// What the front hands on.
+/// What the front yields.
 #[derive(Clone, Copy, PartialEq, Eq)]
 enum Handed {
-    /// A batch of so many packets.
+    /// A batch of `count` packets.
     Batch(usize),
     Pulse(u64),
     Return(Cause),
@@ -59,7 +59,7 @@ pub(super) fn small_front(alloc: Global) -> Result<Front, Refusal>
     Front::new(alloc, 4, 1)
 }
 
-/// Lets the front take a ticket of the submitter or the control, and asserts what it hands on.
+/// Lets the front take a ticket of the submitter or the control, and asserts what it yields.
 fn assert_taken(
     rt: &(impl Abort + Alloc<A = Global>),
     front: &mut Front,
@@ -143,7 +143,7 @@ fn assert_stopped(rt: &(impl Abort + Alloc<A = Global>), front: &mut Front) {
     assert_taken(rt, front, 0, THIRD, &[stopped]);
 }
 
-/// Lets the front take a ticket into parcels, asserts what it hands on, and leaves none.
+/// Lets the front take a ticket into parcels, asserts what it yields, and leaves none.
 fn assert_taken_into(
     rt: &impl Abort,
     front: &mut Front,
@@ -197,7 +197,7 @@ fn joins(front: &mut Front, parcels: &mut ArrayVec<Parcel, 2>, ticket: Ticket) -
     parcels.is_empty()
 }
 
-/// How many of three packets are taken and held; where one isn't, the parcels have what is handed on at it.
+/// How many of three packets are taken and held; if one isn't, the parcels have what the front yields at it.
 fn held_of_three(
     alloc: Global,
     front: &mut Front,
@@ -223,7 +223,7 @@ fn packets_held(front: &mut Front) -> Option<usize> {
     Some(batch.jobs().len())
 }
 
-/// Asserts what a front and its parcels have that took so many of three packets before a growth was refused.
+/// Asserts the state of a front and its parcels that took this number of three packets before an allocation failed.
 fn assert_held(rt: &impl Abort, front: &mut Front, parcels: &[Parcel], held: usize) {
     let stopped = Handed::Return(Cause::Stopped);
     match held {

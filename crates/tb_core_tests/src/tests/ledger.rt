@@ -1,4 +1,4 @@
-//! The ledger fed by the front, and the ledger alone.
+//! The ledger fed by the front, and the ledger by itself.
 
 ghost use Rattle.std.specs.Prelude.{◌≡◌, ◌≤◌};
 
@@ -13,12 +13,12 @@ use tb_demux::Cutter;
 use tb_layout::Account;
 use tb_work::{Answer, Job, Moment, Outcome, Reply, Ticket};
 
-/// Adds what a reply says to what is told.
+/// Adds what a reply says to the text.
 fn tell_reply(rt: &impl Abort, reply: &Reply, told: &mut Vec<Told>) {
     told.push(told_by(reply)).expect(rt, "memory");
 }
 
-/// Adds what at most four replies say to what is told.
+/// Adds what at most four replies say to the text.
 fn tell_cut(rt: &impl Abort, cutter: &mut Cutter, told: &mut Vec<Told>) {
     for _ in 0..4 {
         if let Some(reply) = cutter.next() {
@@ -27,7 +27,7 @@ fn tell_cut(rt: &impl Abort, cutter: &mut Cutter, told: &mut Vec<Told>) {
     }
 }
 
-/// Adds to what is told what a parcel comes to.
+/// Adds the outcomes of a parcel to the text.
 fn tell(rt: &impl Abort, outcomes: Outcomes, told: &mut Vec<Told>) {
     match outcomes {
         Outcomes::Cut(mut cutter) => tell_cut(rt, &mut cutter, told),
@@ -36,7 +36,7 @@ fn tell(rt: &impl Abort, outcomes: Outcomes, told: &mut Vec<Told>) {
     }
 }
 
-/// Takes a ticket and applies what it comes to.
+/// Takes a ticket and applies the parcels that it yields.
 fn feed(
     rt: &impl Abort,
     front: &mut Front,
@@ -105,7 +105,7 @@ const PULSE_BETWEEN_BATCHES: [Told; 6] = [
     Told::Committed(6),
 ];
 
-/// Feeds two packets, a pulse and four packets more, and then the group held, and asserts what they come to.
+/// Feeds two packets, a pulse and four packets more, and then the group held, and asserts the outcomes.
 fn feed_all(rt: &(impl Abort + Alloc<A = Global>), front: &mut Front, ledger: &mut Ledger)
     requires { front.old.submitters ≡ 1 }
 {
@@ -196,7 +196,7 @@ fn found_by_a_lookup(rt: HostRuntime) {
     drop(ledger);
 }
 
-/// A lookup of accounts 1 and 2, of which the first is there.
+/// A lookup of accounts 1 and 2; only the first exists.
 fn assert_found(rt: &(impl Abort + Alloc<A = Global>), ledger: &mut Ledger) {
     let asked = alone(rt, looking_up(rt, 0, 1, &[1, 2]));
     let reply = first_reply(ledger.apply(Parcel::Batch(asked))).expect(rt, "a reply");
@@ -227,7 +227,7 @@ fn assert_nothing_committed(rt: &impl Abort, ledger: &Ledger) {
     assert!(rt; ledger.machine().clock() == 0);
 }
 
-/// A batch whose growth is refused, and what comes after it.
+/// A batch whose allocation fails, and what comes after it.
 fn refuse_commit(rt: &(impl Abort + Alloc<A = Global>), ledger: &mut Ledger, told: &mut Vec<Told>) {
     tell(rt, ledger.apply_as_refused(batch_of(rt, 1)), told);
     assert!(rt; ledger.stopped());
@@ -235,7 +235,7 @@ fn refuse_commit(rt: &(impl Abort + Alloc<A = Global>), ledger: &mut Ledger, tol
     tell(rt, ledger.apply(Parcel::Pulse(Moment::new(5))), told);
     let behind = Parcel::Return(creating_one(rt, 1, 3), Cause::Shutdown);
     tell(rt, ledger.apply(behind), told);
-    // Last comes to Last.
+    // Last yields Last.
     let last = ledger.apply(Parcel::Last);
     assert!(rt; matches!(&last, Outcomes::Last));
 }

@@ -18,7 +18,7 @@ fn items_of(rt: &(impl Abort + Alloc<A = Global>), list: &[Made]) -> Vec<Item> {
     items
 }
 
-/// Asserts what a list came to: its replies, its journal and its clock.
+/// Asserts the result of a list: its replies, its journal and its clock.
 fn assert_listed(rt: &impl Abort, listed: &Listed, told: &[Told], noted: &[Noted], clock: u64) {
     assert_told(rt, &listed.replies, told);
     assert_noted(rt, listed.ledger.journal(), noted);
@@ -91,7 +91,7 @@ fn transfers(rt: &(impl Abort + Alloc<A = Global>), count: u32) -> Vec<Transfer>
     transfers
 }
 
-/// A packet of submitter 0 that creates so many accounts.
+/// A packet of submitter 0 that creates `count` accounts.
 fn packet_of_accounts(
     rt: &(impl Abort + Alloc<A = Global>),
     number: u64,
@@ -103,7 +103,7 @@ fn packet_of_accounts(
     Item::Packet(job)
 }
 
-/// A packet of submitter 0 that creates so many transfers.
+/// A packet of submitter 0 that creates `count` transfers.
 fn packet_of_transfers(rt: &(impl Abort + Alloc<A = Global>), number: u64, count: u32) -> Item {
     let transfers = transfers(rt, count);
     let job = transferring(rt.alloc(), 0, number, &transfers).expect(rt, "the packet is admitted");

@@ -5,7 +5,7 @@ use tb_core::{Entry, Outcomes};
 use tb_layout::Failure;
 use tb_work::{Answer, Outcome, Reply};
 
-/// What a packet came to.
+/// What became of a packet.
 #[derive(Clone, Copy, PartialEq, Eq)]
 pub(super) enum Told {
     /// Committed at a place.
@@ -17,7 +17,7 @@ pub(super) enum Told {
 /// An entry of the journal.
 #[derive(Clone, Copy, PartialEq, Eq)]
 pub(super) enum Noted {
-    /// A batch of so many packets.
+    /// A batch of `count` packets.
     Batch(usize),
     /// A pulse with its moment.
     Pulse(u64),

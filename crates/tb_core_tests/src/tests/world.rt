@@ -71,8 +71,8 @@ fn assert_world(rt: &impl Abort, world: &World, told: &[Told], noted: &[Noted], 
     assert!(rt; world.ledger().machine().clock() == clock);
 }
 
-/// Takes steps in a World of submitters 0 and 1 and the control, 2, whose batches have at most 4 events, and asserts
-/// what it answers to each and comes to.
+/// Takes steps in a World of submitters 0 and 1 and the control, 2, with batches of at most 4 events. Asserts what it
+/// returns to each and the state at the end.
 fn assert_steps(
     rt: &(impl Abort + Alloc<A = Global>),
     steps: &[(Step, bool)],

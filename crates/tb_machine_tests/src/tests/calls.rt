@@ -19,7 +19,7 @@ fn make_three_kinds(rt: &(impl Abort + Alloc<A = Global>), machine: &mut Machine
     make_transfers(rt, machine, &[timed, voided, void, plain]);
 }
 
-/// Asserts what became of the transfers once the first has expired.
+/// Asserts the statuses of the transfers once the first has expired.
 fn assert_transfers(rt: &impl Abort, machine: &Machine) {
     assert!(rt; machine.status(1) == Some(Status::Expired));
     assert!(rt; machine.status(2) == Some(Status::Voided));
@@ -28,7 +28,7 @@ fn assert_transfers(rt: &impl Abort, machine: &Machine) {
     assert!(rt; machine.transfer(9).is_none());
 }
 
-/// Asserts that the plain transfer alone is in the balances.
+/// Asserts that only the plain transfer is in the balances.
 fn assert_accounts(rt: &impl Abort, machine: &Machine) {
     assert!(rt; machine.accounts() == 2);
     let first = Account {
@@ -95,7 +95,7 @@ fn ids_body(rt: &(impl Abort + Alloc<A = Global>), ids: &[u128]) -> Vec<u8> {
     body
 }
 
-/// Looks three ids up, of which one has no account.
+/// Looks three ids up; one has no account.
 fn look_up(rt: &(impl Abort + Alloc<A = Global>), machine: &Machine, found: &mut Vec<Account>)
     requires { found.old.items ≡ [] }
 {

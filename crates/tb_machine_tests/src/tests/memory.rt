@@ -53,8 +53,7 @@ fn are_failures(failures: &[Failure], wanted: &[(u32, TransferCode)]) -> bool {
             && failure.code == code.number())
 }
 
-/// Commits a packet, with just these failures. Where memory is wanting, the machine is as before, and the answer is
-/// false.
+/// Commits a packet, with exactly these failures. If memory runs out, the machine is as before, and false is returned.
 fn commits(
     rt: &(impl Abort + Alloc<A = Global>),
     machine: &mut Machine,
@@ -79,7 +78,7 @@ fn commits(
     is_committed
 }
 
-/// A packet of accounts, of which none fails.
+/// A packet of accounts; none fails.
 fn commits_accounts(
     rt: &(impl Abort + Alloc<A = Global>),
     machine: &mut Machine,
@@ -91,7 +90,7 @@ fn commits_accounts(
     }
 }
 
-/// A packet of transfers, with just these failures.
+/// A packet of transfers, with exactly these failures.
 fn commits_transfers(
     rt: &(impl Abort + Alloc<A = Global>),
     machine: &mut Machine,
@@ -135,7 +134,7 @@ fn chains_of_transfers_joined_refused_memory(rt: HostRuntime) {
     drop(machine);
 }
 
-/// A chain of which both ids come again, and a post that names nothing, whose id comes again.
+/// A chain whose ids both come again, and a post that names nothing, whose id comes again.
 fn four_packets(rt: &(impl Abort + Alloc<A = Global>), machine: &mut Machine) -> bool {
     let chain = [transfer(1, 1, 2, 5, 1), transfer(2, 1, 9, 5, 0)];
     let codes = [(0, LinkedEventFailed), (1, CreditAccountNotFound)];

@@ -1,5 +1,5 @@
-//! 400 events, made by a rule from a counter, against plain lists: the transfers in order of making, beside
-//! each whether it expired, and balances as sums.
+//! 400 events, made by a rule from a counter, against plain lists: the transfers in order of making, with whether each
+//! expired, and balances as sums.
 
 use super::{account, accounts_body, commits, is_packet, make_accounts, transfer};
 use std::alloc::{AllocError, Global};
@@ -189,7 +189,7 @@ fn expire(all: &mut Vec<Made>, clock: u64) {
     }
 }
 
-/// Whether a packet was committed, as it is unless memory is wanting.
+/// Whether a packet was committed, as it is unless memory runs out.
 fn commits_any(rt: &impl Alloc<A = Global>, machine: &mut Machine, body: &[u8]) -> bool {
     if !is_packet(CREATE_TRANSFERS, body) {
         return false;
@@ -295,7 +295,7 @@ fn run_refused(
     Ok(())
 }
 
-/// Whether the four accounts are made, as they are unless memory is wanting.
+/// Whether the four accounts are made, as they are unless memory runs out.
 fn makes_accounts(rt: &impl Alloc<A = Global>, machine: &mut Machine) -> bool {
     match accounts_body(rt, &four_accounts()) {
         Ok(accounts) => commits(rt, machine, CREATE_ACCOUNTS, &accounts),

@@ -42,7 +42,7 @@ pub(super) enum Saw {
     /// Two replies, and why the packet after them was refused.
     Replies(Option<Told>, Option<Told>, Option<Refusal>),
     /// So many replies, the first committed at place 0 and each of the others at the next place.
-    Places(u64),
+    Indices(u64),
     /// Of two batches: whether a reply came while it was held, and the reply that came then.
     Held([(bool, Option<Told>); 2]),
 }
@@ -247,7 +247,7 @@ fn drive_fifty<R: Wait + Abort>(
     Driven {
         ended: end(rt, submitter),
         control,
-        saw: Saw::Places(places),
+        saw: Saw::Indices(places),
     }
 }
 
@@ -457,7 +457,7 @@ fn close_between_two_packets(rt: HostRuntime) {
 #[test]
 fn one_place_one_credit(rt: HostRuntime) {
     let driving = opened_driving(&rt, rt.alloc(), 1, 1, 1);
-    let wanted = Saw::Places(50);
+    let wanted = Saw::Indices(50);
     assert_driven(&rt, rt.alloc(), driving, Course::Fifty, wanted, 50, 50);
 }
 

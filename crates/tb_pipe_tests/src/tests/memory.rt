@@ -100,25 +100,25 @@ fn serve_seven<R: Threads + Wait + Sync + Abort>(
 
 /// What a ticket says: a packet with its number, or a pulse with its moment.
 #[derive(Clone, Copy, Debug, PartialEq, Eq)]
-enum Said {
+enum ParsedScript {
     Packet(u64),
     Pulse(u64),
     End,
     Close,
 }
 
-fn said_by(ticket: &Ticket) -> (u32, Said) {
+fn said_by(ticket: &Ticket) -> (u32, ParsedScript) {
     let said = match &ticket.item {
-        Item::Packet(job) => Said::Packet(job.stub().number),
-        Item::Pulse(moment) => Said::Pulse(moment.get()),
-        Item::End => Said::End,
-        Item::Close => Said::Close,
+        Item::Packet(job) => ParsedScript::Packet(job.stub().number),
+        Item::Pulse(moment) => ParsedScript::Pulse(moment.get()),
+        Item::End => ParsedScript::End,
+        Item::Close => ParsedScript::Close,
     };
     (ticket.sender, said)
 }
 
 /// The first ten tickets of a queue, each with its sender.
-fn ten_tickets<R: Wait>(rt: &R, intake: &mut Intake) -> [Option<(u32, Said)>; 10] {
+fn ten_tickets<R: Wait>(rt: &R, intake: &mut Intake) -> [Option<(u32, ParsedScript)>; 10] {
     let mut tickets = [None; 10];
     for k in 0..10usize {
         tickets[k] = intake.take(rt).map(|ticket| said_by(&ticket));
@@ -203,16 +203,16 @@ fn each_growth_refused_memory(rt: HostRuntime) -> Result<(), Refusal> {
 }
 
 /// The tickets of the seven items and of both ends, in order, and nothing after them.
-const ALL_TICKETS: [Option<(u32, Said)>; 10] = [
-    Some((0, Said::Packet(0))),
-    Some((0, Said::Packet(1))),
-    Some((1, Said::Pulse(5))),
-    Some((0, Said::Packet(2))),
-    Some((0, Said::Packet(3))),
-    Some((0, Said::Packet(4))),
-    Some((0, Said::Packet(5))),
-    Some((1, Said::End)),
-    Some((0, Said::End)),
+const ALL_TICKETS: [Option<(u32, ParsedScript)>; 10] = [
+    Some((0, ParsedScript::Packet(0))),
+    Some((0, ParsedScript::Packet(1))),
+    Some((1, ParsedScript::Pulse(5))),
+    Some((0, ParsedScript::Packet(2))),
+    Some((0, ParsedScript::Packet(3))),
+    Some((0, ParsedScript::Packet(4))),
+    Some((0, ParsedScript::Packet(5))),
+    Some((1, ParsedScript::End)),
+    Some((0, ParsedScript::End)),
     None,
 ];
 

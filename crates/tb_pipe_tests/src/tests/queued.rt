@@ -51,14 +51,14 @@ pub(super) fn run_queued<R: Threads + Wait + Sync + Abort, G: Gate>(
     alloc: Global,
     steps: &[Step],
     shut: bool,
-    behind: &[u8],
+    remainder: &[u8],
     gate: &G,
 ) -> Report
     ensures { IsRun 0 4 1 result.ledger result.ends.items }
 {
     let mut lone = open_lone(rt, alloc, 64, 64);
     queue_steps(rt, alloc, &mut lone.submitter, &mut lone.control, steps);
-    finish_lone(rt, alloc, lone, shut, behind, gate)
+    finish_lone(rt, alloc, lone, shut, remainder, gate)
 }
 
 const TWO_AND_FOUR: [Step; 7] = [

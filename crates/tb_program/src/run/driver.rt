@@ -12,7 +12,7 @@ use tb_drive::{Action, Driver};
 use tb_layout::NoMemory;
 use tb_work::{Packet, Refusal, Reply};
 
-/// Queues its share, the packets of a submitter in the order of the script, and notes what becomes of them.
+/// Queues its share, the packets of a submitter in the order of the script, and notes the result of each.
 #[derive(Drop)]
 pub struct ScriptDriver {
     share: Snapshot<Vec<Packet>>,

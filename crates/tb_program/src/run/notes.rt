@@ -6,15 +6,15 @@ use std::alloc::Global;
 use tb_layout::NoMemory;
 use tb_work::{Refusal, Reply};
 
-/// What a driver is told of a packet as it hands it in.
+/// The result of a packet that a driver handed in.
 #[derive(Clone, Copy)]
 pub enum Told {
     Queued,
     Refused(Refusal),
 }
 
-/// What a driver was told of its packets so far, in their order, and the replies that it read. Room for both is made
-/// before any thread is started.
+/// The results of a driver's packets so far, in their order, and the replies that it read. Room for both is made before
+/// any thread is started.
 #[derive(Drop)]
 pub struct Notes {
     pub told: Vec<Told>,
@@ -24,7 +24,7 @@ pub struct Notes {
 }
 
 impl Notes {
-    /// No notes, with room for so many packets and their replies.
+    /// No notes, with room for this number of packets and their replies.
     pub fn new(alloc: Global, packets: usize) -> Result<Notes, NoMemory>
         ensures { IfOk result (λ notes. (notes.told.items ≡ []) × (notes.replies.items ≡ [])
             × (notes.complete ≡ true)) }
@@ -36,7 +36,7 @@ impl Notes {
         })
     }
 
-    /// Notes what was told of the next packet.
+    /// Notes the result of the next packet.
     pub fn tell(&mut self, told: Told)
         ensures told { self.new.complete ≡ true → (self.old.complete ≡ true)
             × (self.new.told.items ≡ self.old.told.items ++ told ∷ []) }

@@ -3,13 +3,13 @@
 ghost use Rattle.std.specs.Prelude.{◌≡◌, ◌<◌, ◌≤◌, ◌+◌, ◌^◌, ◌++◌, ◌∷◌, [], length, map, IfOk, IsSomeAnd, OnOk, string_bytes};
 ghost use Rattle.std.specs.List.{flat_map};
 ghost use Rattle.tb_core.specs.Ledger.{group_of};
-ghost use Rattle.tb_core.specs.Journal.{works};
+ghost use Rattle.tb_core.specs.Journal.{inputs};
 ghost use Rattle.tb_layout.specs.Limits.{submitters_max};
 ghost use Rattle.tb_machine.specs.Replay.{replay};
 ghost use Rattle.tb_submit.specs.Ends.{replies_of};
 ghost use Rattle.tb_program.specs.Answering.{AreAllAnswered, AreAllDone, IsAnswered, IsAnsweredBy};
 ghost use Rattle.tb_program.specs.Drivers.{IsDone, told_of};
-ghost use Rattle.tb_program.specs.RunText.{behind_told, ledger_text, packets_text, pulses_text, refused_pulses_text, run_text, told_line, told_text};
+ghost use Rattle.tb_program.specs.RunText.{replies_after, ledger_text, packets_text, pulses_text, refused_pulses_text, run_text, told_line, told_text};
 ghost use Rattle.tb_program.specs.declared.run.notes.Told.TheVariants.{Queued};
 
 use crate::run::driver::ScriptDriver;
@@ -21,8 +21,8 @@ use tb_core::{Entry, Ledger};
 use tb_drive::{Finished, LinesDriver};
 use tb_layout::NoMemory;
 use tb_pipe::Report;
+use tb_program_text::{put_pulse, put_refused, put_refused_pulse, put_reply, put_state};
 use tb_submit::Ended;
-use tb_text::{put_pulse, put_refused, put_refused_pulse, put_reply, put_state};
 use tb_work::Reply;
 
 /// The shortest line of a packet, as `packet 0 0 committed 0` and its end.
@@ -39,9 +39,9 @@ struct Replies {
 impl Model for Replies {
     ghost use Rattle.std.specs.Prelude.{List, ◌++◌};
     ghost use Rattle.std.specs.Vec.Iter.{into_iter_items};
-    ghost use Rattle.tb_work.specs.Packet.{Replied};
+    ghost use Rattle.tb_work.specs.Packet.{ReplyValue};
 
-    ghost Value = { List Replied };
+    ghost Value = { List ReplyValue };
 
     ghost view = { λ replies. into_iter_items replies.read ++ replies.ended.lying };
 }
@@ -60,7 +60,7 @@ impl Replies {
     fn put_told(&mut self, out: &mut String, submitter: u32, told: Told) -> Result<(), AllocError>
         requires { told ≡ Queued → 0 < length self.old }
         ensures text { OnOk result (string_bytes out.new ≡ string_bytes out.old ++ told_line submitter told self.old) }
-        ensures left { OnOk result (self.new ≡ behind_told told self.old) }
+        ensures left { OnOk result (self.new ≡ replies_after told self.old) }
     {
         match told {
             Told::Queued => match self.next() {
@@ -72,7 +72,7 @@ impl Replies {
     }
 }
 
-/// Adds the lines of packets of which was told what became of them.
+/// Adds the lines of packets whose results are noted.
 #[tactic(auto, unfolding(crate::specs::RunText::told_text))]
 fn put_all_told(
     out: &mut String,
@@ -143,7 +143,7 @@ fn put_all_packets(
 /// Adds the line of an entry that is a pulse, whose place is given; none of a batch. Answers the place after the entry.
 fn put_entry(out: &mut String, place: u64, entry: &Entry) -> Result<u64, AllocError>
     requires { place + length (group_of entry.now) < 2 ^ 64 }
-    ensures behind { IfOk result (λ behind. behind ≡ place + length (group_of entry.now)) }
+    ensures next_place { IfOk result (λ next_place. next_place ≡ place + length (group_of entry.now)) }
     ensures text { OnOk result (string_bytes out.new ≡ string_bytes out.old ++ pulses_text place (group_of entry.now)) }
 {
     match entry {
@@ -179,9 +179,9 @@ fn put_refused_pulses(out: &mut String, count: u64) -> Result<(), AllocError>
 
 /// Adds the lines of what was committed: the pulses, those that were refused, the clock and the accounts.
 fn put_ledger(out: &mut String, ledger: &Ledger, refused_pulses: u64) -> Result<(), NoMemory>
-    requires { length (works ledger.now) < 2 ^ 64 }
+    requires { length (inputs ledger.now) < 2 ^ 64 }
     ensures { OnOk result (string_bytes out.new ≡ string_bytes out.old
-        ++ ledger_text (works ledger.now) refused_pulses ledger.now.state) }
+        ++ ledger_text (inputs ledger.now) refused_pulses ledger.now.state) }
 {
     put_pulses(out, ledger.journal())?;
     put_refused_pulses(out, refused_pulses)?;
@@ -200,11 +200,11 @@ fn put_run(
     requires few { length drivers.items ≤ submitters_max }
     requires number { length ends.items ≡ length drivers.items }
     requires answered { AreAllAnswered drivers.items ends.items }
-    requires places { length (works ledger.now) < 2 ^ 64 }
+    requires places { length (inputs ledger.now) < 2 ^ 64 }
     ensures done { OnOk result (AreAllDone drivers.items) }
     ensures text { OnOk result (string_bytes out.new
         ≡ string_bytes out.old ++ run_text (map told_of drivers.items) (replies_of ends.items)
-        (works ledger.now) refused_pulses ledger.now.state) }
+        (inputs ledger.now) refused_pulses ledger.now.state) }
 {
     put_all_packets(out, drivers, ends)?;
     put_ledger(out, ledger, refused_pulses)
@@ -226,7 +226,7 @@ fn with_run(text: String, finished: Finished<ScriptDriver, LinesDriver>) -> Resu
     ensures done { IfOk result (λ all. AreAllDone finished.drivers.items) }
     ensures text { IfOk result (λ all. string_bytes all
         ≡ string_bytes text ++ run_text (map told_of finished.drivers.items) (replies_of finished.report.ends.items)
-        (works finished.report.ledger) finished.control.refused
+        (inputs finished.report.ledger) finished.control.refused
         finished.report.ledger.state) }
 {
     let Finished {
@@ -254,7 +254,7 @@ pub fn text_of(
     ensures done { IfOk result (λ text. AreAllDone finished.drivers.items) }
     ensures text { IfOk result (λ text. string_bytes text
         ≡ run_text (map told_of finished.drivers.items) (replies_of finished.report.ends.items)
-        (works finished.report.ledger) finished.control.refused
+        (inputs finished.report.ledger) finished.control.refused
         finished.report.ledger.state) }
 {
     match text_with_room(alloc, &finished.report.ledger) {

@@ -2,14 +2,14 @@
 
 ghost use Rattle.std.specs.Prelude.{◌≡◌, ◌++◌, ◌∷◌, [], List, false, ◌||◌, length, OnOk, IfOk};
 ghost use Rattle.tb_program.specs.Sharing.{AreDealt, is_shut, moment_in, moments_in, shuts_in};
-ghost use Rattle.tb_script.specs.declared.item.Item.{Item as ItemValue};
-ghost use Rattle.tb_script.specs.declared.item.Item.TheVariants.{Packet as PacketItem};
+ghost use Rattle.tb_program_script.specs.declared.item.ScriptItem.{ScriptItem as ItemValue};
+ghost use Rattle.tb_program_script.specs.declared.item.ScriptItem.TheVariants.{Packet as PacketItem};
 
 use std::alloc::Global;
 use tb_drive::ControlLines;
 use tb_layout::NoMemory;
-use tb_script::{Item, Submission};
-use tb_text::packet_of;
+use tb_program_script::{ScriptItem, Submission};
+use tb_program_text::packet_of;
 use tb_work::Packet;
 
 /// The items of a script by the threads that queue them: the packets of each submitter, and the control's lines.
@@ -20,7 +20,7 @@ pub struct Shares {
 }
 
 impl Shares {
-    /// No items yet, for so many submitters.
+    /// No items yet, for this number of submitters.
     fn new(alloc: Global, submitters: u32) -> Result<Shares, NoMemory>
         ensures number { IfOk result (λ shares. length shares.packets.items ≡ submitters) }
         ensures packets { IfOk result (λ shares. AreDealt 0 shares.packets.items []) }
@@ -51,7 +51,7 @@ impl Shares {
     }
 
     /// Adds an item to those of the thread that queues it.
-    fn add(&mut self, item: Item) -> Result<(), NoMemory>
+    fn add(&mut self, item: ScriptItem) -> Result<(), NoMemory>
         ensures number { length self.new.packets.items ≡ length self.old.packets.items }
         ensures packets { (items : List ItemValue) → AreDealt 0 self.old.packets.items items
             → OnOk result (AreDealt 0 self.new.packets.items (items ++ item ∷ [])) }
@@ -59,16 +59,16 @@ impl Shares {
         ensures shuts { OnOk result (self.new.lines.shuts ≡ (self.old.lines.shuts || is_shut item)) }
     {
         match item {
-            Item::Packet(submission) => self.add_packet(submission)?,
-            Item::Pulse(moment) => self.lines.moments.push(moment)?,
-            Item::Shut => self.lines.shuts = true,
+            ScriptItem::Packet(submission) => self.add_packet(submission)?,
+            ScriptItem::Pulse(moment) => self.lines.moments.push(moment)?,
+            ScriptItem::Shut => self.lines.shuts = true,
         }
         Ok(())
     }
 }
 
 /// Deals the items of a script out. No byte of a packet is copied.
-pub fn share_out(alloc: Global, submitters: u32, items: Vec<Item>) -> Result<Shares, NoMemory>
+pub fn share_out(alloc: Global, submitters: u32, items: Vec<ScriptItem>) -> Result<Shares, NoMemory>
     ensures number { IfOk result (λ shares. length shares.packets.items ≡ submitters) }
     ensures packets { IfOk result (λ shares. AreDealt 0 shares.packets.items items.items) }
     ensures moments { IfOk result (λ shares. shares.lines.moments.items ≡ moments_in items.items) }

@@ -14,7 +14,7 @@ fn script_of(rt: &(impl Abort + Alloc<A = Global>), setup: &str, rows: &str) -> 
     script
 }
 
-/// The lines that answer each row its code, after a setup of so many packets and pulses.
+/// The lines in which each row gets its code, after a setup of this number of packets and pulses.
 fn answers_of(
     rt: &(impl Abort + Alloc<A = Global>),
     packets: usize,
@@ -31,7 +31,7 @@ fn answers_of(
     answers
 }
 
-/// Asserts that each row is answered its code after a setup of so many packets and pulses.
+/// Asserts that each row gets its code after a setup of this number of packets and pulses.
 fn assert_codes(
     rt: &(impl Abort + Alloc<A = Global>),
     setup: &str,

@@ -60,7 +60,7 @@ fn full_batch_then_overflow(rt: HostRuntime) {
     );
 }
 
-/// A packet of accounts and one of no operation, both of so many bytes of zeros.
+/// A packet of accounts and one of no operation, both of `count` bytes of zeros.
 fn two_packets_of(rt: &(impl Abort + Alloc<A = Global>), count: usize) -> String {
     let bytes = "00".repeat(rt.alloc(), count).expect(rt, "memory");
     let script = format!(in rt.alloc(); "packet 0 129\nhex {bytes}\npacket 0 200\nhex {bytes}\n");
@@ -138,7 +138,7 @@ account id=1 ledger=1 code=1 flags=2 user_data_128=3 user_data_64=4 user_data_32
 packet 0 129
 ";
 
-/// Accounts after `ONE_ACCOUNT`, each with the code in front that tells that its field stood in its place.
+/// Accounts after `ONE_ACCOUNT`, each with the code in front that shows that its field was in its place.
 const ACCOUNT_CODES: &str = "3 timestamp=1 reserved=1
 4 reserved=1 flags=16
 5 flags=16

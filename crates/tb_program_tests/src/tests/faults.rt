@@ -81,7 +81,7 @@ fn submitter_out_of_bounds(rt: HostRuntime) {
     assert_list(&rt, "submitters 1\npacket 1 129\n", "fault 2 bad number\n");
 }
 
-/// A setting doesn't stand twice, nor after a packet.
+/// A setting doesn't come twice, nor after a packet.
 const MISPLACED_SETTINGS: &str = "2 out of place: clock 1|clock 1|
 2 out of place: limit 1|limit 1|
 2 out of place: capacity 1|capacity 1|

@@ -74,7 +74,7 @@ account 1 1 0 0 0 0
     );
 }
 
-/// The limit counts ids; a packet that isn't admitted is told so behind the Close too.
+/// The limit counts ids; a packet that isn't admitted is refused for that behind the Close too.
 #[test]
 fn refused_behind_shut(rt: HostRuntime) {
     assert_list(
@@ -84,8 +84,8 @@ fn refused_behind_shut(rt: HostRuntime) {
     );
 }
 
-/// Eight ids make an event of 128 bytes, the lowest byte first: ids 1 to 8 lie where an account has its id,
-/// its balances, its user data and the rest. An account's line is eight ids.
+/// Eight ids make an event of 128 bytes, the lowest byte first: ids 1 to 8 are where an account has its id, its
+/// balances, its user data and the rest. An account's line is eight ids.
 #[test]
 fn ids_are_bytes(rt: HostRuntime) {
     assert_both(

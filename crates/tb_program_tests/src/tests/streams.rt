@@ -4,8 +4,8 @@ use std::io::{Read, Write};
 use std::process::Abort;
 use tb_program::{ProgramFault, run_script, run_threads};
 
-/// Gives a line with its first read, fails at the second, and has ended from then on: whoever reads on after the fault
-/// comes to the end of a script.
+/// Gives a line with its first read, fails at the second, and has ended from then on: whoever continues to read after
+/// the fault comes to the end of a script.
 #[derive(Drop)]
 struct FailsAtSecond {
     reads: u32,
@@ -25,7 +25,8 @@ impl Read for FailsAtSecond {
     }
 }
 
-/// Gives the same byte again and again, so many in all, and at most so many with each read. A read after its end fails.
+/// Gives the same byte again and again, `left` in all, and at most `at_once` with each read. A read after its end
+/// fails.
 #[derive(Drop)]
 struct Repeated {
     byte: u8,
@@ -167,8 +168,8 @@ fn write_of_a_run_fails(rt: HostRuntime) {
     assert!(rt; matches!(&answer, Err(ProgramFault::Write)));
 }
 
-/// A byte, how often it stands in a script that has no other, and what is written for the script. One that never ends
-/// isn't read to its end.
+/// A byte, how often a script consists of it, and what is written for the script. One that never ends isn't read to its
+/// end.
 const LENGTHS: [(u8, usize, &str); 4] = [
     (10, 16_777_216, "clock 0\n"),
     (10, 16_777_217, "fault 0 script too long\n"),
@@ -176,7 +177,7 @@ const LENGTHS: [(u8, usize, &str); 4] = [
     (32, 16_777_216, "fault 1 line too long\n"),
 ];
 
-/// Asserts that this is written, and that the script counts as faultless just where no fault is told.
+/// Asserts that this is written, and that the script counts as faultless exactly if no fault is written.
 fn assert_output(rt: &(impl Abort + Alloc<A = Global>), script: Repeated, output: &str) {
     let mut script = script;
     let mut out = Vec::new(rt.alloc());

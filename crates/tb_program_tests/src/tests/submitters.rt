@@ -9,8 +9,7 @@ use std::str::Lines;
 /// How often a script is run whose schedule decides much.
 const TURNS: u32 = 10;
 
-/// The number that stands in a line where the wanted one has a `*`, or None where the wanted one has no `*` and is the
-/// line.
+/// The number that a line has where the wanted one has a `*`, or None if the wanted one has no `*` and is the line.
 fn number_in(rt: &impl Abort, line: &str, wanted: &str) -> Option<u64> {
     let Some((front, end)) = wanted.split_once('*') else {
         assert!(rt; line == wanted, "{line} in place of {wanted}");
@@ -21,7 +20,7 @@ fn number_in(rt: &impl Abort, line: &str, wanted: &str) -> Option<u64> {
     Some(number.parse::<u64>().ok().expect(rt, "a number"))
 }
 
-/// The numbers that stand in an output where the wanted one has a `*`; both are the same in all else.
+/// The numbers that an output has where the wanted one has a `*`; both are the same in all else.
 pub(super) fn numbers_in(
     rt: &(impl Abort + Alloc<A = Global>),
     output: &str,
@@ -64,7 +63,7 @@ fn assert_places(rt: &impl Abort, first: &[u64], second: &[u64]) {
     }
 }
 
-/// A packet that isn't admitted has its line where it stands among its submitter's packets, and uses no number.
+/// A packet that isn't admitted has its line among its submitter's packets, in order, and uses no number.
 const REFUSALS: &str = "limit 2
 packet 0 200
 packet 1 129
@@ -104,7 +103,7 @@ fn refusals_of_two_submitters(rt: HostRuntime) {
     }
 }
 
-/// Packets of the two may be joined, and each is told what became of its own events.
+/// Packets of the two may be joined, and each gets the results of its own events.
 const ANSWERS: &str = "packet 0 129
 account id=1 ledger=1 code=1
 account id=2 code=1
@@ -166,7 +165,7 @@ fn each_submitter_its_own_answers(rt: HostRuntime) {
 }
 
 /// Four packets of each of two submitters, with a Close amid them. Queue and credit have room for all of them, so that
-/// no submitter reads a reply, and is told of the shutdown, before it has queued its last packet.
+/// no submitter reads a reply, and learns of the shutdown, before it has queued its last packet.
 const CLOSED: &str = "packet 0 129
 account id=0
 packet 1 129
@@ -293,7 +292,7 @@ fn two_thousand_packets(rt: HostRuntime) {
     assert_run(&rt, script.as_str(), wanted.as_str());
 }
 
-/// 200 packets of one submitter, each of which waits for the reply to the one before it, and a Close.
+/// 200 packets of one submitter, each waiting for the reply to the one before it, and a Close.
 fn of_one_by_one(rt: &(impl Abort + Alloc<A = Global>)) -> String {
     let settings = "submitters 1\ncredit 1\nshut\n";
     let mut script = String::from_str(rt.alloc(), settings).expect(rt, "memory");
@@ -305,8 +304,8 @@ fn of_one_by_one(rt: &(impl Abort + Alloc<A = Global>)) -> String {
     script
 }
 
-/// What is wanted of them where so many are ahead of the Close: the next one is shut down, and all others are refused since
-/// that was read.
+/// What is wanted of them if this number is ahead of the Close: the next one is shut down, and all others are refused
+/// since that was read.
 fn wanted_of_one_by_one(rt: &(impl Abort + Alloc<A = Global>), ahead: u32) -> String {
     let mut wanted = String::new(rt.alloc());
     for number in 0..200u32 {

@@ -71,7 +71,7 @@ fn event(counter: u64, ids: u64, maps: &Tables) -> Transfer {
     }
 }
 
-/// Whether the sum of a balance, pending and posted together, and an amount can be told.
+/// Whether the sum of a balance, pending and posted together, and an amount fits in 128 bits.
 fn fits(pending: u128, posted: u128, amount: u128) -> bool
     ensures { result ≡ true → pending + posted + amount < 2 ^ 128 }
 {
@@ -103,7 +103,7 @@ fn can_credit(tables: &Tables, id: u128, amount: u128) -> bool
     }
 }
 
-/// Whether the moment at which a transfer expires can be told.
+/// Whether the moment at which a transfer expires fits in 64 bits.
 fn expiry_fits(transfer: &Transfer) -> bool
     ensures { result ≡ true → expires_at transfer.now < 2 ^ 64 }
 {
@@ -195,7 +195,7 @@ fn take(maps: &mut Tables, lists: &mut PlainTables, counter: u64, ids: u64) -> R
     Ok(())
 }
 
-/// Lets the changes stand, and what is due at a clock expire.
+/// Keeps the changes, and lets what is due at a clock expire.
 fn pulse(maps: &mut Tables, lists: &mut PlainTables, clock: u64)
     requires { maps.old ≡ lists.old }
     ensures { maps.new ≡ lists.new }
@@ -206,12 +206,12 @@ fn pulse(maps: &mut Tables, lists: &mut PlainTables, clock: u64)
     lists.expire_due(clock);
 }
 
-/// Whether each look-up of an id agrees, and that of the place one below.
+/// Whether each look-up of an id agrees, and that of the index one below.
 fn agree_on(maps: &Tables, lists: &PlainTables, id: u32) -> bool {
-    let place = id.saturating_sub(1) as usize;
+    let index = id.saturating_sub(1) as usize;
     let id = u128::from(id);
     maps.account(id) == lists.account(id)
-        && maps.account_at(place) == lists.account_at(place)
+        && maps.account_at(index) == lists.account_at(index)
         && maps.transfer(id) == lists.transfer(id)
         && maps.status(id) == lists.status(id)
         && maps.failed(id) == lists.failed(id)
@@ -238,7 +238,7 @@ fn run(maps: &mut Tables, lists: &mut PlainTables, ids: u32, apart: u64) -> Resu
     take_events(maps, lists, ids, apart)
 }
 
-/// Takes the events, with a pulse after each fortieth. All look-ups are compared after events that are so many apart.
+/// Takes the events, with a pulse after each fortieth. All look-ups are compared after every `apart` events.
 fn take_events(maps: &mut Tables, lists: &mut PlainTables, ids: u32, apart: u64) -> Result<(), Fail>
     requires same { maps.old ≡ lists.old }
     requires some { 0 < apart }

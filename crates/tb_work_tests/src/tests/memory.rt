@@ -13,8 +13,8 @@ fn packet_of_four(alloc: Global) -> Result<Packet, AllocError> {
     })
 }
 
-/// What is tried with each allocation refused in turn, by `tools/refuse-each-growth`. The room for four failures
-/// doesn't lie in the job.
+/// What is tried with each allocation refused in turn, by `tools/refuse-each-growth`. The room for four failures isn't
+/// in the job.
 #[test]
 fn job_refused_memory(rt: HostRuntime) {
     let Ok(packet) = packet_of_four(rt.alloc()) else {

@@ -16,14 +16,14 @@ fn of_transfers(rt: &(impl Abort + Alloc<A = Global>), transfers: &[Transfer]) -
     Packet::of_transfers(rt.alloc(), transfers, 7).expect(rt, "memory")
 }
 
-/// How many of so many accounts are admitted, in one packet.
+/// The number of events admitted of a packet of `count` accounts.
 fn admitted_accounts(rt: &(impl Abort + Alloc<A = Global>), count: usize) -> Result<u32, Refusal> {
     let mut accounts = Vec::new(rt.alloc());
     accounts.resize(count, account(1, 0)).expect(rt, "memory");
     admit(8190, &of_accounts(rt, accounts.as_slice()))
 }
 
-/// How many of so many transfers are admitted, in one packet.
+/// The number of events admitted of a packet of `count` transfers.
 fn admitted_transfers(rt: &(impl Abort + Alloc<A = Global>), count: usize) -> Result<u32, Refusal> {
     let mut transfers = Vec::new(rt.alloc());
     transfers

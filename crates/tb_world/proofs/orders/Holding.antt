@@ -6,79 +6,79 @@ use Rattle.std.proofs.lemmas.List.{get_or-set_same, map-append}
 use Rattle.std.proofs.lemmas.List.Elements.{filter-append}
 use Rattle.std.proofs.lemmas.Grind.{flat_map-append}
 use Rattle.std.proofs.lemmas.Bool.{cases_eq, eq-eqb, ne_eqb}
-use Rattle.tb_work.specs.Packet.{Numbered, Replied}
+use Rattle.tb_work.specs.Packet.{Numbered, ReplyValue}
 use Rattle.tb_work.specs.Queue.{items_in}
 use Rattle.tb_work.specs.declared.item.Ticket.{Ticket}
 use Rattle.tb_core.specs.declared.outcomes.Outcomes.{Outcomes}
 use Rattle.tb_core.specs.declared.outcomes.Outcomes.TheVariants as outcomes
 use Rattle.tb_core.specs.declared.parcel.Parcel.{Parcel}
 use Rattle.tb_core.specs.declared.parcel.Parcel.TheVariants as parcel
-use Rattle.tb_core.specs.inside.Passage.{Passage, Admitted, Passes}
-use Rattle.tb_core.specs.Front.{FrontState, take_step, with_group, all_ended, all_passages_in, passages_in, held_by}
+use Rattle.tb_core.specs.inside.Decision.{Decision, Admitted, AreDecisions}
+use Rattle.tb_core.specs.Front.{FrontState, take_step, with_group, all_ended, all_decisions_in, decisions_in, held_by}
 use Rattle.tb_core.specs.Journal.{LedgerState}
 use Rattle.tb_core.specs.Ledger.{apply_step}
 use Rattle.tb_core.specs.Due.{replies_to}
 use Rattle.tb_core.specs.Run.{Commits, replies_in}
-use Rattle.tb_world.specs.Shelf.{Shelf, empty_shelf, shelf_at, with_reply, shelves_with, after_pop_of}
+use Rattle.tb_world.specs.Mailbox.{Mailbox, empty_mailbox, mailbox_at, with_reply, mailboxes_with, after_pop_of}
 use Rattle.tb_world.specs.Pushing.{may_push}
-use Rattle.tb_world.specs.World.{WorldState, sender_at, is_lawful, pop, batch_push, left_by, batch_pop, outcome_push, outcome_pop, reply_push, reply_pop, senders_after}
-use Rattle.tb_core.proofs.Accounting.{IsClear, IsStep, is_step, passes_then, goes_on}
-use Rattle.tb_core.proofs.Committed.{HasJobs, all-push, commits_more}
+use Rattle.tb_world.specs.World.{WorldState, sender_at, is_lawful, pop, batch_push, pending_of, batch_pop, outcome_push, outcome_pop, reply_push, reply_pop, senders_after}
+use Rattle.tb_core.proofs.TicketDecisions.{IsClear, IsStep, is_step, passes_then, goes_on}
+use Rattle.tb_core.proofs.LedgerSteps.{HasJobs, all-push, commits_more}
 use Rattle.tb_world.proofs.orders.Pushed.{HavePushed, push_counted}
 
 abbrev pub AllHaveJobs : List Parcel → Type 0
 AllHaveJobs parcels = AllByRecursion HasJobs parcels
 
 -- what the front made of a queue and no ledger took yet, from the batch ring back to the group held
-abbrev pub on_the_way : FrontState → List Parcel → List Parcel → List Passage
-on_the_way front parcels batches = all_passages_in batches ++ (all_passages_in parcels ++ held_by front)
+abbrev pub on_the_way : FrontState → List Parcel → List Parcel → List Decision
+on_the_way front parcels batches = all_decisions_in batches ++ (all_decisions_in parcels ++ held_by front)
 
-abbrev pub of_all : List Outcomes → List Replied
+abbrev pub of_all : List Outcomes → List ReplyValue
 of_all outcomes = flat_map replies_in outcomes
 
-abbrev pub of_one : Option Outcomes → List Replied
+abbrev pub of_one : Option Outcomes → List ReplyValue
 of_one None = []
 of_one (Some outcome) = replies_in outcome
 
 -- the replies that no ring has yet, from the demultiplexer back to the committer
-abbrev pub unrouted : List Replied → List Outcomes → Option Outcomes → List Replied
+abbrev pub unrouted : List ReplyValue → List Outcomes → Option Outcomes → List ReplyValue
 unrouted replies outcomes outcome = replies ++ (of_all outcomes ++ of_one outcome)
 
 -- what of the queue a front took went to a ledger, or is on the way
-pub record AreSent (queue : List Ticket) (applied : List Passage) (front : FrontState)
+pub record AreSent (queue : List Ticket) (applied : List Decision) (front : FrontState)
     (parcels batches : List Parcel) : Type 0 where
-  pub passes : Passes (items_in queue) front.closed front.stopped (applied ++ on_the_way front parcels batches)
+  pub passes : AreDecisions (items_in queue) front.closed front.stopped (applied ++ on_the_way front parcels batches)
   pub clear : IsClear front
   pub parcel_jobs : AllHaveJobs parcels
   pub batch_jobs : AllHaveJobs batches
 
--- what a submitter has of the replies: what it received, what lies in its ring, and its own of those on the way
-abbrev pub shelved : ℕ → List Shelf → List Replied → List Replied
-shelved submitter shelves way =
-    (shelf_at shelves submitter).received ++ ((shelf_at shelves submitter).ring ++ replies_to way submitter)
+-- what a submitter has of the replies: what it received, what is in its ring, and its own of those on the way
+abbrev pub shelved : ℕ → List Mailbox → List ReplyValue → List ReplyValue
+shelved submitter mailboxes way =
+    (mailbox_at mailboxes submitter).received ++ ((mailbox_at mailboxes submitter).ring ++ replies_to way submitter)
 
--- each submitter has just the replies with its number
-pub record AreRouted (submitters : ℕ) (answers : List Replied) (shelves : List Shelf)
-    (way : List Replied) : Type 0 where
-  pub long : length shelves ≡ submitters
-  pub each : (submitter : ℕ) → submitter < submitters → replies_to answers submitter ≡ shelved submitter shelves way
+-- each submitter has exactly the replies with its number
+pub record AreRouted (submitters : ℕ) (answers : List ReplyValue) (mailboxes : List Mailbox)
+    (way : List ReplyValue) : Type 0 where
+  pub long : length mailboxes ≡ submitters
+  pub each : (submitter : ℕ) → submitter < submitters → replies_to answers submitter ≡ shelved submitter mailboxes way
 
 pub record Goes (batcher : FrontState) (committer : LedgerState) : Type 0 where
   pub front : batcher.stopped ≡ false
   pub ledger : committer.stopped ≡ false
 
--- Of what was pushed some was taken; what the front made of that was applied, or is on the way; and the replies to what
--- was applied are with their submitters, or on the way. Where it is so that nothing was refused, nothing stopped.
+-- Of what was pushed some was taken; the front's decisions on that were applied, or are on the way; and the replies to
+-- what was applied are with their submitters, or on the way. If no allocation failed, nothing stopped.
 pub record Holds (Unrefused : Type 0) (clock submitters : ℕ) (pushed : List Ticket) (world : WorldState) : Type 0 where
   pub taken : List Ticket
-  pub applied : List Passage
-  pub answers : List Replied
+  pub applied : List Decision
+  pub answers : List ReplyValue
   pub split : pushed ≡ taken ++ world.queue
   pub counted : world.submitters ≡ submitters
   pub senders : HavePushed submitters pushed world.senders
   pub sent : AreSent taken applied world.front world.parcels world.batches
   pub commits : Commits clock applied world.ledger answers
-  pub routed : AreRouted submitters answers world.shelves (unrouted world.replies world.outcomes world.outcome)
+  pub routed : AreRouted submitters answers world.mailboxes (unrouted world.replies world.outcomes world.outcome)
   pub goes : Unrefused → Goes world.front world.ledger
 
 -- ---- the batcher
@@ -93,7 +93,7 @@ stepped refused front ticket clear =
     is_step HasJobs (λ moment. tt) (λ job cause. tt) refused front ticket.sender ticket.item
     (λ job jobs held. omega arith) clear
 
-sent_ticket : (refused : Bool) (queue : List Ticket) (applied : List Passage) (front : FrontState)
+sent_ticket : (refused : Bool) (queue : List Ticket) (applied : List Decision) (front : FrontState)
     (batches : List Parcel) (ticket : Ticket) → AreSent queue applied front [] batches →
     (let next = take_step refused front ticket.sender ticket.item in AreSent
     (queue ++ ticket ∷ []) applied next.front next.parcels batches)
@@ -101,7 +101,7 @@ sent_ticket refused queue applied front batches ticket sent =
     let next = take_step refused front ticket.sender ticket.item in
     let step = stepped refused front ticket sent.clear in
     let more = passes_then HasJobs refused front ticket.sender ticket.item next step (items_in queue)
-    (applied ++ all_passages_in batches) (rw append_assoc sent.passes) in
+    (applied ++ all_decisions_in batches) (rw append_assoc sent.passes) in
     record {
       passes = rw items_push (simp append_assoc at more);
       clear = step.clear;
@@ -109,7 +109,7 @@ sent_ticket refused queue applied front batches ticket sent =
       batch_jobs = sent.batch_jobs;
     }
 
--- the batcher goes on
+-- the batcher hasn't stopped
 batched : (Unrefused : Type 0) (clock n : ℕ) (pushed taken queue : List Ticket) (w : WorldState)
     (front : FrontState) (parcels batches : List Parcel) (last : Bool) → (h : Holds Unrefused clock n pushed w)
     → pushed ≡ taken ++ queue →
@@ -151,16 +151,16 @@ pop_holds Unrefused refused clock n pushed w [] (ticket ∷ queue) p q u h =
     (stepped refused w.front ticket h.sent.clear) (u is) (h.goes is).front) sent
 
 -- a parcel goes to the batch ring, from those to push or as the group held
-sent_parcel : (queue : List Ticket) (applied : List Passage) (front : FrontState) (held : List Numbered)
+sent_parcel : (queue : List Ticket) (applied : List Decision) (front : FrontState) (held : List Numbered)
     (parcels others batches : List Parcel) (p : Parcel) → HasJobs p → AllHaveJobs others
     → IsClear (with_group front held) →
-    all_passages_in parcels ++ held_by front ≡ passages_in p ++ (all_passages_in others ++ map Admitted held)
+    all_decisions_in parcels ++ held_by front ≡ decisions_in p ++ (all_decisions_in others ++ map Admitted held)
     → AreSent queue applied front parcels batches
     → AreSent queue applied (with_group front held) others (batches ++ p ∷ [])
 sent_parcel queue applied front held parcels others batches p has all clear list sent =
     let way : on_the_way front parcels batches ≡ on_the_way (with_group front held) others
     (batches ++ p ∷ []) =
-    rw list (simp (flat_map-append passages_in batches (p ∷ []), append-nil, append_assoc)) in
+    rw list (simp (flat_map-append decisions_in batches (p ∷ []), append-nil, append_assoc)) in
     record {
       passes = rw way at sent.passes;
       clear = clear;
@@ -177,13 +177,13 @@ batch_push_holds Unrefused clock n pushed w (p ∷ parcels) held e g h =
     (λ is. (h.goes is).front)
     (sent_parcel h.taken h.applied w.front w.front.held
     (p ∷ parcels) parcels w.batches p sent.parcel_jobs.0 sent.parcel_jobs.1 sent.clear
-    (append_assoc (passages_in p) (all_passages_in parcels) (held_by w.front)) sent)
+    (append_assoc (decisions_in p) (all_decisions_in parcels) (held_by w.front)) sent)
 batch_push_holds Unrefused clock n pushed w [] (job ∷ jobs) e g h =
     let group = parcel.Batch (job ∷ jobs) in
-    let list : all_passages_in w.parcels ++ held_by w.front ≡ passages_in group ++ (all_passages_in w.parcels ++ []) =
-    ap (λ (ps : List Parcel). all_passages_in ps ++ held_by w.front) e ∙ ap (map Admitted) g
-    ∙ sym (append-nil (passages_in group)) ∙ ap (λ (ps : List Parcel). passages_in group
-    ++ (all_passages_in ps ++ [])) (sym e) in
+    let list : all_decisions_in w.parcels ++ held_by w.front ≡ decisions_in group ++ (all_decisions_in w.parcels ++ []) =
+    ap (λ (ps : List Parcel). all_decisions_in ps ++ held_by w.front) e ∙ ap (map Admitted) g
+    ∙ sym (append-nil (decisions_in group)) ∙ ap (λ (ps : List Parcel). decisions_in group
+    ++ (all_decisions_in ps ++ [])) (sym e) in
     batched Unrefused clock n pushed h.taken w.queue w (with_group w.front []) w.parcels
     (w.batches ++ group ∷ []) w.last_sent h h.split (λ is. (h.goes is).front)
     (sent_parcel h.taken h.applied w.front [] w.parcels w.parcels w.batches group (omega arith) h.sent.parcel_jobs
@@ -202,13 +202,13 @@ batch_push_holds Unrefused clock n pushed w [] [] e g h = by (all_ended w.front 
 
 -- ---- the committer
 
-replies_to-append : (submitter : ℕ) (xs ys : List Replied)
+replies_to-append : (submitter : ℕ) (xs ys : List ReplyValue)
     → replies_to (xs ++ ys) submitter ≡ replies_to xs submitter ++ replies_to ys submitter
-replies_to-append submitter xs ys = filter-append (λ (reply : Replied). reply.submitter == submitter) xs ys
+replies_to-append submitter xs ys = filter-append (λ (reply : ReplyValue). reply.submitter == submitter) xs ys
 
-routed_more : (n : ℕ) (answers : List Replied) (shelves : List Shelf) (way more : List Replied)
-    → AreRouted n answers shelves way → AreRouted n (answers ++ more) shelves (way ++ more)
-routed_more n answers shelves way more routed =
+routed_more : (n : ℕ) (answers : List ReplyValue) (mailboxes : List Mailbox) (way more : List ReplyValue)
+    → AreRouted n answers mailboxes way → AreRouted n (answers ++ more) mailboxes (way ++ more)
+routed_more n answers mailboxes way more routed =
     record {
       long = routed.long;
       each = λ submitter among. rw (
@@ -218,21 +218,21 @@ routed_more n answers shelves way more routed =
       ) (simp append_assoc);
     }
 
-left_replies : (outcome : Outcomes) → of_one (left_by outcome) ≡ replies_in outcome
+left_replies : (outcome : Outcomes) → of_one (pending_of outcome) ≡ replies_in outcome
 left_replies (outcomes.Cut replies) = refl
 left_replies (outcomes.One reply) = refl
 left_replies outcomes.Nothing = refl
 left_replies outcomes.Last = refl
 
-sent_applied : (queue : List Ticket) (applied : List Passage) (front : FrontState) (parcels batches : List Parcel)
+sent_applied : (queue : List Ticket) (applied : List Decision) (front : FrontState) (parcels batches : List Parcel)
     (p : Parcel) → AreSent queue applied front parcels (p ∷ batches)
-    → AreSent queue (applied ++ passages_in p) front parcels batches
+    → AreSent queue (applied ++ decisions_in p) front parcels batches
 sent_applied queue applied front parcels batches p sent =
-    let rest = all_passages_in parcels ++ held_by front in
-    let list : applied ++ ((passages_in p ++ all_passages_in batches) ++ rest)
-    ≡ (applied ++ passages_in p) ++ (all_passages_in batches ++ rest) = simp append_assoc in
+    let rest = all_decisions_in parcels ++ held_by front in
+    let list : applied ++ ((decisions_in p ++ all_decisions_in batches) ++ rest)
+    ≡ (applied ++ decisions_in p) ++ (all_decisions_in batches ++ rest) = simp append_assoc in
     record {
-      passes = subst (Passes (items_in queue) front.closed front.stopped) list sent.passes;
+      passes = subst (AreDecisions (items_in queue) front.closed front.stopped) list sent.passes;
       clear = sent.clear;
       parcel_jobs = sent.parcel_jobs;
       batch_jobs = sent.batch_jobs.1;
@@ -255,36 +255,36 @@ batch_pop_holds Unrefused refused clock n pushed w None (p ∷ batches) o e goes
     let next = apply_step refused w.ledger p in
     let sent = subst (λ ps. AreSent h.taken h.applied w.front w.parcels ps) e h.sent in
     let more = replies_in next.outcomes in
-    let routed = routed_more n h.answers w.shelves (unrouted w.replies w.outcomes None) more
-    (subst (λ o. AreRouted n h.answers w.shelves (unrouted w.replies w.outcomes o)) o h.routed) in
+    let routed = routed_more n h.answers w.mailboxes (unrouted w.replies w.outcomes None) more
+    (subst (λ o. AreRouted n h.answers w.mailboxes (unrouted w.replies w.outcomes o)) o h.routed) in
     let way : unrouted w.replies w.outcomes None ++ more
-    ≡ unrouted w.replies w.outcomes (left_by next.outcomes) =
+    ≡ unrouted w.replies w.outcomes (pending_of next.outcomes) =
     rw left_replies (simp (append-nil, append_assoc)) in
     record {
       taken = h.taken;
-      applied = h.applied ++ passages_in p;
+      applied = h.applied ++ decisions_in p;
       answers = h.answers ++ more;
       split = h.split;
       counted = h.counted;
       senders = h.senders;
       sent = sent_applied h.taken h.applied w.front w.parcels batches p sent;
       commits = commits_more clock h.applied w.ledger h.answers h.commits refused p sent.batch_jobs.0;
-      routed = subst (AreRouted n (h.answers ++ more) w.shelves) way routed;
+      routed = subst (AreRouted n (h.answers ++ more) w.mailboxes) way routed;
       goes = λ is. record { front = (h.goes is).front; ledger = goes is p batches e };
     }
 
--- the replies on the way stand elsewhere, and the shelves may have changed
-rerouted : (Unrefused : Type 0) (clock n : ℕ) (pushed : List Ticket) (w : WorldState) (replies : List Replied)
-    (outcomes : List Outcomes) (outcome : Option Outcomes) (shelves : List Shelf)
+-- the replies on the way are elsewhere, and the mailboxes may have changed
+rerouted : (Unrefused : Type 0) (clock n : ℕ) (pushed : List Ticket) (w : WorldState) (replies : List ReplyValue)
+    (outcomes : List Outcomes) (outcome : Option Outcomes) (mailboxes : List Mailbox)
     → (h : Holds Unrefused clock n pushed w) →
-    AreRouted n h.answers shelves (unrouted replies outcomes outcome)
+    AreRouted n h.answers mailboxes (unrouted replies outcomes outcome)
     → Holds Unrefused clock n pushed (record w {
       replies = replies;
       outcomes = outcomes;
       outcome = outcome;
-      shelves = shelves;
+      mailboxes = mailboxes;
     })
-rerouted Unrefused clock n pushed w replies outcomes outcome shelves h routed =
+rerouted Unrefused clock n pushed w replies outcomes outcome mailboxes h routed =
     record {
       taken = h.taken;
       applied = h.applied;
@@ -306,75 +306,75 @@ outcome_push_holds Unrefused clock n pushed w (Some outcome) o h =
     let way : unrouted w.replies w.outcomes (Some outcome)
     ≡ unrouted w.replies (w.outcomes ++ outcome ∷ []) None =
     simp (flat_map-append replies_in w.outcomes (outcome ∷ []), append-nil) in
-    rerouted Unrefused clock n pushed w w.replies (w.outcomes ++ outcome ∷ []) None w.shelves h
-    (subst (AreRouted n h.answers w.shelves) (ap (unrouted w.replies w.outcomes) o ∙ way) h.routed)
+    rerouted Unrefused clock n pushed w w.replies (w.outcomes ++ outcome ∷ []) None w.mailboxes h
+    (subst (AreRouted n h.answers w.mailboxes) (ap (unrouted w.replies w.outcomes) o ∙ way) h.routed)
 
 -- ---- the demultiplexer
 
 pub outcome_pop_holds : (Unrefused : Type 0) (clock n : ℕ) (pushed : List Ticket) (w : WorldState)
-    (replies : List Replied) (outcomes : List Outcomes) → w.replies ≡ replies → w.outcomes ≡ outcomes →
+    (replies : List ReplyValue) (outcomes : List Outcomes) → w.replies ≡ replies → w.outcomes ≡ outcomes →
     Holds Unrefused clock n pushed w → Holds Unrefused clock n pushed (unwrap_or (outcome_pop w replies outcomes) w)
 outcome_pop_holds Unrefused clock n pushed w (reply ∷ replies) outcomes r o h = h
 outcome_pop_holds Unrefused clock n pushed w [] [] r o h = h
 outcome_pop_holds Unrefused clock n pushed w [] (outcome ∷ outcomes) r o h =
-    rerouted Unrefused clock n pushed w (replies_in outcome) outcomes w.outcome w.shelves h
-    (subst (AreRouted n h.answers w.shelves)
-    (ap (λ (rs : List Replied). unrouted rs w.outcomes w.outcome) r
+    rerouted Unrefused clock n pushed w (replies_in outcome) outcomes w.outcome w.mailboxes h
+    (subst (AreRouted n h.answers w.mailboxes)
+    (ap (λ (rs : List ReplyValue). unrouted rs w.outcomes w.outcome) r
     ∙ ap (λ (os : List Outcomes). unrouted [] os w.outcome) o
     ∙ append_assoc (replies_in outcome) (of_all outcomes) (of_one w.outcome)) h.routed)
 
--- a submitter has the same where a shelf was replaced, and its own replies with what is on the way
-replaced : (n submitter own : ℕ) (shelves : List Shelf) (new : Shelf) (old way : List Replied) → length shelves ≡ n
-    → submitter < n → shelved own shelves old ≡ new.received ++ (new.ring ++ replies_to way own) →
+-- a submitter has the same where a mailbox was replaced, and its own replies with what is on the way
+replaced : (n submitter own : ℕ) (mailboxes : List Mailbox) (new : Mailbox) (old way : List ReplyValue) → length mailboxes ≡ n
+    → submitter < n → shelved own mailboxes old ≡ new.received ++ (new.ring ++ replies_to way own) →
     (own ≢ submitter → replies_to old submitter ≡ replies_to way submitter)
-    → shelved submitter shelves old ≡ shelved submitter (set shelves own new) way
-replaced n submitter own shelves new old way long among here elsewhere =
+    → shelved submitter mailboxes old ≡ shelved submitter (set mailboxes own new) way
+replaced n submitter own mailboxes new old way long among here elsewhere =
     ⊎_elim
-    (λ (same : own ≡ submitter). subst (λ k. shelved k shelves old ≡ shelved k (set shelves own new) way) same
-    (here ∙ ap (λ (s : Shelf). s.received ++ (s.ring ++ replies_to way own))
-    (sym (get_or-set_same shelves own new empty_shelf (omega (arith, long, same, among))))))
-    (λ (other : own ≢ submitter). ap (λ rs. (shelf_at shelves submitter).received
-    ++ ((shelf_at shelves submitter).ring ++ rs)) (elsewhere other)
-    ∙ ap (λ (s : Shelf). s.received ++ (s.ring ++ replies_to way submitter))
-    (sym (get_or-set_other shelves own submitter new empty_shelf (λ same. other (sym same)))))
+    (λ (same : own ≡ submitter). subst (λ k. shelved k mailboxes old ≡ shelved k (set mailboxes own new) way) same
+    (here ∙ ap (λ (s : Mailbox). s.received ++ (s.ring ++ replies_to way own))
+    (sym (get_or-set_same mailboxes own new empty_mailbox (omega (arith, long, same, among))))))
+    (λ (other : own ≢ submitter). ap (λ rs. (mailbox_at mailboxes submitter).received
+    ++ ((mailbox_at mailboxes submitter).ring ++ rs)) (elsewhere other)
+    ∙ ap (λ (s : Mailbox). s.received ++ (s.ring ++ replies_to way submitter))
+    (sym (get_or-set_other mailboxes own submitter new empty_mailbox (λ same. other (sym same)))))
     (cases_eq own submitter)
 
 -- a reply goes from the way to its submitter's ring
 pub reply_push_holds : (Unrefused : Type 0) (clock n : ℕ) (pushed : List Ticket) (w : WorldState)
-    (replies : List Replied) → w.replies ≡ replies →
+    (replies : List ReplyValue) → w.replies ≡ replies →
     Holds Unrefused clock n pushed w → Holds Unrefused clock n pushed (unwrap_or (reply_push w replies) w)
 reply_push_holds Unrefused clock n pushed w [] r h = h
 reply_push_holds Unrefused clock n pushed w (reply ∷ replies) r h =
     let own = reply.submitter in
-    let shelf = shelf_at w.shelves own in
+    let mailbox = mailbox_at w.mailboxes own in
     let way = unrouted replies w.outcomes w.outcome in
-    rerouted Unrefused clock n pushed w replies w.outcomes w.outcome (shelves_with w.shelves reply) h
+    rerouted Unrefused clock n pushed w replies w.outcomes w.outcome (mailboxes_with w.mailboxes reply) h
     (record {
-      long = length-set w.shelves own (with_reply shelf reply) ∙ h.routed.long;
+      long = length-set w.mailboxes own (with_reply mailbox reply) ∙ h.routed.long;
       each = λ submitter among. h.routed.each submitter among
-          ∙ ap (λ (rs : List Replied). shelved submitter w.shelves (unrouted rs w.outcomes w.outcome)) r
-          ∙ replaced n submitter own w.shelves (with_reply shelf reply) (reply ∷ way) way h.routed.long among
-          (rw (eq-eqb own own refl) (ap (λ rs. shelf.received ++ rs)
-          (sym (append_assoc shelf.ring (reply ∷ []) (replies_to way own)))))
+          ∙ ap (λ (rs : List ReplyValue). shelved submitter w.mailboxes (unrouted rs w.outcomes w.outcome)) r
+          ∙ replaced n submitter own w.mailboxes (with_reply mailbox reply) (reply ∷ way) way h.routed.long among
+          (rw (eq-eqb own own refl) (ap (λ rs. mailbox.received ++ rs)
+          (sym (append_assoc mailbox.ring (reply ∷ []) (replies_to way own)))))
           (λ other. rw (ne_eqb own submitter other) refl);
     })
 
 -- ---- the submitters
 
 pub reply_pop_holds : (Unrefused : Type 0) (clock n : ℕ) (pushed : List Ticket) (w : WorldState) (own : ℕ)
-    (ring : List Replied) → (shelf_at w.shelves own).ring ≡ ring →
+    (ring : List ReplyValue) → (mailbox_at w.mailboxes own).ring ≡ ring →
     Holds Unrefused clock n pushed w → Holds Unrefused clock n pushed
-    (unwrap_or (reply_pop w own (after_pop_of (shelf_at w.shelves own) ring)) w)
+    (unwrap_or (reply_pop w own (after_pop_of (mailbox_at w.mailboxes own) ring)) w)
 reply_pop_holds Unrefused clock n pushed w own [] e h = h
 reply_pop_holds Unrefused clock n pushed w own (reply ∷ ring) e h =
-    let received = (shelf_at w.shelves own).received in
-    let new : Shelf = record { ring = ring; received = received ++ reply ∷ [] } in
+    let received = (mailbox_at w.mailboxes own).received in
+    let new : Mailbox = record { ring = ring; received = received ++ reply ∷ [] } in
     let way = unrouted w.replies w.outcomes w.outcome in
     rerouted Unrefused clock n pushed w w.replies w.outcomes w.outcome _ h
     (record {
-      long = length-set w.shelves own new ∙ h.routed.long;
+      long = length-set w.mailboxes own new ∙ h.routed.long;
       each = λ submitter among. h.routed.each submitter among
-          ∙ replaced n submitter own w.shelves new way way h.routed.long among
+          ∙ replaced n submitter own w.mailboxes new way way h.routed.long among
           (ap (λ rs. received ++ (rs ++ replies_to way own)) e
           ∙ sym (append_assoc received (reply ∷ []) (ring ++ replies_to way own))) (λ other. refl);
     })

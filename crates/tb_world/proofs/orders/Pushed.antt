@@ -1,4 +1,4 @@
--- Who pushed what: the senders of a World count what stands in the history of its pushes.
+-- Who pushed what: the senders of a World count what is in the history of its pushes.
 use Rattle.std.proofs.Common.{refl, sym, ap, ◌∙◌, subst, arith, ◌≡◌, ◌≢◌, ◌==◌, ⊎_elim, ℕ, ◌+◌, ◌<◌, ◌≤◌, Bool, true, false, not, ◌&&◌, nat_lt, List, [], ◌∷◌, ◌++◌, length, append-nil, length-set, get_or-set_other}
 use Rattle.std.specs.List.{list_all, list_any}
 use Rattle.std.proofs.lemmas.List.{get_or-set_same}
@@ -12,8 +12,8 @@ use Rattle.tb_world.specs.declared.sender.Sender.{Sender}
 use Rattle.tb_world.specs.Pushing.{may_push_item, may_push, newcomer, sender_after}
 use Rattle.tb_world.specs.World.{sender_at, senders_after}
 use Rattle.tb_core.specs.Front.{HaveAllEnded}
-use Rattle.tb_core.proofs.Accounting.{part_push}
-use Rattle.tb_core.proofs.Committed.{all-push}
+use Rattle.tb_core.proofs.TicketDecisions.{part_push}
+use Rattle.tb_core.proofs.LedgerSteps.{all-push}
 
 -- ---- what may be pushed
 
@@ -130,7 +130,7 @@ pushed_more number sender items x goes next has =
 pub record HavePushed (submitters : ℕ) (pushed : List Ticket) (senders : List Sender) : Type 0 where
   pub long : length senders ≡ submitters + 1
   pub submitted : AreSubmitted submitters pushed
-  pub strangers : (sender : ℕ) → submitters < sender → part sender pushed ≡ []
+  pub no_other_sender : (sender : ℕ) → submitters < sender → part sender pushed ≡ []
   pub each : (sender : ℕ) → sender ≤ submitters → HasPushed sender (sender_at senders sender) (part sender pushed)
 
 pub none_pushed : (submitters : ℕ) (senders : List Sender) → length senders ≡ submitters + 1
@@ -139,7 +139,7 @@ none_pushed submitters senders long new =
     record {
       long = long;
       submitted = tt;
-      strangers = λ sender beyond. refl;
+      no_other_sender = λ sender beyond. refl;
       each = λ sender among. subst (λ s. HasPushed sender s []) (sym (new sender among))
           (record { numbered = tt; counted = refl; goes_on = λ on. refl; ended = λ over. cc });
     }
@@ -176,8 +176,8 @@ push_counted limit submitters pushed senders ticket lawful have =
       long = length-set senders ticket.sender new ∙ have.long;
       submitted = all-push (λ (t : Ticket). IsSubmitted submitters t.sender t.item) pushed ticket
           have.submitted is.submitted;
-      strangers = λ sender beyond. part_of_others sender pushed ticket
-          (λ same. absurd (omega (arith, is.among, beyond, same))) ∙ have.strangers sender beyond;
+      no_other_sender = λ sender beyond. part_of_others sender pushed ticket
+          (λ same. absurd (omega (arith, is.among, beyond, same))) ∙ have.no_other_sender sender beyond;
       each = λ sender among. ⊎_elim (λ (same : ticket.sender ≡ sender). subst Each same its) (others sender among)
           (cases_eq ticket.sender sender);
     }
@@ -209,7 +209,7 @@ pub queue_of_all : (submitters : ℕ) (pushed : List Ticket) (senders : List Sen
 queue_of_all submitters pushed senders have over =
     record {
       parts = λ sender among. refl;
-      strangers = have.strangers;
+      no_other_sender = have.no_other_sender;
       submitted = have.submitted;
       numbered = numbered_by submitters pushed senders have;
       ended = λ sender among. has_ended sender (sender_at senders sender) (part sender pushed)

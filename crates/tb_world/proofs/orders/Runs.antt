@@ -5,7 +5,7 @@ use Rattle.std.specs.List.{list_any}
 use Rattle.std.proofs.lemmas.List.{get_or-replicate, length-replicate, length-map}
 use Rattle.std.proofs.lemmas.Bool.{le-ltb, or_parts}
 use Rattle.tb_work.specs.Queue.{ahead, items_in}
-use Rattle.tb_work.specs.Packet.{work_of}
+use Rattle.tb_work.specs.Packet.{input_of}
 use Rattle.tb_work.specs.declared.item.Item.{Item}
 use Rattle.tb_work.specs.declared.item.Item.TheVariants as item
 use Rattle.tb_work.specs.declared.item.Ticket.{Ticket}
@@ -13,15 +13,15 @@ use Rattle.tb_core.specs.declared.parcel.Parcel.{Parcel}
 use Rattle.tb_core.specs.declared.parcel.Parcel.TheVariants as parcel
 use Rattle.tb_world.specs.declared.event.Event.{Event}
 use Rattle.tb_world.specs.declared.event.Event.TheVariants.{Push, Pop, BatchPush, BatchPop, OutcomePush, OutcomePop, ReplyPush, ReplyPop}
-use Rattle.tb_core.specs.inside.Passage.{works_in}
-use Rattle.tb_core.specs.Front.{passages_in}
-use Rattle.tb_core.specs.Journal.{LedgerState, works}
+use Rattle.tb_core.specs.inside.Decision.{inputs_in}
+use Rattle.tb_core.specs.Front.{decisions_in}
+use Rattle.tb_core.specs.Journal.{LedgerState, inputs}
 use Rattle.tb_core.specs.Ledger.{Applied, must_stop, apply_step}
 use Rattle.tb_world.specs.Pushing.{newcomer}
-use Rattle.tb_world.specs.Shelf.{Shelf, empty_shelf, shelf_at}
+use Rattle.tb_world.specs.Mailbox.{Mailbox, empty_mailbox, mailbox_at}
 use Rattle.tb_world.specs.World.{WorldState, is_lawful, after_event, run, new_world}
 use Rattle.tb_world.specs.EveryOrder.{pushed_at, history, is_refused}
-use Rattle.tb_core.proofs.Committed.{works_in-append, works_in-admitted}
+use Rattle.tb_core.proofs.LedgerSteps.{inputs_in-append, inputs_in-admitted}
 use Rattle.tb_core.proofs.Runs.{so_far}
 use Rattle.tb_world.proofs.orders.Pushed.{none_pushed}
 use Rattle.tb_world.proofs.orders.Holding.{on_the_way, Holds, GoesOn, push_holds, pop_holds, batch_push_holds, batch_pop_holds, outcome_push_holds, outcome_pop_holds, reply_push_holds, reply_pop_holds}
@@ -34,23 +34,23 @@ length-ahead (item.Packet job ∷ items) = omega (arith, length-ahead items)
 length-ahead (x ∷ items) = omega (arith, length-ahead items)
 
 goes_on : (ledger : LedgerState) (p : Parcel) → ledger.stopped ≡ false
-    → length (works ledger) + length (works_in (passages_in p)) ≤ 2 ^ 63
+    → length (inputs ledger) + length (inputs_in (decisions_in p)) ≤ 2 ^ 63
     → (apply_step false ledger p).ledger.stopped ≡ false
 goes_on ledger p goes room = by p room
   where
-    committed : (count : ℕ) (x y : Applied) → length (works ledger) + count ≤ 2 ^ 63 → y.ledger.stopped ≡ false
+    committed : (count : ℕ) (x y : Applied) → length (inputs ledger) + count ≤ 2 ^ 63 → y.ledger.stopped ≡ false
         → (if must_stop false ledger count then x else y).ledger.stopped ≡ false
-    committed count x y room on = rw (goes, le-ltb (2 ^ 63) (length (works ledger) + count) room) on
+    committed count x y room on = rw (goes, le-ltb (2 ^ 63) (length (inputs ledger) + count) room) on
 
-    by : (p : Parcel) → length (works ledger) + length (works_in (passages_in p)) ≤ 2 ^ 63
+    by : (p : Parcel) → length (inputs ledger) + length (inputs_in (decisions_in p)) ≤ 2 ^ 63
         → (apply_step false ledger p).ledger.stopped ≡ false
     by (parcel.Batch jobs) room =
         committed (length jobs) _ _ (omega (
           arith,
           room,
           ap length
-              (works_in-admitted jobs),
-          length-map jobs work_of,
+              (inputs_in-admitted jobs),
+          length-map jobs input_of,
         )) goes
     by (parcel.Pulse moment) room = committed 1 _ _ room goes
     by p room = goes
@@ -61,9 +61,9 @@ pub parcel_goes : (Unrefused : Type 0) (refused : Bool) (clock n : ℕ) (pushed 
 parcel_goes Unrefused refused clock n pushed w u short h = λ is p batches e.
     let on_way = on_the_way w.front w.parcels w.batches in
     let rest = on_the_way w.front w.parcels batches in
-    let way : works_in on_way ≡ works_in (passages_in p)
-    ++ works_in rest =
-    rw e (ap works_in (append_assoc (passages_in p) _ _) ∙ works_in-append (passages_in p) rest) in
+    let way : inputs_in on_way ≡ inputs_in (decisions_in p)
+    ++ inputs_in rest =
+    rw e (ap inputs_in (append_assoc (decisions_in p) _ _) ∙ inputs_in-append (decisions_in p) rest) in
     let far = so_far clock (items_in h.taken) w.front.closed w.front.stopped h.applied on_way w.ledger h.answers
     h.sent.passes h.commits in
     let all = far.whole (h.goes is).front (h.goes is).ledger in
@@ -75,10 +75,10 @@ parcel_goes Unrefused refused clock n pushed w u short h = λ is p batches e.
       ap length h.split,
       length-append h.taken w.queue,
     ) in
-    let sum = ap length way ∙ length-append (works_in (passages_in p)) (works_in rest) in
-    let room : length (works w.ledger) + length (works_in (passages_in p))
+    let sum = ap length way ∙ length-append (inputs_in (decisions_in p)) (inputs_in rest) in
+    let room : length (inputs w.ledger) + length (inputs_in (decisions_in p))
     ≤ 2 ^ 63 =
-    omega (arith, short, few, sum, ap length all, length-append (works w.ledger) (works_in on_way)) in
+    omega (arith, short, few, sum, ap length all, length-append (inputs w.ledger) (inputs_in on_way)) in
     subst (λ b. (apply_step b w.ledger p).ledger.stopped ≡ false) (sym (u is))
     (goes_on w.ledger p (h.goes is).ledger room)
 
@@ -107,7 +107,7 @@ event_holds U clock n pushed w OutcomePop u short h =
 event_holds U clock n pushed w ReplyPush u short h =
     none_more U clock n pushed _ (reply_push_holds U clock n pushed w w.replies refl h)
 event_holds U clock n pushed w (ReplyPop own) u short h =
-    none_more U clock n pushed _ (reply_pop_holds U clock n pushed w own (shelf_at w.shelves own).ring refl h)
+    none_more U clock n pushed _ (reply_pop_holds U clock n pushed w own (mailbox_at w.mailboxes own).ring refl h)
 
 -- ---- a list of events
 
@@ -164,7 +164,7 @@ opened_holds U clock limit n =
       };
       commits = record {
         from = refl;
-        behind = [];
+        remainder = [];
         committed = refl;
         whole = λ any. refl;
         unstopped = λ any. refl;
@@ -172,9 +172,9 @@ opened_holds U clock limit n =
         replied = refl;
       };
       routed = record {
-        long = length-replicate n empty_shelf;
-        each = λ submitter among. sym (ap (λ (shelf : Shelf). shelf.received ++ (shelf.ring ++ []))
-            (get_or-replicate n submitter empty_shelf empty_shelf among));
+        long = length-replicate n empty_mailbox;
+        each = λ submitter among. sym (ap (λ (mailbox : Mailbox). mailbox.received ++ (mailbox.ring ++ []))
+            (get_or-replicate n submitter empty_mailbox empty_mailbox among));
       };
       goes = λ is. record { front = refl; ledger = refl };
     }

@@ -3,8 +3,8 @@ use Rattle.std.proofs.Common.{refl, sym, ap, subst, ◌∙◌, ◌≡◌, ℕ, �
 use Rattle.std.specs.List.{list_any}
 use Rattle.std.proofs.lemmas.List.{map-append}
 use Rattle.std.proofs.lemmas.List.Elements.{filter-append}
-use Rattle.tb_layout.specs.Work.{Work}
-use Rattle.tb_work.specs.Packet.{Numbered, Replied}
+use Rattle.tb_layout.specs.Input.{Input}
+use Rattle.tb_work.specs.Packet.{Numbered, ReplyValue}
 use Rattle.tb_work.specs.Queue.{part, ahead, items_in}
 use Rattle.tb_work.specs.declared.item.Item.{Item}
 use Rattle.tb_work.specs.declared.item.Ticket.{Ticket}
@@ -13,16 +13,16 @@ use Rattle.tb_core.specs.declared.parcel.Parcel.{Parcel}
 use Rattle.tb_world.specs.declared.event.Event.{Event}
 use Rattle.tb_world.specs.declared.event.Event.TheVariants.{Pop, BatchPush, BatchPop, OutcomePush, OutcomePop, ReplyPush, ReplyPop}
 use Rattle.tb_core.specs.Due.{outcome_at, reply_due, all_due_from, all_due, replies_to, Place, Ahead, next_place}
-use Rattle.tb_core.specs.inside.Passage.{works_in, Passage, Admitted, Passes}
-use Rattle.tb_core.specs.Front.{all_passages_in, held_by}
-use Rattle.tb_core.specs.Journal.{works}
+use Rattle.tb_core.specs.inside.Decision.{inputs_in, Decision, Admitted, AreDecisions}
+use Rattle.tb_core.specs.Front.{all_decisions_in, held_by}
+use Rattle.tb_core.specs.Journal.{inputs}
 use Rattle.tb_core.specs.Run.{Ran}
-use Rattle.tb_world.specs.Shelf.{Shelf, shelf_at, after_pop_of}
+use Rattle.tb_world.specs.Mailbox.{Mailbox, mailbox_at, after_pop_of}
 use Rattle.tb_world.specs.World.{WorldState, pop, batch_push, batch_pop, outcome_push, outcome_pop, reply_push, reply_pop, received_of, run, new_world}
 use Rattle.tb_core.specs.Report.{IsPrefix}
-use Rattle.tb_world.specs.EveryOrder.{history, is_refused, IsAtRest, IsLawfulSoFar, NoneStopped, Rests, HasRun}
+use Rattle.tb_world.specs.EveryOrder.{history, is_refused, IsAtRest, IsLawfulSoFar, NoneStopped, IsLawfulAtRest, HasRun}
 use Rattle.tb_core.proofs.HeadlineLemmas.{is-prefix-trans, prefix-filter}
-use Rattle.tb_core.proofs.Passing.{ahead-first}
+use Rattle.tb_core.proofs.FrontDecisions.{ahead-first}
 use Rattle.tb_core.proofs.Runs.{none_of_first, none_among, SoFar, so_far, run_is_lawful}
 use Rattle.tb_world.proofs.orders.Pushed.{numbered_by, queue_of_all}
 use Rattle.tb_world.proofs.orders.Holding.{on_the_way, unrouted, of_all, of_one, shelved, Holds, Goes}
@@ -30,7 +30,7 @@ use Rattle.tb_world.proofs.orders.Runs.{all_holds}
 
 -- ---- prefixes
 
-due-prefix : (clock : ℕ) (journal : List Work) (place : Place) (items others : List Item)
+due-prefix : (clock : ℕ) (journal : List Input) (place : Place) (items others : List Item)
     → IsPrefix (all_due_from clock journal place items) (all_due_from clock journal place (items ++ others))
 due-prefix clock journal place [] others = (all_due_from clock journal place others, refl)
 due-prefix clock journal place (x ∷ items) others =
@@ -44,7 +44,7 @@ due-prefix clock journal place (x ∷ items) others =
 -- ---- so far
 
 module _ (U : Type 0) (clock n : ℕ) (pushed : List Ticket) (w : WorldState) (h : Holds U clock n pushed w) where
-  abbrev way : List Passage
+  abbrev way : List Decision
   way = on_the_way w.front w.parcels w.batches
 
   far : SoFar clock (items_in h.taken) w.front.stopped w.ledger h.answers way
@@ -58,29 +58,29 @@ module _ (U : Type 0) (clock n : ℕ) (pushed : List Ticket) (w : WorldState) (h
   is_lawful_so_far =
       let before = items_in h.taken in
       let after = items_in w.queue in
-      let journal = works w.ledger in
+      let journal = inputs w.ledger in
       record {
         submitted = h.senders.submitted;
         numbered = numbered_by n pushed w.senders h.senders;
         committed = rw items_are (is-prefix-trans journal (ahead before) (ahead (before ++ after))
-            (far.behind, far.committed) (ahead-first before after));
+            (far.remainder, far.committed) (ahead-first before after));
         received = λ submitter among.
-            let shelf = shelf_at w.shelves submitter in
-            let others = shelf.ring ++ replies_to (unrouted w.replies w.outcomes w.outcome) submitter in
+            let mailbox = mailbox_at w.mailboxes submitter in
+            let others = mailbox.ring ++ replies_to (unrouted w.replies w.outcomes w.outcome) submitter in
             let all = all_due clock (before ++ after) journal in
             let answers = is-prefix-trans h.answers (all_due clock before journal) all (far.later, far.due)
             (due-prefix clock journal (Ahead 0) before after) in
-            rw items_are (is-prefix-trans shelf.received (replies_to h.answers submitter) (replies_to all submitter)
-            (others, sym (h.routed.each submitter among)) (prefix-filter (λ (reply : Replied). reply.submitter == submitter) h.answers all answers));
+            rw items_are (is-prefix-trans mailbox.received (replies_to h.answers submitter) (replies_to all submitter)
+            (others, sym (h.routed.each submitter among)) (prefix-filter (λ (reply : ReplyValue). reply.submitter == submitter) h.answers all answers));
       }
 
   none_stopped : Goes w.front w.ledger → NoneStopped n w
   none_stopped goes = λ submitter among.
-      let shelf = shelf_at w.shelves submitter in
-      let others = shelf.ring ++ replies_to (unrouted w.replies w.outcomes w.outcome) submitter in
-      none_of_first shelf.received others (replies_to h.answers submitter) (sym (h.routed.each submitter among))
-      (none_among (λ (reply : Replied). reply.submitter == submitter) h.answers
-      (far.untold goes.front goes.ledger))
+      let mailbox = mailbox_at w.mailboxes submitter in
+      let others = mailbox.ring ++ replies_to (unrouted w.replies w.outcomes w.outcome) submitter in
+      none_of_first mailbox.received others (replies_to h.answers submitter) (sym (h.routed.each submitter among))
+      (none_among (λ (reply : ReplyValue). reply.submitter == submitter) h.answers
+      (far.no_stop_seen goes.front goes.ledger))
 
 -- ---- at rest
 
@@ -106,27 +106,27 @@ no_batches w (Some outcome) batches e h = cc
 no_batches w None [] e h = refl
 no_batches w None (p ∷ batches) e h = cc
 
-no_replies : (w : WorldState) (replies : List Replied) → reply_push w replies ≡ None → replies ≡ []
+no_replies : (w : WorldState) (replies : List ReplyValue) → reply_push w replies ≡ None → replies ≡ []
 no_replies w [] h = refl
 no_replies w (reply ∷ replies) h = cc
 
-no_outcomes : (w : WorldState) (replies : List Replied) (outcomes : List Outcomes) → replies ≡ []
+no_outcomes : (w : WorldState) (replies : List ReplyValue) (outcomes : List Outcomes) → replies ≡ []
     → outcome_pop w replies outcomes ≡ None → outcomes ≡ []
 no_outcomes w (reply ∷ replies) outcomes e h = cc
 no_outcomes w [] [] e h = refl
 no_outcomes w [] (outcome ∷ outcomes) e h = cc
 
-no_ring : (w : WorldState) (own : ℕ) (shelf : Shelf) (ring : List Replied)
-    → reply_pop w own (after_pop_of shelf ring) ≡ None → ring ≡ []
-no_ring w own shelf [] h = refl
-no_ring w own shelf (reply ∷ ring) h = cc
+no_ring : (w : WorldState) (own : ℕ) (mailbox : Mailbox) (ring : List ReplyValue)
+    → reply_pop w own (after_pop_of mailbox ring) ≡ None → ring ≡ []
+no_ring w own mailbox [] h = refl
+no_ring w own mailbox (reply ∷ ring) h = cc
 
 -- stages, queue and rings are empty
 record IsEmpty (w : WorldState) : Type 0 where
   queue : w.queue ≡ []
   way : on_the_way w.front w.parcels w.batches ≡ []
   unrouted : unrouted w.replies w.outcomes w.outcome ≡ []
-  rings : (own : ℕ) → (shelf_at w.shelves own).ring ≡ []
+  rings : (own : ℕ) → (mailbox_at w.mailboxes own).ring ≡ []
 
 empty_at_rest : (w : WorldState) → IsAtRest w → IsEmpty w
 empty_at_rest w rest =
@@ -137,12 +137,12 @@ empty_at_rest w rest =
     let outcomes = no_outcomes w w.replies w.outcomes replies (rest OutcomePop refl) in
     record {
       queue = no_queue w w.parcels w.queue batcher.0 (rest (Pop false) refl);
-      way = ap (λ (l : List Parcel). all_passages_in l ++ (all_passages_in w.parcels ++ held_by w.front)) batches
-          ∙ ap (λ (l : List Parcel). all_passages_in l ++ held_by w.front) batcher.0
+      way = ap (λ (l : List Parcel). all_decisions_in l ++ (all_decisions_in w.parcels ++ held_by w.front)) batches
+          ∙ ap (λ (l : List Parcel). all_decisions_in l ++ held_by w.front) batcher.0
           ∙ ap (λ (l : List Numbered). map Admitted l) batcher.1;
-      unrouted = ap (λ (l : List Replied). l ++ (of_all w.outcomes ++ of_one w.outcome)) replies
+      unrouted = ap (λ (l : List ReplyValue). l ++ (of_all w.outcomes ++ of_one w.outcome)) replies
           ∙ ap (λ (l : List Outcomes). of_all l ++ of_one w.outcome) outcomes ∙ ap of_one outcome;
-      rings = λ own. no_ring w own (shelf_at w.shelves own) (shelf_at w.shelves own).ring (rest (ReplyPop own) refl);
+      rings = λ own. no_ring w own (mailbox_at w.mailboxes own) (mailbox_at w.mailboxes own).ring (rest (ReplyPop own) refl);
     }
 
 module _ (U : Type 0) (clock n : ℕ) (pushed : List Ticket) (w : WorldState)
@@ -155,10 +155,10 @@ module _ (U : Type 0) (clock n : ℕ) (pushed : List Ticket) (w : WorldState)
       record {
         closed = w.front.closed;
         stopped = w.front.stopped;
-        passages = h.applied;
-        passed = subst (λ (queue : List Ticket). Passes
+        decisions = h.applied;
+        passed = subst (λ (queue : List Ticket). AreDecisions
             (items_in queue) w.front.closed w.front.stopped h.applied) taken_all
-            (subst (Passes (items_in h.taken) w.front.closed w.front.stopped)
+            (subst (AreDecisions (items_in h.taken) w.front.closed w.front.stopped)
             (ap (λ l. h.applied ++ l) e.way ∙ append-nil h.applied) h.sent.passes);
         commits = h.commits;
       }
@@ -166,23 +166,23 @@ module _ (U : Type 0) (clock n : ℕ) (pushed : List Ticket) (w : WorldState)
   received_all : (submitter : ℕ) → submitter < n → received_of w submitter ≡ replies_to h.answers submitter
   received_all submitter among =
       let received = received_of w submitter in
-      sym (h.routed.each submitter among ∙ ap (λ (way : List Replied). shelved submitter w.shelves way) e.unrouted
-      ∙ ap (λ (ring : List Replied). received ++ (ring ++ [])) (e.rings submitter) ∙ append-nil received)
+      sym (h.routed.each submitter among ∙ ap (λ (way : List ReplyValue). shelved submitter w.mailboxes way) e.unrouted
+      ∙ ap (λ (ring : List ReplyValue). received ++ (ring ++ [])) (e.rings submitter) ∙ append-nil received)
 
-  rests : Rests clock n pushed w
+  rests : IsLawfulAtRest clock n pushed w
   rests =
-      let all : h.answers ≡ all_due clock (items_in pushed) (works w.ledger) =
+      let all : h.answers ≡ all_due clock (items_in pushed) (inputs w.ledger) =
       (far U clock n pushed w h).replied e.way ∙ ap
-      (λ (queue : List Ticket). all_due clock (items_in queue) (works w.ledger)) taken_all in
+      (λ (queue : List Ticket). all_due clock (items_in queue) (inputs w.ledger)) taken_all in
       record {
         received = λ submitter among. received_all submitter among ∙ ap (λ rs. replies_to rs submitter) all;
         reports = λ over. run_is_lawful _ h.answers (queue_of_all n pushed w.senders h.senders over) ran received_all;
       }
 
-  whole : Goes w.front w.ledger → works w.ledger ≡ ahead (items_in pushed)
+  whole : Goes w.front w.ledger → inputs w.ledger ≡ ahead (items_in pushed)
   whole goes =
       let is = far U clock n pushed w h in
-      sym (append-nil (works w.ledger)) ∙ ap (λ (l : List Passage). works w.ledger ++ works_in l) (sym e.way)
+      sym (append-nil (inputs w.ledger)) ∙ ap (λ (l : List Decision). inputs w.ledger ++ inputs_in l) (sym e.way)
       ∙ is.whole goes.front goes.ledger ∙ ap (λ (queue : List Ticket). ahead (items_in queue)) taken_all
 
 -- ---- a list of events
@@ -208,7 +208,7 @@ has_run clock limit n events world short is = subst (HasRun clock limit n events
         record {
           is = refl;
           so_far = is_lawful_so_far U clock n pushed end holds;
-          untold = λ unrefused. none_stopped U clock n pushed end holds (holds.goes unrefused);
+          no_stop_seen = λ unrefused. none_stopped U clock n pushed end holds (holds.goes unrefused);
           at_rest = λ rest. rests U clock n pushed end holds (empty_at_rest end rest);
           whole = λ unrefused rest. whole U clock n pushed end holds (empty_at_rest end rest) (holds.goes unrefused);
         }

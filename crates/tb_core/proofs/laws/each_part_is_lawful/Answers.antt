@@ -5,7 +5,7 @@ pub returns : goal.returns
 returns c = λ clock items closed stopped applied way ledger answers passes commits.
     let far = so_far clock items closed stopped applied way ledger answers passes commits in
     record {
-      committed = (far.behind, far.committed);
+      committed = (far.remainder, far.committed);
       due = (far.later, far.due);
       replied = far.replied;
       whole = far.whole;

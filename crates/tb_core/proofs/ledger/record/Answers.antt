@@ -4,8 +4,8 @@ use Rattle.tb_machine.specs.Replay.{replay}
 use Rattle.tb_batch.specs.Batch.{body_of}
 use Rattle.tb_core.specs.Ledger.{group_of, packets_of, IsBatchEntry, IsEntry, AreEntries}
 use Rattle.tb_core.proofs.Batches.{JoinInvisibly, entry_has, entry_is}
-use Rattle.tb_core.proofs.Committed.{all-push, replies_from-answers}
-use Rattle.tb_core.proofs.Recording.{recorded}
+use Rattle.tb_core.proofs.LedgerSteps.{all-push, replies_from-answers}
+use Rattle.tb_core.proofs.RecordedBatch.{recorded}
 use Rattle.tb_core.proofs.ledger.record.Goals as goal
 
 pub new-requires : goal.new-requires

@@ -1,8 +1,8 @@
 use Rattle.std.proofs.Common.{◌∙◌, sym, subst, false, ◌++◌}
-use Rattle.tb_core.specs.Front.{passages_in}
+use Rattle.tb_core.specs.Front.{decisions_in}
 use Rattle.tb_core.specs.Ledger.{apply_result}
-use Rattle.tb_core.specs.Run.{GoesOn, replies_in}
-use Rattle.tb_core.proofs.Grouped.{has_applied}
+use Rattle.tb_core.specs.Run.{HasNotStopped, replies_in}
+use Rattle.tb_core.proofs.JournalGroups.{has_applied}
 use Rattle.tb_core.proofs.list.apply.Goals as goal
 
 pub returns-else-stopped : goal.returns-else-stopped
@@ -11,11 +11,11 @@ returns-else-stopped c = λ clock limit sent joined is.
     let replies = c.args.replies.now.items in
     let applied = has_applied false c.args.ledger.now c.args.parcel
     (apply_result ledger c.in-Ok.outcomes) c.try_apply.ensures.some c.in-Ok.ensures.ok in
-    let more : GoesOn clock limit (sent ++ passages_in c.args.parcel) ledger (replies ++ replies_in c.in-Ok.outcomes) =
+    let more : HasNotStopped clock limit (sent ++ decisions_in c.args.parcel) ledger (replies ++ replies_in c.in-Ok.outcomes) =
     record {
       commits = applied.commits clock sent replies is.commits;
       unmarked = sym c.stopped.ensures
           ∙ c.if-stopped.false;
       joined = applied.joined limit joined is.joined;
     } in
-    subst (GoesOn clock limit (sent ++ passages_in c.args.parcel) ledger) (sym c.in_ok-put-in-Ok.ensures) more
+    subst (HasNotStopped clock limit (sent ++ decisions_in c.args.parcel) ledger) (sym c.in_ok-put-in-Ok.ensures) more

@@ -1,6 +1,6 @@
 use Rattle.std.proofs.Common.{arith, ◌≡◌, [], ◌∷◌, List, refl, sym, ap, ◌∙◌, ◌++◌, append-nil, append_assoc, Some, None, slice_get, remove}
 use Rattle.tb_core.specs.declared.parcel.Parcel.{Parcel}
-use Rattle.tb_core.specs.Front.{all_passages_in, passages_in}
+use Rattle.tb_core.specs.Front.{all_decisions_in, decisions_in}
 use Rattle.tb_core.proofs.list.apply_all.Goals as goal
 
 first_out : (parcels rest : List Parcel) (parcel : Parcel) → Some parcel ≡ slice_get parcels 0
@@ -21,8 +21,8 @@ loop-parcel-preserved c = λ clock limit sent joined on.
     let have = rw (first_out c.loop-parcel.parcels.items rest c.in-Some.parcel c.in-Some.ensures.value
     c.in-Some.ensures.items) at (c.loop-parcel.invariant clock limit sent joined on) in
     record {
-      done = have.done ++ passages_in c.in-Some.parcel;
-      parts = append_assoc have.done (passages_in c.in-Some.parcel) (all_passages_in rest) ∙ have.parts;
+      done = have.done ++ decisions_in c.in-Some.parcel;
+      parts = append_assoc have.done (decisions_in c.in-Some.parcel) (all_decisions_in rest) ∙ have.parts;
       joined = have.joined.1;
       on = c.in_ok-apply.ensures clock limit have.done have.joined.0 have.on;
     }
@@ -30,5 +30,5 @@ loop-parcel-preserved c = λ clock limit sent joined on.
 pub returns-clause-applied : goal.returns-clause-applied
 returns-clause-applied c = λ clock limit sent joined on.
     let have = c.loop-parcel.invariant clock limit sent joined on in
-    rw (sym have.parts ∙ ap (λ rest. have.done ++ all_passages_in rest)
+    rw (sym have.parts ∙ ap (λ rest. have.done ++ all_decisions_in rest)
     (none_left c.loop-parcel.parcels.items c.in_default.ensures.value) ∙ append-nil have.done) have.on

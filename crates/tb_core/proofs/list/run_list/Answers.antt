@@ -2,11 +2,11 @@ use Rattle.std.proofs.Common.{ap, sym, subst, []}
 use Rattle.tb_core.specs.Front.{FrontState}
 use Rattle.tb_core.specs.Grouping.{AreWithin}
 use Rattle.tb_core.specs.Journal.{LedgerState}
-use Rattle.tb_core.specs.Run.{IsListed, Commits, IsThrough}
+use Rattle.tb_core.specs.Run.{IsListed, Commits, IsDrained}
 use Rattle.tb_core.proofs.Runs.{run_is_listed}
 use Rattle.tb_core.proofs.list.run_list.Goals as goal
 
-done : (c : goal.After-drop) → IsThrough c.args.clock c.args.limit c.args.items.items
+done : (c : goal.After-drop) → IsDrained c.args.clock c.args.limit c.args.items.items
     c.take_all_and_finish.new.self.ledger c.take_all_and_finish.new.self.replies.items
 done c = c.in-Ok-take_all_and_finish.ensures c.args.clock c.args.limit (record {
   sent = [];

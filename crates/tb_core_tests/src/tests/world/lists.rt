@@ -18,7 +18,7 @@ enum Pushed {
     End(u32),
 }
 
-/// What plain code knows of a list: what was pushed, and whether a growth was refused.
+/// What plain code knows of a list: what was pushed, and whether an allocation failed.
 #[derive(Drop)]
 struct Known {
     pushed: Vec<Pushed>,
@@ -86,7 +86,7 @@ fn made(pushed: Pushed) -> Made {
     }
 }
 
-/// A step of a stage; now and then its growth is refused.
+/// A step of a stage; now and then its allocation fails.
 fn next_stage(seed: &mut u64) -> Step {
     let kind = next_number(seed, 20);
     let refused = next_number(seed, 100) == 0;
@@ -104,7 +104,7 @@ fn next_stage(seed: &mut u64) -> Step {
     }
 }
 
-/// A push of the rule, which is answered true unless its sender has ended.
+/// A push that the rule allows; it returns true unless its sender has ended.
 fn push(
     rt: &(impl Abort + Alloc<A = Global>),
     world: &mut World,
@@ -179,7 +179,7 @@ fn committed(rt: &(impl Abort + Alloc<A = Global>), journal: &[Entry]) -> Vec<Pu
     committed
 }
 
-/// What a packet comes to where so many of those ahead were committed.
+/// What becomes of a packet if this number of those ahead were committed.
 fn due(ahead: &[Pushed], committed: usize, packet: Pushed) -> Told {
     match ahead.iter().position(|one| *one == packet) {
         Some(place) if place < committed => Told::Committed(place as u64),
@@ -188,7 +188,7 @@ fn due(ahead: &[Pushed], committed: usize, packet: Pushed) -> Told {
     }
 }
 
-/// Asserts that each reply is the one due: the submitter's next packet's, and what that comes to.
+/// Asserts that each reply is the one due: the submitter's next packet's, with its outcome.
 fn assert_due(rt: &impl Abort, replies: &[Reply], sender: u32, ahead: &[Pushed], committed: usize) {
     for (place, reply) in replies.iter().enumerate() {
         let number = place as u64;
@@ -248,7 +248,7 @@ fn settle(rt: &(impl Abort + Alloc<A = Global>), world: &mut World) {
 /// Asserts that at rest each packet has its reply, and all that is ahead was committed where nothing was refused.
 fn assert_whole(rt: &(impl Abort + Alloc<A = Global>), world: &World, known: &Known) {
     let left = assert_lawful(rt, world, &known.pushed);
-    // Where no growth was refused, all that is ahead was committed.
+    // If no allocation failed, all that is ahead was committed.
     assert!(rt; known.refused || left == 0);
     for sender in 0..2 {
         let replies = world.received(sender).len() as u64;

@@ -25,7 +25,7 @@ fn add_all(alloc: Global, events: &mut Vec<Event>, steps: &[Step]) -> Result<(),
     Ok(())
 }
 
-/// The World of one submitter that a list of events comes to; its batches have at most 4 events.
+/// The World of one submitter after a list of events; its batches have at most 4 events.
 fn run(alloc: Global, events: Vec<Event>) -> Result<World, Refusal> {
     match run_world(alloc, 0, 4, 1, events) {
         Ok(world) => Ok(world),
@@ -54,7 +54,7 @@ const PULSE_BETWEEN_BATCHES: [Step; 18] = [
     Step::BatchPush,
 ];
 
-/// Commits a parcel and hands out up to four replies.
+/// Commits a parcel and takes up to four replies.
 const THROUGH: [Step; 11] = [
     Step::BatchPop,
     Step::OutcomePush,
@@ -95,7 +95,7 @@ fn assert_pulsed(rt: &impl Abort, world: &World) {
     assert!(rt; world.ledger().machine().clock() == 9);
 }
 
-/// Runs the example, and asserts what it comes to.
+/// Runs the example, and asserts its result.
 fn run_pulsed(rt: &impl Abort, alloc: Global) -> Result<(), Refusal> {
     let world = run(alloc, pulsed_events(alloc)?)?;
     assert_pulsed(rt, &world);
@@ -115,7 +115,7 @@ fn pulse_between_batches_refused_memory(rt: HostRuntime) {
     }
 }
 
-/// Three accounts, of which the second may not owe more than it is owed.
+/// Three accounts; the second may not owe more than it is owed.
 fn accounts() -> [Account; 3] {
     [
         account(1),
@@ -127,7 +127,7 @@ fn accounts() -> [Account; 3] {
     ]
 }
 
-/// A chain of three transfers, the last of which is in ledger 0.
+/// A chain of three transfers; the last is in ledger 0.
 fn chain() -> [Transfer; 3] {
     [
         Transfer {
@@ -209,7 +209,7 @@ fn assert_untouched(rt: &impl Abort, world: &World) {
     }
 }
 
-/// Runs the example, and asserts what it comes to.
+/// Runs the example, and asserts its result.
 fn run_joined(rt: &impl Abort, alloc: Global) -> Result<(), Refusal> {
     let world = run(alloc, joined_events(alloc)?)?;
     assert_joined(rt, &world);
@@ -229,7 +229,7 @@ fn chains_of_transfers_joined_refused_memory(rt: HostRuntime) {
     }
 }
 
-/// Joins four packets to a batch, commits it and hands out its replies.
+/// Joins four packets to a batch, commits it and takes its replies.
 const FOUR: [Step; 12] = [
     Step::Pop,
     Step::Pop,
@@ -245,7 +245,7 @@ const FOUR: [Step; 12] = [
     Step::ReplyPush,
 ];
 
-/// A packet of each of 16 submitters, and all that becomes of them.
+/// A packet of each of 16 submitters, and what becomes of them.
 fn sixteen_events(rt: &(impl Abort + Alloc<A = Global>)) -> Vec<Event> {
     let mut events = Vec::new(rt.alloc());
     for sender in 0..16 {

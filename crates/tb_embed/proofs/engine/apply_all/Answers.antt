@@ -1,5 +1,5 @@
 use Rattle.std.proofs.Common.{arith, refl, sym, subst, ap, ◌∙◌, ◌++◌, append_assoc, append-nil}
-use Rattle.tb_core.specs.Front.{all_passages_in, passages_in}
+use Rattle.tb_core.specs.Front.{all_decisions_in, decisions_in}
 use Rattle.tb_core.specs.Run.{Commits, replies_in}
 use Rattle.tb_embed.proofs.Parcels.{first_out, none_left}
 use Rattle.tb_embed.proofs.engine.apply_all.Goals as goal
@@ -22,9 +22,9 @@ loop-parcel-preserved c =
       (λ clock sent read start.
           let have = rw out at (had.1 clock sent read start) in
           record {
-            done = have.done ++ passages_in parcel;
-            parts = append_assoc have.done (passages_in parcel) (all_passages_in rest) ∙ have.parts;
-            commits = subst (Commits clock (have.done ++ passages_in parcel) ledger)
+            done = have.done ++ decisions_in parcel;
+            parts = append_assoc have.done (decisions_in parcel) (all_decisions_in rest) ∙ have.parts;
+            commits = subst (Commits clock (have.done ++ decisions_in parcel) ledger)
                 (append_assoc read c.loop-parcel.unread.replies (replies_in c.apply.result)
                 ∙ ap (λ replies. read ++ replies) (sym c.push.ensures.replies))
                 (c.apply.ensures.commits clock have.done _ have.commits);
@@ -37,7 +37,7 @@ loop-parcel-preserved c =
 pub returns-clause-commits : goal.returns-clause-commits
 returns-clause-commits c = λ clock sent read start.
     let have = c.loop-parcel.invariant.1 clock sent read start in
-    rw (sym have.parts ∙ ap (λ rest. have.done ++ all_passages_in rest)
+    rw (sym have.parts ∙ ap (λ rest. have.done ++ all_decisions_in rest)
     (none_left c.loop-parcel.parcels.items c.in_default.ensures.value) ∙ append-nil have.done) have.commits
 
 pub returns-clause-joined : goal.returns-clause-joined

@@ -1,4 +1,4 @@
-use Rattle.tb_embed.proofs.Serving.{serving_is_lawful}
+use Rattle.tb_embed.proofs.EngineRun.{serving_is_lawful}
 use Rattle.tb_embed.proofs.laws.serving_is_lawful.Goals as goal
 
 pub returns : goal.returns

@@ -2,7 +2,7 @@ use Rattle.std.proofs.Common.{ap, subst}
 use Rattle.tb_layout.specs.declared.transfer.Transfer.{Transfer}
 use Rattle.tb_tables.specs.Facts.{transfer_with}
 use Rattle.tb_tables.specs.Conditions.{MayAdd}
-use Rattle.tb_machine.proofs.Storing.{fits, may_add, has_debit, resolves_nothing}
+use Rattle.tb_machine.proofs.StoredEvents.{fits, may_add, has_debit, resolves_nothing}
 use Rattle.tb_machine.proofs.event.store_new.Goals as goal
 
 pub add_new_between-requires-clause-fits : goal.add_new_between-requires-clause-fits

@@ -1,6 +1,6 @@
 use Rattle.std.proofs.Common.{sym, subst}
 use Rattle.tb_tables.specs.Conditions.{MayResolve}
-use Rattle.tb_machine.proofs.Storing.{may_resolve}
+use Rattle.tb_machine.proofs.StoredEvents.{may_resolve}
 use Rattle.tb_machine.proofs.event.store_resolved.Goals as goal
 
 pub resolve_new_at-requires-clause-may : goal.resolve_new_at-requires-clause-may

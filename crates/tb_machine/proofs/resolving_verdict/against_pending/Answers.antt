@@ -1,3 +1,4 @@
+-- Found by the prover itself; on file since the check of an edit then costs less.
 use Rattle.std.proofs.Common.{rules}
 use Rattle.tb_machine.proofs.resolving_verdict.against_pending.Goals as goal
 

@@ -1,6 +1,6 @@
 use Rattle.std.proofs.Common.{◌≡◌, ◌∙◌, sym, ap, subst, arith, ◌<◌, ℕ, zero, suc, List, [], ◌∷◌, ◌++◌, length}
 use Rattle.tb_core.specs.Headline.{moments_in, moments_queued}
-use Rattle.tb_core.specs.Journal.{works}
+use Rattle.tb_core.specs.Journal.{inputs}
 use Rattle.tb_core.specs.Report.{IsPrefix, LawfulReport}
 use Rattle.tb_rings.specs.Ends.{given, taken, lies}
 use Rattle.std.proofs.lemmas.List.{length-map}
@@ -67,6 +67,6 @@ returns-clause-pulses c =
     =
     sym (length-map c.args.ends.items end_origin) ∙ ap length c.requires.ends
     ∙ length-origins (seat_at remains.intake) 0 remains.routed.outlets.items ∙ c.requires.served.number in
-    subst (λ items. IsPrefix (moments_in (works remains.committed.ledger)) (moments_queued items))
+    subst (λ items. IsPrefix (moments_in (inputs remains.committed.ledger)) (moments_queued items))
     (last_is_control c.args.ends.items c.args.control remains.intake.submitters long)
     (c.headline.ensures _ (report c)).pulses

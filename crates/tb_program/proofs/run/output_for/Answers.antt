@@ -1,8 +1,8 @@
 use Rattle.std.proofs.Common.{rules, ◌≡◌, ◌∙◌, Vec, length, ap, sym, arith}
 use Rattle.std.proofs.lemmas.List.{length-map}
 use Rattle.std.specs.declared.alloc.Global.{Global}
-use Rattle.tb_script.specs.declared.item.Settings.{Settings}
-use Rattle.tb_script.specs.Script.{clock_of, items_of, limit_of, submitters_of}
+use Rattle.tb_program_script.specs.declared.item.Settings.{Settings}
+use Rattle.tb_program_script.specs.Script.{clock_of, items_of, limit_of, submitters_of}
 use Rattle.tb_work.specs.declared.packet.Packet.{Packet}
 use Rattle.tb_program.specs.Drivers.{share_of}
 use Rattle.tb_program.specs.Sharing.{AreDealt, moments_in, shares_of, shuts_in}
@@ -28,7 +28,7 @@ run_opened-requires-clause-few g c κs within =
 
 pub returns-in-Ok : goal.returns-in-Ok
 returns-in-Ok g c =
-    let said = c.args.script in
+    let parsed = c.args.script in
     let packets = c.in_ok-packets.field-0.packets.items in
     let all = c.in_ok-settings.ensures.all in
     let clock = c.in-Ok.ensures.clock ∙ ap clock_of all.0 in
@@ -38,7 +38,7 @@ returns-in-Ok g c =
     let shares = c.in_ok-drivers.ensures.shares ∙ dealt_lists 0 packets c.in_ok-settings.items.items dealt
     ∙ ap (λ n. shares_of 0 n c.in_ok-settings.items.items) number
     ∙ ap (λ (settings : Settings). shares_of 0 (submitters_of settings) c.in_ok-settings.items.items) all.0
-    ∙ ap (shares_of 0 (submitters_of said.settings)) all.1 in
-    let moments : c.in_ok-packets.field-0.lines.moments.items ≡ moments_in (items_of said) = search rules in
-    let shuts : c.in_ok-packets.field-0.lines.shuts ≡ shuts_in (items_of said) = search rules in
+    ∙ ap (shares_of 0 (submitters_of parsed.settings)) all.1 in
+    let moments : c.in_ok-packets.field-0.lines.moments.items ≡ moments_in (items_of parsed) = search rules in
+    let shuts : c.in_ok-packets.field-0.lines.shuts ≡ shuts_in (items_of parsed) = search rules in
     rw (clock, limit, shares, moments, shuts) at c.run_opened.ensures

@@ -2,13 +2,13 @@ use Rattle.std.proofs.Common.{refl, ◌≡◌, ◌∙◌, ◌++◌, List, [], le
 use Rattle.std.proofs.lemmas.List.{length-map}
 use Rattle.std.specs.Prelude.{ℕ, Vec}
 use Rattle.std.specs.declared.alloc.Global.{Global}
-use Rattle.tb_core.specs.Journal.{works}
+use Rattle.tb_core.specs.Journal.{inputs}
 use Rattle.tb_core.specs.Headline.{moments_in, moments_queued}
 use Rattle.tb_core.specs.Report.{IsPrefix}
 use Rattle.tb_drive.specs.Lines.{lines_of, refused_of}
 use Rattle.tb_drive.specs.Seen.{jobs_in}
 use Rattle.tb_submit.specs.Ends.{replies_of}
-use Rattle.tb_work.specs.Packet.{Replied}
+use Rattle.tb_work.specs.Packet.{ReplyValue}
 use Rattle.tb_work.specs.declared.item.Item.{Item}
 use Rattle.tb_program.specs.Drivers.{HasSeenOf, share_of, told_of}
 use Rattle.tb_program.specs.RunText.{AreHandedIn, run_text}
@@ -20,7 +20,7 @@ drive_all-requires-clause-seen g c κs within = λ k driver submitter driver_is 
     let fresh = c.requires.fresh k submitter submitter_is in
     let limit = submitter.origin.seat.limit in
     subst (λ (queued : List Item). HasSeenOf driver limit (jobs_in queued) submitter.read) (sym fresh.0)
-    (subst (λ (read : List Replied). HasSeenOf driver limit [] read) (sym fresh.1)
+    (subst (λ (read : List ReplyValue). HasSeenOf driver limit [] read) (sym fresh.1)
     (c.requires.new limit k driver driver_is))
 
 pub text_of-requires-clause-answered : goal.text_of-requires-clause-answered
@@ -63,12 +63,12 @@ returns-in_ok-text_of-in-Ok g c =
       report = reported.report;
       grouping = reported.grouping;
       control = reported.control ∙ all;
-      pulses = subst (λ controlled. IsPrefix (moments_in (works ledger)) (moments_queued controlled)) all
+      pulses = subst (λ controlled. IsPrefix (moments_in (inputs ledger)) (moments_queued controlled)) all
           reported.pulses;
       number = length-map drivers told_of ∙ sym (length-map drivers share_of) ∙ ap length shares;
       handed = subst (λ all. AreHandedIn opened.pipeline.intake.limit replies all told reported.queued) shares
           (all_handed_in reported c.in_ok-text_of-in-Ok.ensures.done);
       printed = subst (λ refused. string_bytes c.in_ok-text_of-in-Ok.field-0
-          ≡ run_text told replies (works ledger) refused ledger.state) counted
+          ≡ run_text told replies (inputs ledger) refused ledger.state) counted
           c.in_ok-text_of-in-Ok.ensures.text;
     }

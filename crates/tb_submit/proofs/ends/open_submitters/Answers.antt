@@ -1,11 +1,11 @@
 use Rattle.std.proofs.Common.{◌≡◌, ◌+◌, ◌∷◌, [], map, ap, sym, ◌∙◌, arith, length, length-append, Some}
 use Rattle.std.proofs.lemmas.List.Elements.{All-push}
-use Rattle.tb_work.specs.Packet.{Replied}
+use Rattle.tb_work.specs.Packet.{ReplyValue}
 use Rattle.tb_rings.specs.Ends.{given, slots}
 use Rattle.tb_rings.specs.declared.Outlet.{Outlet}
 use Rattle.tb_submit.specs.Ends.{SenderState, new_submitter, new_intake, origins_from, seat_at}
 use Rattle.tb_submit.specs.Inside.{ReaderState}
-use Rattle.tb_submit.proofs.Opening.{opened_more, reader_counted}
+use Rattle.tb_submit.proofs.OpenedSubmitters.{opened_more, reader_counted}
 use Rattle.tb_submit.proofs.ends.open_submitters.Goals as goal
 
 pub loop-number-preserved : goal.loop-number-preserved
@@ -44,7 +44,7 @@ loop-number-preserved c =
             loop.outlets.items (outlet ∷ []),
       );
       given = rw c.in_ok-push.ensures.items (All-push
-          (λ (o : Outlet Replied). given o ≡ []) _ _ loop.invariant.given c.in_ok-outlet.ensures.empty.0);
+          (λ (o : Outlet ReplyValue). given o ≡ []) _ _ loop.invariant.given c.in_ok-outlet.ensures.empty.0);
       slots = rw c.in_ok-push.ensures.items (All-push
-          (λ (o : Outlet Replied). slots o ≡ c.args.credit) _ _ loop.invariant.slots c.in_ok-outlet.ensures.slots);
+          (λ (o : Outlet ReplyValue). slots o ≡ c.args.credit) _ _ loop.invariant.slots c.in_ok-outlet.ensures.slots);
     }

@@ -1,5 +1,5 @@
 use Rattle.std.proofs.Common.{◌≡◌, [], map, length, All}
-use Rattle.tb_work.specs.Packet.{Replied}
+use Rattle.tb_work.specs.Packet.{ReplyValue}
 use Rattle.tb_rings.specs.Ends.{given, slots}
 use Rattle.tb_rings.specs.declared.Outlet.{Outlet}
 use Rattle.tb_submit.specs.Ends.{new_submitter, new_intake, origins}
@@ -11,6 +11,6 @@ invariant-loop-number l = record {
   opened : l.opened.items ≡ map (new_submitter l.credit)
       (origins (new_intake l.fn.reader.queue l.submitters l.limit l.fn.reader.capacity) l.outlets.items);
   long : length l.outlets.items ≡ l.number;
-  given : All (λ (outlet : Outlet Replied). given outlet ≡ []) l.outlets.items;
-  slots : All (λ (outlet : Outlet Replied). slots outlet ≡ l.credit) l.outlets.items;
+  given : All (λ (outlet : Outlet ReplyValue). given outlet ≡ []) l.outlets.items;
+  slots : All (λ (outlet : Outlet ReplyValue). slots outlet ≡ l.credit) l.outlets.items;
 }

@@ -1,13 +1,13 @@
 use Rattle.std.proofs.Common.{rules, ◌≡◌, ◌≢◌, ◌<◌, ◌+◌, ⊎_elim, ℕ, zero, suc, List, [], ◌∷◌, ◌++◌, map, take, length, get_or, set, Some, true, sym, refl, ap, ◌∙◌, subst, arith, append_assoc, length-set, get_or-set_other}
 use Rattle.std.proofs.lemmas.List.{map-append, take_more, get_or-set_same}
 use Rattle.std.proofs.lemmas.Bool.{cases_eq}
-use Rattle.tb_work.specs.Packet.{Replied}
+use Rattle.tb_work.specs.Packet.{ReplyValue}
 use Rattle.tb_rings.specs.Ends.{given, outlet_ring}
 use Rattle.tb_rings.specs.declared.Outlet.{Outlet}
 use Rattle.tb_submit.specs.Ends.{EndedState, IntakeState, Origin, end_origin, origins, seat_at}
 use Rattle.tb_submit.specs.Inside.{ReaderState, entry_of}
-use Rattle.tb_submit.specs.Lists.{IsFiled}
-use Rattle.tb_submit.proofs.Opening.{ends_long, origin_at}
+use Rattle.tb_submit.specs.Lists.{IsCompleteQueue}
+use Rattle.tb_submit.proofs.OpenedSubmitters.{ends_long, origin_at}
 use Rattle.tb_submit.proofs.settling.settle_all.Goals as goal
 
 same_at : {A : Type 0} (xs : List A) (i : ℕ) (d e : A) → i < length xs → get_or xs i d ≡ get_or xs i e
@@ -26,14 +26,14 @@ one_further F xs k x within here before j d below = ⊎_elim
     (before j d (omega (arith, below, other))))
     (cases_eq j k)
 
-origin_here : (intake : IntakeState) (xs ls : List EndedState) (os ms : List (Outlet Replied)) (k : ℕ)
-    (x : EndedState) (y : Outlet Replied) → map end_origin xs ≡ origins intake os → k < length xs →
+origin_here : (intake : IntakeState) (xs ls : List EndedState) (os ms : List (Outlet ReplyValue)) (k : ℕ)
+    (x : EndedState) (y : Outlet ReplyValue) → map end_origin xs ≡ origins intake os → k < length xs →
     x ≡ get_or ls k x → get_or ls k x ≡ get_or xs k x → y ≡ get_or ms k y → get_or ms k y ≡ get_or os k y
     → x.origin ≡ record { seat = seat_at intake k; ring = outlet_ring y }
 origin_here intake xs ls os ms k x y is within x_is x_same y_is y_same =
     ap (λ (e : EndedState). e.origin) (x_is ∙ x_same)
     ∙ origin_at (seat_at intake) 0 k k xs os x y is within (omega arith)
-    ∙ ap (λ (o : Outlet Replied). record { seat = seat_at intake k; ring = outlet_ring o }) (sym (y_is ∙ y_same))
+    ∙ ap (λ (o : Outlet ReplyValue). record { seat = seat_at intake k; ring = outlet_ring o }) (sym (y_is ∙ y_same))
 
 reader_more : (old was new : ReaderState) (xs : List EndedState) (k : ℕ) (x : EndedState) → k < length xs
     → x ≡ get_or xs k x → was ≡ record old { entries = old.entries ++ map entry_of (take k xs) } →
@@ -56,7 +56,7 @@ kept f xs k x old j d within old_is same = ⊎_elim
     (cases_eq j k)
 
 abbrev FiledAt : EndedState → Type 0
-FiledAt e = IsFiled e.origin.seat.limit e.origin.seat.submitters e.origin.seat.number e.queued
+FiledAt e = IsCompleteQueue e.origin.seat.limit e.origin.seat.submitters e.origin.seat.number e.queued
 
 filed_further : (xs : List EndedState) (k : ℕ) (x : EndedState) → k < length xs → x ≡ get_or xs k x → FiledAt x
     → ((j : ℕ) (d : EndedState) → j < k → FiledAt (get_or xs j d)) →
@@ -133,7 +133,7 @@ loop-k-preserved c =
       settled = one_further (λ i (e : EndedState). e.settled ≡ true) ls k c.settle.new.self inside
           c.settle.ensures.settled inv.settled;
       filed = filed_further xs k x within x_same c.settle.ensures.filed inv.filed;
-      replies = λ j d o below. one_further (λ i (e : EndedState). (q : Outlet Replied)
+      replies = λ j d o below. one_further (λ i (e : EndedState). (q : Outlet ReplyValue)
           → e.read ++ e.lying ≡ given (get_or os i q)) ls k c.settle.new.self inside
           (λ q. c.settle.ensures.replies ∙ ap given (y_same ∙ same_at os k y q among))
           (λ i e before q. inv.replies i e q before) j d below o;

@@ -1,10 +1,10 @@
 use Rattle.std.proofs.Common.{◌≡◌, ◌≤◌, ◌<◌, ◌++◌, ℕ, map, take, length, slice_index_or, true}
-use Rattle.tb_work.specs.Packet.{Replied}
+use Rattle.tb_work.specs.Packet.{ReplyValue}
 use Rattle.tb_rings.specs.Ends.{given}
 use Rattle.tb_rings.specs.declared.Outlet.{Outlet}
 use Rattle.tb_submit.specs.Ends.{EndedState}
 use Rattle.tb_submit.specs.Inside.{entry_of}
-use Rattle.tb_submit.specs.Lists.{IsFiled}
+use Rattle.tb_submit.specs.Lists.{IsCompleteQueue}
 use Rattle.tb_submit.proofs.settling.settle_all.Given as goal
 
 abbrev pub invariant-loop-k : goal.invariant-loop-k
@@ -13,14 +13,14 @@ invariant-loop-k l = record {
   long : length l.ends.items ≡ length l.fn.ends.items;
   outlets : length l.outlets.items ≡ length l.fn.outlets.items;
   rest : (j : ℕ) (d : EndedState) → l.k ≤ j → slice_index_or l.ends.items j d ≡ slice_index_or l.fn.ends.items j d;
-  ungiven : (j : ℕ) (d : Outlet Replied) → l.k ≤ j
+  ungiven : (j : ℕ) (d : Outlet ReplyValue) → l.k ≤ j
       → slice_index_or l.outlets.items j d ≡ slice_index_or l.fn.outlets.items j d;
   read : (j : ℕ) (d : EndedState) → (slice_index_or l.ends.items j d).read ≡ (slice_index_or l.fn.ends.items j d).read;
   settled : (j : ℕ) (d : EndedState) → j < l.k → (slice_index_or l.ends.items j d).settled ≡ true;
-  filed : (j : ℕ) (d : EndedState) → j < l.k → IsFiled (slice_index_or l.fn.ends.items j d).origin.seat.limit
+  filed : (j : ℕ) (d : EndedState) → j < l.k → IsCompleteQueue (slice_index_or l.fn.ends.items j d).origin.seat.limit
       (slice_index_or l.fn.ends.items j d).origin.seat.submitters
       (slice_index_or l.fn.ends.items j d).origin.seat.number (slice_index_or l.fn.ends.items j d).queued;
-  replies : (j : ℕ) (d : EndedState) (o : Outlet Replied) → j < l.k
+  replies : (j : ℕ) (d : EndedState) (o : Outlet ReplyValue) → j < l.k
       → (slice_index_or l.ends.items j d).read ++ (slice_index_or l.ends.items j d).lying
       ≡ given (slice_index_or l.fn.outlets.items j o);
 }

@@ -1,19 +1,19 @@
 use Rattle.std.proofs.Common.{◌≡◌, ◌<◌, ◌+◌, ℕ, zero, suc, List, [], ◌∷◌, ◌++◌, map, length, get_or, ap, ◌∙◌, subst, arith, true, All}
-use Rattle.tb_work.specs.Packet.{Replied}
+use Rattle.tb_work.specs.Packet.{ReplyValue}
 use Rattle.std.proofs.lemmas.List.Elements.{All-nil, All-from_get_or}
 use Rattle.tb_work.specs.declared.item.Ticket.{Ticket}
 use Rattle.tb_rings.specs.Ends.{given}
-use Rattle.tb_submit.specs.declared.rule.Entry.{Entry}
+use Rattle.tb_submit.specs.declared.rule.PassEntry.{PassEntry}
 use Rattle.tb_submit.specs.Ends.{EndedState, IntakeState, SenderState, replies_of, seat_at}
 use Rattle.tb_submit.specs.Inside.{ReaderState, entry_of}
-use Rattle.tb_submit.specs.Lists.{IsFiled}
+use Rattle.tb_submit.specs.Lists.{IsCompleteQueue}
 use Rattle.tb_submit.specs.Rule.{IsWhole, entry}
-use Rattle.tb_submit.proofs.Draining.{AreSettled, settled_queue, settled_within}
-use Rattle.tb_submit.proofs.Opening.{ends_long, seat_of_one}
+use Rattle.tb_submit.proofs.DrainedQueue.{AreSettled, settled_queue, settled_within}
+use Rattle.tb_submit.proofs.OpenedSubmitters.{ends_long, seat_of_one}
 use Rattle.tb_submit.proofs.settling.settle_queue.Goals as goal
 
 -- what the reader learned once all had come to it
-gathered_whole : (first more next last : ReaderState) (xs : List EndedState) (e : Entry) (count : ℕ)
+gathered_whole : (first more next last : ReaderState) (xs : List EndedState) (e : PassEntry) (count : ℕ)
     (items : List Ticket) → first.entries ≡ [] → first.count ≡ count →
     more ≡ record first { entries = first.entries ++ map entry_of xs }
     → next ≡ record more { entries = more.entries ++ e ∷ [] } → last ≡ next →
@@ -26,7 +26,7 @@ gathered_whole first more next last xs e count items none count_is more_is next_
     subst (λ n. IsWhole (map entry_of xs ++ e ∷ []) first.taken n items) count_is
     (subst (λ (r : ReaderState). IsWhole r.entries r.taken r.count items) same whole)
 
-replies_all : (F : ℕ → List Replied → Type 0) (ends : List EndedState)
+replies_all : (F : ℕ → List ReplyValue → Type 0) (ends : List EndedState)
     → ((k : ℕ) (d : EndedState) → k < length ends → F k ((get_or ends k d).read ++ (get_or ends k d).lying)) →
     (sender : ℕ) → sender < length ends → F sender (replies_of ends sender)
 replies_all F [] each sender below = absurd (omega (arith, below))
@@ -57,7 +57,7 @@ settled c =
       seats = λ k d below. seat_of_one (seat_at intake) 0 k k xs os d c.requires.ends below (omega arith);
       filed = c.settle_all-ends.ensures.filed;
       control_seat_is = c.requires.control;
-      control_filed = subst (λ (s : SenderState). IsFiled s.seat.limit s.seat.submitters s.seat.number s.queued)
+      control_filed = subst (λ (s : SenderState). IsCompleteQueue s.seat.limit s.seat.submitters s.seat.number s.queued)
           c.control.view_is c.gather.ensures.filed;
       items = c.learn.ensures.whole.0;
       whole = subst (λ (i : IntakeState). IsWhole (map entry_of xs

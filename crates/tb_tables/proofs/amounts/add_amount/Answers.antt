@@ -1,12 +1,12 @@
 use Rattle.std.proofs.Common.{sym, subst, ◌+◌, ◌<◌, ◌^◌}
 use Rattle.tb_tables.proofs.Words.{with_more, debits_in}
-use Rattle.tb_tables.proofs.Raising.{has_room, credits-kept}
+use Rattle.tb_tables.proofs.RaisedBalances.{has_room, credits-kept}
 use Rattle.tb_tables.proofs.amounts.add_amount.Goals as goal
 
 pub raise_at-requires : goal.raise_at-requires
 raise_at-requires c =
     let r = c.requires in
-    rw c.debits_in.ensures (has_room r.sums r.accounts c.args.places.debit r.are_at.debit_account
+    rw c.debits_in.ensures (has_room r.sums r.accounts c.args.indices.debit r.are_at.debit_account
     (debits_in c.args.phase) c.args.amount c.args.accounts.now.entries r.are_at.debit_at r.are r.debit_fits)
 
 pub raise_at-requires-2 : goal.raise_at-requires-2
@@ -18,7 +18,7 @@ raise_at-requires-2 c =
     (sym (credits-kept c.args.phase r.are_at.debit_account.id c.args.amount r.sums r.are_at.credit_account))
     r.credit_fits in
     rw c.credits_in.ensures (has_room (with_more (debits_in c.args.phase) r.are_at.debit_account.id c.args.amount
-    r.sums) r.accounts c.args.places.credit r.are_at.credit_account _ c.args.amount
+    r.sums) r.accounts c.args.indices.credit r.are_at.credit_account _ c.args.amount
     c.raise_at.new.accounts.entries r.are_at.credit_at raised_once fits)
 
 pub returns : goal.returns

@@ -1,5 +1,5 @@
 use Rattle.std.proofs.Common.{◌∙◌, ap, if◌then◌else◌, ◌++◌, ◌∷◌, []}
-use Rattle.tb_tables.proofs.Stored.{any-swap}
+use Rattle.tb_tables.proofs.MapRows.{any-swap}
 use Rattle.tb_tables.proofs.entries.push_failed.Goals as goal
 
 pub returns-clause-ok : goal.returns-clause-ok

@@ -2,7 +2,7 @@ use Rattle.std.proofs.Common.{◌≡◌, ◌∙◌, Some, None, sym, ap, rules, 
 use Rattle.indexmap.specs.IndexMap.{get}
 use Rattle.indexmap.proofs.CallerLemmas.{insert_entry-new}
 use Rattle.tb_tables.proofs.Words.{insert_entry, new_row}
-use Rattle.tb_tables.proofs.Stored.{kept-entry}
+use Rattle.tb_tables.proofs.MapRows.{kept-entry}
 use Rattle.tb_tables.proofs.entries.push_transfer.Goals as goal
 
 pub returns-in-Occupied-clause-same : goal.returns-in-Occupied-clause-same

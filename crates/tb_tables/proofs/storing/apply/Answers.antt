@@ -1,5 +1,5 @@
 use Rattle.std.proofs.Common.{◌∙◌, ap, sym, ◌++◌}
-use Rattle.tb_tables.proofs.Settling as settling
+use Rattle.tb_tables.proofs.ChangedBalances as settling
 use Rattle.tb_tables.proofs.storing.apply.Goals as goal
 
 pub add_amount-requires : goal.add_amount-requires

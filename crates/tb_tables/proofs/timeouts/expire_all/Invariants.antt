@@ -1,12 +1,12 @@
 use Rattle.std.proofs.Common.{length}
-use Rattle.tb_tables.proofs.Words.{Facts, is_indexed, AreHeld}
+use Rattle.tb_tables.proofs.Words.{Facts, is_in_expiries, AreContained}
 use Rattle.tb_tables.proofs.Due.{StillDue}
 use Rattle.tb_tables.proofs.timeouts.expire_all.Given as goal
 
-abbrev pub invariant-loop-place : goal.invariant-loop-place
-invariant-loop-place l =
-    (facts : Facts) → AreHeld l.fn.accounts.entries l.fn.transfers.entries (is_indexed l.fn.expiries) facts
-    → StillDue l.clock facts l.accounts.entries l.transfers.entries (is_indexed l.expiries)
+abbrev pub invariant-loop-index : goal.invariant-loop-index
+invariant-loop-index l =
+    (facts : Facts) → AreContained l.fn.accounts.entries l.fn.transfers.entries (is_in_expiries l.fn.expiries) facts
+    → StillDue l.clock facts l.accounts.entries l.transfers.entries (is_in_expiries l.expiries)
 
-abbrev pub decreases-loop-place : goal.decreases-loop-place
-decreases-loop-place l = length l.expiries.keys
+abbrev pub decreases-loop-index : goal.decreases-loop-index
+decreases-loop-index l = length l.expiries.keys

@@ -9,7 +9,7 @@ use std::alloc::Global;
 use std::marker::Model;
 use tb_layout::{Account, NoMemory, Transfer};
 
-/// The lists, each in order of making; beside each transfer stands whether it expired.
+/// The lists, each in order of making; each transfer with whether it expired.
 #[derive(Drop)]
 pub struct Lists {
     accounts: Vec<Account>,

@@ -1,4 +1,4 @@
-//! What became of the transfers of some rows.
+//! The statuses of the transfers of some rows.
 
 ghost use Rattle.std.specs.Prelude.{◌≡◌, ◌==◌, ◌<◌, ◌&&◌, ◌||◌, find, length};
 ghost use Rattle.std.specs.List.{list_any};
@@ -59,7 +59,7 @@ pub fn is_expired(rows: &[(Transfer, bool)], id: u128) -> bool
         .any(|expired| expired == id)
 }
 
-/// What became of the transfer with this id, which is a pending one.
+/// The status of the transfer with this id, which is a pending one.
 pub fn status_in(rows: &[(Transfer, bool)], id: u128) -> Status
     ensures { result ≡ status_of (facts_in rows.now) id }
 {
@@ -104,10 +104,10 @@ pub fn expire_due(rows: &mut [(Transfer, bool)], clock: u64)
     ensures lawful { IsLawful (facts_in rows.new) }
     ensures len { length rows.new ≡ length rows.old }
 {
-    for place in 0..rows.len() {
-        let transfer = rows[place].0;
+    for index in 0..rows.len() {
+        let transfer = rows[index].0;
         if expires(rows, clock, &transfer) {
-            rows[place].1 = true;
+            rows[index].1 = true;
         }
     }
 }

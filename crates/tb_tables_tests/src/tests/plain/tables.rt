@@ -112,11 +112,11 @@ impl PlainTables {
         Some(with_balances(self.lists.rows(), account))
     }
 
-    /// The account at a place in the order of making, counted from 0, with its balances.
-    pub fn account_at(&self, place: usize) -> Option<Account>
-        ensures { result ≡ option_map (balanced self.now.now) (slice_get self.now.now.accounts place) }
+    /// The account at an index in the order of making, counted from 0, with its balances.
+    pub fn account_at(&self, index: usize) -> Option<Account>
+        ensures { result ≡ option_map (balanced self.now.now) (slice_get self.now.now.accounts index) }
     {
-        let account = account_at(self.lists.accounts(), place)?;
+        let account = account_at(self.lists.accounts(), index)?;
         Some(with_balances(self.lists.rows(), account))
     }
 
@@ -134,7 +134,7 @@ impl PlainTables {
         transfer_in(self.lists.rows(), id)
     }
 
-    /// What became of the pending transfer with this id.
+    /// The status of the pending transfer with this id.
     pub fn status(&self, id: u128) -> Option<Status>
         ensures { result ≡ status_with self.now.now id }
     {
@@ -181,7 +181,7 @@ impl PlainTables {
         }
     }
 
-    /// Lets the changes stand: they can't be taken back any more.
+    /// Keeps the changes: they can't be undone any more.
     pub fn keep(&mut self)
         ensures { self.new ≡ without_past self.old }
     {
@@ -204,10 +204,10 @@ fn account_in(accounts: &[Account], id: u128) -> Option<Account>
     accounts.iter().copied().find(|account| account.id == id)
 }
 
-fn account_at(accounts: &[Account], place: usize) -> Option<Account>
-    ensures { result ≡ slice_get accounts.now place }
+fn account_at(accounts: &[Account], index: usize) -> Option<Account>
+    ensures { result ≡ slice_get accounts.now index }
 {
-    accounts.get(place).copied()
+    accounts.get(index).copied()
 }
 
 /// Notes a change for which there is room.

@@ -1,6 +1,6 @@
 use Rattle.std.proofs.Common.{true}
 use Rattle.tb_core.specs.Front.{take_result}
-use Rattle.tb_core.proofs.Accounting.{HasTaken, has_taken}
+use Rattle.tb_core.proofs.TicketDecisions.{HasTaken, has_taken}
 use Rattle.tb_core.proofs.front.Front.take_as_refused.Goals as goal
 
 taken : (c : goal.After-step_refused) → HasTaken true c.args.self.now c.args.ticket

@@ -1,6 +1,6 @@
 use Rattle.std.proofs.Common.{false, true}
 use Rattle.tb_core.specs.Front.{take_result}
-use Rattle.tb_core.proofs.Accounting.{HasTaken, has_taken}
+use Rattle.tb_core.proofs.TicketDecisions.{HasTaken, has_taken}
 use Rattle.tb_core.proofs.front.Front.take_into.Goals as goal
 
 taken : (c : goal.Joined-ticket) → HasTaken false c.args.self.now c.args.ticket

@@ -1,6 +1,6 @@
 use Rattle.std.proofs.Common.{true, false}
 use Rattle.tb_core.specs.Ledger.{apply_result}
-use Rattle.tb_core.proofs.Grouped.{HasApplied, has_applied}
+use Rattle.tb_core.proofs.JournalGroups.{HasApplied, has_applied}
 use Rattle.tb_core.proofs.ledger.Ledger.apply.Goals as goal
 
 applied : (c : goal.In-Ok) → HasApplied c.args.self.now c.args.parcel

@@ -1,5 +1,5 @@
 use Rattle.std.proofs.Common.{true}
-use Rattle.tb_core.proofs.Grouped.{has_applied}
+use Rattle.tb_core.proofs.JournalGroups.{has_applied}
 use Rattle.tb_core.proofs.ledger.Ledger.apply_as_refused.Goals as goal
 
 pub returns-clause-commits : goal.returns-clause-commits

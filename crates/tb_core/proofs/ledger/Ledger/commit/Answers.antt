@@ -1,12 +1,12 @@
 use Rattle.std.proofs.Common.{◌∙◌, ap, sym, subst, false, map, length, ◌++◌, ◌∷◌, []}
-use Rattle.tb_work.specs.Packet.{work_of}
+use Rattle.tb_work.specs.Packet.{input_of}
 use Rattle.tb_core.specs.declared.parcel.Parcel.TheVariants as parcel
 use Rattle.tb_core.specs.inside.BatchAnswer.{AreAnswered}
-use Rattle.tb_core.specs.Journal.{LedgerState, works}
+use Rattle.tb_core.specs.Journal.{LedgerState, inputs}
 use Rattle.tb_core.specs.Ledger.{AreEntries, group_of, must_stop, apply_step}
 use Rattle.tb_core.proofs.Batches.{JoinInvisibly}
-use Rattle.tb_core.proofs.Committed.{batch_applied}
-use Rattle.tb_core.proofs.Growing.{given, batch_state, batch_entered}
+use Rattle.tb_core.proofs.LedgerSteps.{batch_applied}
+use Rattle.tb_core.proofs.OneMoreEntry.{given, batch_state, batch_entered}
 use Rattle.tb_core.proofs.ledger.Ledger.commit.Goals as goal
 
 pub invariant_of-self-2 : goal.invariant_of-self-2
@@ -23,7 +23,7 @@ invariant_of-self-2 c =
     let answered = given c.take_batch.result _ ok c.take_batch.ensures.answered in
     let next = given c.take_batch.result _ ok c.take_batch.ensures.state in
     let groups = c.record-replies.ensures.entry ∙ ap
-    (λ items. map group_of items ++ map work_of parts.jobs.items ∷ []) c.reserve.ensures.items in
+    (λ items. map group_of items ++ map input_of parts.jobs.items ∷ []) c.reserve.ensures.items in
     let count = ap length (c.jobs-count.ensures.jobs ∙ sym c.into_parts-parts.ensures.jobs
     ∙ sym c.take_batch.ensures.jobs) in
     let goes = ap (λ (l : LedgerState). must_stop false l (length c.jobs-count.result.now)) c.self.view_is
@@ -56,7 +56,7 @@ returns-clause-ok c =
       transfers = c.joining_is_invisible.ensures.transfers;
     } in
     let groups = c.record-replies.ensures.entry ∙ ap
-    (λ items. map group_of items ++ map work_of parts.jobs.items ∷ []) c.reserve.ensures.items in
+    (λ items. map group_of items ++ map input_of parts.jobs.items ∷ []) c.reserve.ensures.items in
     let same = c.take_batch.ensures.jobs ∙ c.into_parts-parts.ensures.jobs in
     let goes = ap (λ (l : LedgerState). must_stop false l (length c.args.batch)) c.self.view_is
     ∙ ap (λ jobs. must_stop false c.args.self.now (length jobs)) (sym c.jobs-count.ensures.jobs)
@@ -65,6 +65,6 @@ returns-clause-ok c =
     (map group_of c.record-replies.new.entries.items) inside.entries.items parts.jobs.items c.args.batch
     c.record-replies.result
     c.self.invariant groups (next ∙ batch_state law inside.machine parts answered) same
-    (c.record-replies.ensures.replies inside.opening (works ledger) c.self.invariant.counted
+    (c.record-replies.ensures.replies inside.opening (inputs ledger) c.self.invariant.counted
     (subst (λ state. AreAnswered state parts) c.self.invariant.machine answered)) goes
     ∙ ap (λ (l : LedgerState). apply_step false l (parcel.Batch c.args.batch)) c.self.view_is

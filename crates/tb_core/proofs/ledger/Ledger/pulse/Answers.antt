@@ -1,3 +1,4 @@
+-- Found by the prover itself; on file since the check of an edit then costs less.
 use Rattle.std.proofs.Common.{arith, rules}
 use Rattle.std.proofs.lemmas.Grind.{common_steps}
 use Rattle.tb_core.proofs.ledger.Ledger.pulse.Goals as goal

@@ -1,9 +1,9 @@
 use Rattle.std.proofs.Common.{sym, subst, ◌++◌, map, append-nil}
 use Rattle.std.proofs.lemmas.Result.{on_ok_weaker}
 use Rattle.tb_batch.specs.Grouping.{IsGroup}
-use Rattle.tb_core.specs.inside.Passage.{Admitted}
-use Rattle.tb_core.specs.Run.{GoesOn}
-use Rattle.tb_core.proofs.Listing.{through}
+use Rattle.tb_core.specs.inside.Decision.{Admitted}
+use Rattle.tb_core.specs.Run.{HasNotStopped}
+use Rattle.tb_core.proofs.ItemList.{through}
 use Rattle.tb_core.proofs.list.Listing.finish.Goals as goal
 
 pub returns-in-Some : goal.returns-in-Some
@@ -13,7 +13,7 @@ returns-in-Some c = λ clock limit items run.
     let given = c.apply.new.replies.items in
     on_ok_weaker c.apply.result
     (λ on. through clock limit items c.args.self.now.front c.args.self.now.ledger c.args.self.now.replies.items now
-    given run (subst (λ jobs. GoesOn clock limit (run.sent ++ map Admitted jobs) now given) held on))
+    given run (subst (λ jobs. HasNotStopped clock limit (run.sent ++ map Admitted jobs) now given) held on))
     (c.apply.ensures clock limit run.sent (subst (IsGroup limit) (sym held)
     (subst (λ n. IsGroup n c.args.self.now.front.held) run.under c.in-Some.ensures.lawful)) run.goes_on)
 

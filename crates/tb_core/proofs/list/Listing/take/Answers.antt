@@ -1,9 +1,9 @@
 use Rattle.std.proofs.Common.{refl, false, subst, ◌∙◌, ◌++◌, arith}
 use Rattle.std.proofs.lemmas.Result.{on_ok_weaker}
 use Rattle.tb_work.specs.declared.item.Ticket.{Ticket}
-use Rattle.tb_core.specs.Front.{take_result, all_passages_in}
+use Rattle.tb_core.specs.Front.{take_result, all_decisions_in}
 use Rattle.tb_core.specs.Grouping.{AreJoinedParcels}
-use Rattle.tb_core.proofs.Accounting.{has_taken}
+use Rattle.tb_core.proofs.TicketDecisions.{has_taken}
 use Rattle.tb_core.proofs.list.Listing.take.Goals as goal
 
 pub returns-clause-runs : goal.returns-clause-runs
@@ -15,7 +15,7 @@ returns-clause-runs c = λ clock limit items run.
     (omega arith) c.in_ok-taken.ensures.ok in
     on_ok_weaker c.apply_all.result
     (λ on. record {
-      sent = run.sent ++ all_passages_in parcels;
+      sent = run.sent ++ all_decisions_in parcels;
       under = taken.same.0
           ∙ run.under;
       passed = taken.passes items run.sent run.passed;

@@ -1,6 +1,6 @@
 use Rattle.std.proofs.Common.{◌≡◌, ℕ, []}
 use Rattle.tb_core.specs.Run.{IsRunning}
-use Rattle.tb_core.proofs.Listing.{IsUnderWay}
+use Rattle.tb_core.proofs.ItemList.{IsUnderWay}
 use Rattle.tb_core.proofs.list.Listing.take_all.Given as goal
 
 abbrev pub invariant-loop-item : goal.invariant-loop-item

@@ -1,8 +1,8 @@
 use Rattle.std.proofs.Common.{◌≡◌, ap, sym, ◌∙◌, ◌∷◌, subst}
 use Rattle.std.specs.Vec.Iter.{into_iter_items}
-use Rattle.tb_demux.specs.declared.source.Source.{Source}
-use Rattle.tb_demux.specs.Left.{IsSourceOf, replies_left}
-use Rattle.tb_demux.proofs.Cuts.{next_left, next_replies, none_left, none_left_replies}
+use Rattle.tb_demux.specs.declared.source.ReplySource.{ReplySource}
+use Rattle.tb_demux.specs.Remaining.{IsSourceOf, replies_remaining}
+use Rattle.tb_demux.proofs.Cuts.{next_remaining, next_replies, none_left, none_remaining}
 use Rattle.tb_demux.proofs.cutter.Cutter.next.Goals as goal
 use Rattle.tb_demux.proofs.cutter.Cutter.next.Goals.{in-Failures, in-Lookup, in-Shutdown, in-Stopped}
 
@@ -10,12 +10,12 @@ pub invariant_of-self-2 : goal.invariant_of-self-2
 invariant_of-self-2 c =
     let job = c.in_ok-job.job in
     let rest = into_iter_items c.next.new.self in
-    let known : (source : Source) → c.self.inside.source ≡ source → IsSourceOf source (job ∷ rest) =
+    let known : (source : ReplySource) → c.self.inside.source ≡ source → IsSourceOf source (job ∷ rest) =
     λ source is. subst (λ s. IsSourceOf s (job ∷ rest)) is
     (subst (λ jobs. IsSourceOf c.self.inside.source jobs) c.in_ok-job.ensures.items c.self.invariant) in
     elim c.match-self.branch [
       | in-Failures w ↦ let left =
-          w.reply.ensures in rw w.self-inside-is (next_left w.in-Failures.uncut w.reply.new.self job rest
+          w.reply.ensures in rw w.self-inside-is (next_remaining w.in-Failures.remaining_failures w.reply.new.self job rest
           (known _ w.in-Failures.is) left.left left.taken left.offset left.place)
       | in-Lookup w ↦ rw w.self-inside-is (none_left w.in-Lookup.outcome w.replace.new.dest job rest
           (known _ w.in-Lookup.is))
@@ -27,20 +27,20 @@ pub returns-clause-some : goal.returns-clause-some
 returns-clause-some c =
     let job = c.in_ok-job.job in
     let rest = into_iter_items c.next.new.self in
-    let started : (source : Source) → c.self.inside.source ≡ source
-    → c.args.self.now ≡ replies_left source (job ∷ rest) =
-    λ source is. sym c.self.view_is ∙ ap (λ jobs. replies_left c.self.inside.source jobs) c.in_ok-job.ensures.items
-    ∙ ap (λ s. replies_left s (job ∷ rest)) is in
+    let started : (source : ReplySource) → c.self.inside.source ≡ source
+    → c.args.self.now ≡ replies_remaining source (job ∷ rest) =
+    λ source is. sym c.self.view_is ∙ ap (λ jobs. replies_remaining c.self.inside.source jobs) c.in_ok-job.ensures.items
+    ∙ ap (λ s. replies_remaining s (job ∷ rest)) is in
     elim c.match-self.branch [
       | in-Failures w ↦ let left =
           w.reply.ensures in rw (w.self-inside-is, w.result-is, left.reply)
-          (started _ w.in-Failures.is ∙ next_replies w.in-Failures.uncut w.reply.new.self job rest
+          (started _ w.in-Failures.is ∙ next_replies w.in-Failures.remaining_failures w.reply.new.self job rest
           left.left left.offset left.place)
       | in-Lookup w ↦ let fits =
           subst (λ s. IsSourceOf s (job ∷ rest)) w.in-Lookup.is
           (subst (λ jobs. IsSourceOf c.self.inside.source jobs) c.in_ok-job.ensures.items c.self.invariant) in
           rw (w.self-inside-is, w.result-is, w.of.ensures, w.replace.ensures.value)
-          (started _ w.in-Lookup.is ∙ none_left_replies w.in-Lookup.outcome w.replace.new.dest job rest fits)
+          (started _ w.in-Lookup.is ∙ none_remaining w.in-Lookup.outcome w.replace.new.dest job rest fits)
       | in-Shutdown w ↦ rw (w.self-inside-is, w.result-is, w.of-in-Shutdown.ensures, w.in-Shutdown.is)
           (started _ w.in-Shutdown.is)
       | in-Stopped w ↦ rw (w.self-inside-is, w.result-is, w.of-in-Stopped.ensures, w.in-Stopped.is)

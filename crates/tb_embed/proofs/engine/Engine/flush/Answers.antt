@@ -2,7 +2,7 @@ use Rattle.std.proofs.Common.{sym, subst, ap, ◌∙◌, ◌++◌, map, append_a
 use Rattle.tb_batch.specs.Grouping.{IsGroup}
 use Rattle.tb_core.specs.Front.{FrontState}
 use Rattle.tb_core.specs.Grouping.{AreJoined}
-use Rattle.tb_core.specs.inside.Passage.{Admitted}
+use Rattle.tb_core.specs.inside.Decision.{Admitted}
 use Rattle.tb_core.specs.Run.{Commits, replies_in}
 use Rattle.tb_embed.specs.Queued.{AreQueued}
 use Rattle.tb_embed.proofs.engine.Engine.flush.Goals as goal

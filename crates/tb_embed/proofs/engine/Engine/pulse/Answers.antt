@@ -2,7 +2,7 @@ use Rattle.std.proofs.Common.{refl, sym, subst, ap, ◌∙◌}
 use Rattle.tb_work.specs.declared.item.Item.TheVariants as item
 use Rattle.tb_embed.specs.Engine.{EngineState, Queues}
 use Rattle.tb_embed.specs.Queued.{ticket_of}
-use Rattle.tb_embed.proofs.Serving.{Takes, control_serves}
+use Rattle.tb_embed.proofs.EngineRun.{Takes, control_serves}
 use Rattle.tb_embed.proofs.engine.Engine.pulse.Goals as goal
 
 pub returns-clause-ok : goal.returns-clause-ok

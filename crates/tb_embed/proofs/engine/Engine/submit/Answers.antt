@@ -4,7 +4,7 @@ use Rattle.tb_work.specs.Packet.{Numbered}
 use Rattle.tb_work.specs.declared.item.Item.TheVariants as item
 use Rattle.tb_embed.specs.Engine.{EngineState, Queues}
 use Rattle.tb_embed.specs.Queued.{packet_ticket}
-use Rattle.tb_embed.proofs.Serving.{Takes, packet_serves, is_among}
+use Rattle.tb_embed.proofs.EngineRun.{Takes, packet_serves, is_among}
 use Rattle.tb_embed.proofs.engine.Engine.submit.Goals as goal
 
 pub returns-in-Ok-clause-ok : goal.returns-in-Ok-clause-ok

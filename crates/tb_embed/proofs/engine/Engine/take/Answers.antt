@@ -1,5 +1,5 @@
 use Rattle.std.proofs.Common.{sym, subst, ap, ◌++◌}
-use Rattle.tb_core.specs.Front.{all_passages_in}
+use Rattle.tb_core.specs.Front.{all_decisions_in}
 use Rattle.tb_core.specs.Grouping.{AreJoined}
 use Rattle.tb_core.specs.Run.{Commits}
 use Rattle.tb_embed.proofs.engine.Engine.take.Goals as goal
@@ -9,7 +9,7 @@ returns-clause-taken c = rw (← c.self.view_is) (λ clock items read has.
     let old = c.self.inside in
     let ledger = c.apply_all.new.ledger in
     record {
-      sent = has.sent ++ all_passages_in c.take_into.new.parcels.items;
+      sent = has.sent ++ all_decisions_in c.take_into.new.parcels.items;
       passed = c.take_into.ensures.passes items has.sent has.passed;
       commits = c.apply_all.ensures.commits clock has.sent read
           (subst (Commits clock has.sent old.ledger) (ap (λ replies. read ++ replies) (sym c.reserve.ensures.same))

@@ -15,8 +15,8 @@ as_many c =
 pub overflow_add-result : goal.overflow_add-result
 overflow_add-result c = omega (arith, c.requires, as_many c)
 
-pub returns-in-Batch-clause-behind : goal.returns-in-Batch-clause-behind
-returns-in-Batch-clause-behind c = ap (λ n. c.args.place + n) (sym (as_many c))
+pub returns-in-Batch-clause-next_place : goal.returns-in-Batch-clause-next_place
+returns-in-Batch-clause-next_place c = ap (λ n. c.args.place + n) (sym (as_many c))
 
 pub returns-in-Batch-clause-text : goal.returns-in-Batch-clause-text
 returns-in-Batch-clause-text c =

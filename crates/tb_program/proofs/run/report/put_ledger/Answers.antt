@@ -1,7 +1,7 @@
 use Rattle.std.proofs.Common.{◌<◌, ◌∙◌, ◌^◌, ◌++◌, append_assoc, length, ap, subst, string_bytes, sym}
-use Rattle.tb_core.specs.Journal.{works}
+use Rattle.tb_core.specs.Journal.{inputs}
 use Rattle.tb_machine.specs.Replay.{State}
-use Rattle.tb_text.specs.Output.{state_text}
+use Rattle.tb_program_text.specs.Output.{state_text}
 use Rattle.tb_program.specs.RunText.{pulses_text, refused_pulses_text}
 use Rattle.tb_program.proofs.Pulses.{of_entries}
 use Rattle.tb_program.proofs.run.report.put_ledger.Goals as goal
@@ -14,7 +14,7 @@ put_pulses-requires c =
 pub returns : goal.returns
 returns c =
     let out = string_bytes c.args.out.now in
-    let pulses = pulses_text 0 (works c.args.ledger.now) in
+    let pulses = pulses_text 0 (inputs c.args.ledger.now) in
     let refused = refused_pulses_text c.args.refused_pulses in
     let state = state_text c.machine.result.now in
     c.in_ok-put_state.ensures ∙ ap (λ t. t ++ state)

@@ -1,7 +1,7 @@
 use Rattle.std.proofs.Common.{rules, ◌≡◌, ◌∙◌, ◌++◌, length, refl, ap, sym}
 use Rattle.tb_program.specs.Answering.{queued_among}
 use Rattle.tb_program.specs.declared.run.notes.Notes.{Notes}
-use Rattle.tb_program.proofs.Handing.{as_many_queued}
+use Rattle.tb_program.proofs.HandedPackets.{as_many_queued}
 use Rattle.tb_program.proofs.run.report.put_packets.Goals as goal
 
 pub put_all_told-put-requires : goal.put_all_told-put-requires

@@ -15,17 +15,17 @@ loop-entry-preserved c =
     let first = drop_more c.args.journal.now c.loop-entry.entry-index c.entry-item.result within
     ∙ ap (λ entry. entry ∷ rest) is in
     let before = c.loop-entry.invariant in
-    let behind = c.in_ok-place.ensures.behind in
+    let next_place = c.in_ok-place.ensures.next_place in
     record {
       place = omega (
         arith,
         before.place,
-        behind,
+        next_place,
         ap
             (λ (es : List Entry). length (flat_map group_of es)) first,
         length-append (group_of c.entry-item.result)
             (flat_map group_of rest),
       );
-      text = first_pulses _ _ c.loop-entry.place c.in_ok-place.place c.entry-item.result rest _ first behind
+      text = first_pulses _ _ c.loop-entry.place c.in_ok-place.place c.entry-item.result rest _ first next_place
           c.in_ok-place.ensures.text ∙ before.text;
     }

@@ -1,5 +1,5 @@
 use Rattle.std.proofs.Common.{rules, refl}
-use Rattle.tb_submit.proofs.Filing.{pulses_filed}
+use Rattle.tb_submit.proofs.QueuedItems.{pulses_filed}
 use Rattle.tb_submit.proofs.control.Control.end.Goals as goal
 
 pub end-requires : goal.end-requires

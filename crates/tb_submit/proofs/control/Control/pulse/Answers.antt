@@ -2,7 +2,7 @@ use Rattle.std.proofs.Common.{rules, ◌∷◌, [], ◌∙◌, ap, sym, subst, a
 use Rattle.tb_work.specs.declared.item.Item.TheVariants.{Pulse}
 use Rattle.tb_submit.specs.Ends.{SenderState}
 use Rattle.tb_submit.specs.Lists.{ArePulses}
-use Rattle.tb_submit.proofs.Filing.{pulses_more}
+use Rattle.tb_submit.proofs.QueuedItems.{pulses_more}
 use Rattle.tb_submit.proofs.control.Control.pulse.Goals as goal
 
 pub invariant_of-self : goal.invariant_of-self

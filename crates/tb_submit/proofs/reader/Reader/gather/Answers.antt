@@ -1,4 +1,4 @@
-use Rattle.tb_submit.proofs.Keeping.{merges}
+use Rattle.tb_submit.proofs.RuleSteps.{merges}
 use Rattle.tb_submit.proofs.reader.Reader.gather.Goals as goal
 
 pub absorb-requires-clause-rule : goal.absorb-requires-clause-rule

@@ -1,4 +1,4 @@
-use Rattle.tb_submit.proofs.Keeping.{learns}
+use Rattle.tb_submit.proofs.RuleSteps.{learns}
 use Rattle.tb_submit.proofs.reader.Reader.learn.Goals as goal
 
 pub learn_as-requires-clause-rule : goal.learn_as-requires-clause-rule

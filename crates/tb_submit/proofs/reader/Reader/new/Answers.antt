@@ -1,5 +1,5 @@
 use Rattle.std.proofs.Common.{rules}
-use Rattle.tb_submit.proofs.Keeping.{begins}
+use Rattle.tb_submit.proofs.RuleSteps.{begins}
 use Rattle.tb_submit.proofs.reader.Reader.new.Goals as goal
 
 pub ruled-requires-clause-rule : goal.ruled-requires-clause-rule

@@ -1,5 +1,5 @@
-use Rattle.tb_submit.proofs.Keeping.{forks}
+use Rattle.tb_submit.proofs.RuleSteps.{forks}
 use Rattle.tb_submit.proofs.reader.Reader.sender.Goals as goal
 
-pub another-place-requires-clause-rule : goal.another-place-requires-clause-rule
-another-place-requires-clause-rule c = forks _ _ _ _ _ c.self.invariant.1
+pub another-pass-requires-clause-rule : goal.another-pass-requires-clause-rule
+another-pass-requires-clause-rule c = forks _ _ _ _ _ c.self.invariant.1

@@ -1,4 +1,4 @@
-use Rattle.tb_submit.proofs.Keeping.{takes}
+use Rattle.tb_submit.proofs.RuleSteps.{takes}
 use Rattle.tb_submit.proofs.reader.Reader.take.Goals as goal
 
 pub pop_as-requires-clause-rule : goal.pop_as-requires-clause-rule

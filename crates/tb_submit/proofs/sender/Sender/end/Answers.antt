@@ -1,5 +1,5 @@
 use Rattle.std.proofs.Common.{refl}
-use Rattle.tb_submit.proofs.Keeping.{pushes}
+use Rattle.tb_submit.proofs.RuleSteps.{pushes}
 use Rattle.tb_submit.proofs.sender.Sender.end.Goals as goal
 
 pub push_as-requires-clause-rule : goal.push_as-requires-clause-rule

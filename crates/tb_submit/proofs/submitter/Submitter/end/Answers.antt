@@ -1,4 +1,4 @@
-use Rattle.tb_submit.proofs.Filing.{packets_filed}
+use Rattle.tb_submit.proofs.QueuedItems.{packets_filed}
 use Rattle.tb_submit.proofs.submitter.Submitter.end.Goals as goal
 
 pub end-requires : goal.end-requires

@@ -6,7 +6,7 @@ use Rattle.std.specs.Prelude.{IsOk}
 use Rattle.tb_submit.specs.Ends.{SenderState, SubmitterState}
 use Rattle.tb_submit.specs.Inside.{IsSubmitter}
 use Rattle.tb_submit.specs.Refusals.{submit_refusal, in_flight}
-use Rattle.tb_submit.proofs.Submitting.{credit_left, counts_packet}
+use Rattle.tb_submit.proofs.SubmitterCounts.{credit_left, counts_packet}
 use Rattle.tb_submit.proofs.submitter.Submitter.submit.Goals as goal
 
 pub invariant_of-self : goal.invariant_of-self

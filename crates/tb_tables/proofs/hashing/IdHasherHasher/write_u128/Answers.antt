@@ -1,5 +1,5 @@
 use Rattle.std.proofs.Common.{rules}
-use Rattle.tb_tables.proofs.Identifying.{ids_of-id}
+use Rattle.tb_tables.proofs.IdBytes.{ids_of-id}
 use Rattle.tb_tables.proofs.hashing.IdHasherHasher.write_u128.Goals as goal
 
 pub returns-clause-fed : goal.returns-clause-fed

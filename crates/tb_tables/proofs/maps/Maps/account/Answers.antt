@@ -1,5 +1,5 @@
 use Rattle.std.proofs.Common.{◌∙◌}
-use Rattle.tb_tables.proofs.Locating.{account-found}
+use Rattle.tb_tables.proofs.LookUps.{account-found}
 use Rattle.tb_tables.proofs.maps.Maps.account.Goals as goal
 
 pub returns : goal.returns

@@ -1,41 +1,41 @@
 use Rattle.std.proofs.Common.{◌∙◌, sym, ap, not, ◌&&◌}
-use Rattle.tb_tables.proofs.Words.{facts_of, its_pair, stored_in, transfer_with}
-use Rattle.tb_tables.proofs.Locating.{is-done, isn't-done, none-there, told-new, transfers-length}
-use Rattle.tb_tables.proofs.Stepping as stepping
+use Rattle.tb_tables.proofs.Words.{facts_of, its_pair, contents_in, transfer_with}
+use Rattle.tb_tables.proofs.LookUps.{is-done, isn't-done, none-there, told-new, transfers-length}
+use Rattle.tb_tables.proofs.StoredTransfers as stepping
 use Rattle.tb_tables.proofs.maps.Maps.store.Goals as goal
 
 pub apply-requires : goal.apply-requires
 apply-requires c =
-    let old = stored_in c.self.inside in
+    let old = contents_in c.self.inside in
     let t = c.args.transfer.now in
     let told = rw (told-new c.self.invariant.hold t.id) at c.push_transfer-added.ensures.new in
     let is = is-done _ c.push_transfer-added.result c.if-eq.ensures in
     let none = none-there (transfer_with (facts_of old) t.id) (sym (rw is at told)) in
     let r = rw (← c.self.view_is) at c.requires in
-    let pushed = stepping.pushed old c.self.invariant t c.args.places r.at (r.may none)
+    let pushed = stepping.pushed old c.self.invariant t c.args.indices r.at (r.may none)
     (c.push_transfer-added.ensures.added is) in
     (pushed.step, pushed.before)
 
 pub invariant_of-self-then-eq : goal.invariant_of-self-then-eq
 invariant_of-self-then-eq c =
-    let old = stored_in c.self.inside in
+    let old = contents_in c.self.inside in
     let t = c.args.transfer.now in
     let told = rw (told-new c.self.invariant.hold t.id) at c.push_transfer-added.ensures.new in
     let is = is-done _ c.push_transfer-added.result c.if-eq.ensures in
     let none = none-there (transfer_with (facts_of old) t.id) (sym (rw is at told)) in
     let r = rw (← c.self.view_is) at c.requires in
-    let pushed = stepping.pushed old c.self.invariant t c.args.places r.at (r.may none)
+    let pushed = stepping.pushed old c.self.invariant t c.args.indices r.at (r.may none)
     (c.push_transfer-added.ensures.added is) in
-    let put = rw (c.len-place.ensures.len ∙ transfers-length c.self.invariant.hold) at c.in_ok-expect.ensures.ok in
+    let put = rw (c.len-index.ensures.len ∙ transfers-length c.self.invariant.hold) at c.in_ok-insert_expiry.ensures.ok in
     (pushed.stored (c.apply.ensures pushed.step pushed.before) put).0
 
 pub invariant_of-self-else-eq : goal.invariant_of-self-else-eq
 invariant_of-self-else-eq c =
-    let old = stored_in c.self.inside in
+    let old = contents_in c.self.inside in
     let t = c.args.transfer.now in
-    let place = c.len-place.ensures.len ∙ transfers-length c.self.invariant.hold in
-    let put = rw place at c.in_ok-expect.ensures.ok in
-    let taken = rw place at c.forget.ensures in
+    let index = c.len-index.ensures.len ∙ transfers-length c.self.invariant.hold in
+    let put = rw index at c.in_ok-insert_expiry.ensures.ok in
+    let taken = rw index at c.remove_expiry.ensures in
     rw (c.push_transfer-added.ensures.same (isn't-done _ c.push_transfer-added.result c.if-eq.ensures))
     (stepping.same-held (λ m p. taken m p ∙ ap (λ b. not (its_pair (facts_of old) t m p) && b) (put m p)
     ∙ stepping.refused old c.self.invariant t m p) c.self.invariant)
@@ -47,15 +47,15 @@ returns-then-eq-clause-new c =
 
 pub returns-then-eq-clause-added : goal.returns-then-eq-clause-added
 returns-then-eq-clause-added c = λ _.
-    let old = stored_in c.self.inside in
+    let old = contents_in c.self.inside in
     let t = c.args.transfer.now in
     let told = rw (told-new c.self.invariant.hold t.id) at c.push_transfer-added.ensures.new in
     let is = is-done _ c.push_transfer-added.result c.if-eq.ensures in
     let none = none-there (transfer_with (facts_of old) t.id) (sym (rw is at told)) in
     let r = rw (← c.self.view_is) at c.requires in
-    let pushed = stepping.pushed old c.self.invariant t c.args.places r.at (r.may none)
+    let pushed = stepping.pushed old c.self.invariant t c.args.indices r.at (r.may none)
     (c.push_transfer-added.ensures.added is) in
-    let put = rw (c.len-place.ensures.len ∙ transfers-length c.self.invariant.hold) at c.in_ok-expect.ensures.ok in
+    let put = rw (c.len-index.ensures.len ∙ transfers-length c.self.invariant.hold) at c.in_ok-insert_expiry.ensures.ok in
     rw (← c.self.view_is) (pushed.stored (c.apply.ensures pushed.step pushed.before) put).1
 
 pub returns-else-eq-clause-new : goal.returns-else-eq-clause-new

@@ -1,5 +1,5 @@
 use Rattle.std.proofs.Common.{arith}
-use Rattle.tb_tables.proofs.Locating.{row-found}
+use Rattle.tb_tables.proofs.LookUps.{row-found}
 use Rattle.tb_tables.proofs.maps.Maps.transfer.Goals as goal
 
 pub returns : goal.returns

@@ -1,4 +1,4 @@
-use Rattle.tb_tables.proofs.Undoing.{failed-made}
+use Rattle.tb_tables.proofs.UndoList.{failed-made}
 use Rattle.tb_tables.proofs.tables.Tables.add_failed.Goals as goal
 
 pub invariant_of-self-2 : goal.invariant_of-self-2

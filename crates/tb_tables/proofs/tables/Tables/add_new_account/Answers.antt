@@ -1,5 +1,5 @@
 use Rattle.std.proofs.Common.{ap, Ok}
-use Rattle.tb_tables.proofs.Undoing.{account-made}
+use Rattle.tb_tables.proofs.UndoList.{account-made}
 use Rattle.tb_tables.proofs.tables.Tables.add_new_account.Goals as goal
 
 pub invariant_of-self-2 : goal.invariant_of-self-2

@@ -1,5 +1,5 @@
 use Rattle.tb_tables.proofs.Words.{Account}
-use Rattle.tb_tables.proofs.Finding.{found-id}
+use Rattle.tb_tables.proofs.FoundById.{found-id}
 use Rattle.tb_tables.proofs.tables.Tables.add_new_between.Goals as goal
 
 pub store-requires-clause-at : goal.store-requires-clause-at

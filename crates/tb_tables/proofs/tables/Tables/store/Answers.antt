@@ -1,7 +1,7 @@
 use Rattle.std.proofs.Common.{length, arith, ap, sym, ◌∙◌, ◌≡◌, None, Ok}
 use Rattle.tb_tables.proofs.Words.{has_pair, history_in, transfer_with, with_change}
-use Rattle.tb_tables.proofs.Locating.{none-there}
-use Rattle.tb_tables.proofs.Undoing.{undoable-indexed, transfer-made}
+use Rattle.tb_tables.proofs.LookUps.{none-there}
+use Rattle.tb_tables.proofs.UndoList.{undoable-indexed, transfer-made}
 use Rattle.tb_tables.proofs.tables.Tables.store.Goals as goal
 
 pub invariant_of-self-in_err-store : goal.invariant_of-self-in_err-store
@@ -28,7 +28,7 @@ invariant_of-self-2 c =
     let none : transfer_with o.maps.facts t.id ≡ None = none-there (transfer_with o.maps.facts t.id)
     (sym (sym c.if-not-branch.false ∙ c.in_ok-store.ensures.new)) in
     rw (c.note.ensures, c.reserve.ensures.items) (transfer-made o.changes.items o.maps c.self.invariant
-    c.store.ensures.sound t c.args.places r.at (r.may none) c.store.new.self
+    c.store.ensures.sound t c.args.indices r.at (r.may none) c.store.new.self
     (c.in_ok-store.ensures.added (ap Ok c.if-not-branch.false)) c.store.ensures.pairs).0
 
 pub returns-clause-added : goal.returns-clause-added
@@ -40,6 +40,6 @@ returns-clause-added c = λ _.
     (sym (sym c.if-not-branch.false ∙ c.in_ok-store.ensures.new)) in
     let added = c.in_ok-store.ensures.added (ap Ok c.if-not-branch.false) in
     rw (← c.self.view_is, c.note.ensures, c.reserve.ensures.items)
-    ((transfer-made o.changes.items o.maps c.self.invariant c.store.ensures.sound t c.args.places r.at
+    ((transfer-made o.changes.items o.maps c.self.invariant c.store.ensures.sound t c.args.indices r.at
     (r.may none) c.store.new.self added c.store.ensures.pairs).1
     ∙ ap (with_change (history_in o.changes.items o.maps.facts)) added)

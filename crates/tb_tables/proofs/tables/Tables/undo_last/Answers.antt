@@ -1,6 +1,6 @@
 use Rattle.tb_tables.proofs.Words.{Facts, before, has_pair}
 use Rattle.tb_tables.proofs.Histories.{history_of-pop}
-use Rattle.tb_tables.proofs.Undoing.{undoable-pop, goes-back}
+use Rattle.tb_tables.proofs.UndoList.{undoable-pop, goes-back}
 use Rattle.tb_tables.proofs.tables.Tables.undo_last.Goals as goal
 
 pub undo-requires : goal.undo-requires

@@ -1,6 +1,6 @@
 use Rattle.std.proofs.Common.{arith}
 use Rattle.tb_tables.proofs.Words.{Account}
-use Rattle.tb_tables.proofs.Finding.{found-id}
+use Rattle.tb_tables.proofs.FoundById.{found-id}
 use Rattle.tb_tables_tests.proofs.tests.both.can_credit.Goals as goal
 
 pub returns-in-Some-clause-fits : goal.returns-in-Some-clause-fits

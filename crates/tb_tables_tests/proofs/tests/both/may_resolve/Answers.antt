@@ -1,7 +1,7 @@
 use Rattle.std.proofs.Common.{rules, arith, ◌≡◌, Some}
 use Rattle.tb_tables.proofs.Words.{nat_tests, Transfer, status_with}
 use Rattle.tb_tables.specs.declared.status.Status.TheVariants.{Pending}
-use Rattle.tb_tables.proofs.Finding.{found-id}
+use Rattle.tb_tables.proofs.FoundById.{found-id}
 use Rattle.tb_tables_tests.proofs.tests.both.may_resolve.Goals as goal
 
 pub returns-clause-may : goal.returns-clause-may

@@ -13,7 +13,7 @@ returns-clause-world c =
       c.new-5.ensures.ledger,
       c.new-6.ensures.items,
       c.nothing.ensures,
-      c.in-Ok.ensures.shelves,
+      c.in-Ok.ensures.mailboxes,
     ) refl
 
 pub returns-in_err-front-clause-refusal : goal.returns-in_err-front-clause-refusal

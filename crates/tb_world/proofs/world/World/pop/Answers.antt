@@ -6,7 +6,7 @@ use Rattle.tb_core.specs.declared.parcel.Parcel.{Parcel}
 use Rattle.tb_core.specs.Front.{FrontState, Taken, IsFront, take_result, take_step}
 use Rattle.tb_world.specs.declared.sender.Sender.{Sender}
 use Rattle.tb_world.specs.World.{IsWorld}
-use Rattle.tb_core.proofs.Accounting.{is_step}
+use Rattle.tb_core.proofs.TicketDecisions.{is_step}
 use Rattle.tb_world.proofs.world.World.pop.Goals as goal
 
 -- a ticket was taken off the queue

@@ -4,7 +4,7 @@ use Rattle.std.specs.Vec.Iter.{into_iter_items}
 use Rattle.tb_program.specs.Drivers.{share_of, told_of}
 use Rattle.tb_program.specs.Noting.{IsHandedIn}
 use Rattle.tb_program.specs.declared.run.notes.Told.{Told}
-use Rattle.tb_program.proofs.Handing.{handed_longer}
+use Rattle.tb_program.proofs.HandedPackets.{handed_longer}
 use Rattle.tb_program.proofs.run.driver.ScriptDriverDriver.receive.Goals as goal
 
 pub returns-clause-seen : goal.returns-clause-seen

@@ -1,5 +1,5 @@
 use Rattle.std.proofs.Common.{rules, ◌≡◌, ◌+◌, ◌≤◌, ◌<◌, ◌∷◌, ◌++◌, [], length, get_or, arith}
-use Rattle.tb_text.specs.Plan.{packet_of}
+use Rattle.tb_program_text.specs.Plan.{packet_of}
 use Rattle.tb_program.proofs.Sharing.{dealt_past, dealt_to, not_its}
 use Rattle.tb_program.proofs.run.share.Shares.add_packet.Goals as goal
 

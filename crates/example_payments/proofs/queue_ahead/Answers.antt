@@ -1,0 +1,19 @@
+use Rattle.std.proofs.Common.{◌∙◌, ◌<◌, length, ap, arith}
+use Rattle.example_payments.proofs.Ready.{unread_still}
+use Rattle.example_payments.proofs.queue_ahead.Goals as goal
+
+pub loop-packet-preserved : goal.loop-packet-preserved
+loop-packet-preserved g c =
+    let before = c.loop-packet.opened in
+    let after = c.submit_ahead.new.opened in
+    let was = c.loop-packet.invariant in
+    let is = c.in-Ok.ensures in
+    let within : c.args.desk < length before.submitters.items = omega arith in
+    let still = unread_still before.submitters.items after.submitters.items c.args.desk c.in-Ok._number
+    c.in-Some.packet within was.unread (λ submitter found. (is.ok submitter found).1) in
+    record {
+      together = is.together was.together;
+      number = ap (λ pipeline. length pipeline.submitters) is.pipeline ∙ was.number;
+      desks = still.1 ∙ was.desks;
+      unread = still.0;
+    }

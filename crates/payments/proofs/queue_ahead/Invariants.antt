@@ -1,5 +1,0 @@
-use Rattle.payments.specs.Ready.{IsReady}
-use Rattle.payments.proofs.queue_ahead.Given as goal
-
-abbrev pub invariant-loop-packet : goal.invariant-loop-packet
-invariant-loop-packet g l = IsReady l.opened

@@ -1,8 +1,0 @@
-use Rattle.std.proofs.Common.{rules}
-use Rattle.tb_command.proofs.ending.Ending.text.Goals as goal
-
-pub returns-in-Failed-Write : goal.returns-in-Failed-Write
-returns-in-Failed-Write c = search rules
-
-pub returns-in-Failed-Read : goal.returns-in-Failed-Read
-returns-in-Failed-Read c = search rules

@@ -1,0 +1,43 @@
+-- A list of items on its way through a front and a ledger.
+use Rattle.std.specs.Prelude.{◌≡◌, ℕ, List, ◌++◌}
+use Rattle.tb_work.specs.Packet.{ReplyValue}
+use Rattle.tb_work.specs.declared.item.Item.{Item}
+use Rattle.tb_core.specs.declared.parcel.Parcel.{Parcel}
+use Rattle.tb_core.specs.Front.{FrontState, all_decisions_in, held_by}
+use Rattle.tb_core.specs.Grouping.{AreJoinedParcels}
+use Rattle.tb_core.specs.Journal.{LedgerState}
+use Rattle.tb_core.specs.inside.Decision.{Decision}
+use Rattle.tb_core.specs.Run.{HasNotStopped, IsRunning, IsDrained}
+
+-- the parcels with these decisions, all before the rest, were applied
+pub record AreApplied (clock limit : ℕ) (decisions : List Decision) (rest : List Parcel) (ledger : LedgerState)
+    (replies : List ReplyValue) : Type 0 where
+  pub done : List Decision
+  pub parts : done ++ all_decisions_in rest ≡ decisions
+  pub joined : AreJoinedParcels limit rest
+  pub on : HasNotStopped clock limit done ledger replies
+
+-- the items in front of the rest were taken
+pub record IsUnderWay (clock limit : ℕ) (items rest : List Item) (front : FrontState) (ledger : LedgerState)
+    (replies : List ReplyValue) : Type 0 where
+  pub done : List Item
+  pub parts : items ≡ done ++ rest
+  pub run : IsRunning clock limit done front ledger replies
+
+-- what was held is applied too
+pub through : (clock limit : ℕ) (items : List Item) (front : FrontState) (ledger : LedgerState)
+    (replies : List ReplyValue) (now : LedgerState) (given : List ReplyValue)
+    → (run : IsRunning clock limit items front ledger replies) →
+    HasNotStopped clock limit (run.sent ++ held_by front) now given → IsDrained clock limit items now given
+through clock limit items front ledger replies now given run on = record {
+  ran = record {
+    closed = front.closed;
+    stopped = front.stopped;
+    decisions = run.sent ++ held_by front;
+    passed = run.passed;
+    commits = on.commits;
+  };
+  unmarked = on.unmarked;
+  unstopped = run.unstopped;
+  joined = on.joined;
+}

@@ -1,0 +1,81 @@
+-- A ledger with one entry more.
+use Rattle.std.proofs.Common.{refl, sym, ap, ◌∙◌, arith, ◌≡◌, ℕ, ◌+◌, ◌^◌, Bool, true, false, List, [], ◌∷◌, ◌++◌, map, length, length-append, append-nil}
+use Rattle.std.specs.Prelude.{◌==◌, fold, Result, Ok, Err, is_err, OnOk}
+use Rattle.std.specs.List.{flat_map}
+use Rattle.std.proofs.lemmas.List.{length-map}
+use Rattle.std.proofs.lemmas.Grind.{flat_map-append, fold-append}
+use Rattle.std.proofs.lemmas.Bool.{eqb-true, ltb-false, or_parts}
+use Rattle.tb_layout.specs.Events.{events_of}
+use Rattle.tb_machine.specs.Replay.{State, after_packet, after_input, opening}
+use Rattle.tb_work.specs.Packet.{Numbered, events_in, input_of}
+use Rattle.tb_layout.specs.Input.{Input}
+use Rattle.tb_batch.specs.Batch.{body_of}
+use Rattle.tb_batch.specs.declared.parts.Parts.{Parts}
+use Rattle.tb_core.specs.inside.BatchAnswer.{AreAnswered}
+use Rattle.tb_core.specs.declared.journal.Entry.{Entry}
+use Rattle.tb_core.specs.Journal.{LedgerState, inputs}
+use Rattle.tb_core.specs.Ledger.{IsLedger, AreEntries, must_stop}
+use Rattle.tb_core.proofs.Batches.{JoinInvisibly, gives_each, gives_one}
+
+-- what holds of a call that succeeded
+pub given : {A E : Type 0} (result : Result A E) (P : Type 0) → is_err result ≡ false → OnOk result P → P
+given (Ok x) P ok holds = holds
+given (Err e) P ok holds = cc
+
+pub inputs-more : (groups : List (List Input)) (group : List Input)
+    → flat_map (λ g. g) (groups ++ group ∷ []) ≡ flat_map (λ g. g) groups ++ group
+inputs-more groups group =
+    flat_map-append (λ g. g) groups (group ∷ []) ∙ ap (λ rest. flat_map (λ g. g) groups ++ rest) (append-nil group)
+
+-- the packets of jobs, one by one
+jobs_after : (state : State) (jobs : List Numbered)
+    → fold after_packet state (map (λ (job : Numbered). events_in job.packet) jobs)
+    ≡ fold after_input state (map input_of jobs)
+jobs_after state [] = refl
+jobs_after state (job ∷ jobs) = jobs_after (after_packet state (events_in job.packet)) jobs
+
+-- the state after a batch
+pub batch_state : (law : JoinInvisibly) (state : State) (parts : Parts) → AreAnswered state parts →
+    after_packet state (events_of parts.operation parts.body.items)
+    ≡ fold after_input state (map input_of parts.jobs.items)
+batch_state law state parts answered =
+    ap (λ body. after_packet state (events_of parts.operation body)) answered.body
+    ∙ by (parts.operation == 131) refl ∙ jobs_after state parts.jobs.items
+  where
+    by : (b : Bool) → (parts.operation == 131) ≡ b
+        → after_packet state (events_of parts.operation (body_of parts.jobs.items))
+        ≡ fold after_packet state (map (λ (job : Numbered). events_in job.packet) parts.jobs.items)
+    by true is =
+        ap (λ op. after_packet state (events_of op (body_of parts.jobs.items))) (eqb-true parts.operation 131 is)
+        ∙ (gives_one 0 parts.operation state parts.jobs.items answered.lawful is).states
+    by false is = (gives_each law 0 parts.operation state parts.jobs.items answered.in_range answered.lawful is).states
+
+pub batch_entered : (law : JoinInvisibly) (ledger : LedgerState) (next : State) (places : ℕ)
+    (groups : List (List Input)) (old entries : List Entry) (parts : Parts) (count : ℕ)
+    → IsLedger ledger old places → AreEntries entries → AreAnswered ledger.state parts →
+    next ≡ after_packet ledger.state (events_of parts.operation parts.body.items)
+    → groups ≡ ledger.groups ++ map input_of parts.jobs.items ∷ [] → count ≡ length parts.jobs.items
+    → must_stop false ledger count ≡ false →
+    IsLedger (record ledger { groups = groups; state = next }) entries (places + count)
+batch_entered law ledger next places groups old entries parts count is whole answered next_is groups_is count_is goes =
+    let group = map input_of parts.jobs.items in
+    let all : flat_map (λ g. g) groups ≡ inputs ledger ++ group = ap (flat_map (λ g. g)) groups_is
+    ∙ inputs-more ledger.groups group in
+    let room = ltb-false (2 ^ 63) (length (inputs ledger) + count) (or_parts ledger.stopped _ goes).1 in
+    record {
+      machine = next_is ∙ batch_state law ledger.state parts answered ∙ ap (λ s. fold after_input s group) is.machine
+          ∙ sym (fold-append after_input (opening ledger.opening) (inputs ledger) group)
+          ∙ ap (fold after_input (opening ledger.opening)) (sym all);
+      counted = omega (
+        arith,
+        is.counted,
+        count_is,
+        ap length all,
+        length-append
+            (inputs ledger) group,
+        length-map parts.jobs.items input_of,
+      );
+      few = omega (arith, is.counted, room);
+      opening = is.opening;
+      whole = whole;
+    }

@@ -1,0 +1,94 @@
+-- What follows of what an engine was handed.
+use Rattle.std.proofs.Common.{◌≡◌, refl, sym, ap, ◌∙◌, subst, ℕ, ◌+◌, Bool, if◌then◌else◌, List, [], ◌∷◌, ◌++◌, append-nil, map, length, get_or, ◌<◌, ◌≤◌, false, None, arith}
+use Rattle.std.specs.Prelude.{slice_set}
+use Rattle.std.proofs.lemmas.List.{map-append}
+use Rattle.tb_work.specs.Queue.{is_end, items_in, IsSubmitted}
+use Rattle.tb_work.specs.Packet.{ReplyValue}
+use Rattle.tb_work.specs.declared.item.Item.{Item}
+use Rattle.tb_work.specs.declared.item.Ticket.{Ticket}
+use Rattle.tb_work.specs.declared.packet.Packet.{Packet}
+use Rattle.tb_core.specs.Front.{held_by}
+use Rattle.tb_core.specs.inside.Decision.{Admitted, AreDecisions}
+use Rattle.tb_core.specs.Run.{Commits, EachPartIsLawful, RunIsLawful}
+use Rattle.tb_embed.specs.Engine.{EngineState, HasTaken, Queues, sender_refusal, run_of, ServingIsLawful}
+use Rattle.tb_embed.specs.Queued.{AreQueued, packets_in, ticket_of, packet_ticket}
+use Rattle.tb_embed.proofs.Queued.{IsNext, packet_queued, control_queued, passes_ended, queue_ended}
+
+-- what the front and the ledger make of one item more
+abbrev pub Takes : EngineState → Item → EngineState → Type 0
+Takes old x new =
+    (clock : ℕ) (items : List Item) (read : List ReplyValue)
+    → HasTaken clock items (read ++ old.unread) old.front old.ledger
+    → HasTaken clock (items ++ x ∷ []) (read ++ new.unread) new.front new.ledger
+
+-- one ticket more, with what its sender may queue next
+serves_more : (old new : EngineState) (ticket : Ticket) (numbers : List ℕ) (shut : Bool) → Takes old ticket.item new
+    → new.front.submitters ≡ old.front.submitters
+    → ((queue : List Ticket) → AreQueued old.front.submitters queue old.numbers old.shut
+    → AreQueued old.front.submitters (queue ++ ticket ∷ []) numbers shut)
+    → Queues old ticket (record new { numbers = numbers; shut = shut })
+serves_more old new ticket numbers shut takes same more clock queue read serves = record {
+  taken = subst (λ (items : List Item). HasTaken clock items (read ++ new.unread) new.front new.ledger)
+      (sym (map-append (λ (t : Ticket). t.item) queue (ticket ∷ [])))
+      (takes clock (items_in queue) read serves.taken);
+  queued = subst (λ n. AreQueued n (queue ++ ticket ∷ []) numbers shut) (sym same) (more queue serves.queued);
+}
+
+pub packet_serves : (old new : EngineState) (submitter number : ℕ) (packet : Packet)
+    → get_or old.numbers submitter 0 ≡ number
+    → Takes old (packet_ticket submitter number packet).item new → new.numbers ≡ old.numbers → new.shut ≡ old.shut
+    → new.front.submitters ≡ old.front.submitters → submitter < old.front.submitters
+    → old.front.submitters ≤ length old.numbers →
+    Queues old (packet_ticket submitter number packet)
+    (record new { numbers = slice_set new.numbers submitter (number + 1) })
+packet_serves old new submitter number packet is takes numbers shut same among long =
+    let ticket = packet_ticket submitter number packet in
+    serves_more old new ticket (slice_set new.numbers submitter (number + 1)) new.shut takes same (λ queue are.
+    subst (λ ns. AreQueued old.front.submitters (queue ++ ticket ∷ []) (slice_set ns submitter (number + 1)) new.shut)
+    (sym numbers) (subst (AreQueued old.front.submitters (queue ++ ticket ∷ [])
+    (slice_set old.numbers submitter (number + 1))) (sym shut)
+    (subst (λ k. AreQueued old.front.submitters (queue ++ packet_ticket submitter k packet ∷ [])
+    (slice_set old.numbers submitter (k + 1)) old.shut) is
+    (packet_queued old.front.submitters queue old.numbers old.shut are submitter packet among long))))
+
+pub control_serves : (old new : EngineState) (x : Item) → Takes old x new → new.numbers ≡ old.numbers
+    → new.front.submitters ≡ old.front.submitters → IsSubmitted old.front.submitters old.front.submitters x
+    → IsNext old.front.submitters 0 x → 0 + packets_in (x ∷ []) ≡ 0 → old.shut ≡ false →
+    Queues old (ticket_of old.front.submitters x) (record new { shut = is_end x })
+control_serves old new x takes numbers same own next none on =
+    let n = old.front.submitters in
+    serves_more old new (ticket_of n x) new.numbers (is_end x) takes same (λ queue are.
+    subst (λ ns. AreQueued n (queue ++ ticket_of n x ∷ []) ns (is_end x)) (sym numbers)
+    (control_queued n queue old.numbers old.shut are x own next none on))
+
+-- a submitter that isn't refused is one of the engine's
+pub is_among : (engine : EngineState) (submitter : ℕ) → sender_refusal engine submitter ≡ None
+    → submitter < engine.front.submitters
+is_among engine submitter is = grind arith
+
+pub serving_is_lawful : EachPartIsLawful → RunIsLawful → ServingIsLawful
+serving_is_lawful each_part run clock queue read engine serves =
+    let front = engine.front in
+    let ledger = engine.ledger in
+    let taken = serves.taken in
+    let far = each_part clock (items_in queue) front.closed front.stopped taken.sent (held_by front) ledger
+    (read ++ engine.unread) taken.passed taken.commits in
+    record {
+      committed = far.committed;
+      due = far.due;
+      replied = λ none. far.replied (ap (map Admitted) none);
+      whole = far.whole;
+      report = λ none done. run (run_of clock queue read engine) read
+          (queue_ended front.submitters queue engine.numbers engine.shut serves.queued)
+          (record {
+            closed = front.closed;
+            stopped = front.stopped;
+            decisions = taken.sent;
+            passed = passes_ended (if engine.shut then front.submitters else front.submitters + 1) queue front.closed front.stopped taken.sent
+                (subst (AreDecisions (items_in queue) front.closed front.stopped)
+                (ap (λ jobs. taken.sent ++ map Admitted jobs) none ∙ append-nil taken.sent) taken.passed);
+            commits = subst (Commits clock taken.sent ledger)
+                (ap (λ replies. read ++ replies) done ∙ append-nil read) taken.commits;
+          })
+          (λ submitter below. refl);
+    }

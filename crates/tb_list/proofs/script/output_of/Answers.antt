@@ -1,5 +1,0 @@
-use Rattle.std.proofs.Common.{rules}
-use Rattle.tb_list.proofs.script.output_of.Goals as goal
-
-pub returns-in-Script-clause-thread : goal.returns-in-Script-clause-thread
-returns-in-Script-clause-thread c = search rules

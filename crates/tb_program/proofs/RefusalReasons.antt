@@ -1,0 +1,130 @@
+-- Why packets are refused.
+use Rattle.std.proofs.Common.{◌≡◌, ◌∙◌, ◌⊎◌, inl, inr, ⊎_elim, ℕ, Bool, true, false, List, [], ◌∷◌, ◌++◌, Option, Some, None, refl, sym, ap, subst}
+use Rattle.std.specs.Prelude.{◌==◌, ◌/◌, ◌%◌, not, nat_lt, length, Result, Ok, Err, IsOk, if◌then◌else◌}
+use Rattle.tb_submit.specs.Refusals.{IsRefusal, TakesMemory, or_else, refusal_in, told_by, told_in}
+use Rattle.tb_work.specs.Admission.{admission_of, admission_of_size, event_size}
+use Rattle.tb_work.specs.Packet.{ReplyValue}
+use Rattle.tb_work.specs.declared.outcome.Outcome.{Outcome}
+use Rattle.tb_work.specs.declared.outcome.Outcome.TheVariants as outcome
+use Rattle.tb_work.specs.declared.packet.Packet.{Packet}
+use Rattle.tb_work.specs.declared.refusal.Refusal.{Refusal}
+use Rattle.tb_work.specs.declared.refusal.Refusal.TheVariants as refusals
+use Rattle.tb_drive.specs.Refusing.{IsFinalRefusal, final_refusal}
+use Rattle.tb_program.specs.Noting.{IsRefusedFor}
+
+-- ---- what replies tell
+
+first_tells : (first : Option Refusal) (rest : Option Refusal) (refusal : Refusal)
+    → ((first ≡ Some refusal) → (refusal ≡ refusals.Shutdown) ⊎ (refusal ≡ refusals.Stopped))
+    → ((rest ≡ Some refusal) → (refusal ≡ refusals.Shutdown) ⊎ (refusal ≡ refusals.Stopped))
+    → or_else first rest ≡ Some refusal → (refusal ≡ refusals.Shutdown) ⊎ (refusal ≡ refusals.Stopped)
+first_tells None rest refusal one others is = others is
+first_tells (Some first) rest refusal one others is = one is
+
+one_tells : (o : Outcome) (refusal : Refusal) → told_by o ≡ Some refusal
+    → (refusal ≡ refusals.Shutdown) ⊎ (refusal ≡ refusals.Stopped)
+one_tells (outcome.Committed place answer) refusal is = cc
+one_tells outcome.Shutdown refusal is = inl cc
+one_tells outcome.Stopped refusal is = inr cc
+
+tells : (replies : List ReplyValue) (refusal : Refusal) → told_in replies ≡ Some refusal
+    → (refusal ≡ refusals.Shutdown) ⊎ (refusal ≡ refusals.Stopped)
+tells [] refusal is = cc
+tells (reply ∷ replies) refusal is =
+    first_tells (told_by reply.outcome) (told_in replies) refusal (one_tells reply.outcome refusal)
+    (tells replies refusal) is
+
+still_first : (first rest more : Option Refusal) (refusal : Refusal)
+    → (rest ≡ Some refusal → more ≡ Some refusal) → or_else first rest ≡ Some refusal → or_else first more ≡ Some refusal
+still_first None rest more refusal longer is = longer is
+still_first (Some first) rest more refusal longer is = is
+
+told_longer : (read more : List ReplyValue) (refusal : Refusal) → told_in read ≡ Some refusal
+    → told_in (read ++ more) ≡ Some refusal
+told_longer [] more refusal is = cc
+told_longer (reply ∷ read) more refusal is =
+    still_first (told_by reply.outcome) (told_in read) (told_in (read ++ more)) refusal
+    (told_longer read more refusal) is
+
+-- ---- what admission says
+
+-- the three refusals of an admission
+data IsOfAdmission : Refusal → Type 0 where
+  OfOperation : IsOfAdmission refusals.InvalidOperation
+  OfSize : IsOfAdmission refusals.InvalidDataSize
+  OfCount : IsOfAdmission refusals.TooMuchData
+
+same_refusal : (result : Result ℕ Refusal) (one other : Refusal) → result ≡ Err one → result ≡ Err other → one ≡ other
+same_refusal result one other is also = cc
+
+of_admission : (limit : ℕ) (bytes : List ℕ) (size : Option ℕ) (refusal : Refusal)
+    → admission_of_size limit bytes size ≡ Err refusal → IsOfAdmission refusal
+of_admission limit bytes None refusal is =
+    subst IsOfAdmission (same_refusal (Err refusals.InvalidOperation) refusals.InvalidOperation refusal refl is) OfOperation
+of_admission limit bytes (Some size) refusal is =
+    by (length bytes % size == 0) (nat_lt limit (length bytes / size)) is
+  where
+    by : (whole much : Bool) → (if not whole then Err refusals.InvalidDataSize
+        else if much then Err refusals.TooMuchData else Ok (length bytes / size)) ≡ Err refusal → IsOfAdmission refusal
+    by false much is =
+        subst IsOfAdmission (same_refusal (Err refusals.InvalidDataSize) refusals.InvalidDataSize refusal refl is) OfSize
+    by true true is =
+        subst IsOfAdmission (same_refusal (Err refusals.TooMuchData) refusals.TooMuchData refusal refl is) OfCount
+    by true false is = cc
+
+not_admitted : (limit : ℕ) (read : List ReplyValue) (packet : Packet) (refusal : Refusal) → IsOfAdmission refusal
+    → admission_of limit packet ≡ Err refusal → IsRefusedFor limit read packet refusal
+not_admitted limit read packet refusal OfOperation is = is
+not_admitted limit read packet refusal OfSize is = is
+not_admitted limit read packet refusal OfCount is = is
+
+-- ---- both
+
+pub rightly_refused : (limit : ℕ) (read : List ReplyValue) (packet : Packet) (refusal : Refusal)
+    → IsFinalRefusal limit read packet refusal → IsRefusedFor limit read packet refusal
+rightly_refused limit read packet refusal is = by (told_in read) (admission_of limit packet) refl refl is
+  where
+    told : (due : Refusal) → told_in read ≡ Some due → IsRefusedFor limit read packet due
+    told due told_is = ⊎_elim
+        (λ (same : due ≡ refusals.Shutdown). subst (IsRefusedFor limit read packet) (sym same)
+        (told_is ∙ ap Some same))
+        (λ (same : due ≡ refusals.Stopped). subst (IsRefusedFor limit read packet) (sym same) (told_is ∙ ap Some same))
+        (tells read due told_is)
+
+    by : (first : Option Refusal) (admission : Result ℕ Refusal) → told_in read ≡ first
+        → admission_of limit packet ≡ admission
+        → IsRefusal (or_else first (refusal_in admission)) (λ other. (other ≡ refusals.NoMemory) × TakesMemory packet)
+        refusal → IsRefusedFor limit read packet refusal
+    by (Some due) admission told_is admission_is is =
+        subst (IsRefusedFor limit read packet) (sym is) (told due told_is)
+    by None (Err due) told_is admission_is is =
+        subst (IsRefusedFor limit read packet) (sym is) (not_admitted limit read packet due
+        (of_admission limit packet.bytes (event_size packet.operation) due admission_is) admission_is)
+    by None (Ok count) told_is admission_is is =
+        subst (IsRefusedFor limit read packet) (sym is.0) (subst IsOk (sym admission_is) refl, is.1)
+
+pub admitted : (limit : ℕ) (read : List ReplyValue) (packet : Packet) → final_refusal limit read packet ≡ None
+    → IsOk (admission_of limit packet)
+admitted limit read packet none = by (told_in read) (admission_of limit packet) none
+  where
+    by : (first : Option Refusal) (admission : Result ℕ Refusal) → or_else first (refusal_in admission) ≡ None
+        → IsOk admission
+    by (Some due) admission none = cc
+    by None (Err due) none = cc
+    by None (Ok count) none = refl
+
+pub refused_longer : (limit : ℕ) (read more : List ReplyValue) (packet : Packet) (refusal : Refusal)
+    → IsRefusedFor limit read packet refusal → IsRefusedFor limit (read ++ more) packet refusal
+refused_longer limit read more packet refusals.InvalidOperation is = is
+refused_longer limit read more packet refusals.InvalidDataSize is = is
+refused_longer limit read more packet refusals.TooMuchData is = is
+refused_longer limit read more packet refusals.InFlight is = is
+refused_longer limit read more packet refusals.Full is = is
+refused_longer limit read more packet refusals.NoMemory is = is
+refused_longer limit read more packet refusals.Shutdown is = told_longer read more refusals.Shutdown is
+refused_longer limit read more packet refusals.Stopped is = told_longer read more refusals.Stopped is
+refused_longer limit read more packet refusals.BadLimit is = is
+refused_longer limit read more packet refusals.BadCapacity is = is
+refused_longer limit read more packet refusals.BadSubmitters is = is
+refused_longer limit read more packet refusals.MomentTooLarge is = is
+refused_longer limit read more packet refusals.NoThread is = is

@@ -1,0 +1,2 @@
+pub mod SplitPlan
+pub mod Printing

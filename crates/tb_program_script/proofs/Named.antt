@@ -1,0 +1,240 @@
+-- The field that a word names, and its number.
+use Rattle.std.proofs.Common.{rules, ◌≡◌, ℕ, ◌+◌, ◌<◌, ◌≤◌, true, false, List, [], ◌∷◌, ◌++◌, length, take, drop, refl, sym, ap, ◌∙◌, arith, ◌-◌, suc, Bor, Some, None, Option, Ok, Err, Result, length-append, append_assoc, take-append-drop, lt-ltb, le-ltb, inl, inr}
+use Rattle.std.specs.Prelude.{◌==◌, All, map, slice_index_or, not, bytes_eq, get_or}
+use Rattle.std.specs.List.{list_all, position_or_len, before_first, after_first as rest_after}
+use Rattle.std.proofs.lemmas.Bool.{and_parts, cases_lt, false_from_ne_true}
+use Rattle.std.proofs.lemmas.Bool.Decides.{Decides-eqb}
+use Rattle.std.proofs.lemmas.List.Sums.{split_at_first, passes_at_first}
+use Rattle.std.proofs.lemmas.List.Elements.{All-head, All-tail, All-drop, All-map}
+use Rattle.std.proofs.lemmas.Slice.Eq.{bytes_eq-Decides}
+use Rattle.std.proofs.Math.Seq.{drop-append-add, take-append-add, take-append_seam, get_or-append_seam, split_at}
+use Rattle.std.proofs.lemmas.Grind.{common_steps}
+use Rattle.tb_program_script.specs.declared.fault.Fault.TheVariants.{BadField}
+use Rattle.tb_program_script.specs.declared.event.Field.{Field}
+use Rattle.tb_program_script.specs.declared.fault.Fault.{Fault}
+use Rattle.tb_program_script.specs.declared.event.Draft.{Draft}
+use Rattle.tb_program_script.specs.declared.event.Layout.{Layout}
+use Rattle.tb_program_script.specs.Event.{IsBare, after_word, after_words, field_and_number, field_of, fields_of, found, greatest, named, new_field, sides_of, with_number}
+use Rattle.tb_program_script.specs.Number.{number_within}
+use Rattle.tb_program_script.specs.Steps.{◌>>=◌, look_up}
+use Rattle.tb_program_script.specs.Text.{words_of, first_word, after_first_word}
+use Rattle.tb_program_script.proofs.Texts.{words_first, empty_words}
+use Rattle.tb_program_script.proofs.Tables.{AreOwn, own_row, same_rows}
+
+up_to_equals : (name digits : List ℕ) → list_all (λ byte. not (byte == 61)) name ≡ true
+    → position_or_len (λ byte. byte == 61) (name ++ 61 ∷ digits) ≡ length name
+up_to_equals [] digits h = refl
+up_to_equals (byte ∷ name) digits h =
+    let parts = and_parts (not (byte == 61)) (list_all (λ byte. not (byte == 61)) name) h in
+    rw (parts.0, up_to_equals name digits parts.1) (omega arith)
+
+pub sides_of_named : (name digits : List ℕ) → list_all (λ byte. not (byte == 61)) name ≡ true
+    → sides_of (name ++ 61 ∷ digits) ≡ Ok (name, digits)
+sides_of_named name digits h =
+    let inside : length name < length (name ++ 61 ∷ digits) = omega (arith, length-append name (61 ∷ digits)) in
+    rw (up_to_equals name digits h, lt-ltb (length name) (length (name ++ 61 ∷ digits)) inside)
+    (rw (take-append_seam name (61 ∷ digits), drop-append-add name (61 ∷ digits) 1) refl)
+
+-- if the name and `=` are at the front, the row is the one
+pub found_here : (word name number : List ℕ) (f : Field) (rows : List (List ℕ × Field)) → IsBare name
+    → word ≡ name ++ 61 ∷ number →
+    named word ((name, f) ∷ rows) ≡ Ok (f, number)
+found_here word name number f rows bare e =
+    let same : bytes_eq name name ≡ true = (bytes_eq-Decides name name).1 refl in
+    rw (e, sides_of_named name number bare.0, same) refl
+
+-- where the first word ends of a line that begins with a name and `=`
+up_to_space : (name others : List ℕ) → list_all (λ byte. not (byte == 32)) name ≡ true →
+    position_or_len (λ byte. byte == 32) (name ++ 61 ∷ others)
+    ≡ length name + suc (position_or_len (λ byte. byte == 32) others)
+up_to_space [] others h = omega arith
+up_to_space (byte ∷ name) others h =
+    let parts = and_parts (not (byte == 32)) (list_all (λ byte. not (byte == 32)) name) h in
+    rw (parts.0, up_to_space name others parts.1) (omega arith)
+
+-- the first word of such a line, and the rest of the line
+pub record NamedFirst (line name others : List ℕ) : Type 0 where
+  pub word : first_word line ≡ name ++ 61 ∷ first_word others
+  pub rest : after_first_word line ≡ after_first_word others
+
+pub named_first : (line name others : List ℕ) → IsBare name → line ≡ name ++ 61 ∷ others → NamedFirst line name others
+named_first line name others bare e =
+    let up_to = up_to_space name others bare.1 in
+    record {
+      word = rw (e, up_to) (take-append-add name (61 ∷ others) (suc (position_or_len (λ byte. byte == 32) others)));
+      rest = rw (e, up_to) (drop-append-add name (61 ∷ others) (suc (position_or_len (λ byte. byte == 32) others)));
+    }
+
+-- a line that begins so not, has no such first word
+pub not_first : (line name : List ℕ) → ((others : List ℕ) → line ≡ name ++ 61 ∷ others → ⊥) → (number : List ℕ)
+    → first_word line ≡ name ++ 61 ∷ number → ⊥
+not_first line name differs number e = differs (number ++ after_first_word line)
+    (sym (take-append-drop (position_or_len (λ byte. byte == 32) line) line)
+    ∙ ap (λ front. front ++ after_first_word line) e
+    ∙ append_assoc name (61 ∷ number) (after_first_word line))
+
+parts_of : (word : List ℕ) → position_or_len (λ byte. byte == 61) word < length word →
+    word ≡ before_first (λ byte. byte == 61) word ++ (61 ∷ rest_after (λ byte. byte == 61) word)
+parts_of word h =
+    let at = split_at_first (λ byte. byte == 61) word 0 h in
+    let sign = (Decides-eqb (get_or word (position_or_len (λ byte. byte == 61) word) 0) 61).0
+    (passes_at_first (λ byte. byte == 61) word 0 h) in
+    at ∙ ap (λ byte. before_first (λ byte. byte == 61) word ++ (byte ∷ rest_after (λ byte. byte == 61) word)) sign
+
+-- where they don't, the others decide
+pub found_later : (word name : List ℕ) (f : Field) (rows : List (List ℕ × Field))
+    → ((number : List ℕ) → word ≡ name ++ 61 ∷ number → ⊥) →
+    named word ((name, f) ∷ rows) ≡ named word rows
+found_later word name f rows differs = elim (cases_lt (position_or_len (λ byte. byte == 61) word) (length word)) [
+  | inl below ↦
+      let other : bytes_eq (before_first (λ byte. byte == 61) word) name ≡ false =
+      false_from_ne_true _ (λ same. differs (rest_after (λ byte. byte == 61) word)
+      (parts_of word below ∙ ap (λ front. front ++ (61 ∷ rest_after (λ byte. byte == 61) word))
+      ((bytes_eq-Decides (before_first (λ byte. byte == 61) word) name).0 same))) in
+      rw (lt-ltb (position_or_len (λ byte. byte == 61) word) (length word) below, other) refl
+  | inr above ↦ rw (le-ltb (position_or_len (λ byte. byte == 61) word) (length word) above) refl
+]
+
+pub found_nowhere : (word : List ℕ) → named word [] ≡ Err BadField
+found_nowhere word = elim (cases_lt (position_or_len (λ byte. byte == 61) word) (length word)) [
+  | inl below ↦ rw (lt-ltb (position_or_len (λ byte. byte == 61) word) (length word) below) refl
+  | inr above ↦ rw (le-ltb (position_or_len (λ byte. byte == 61) word) (length word) above) refl
+]
+
+-- a word that begins with a name and `=`
+pub record BeginsWith (word name : List ℕ) : Type 0 where
+  pub long : length name < length word
+  pub sign : get_or word (length name) 0 ≡ 61
+  pub front : take (length name) word ≡ name
+
+pub begins_with : (word name number : List ℕ) → word ≡ name ++ 61 ∷ number → BeginsWith word name
+begins_with word name number e = record {
+  long = rw e (omega (arith, length-append name (61 ∷ number)));
+  sign = rw e (get_or-append_seam name 61 number 0);
+  front = rw e (take-append_seam name (61 ∷ number));
+}
+
+pub after_sign : (word name : List ℕ) → BeginsWith word name
+    → word ≡ name ++ 61 ∷ take (length word - (length name + 1)) (drop (length name + 1) word)
+after_sign word name h =
+    let rest : take (length word - (length name + 1)) (drop (length name + 1) word)
+    ≡ drop (length name + 1) word = grind (arith, common_steps) in
+    let one : suc (length name) ≡ length name + 1 = omega arith in
+    rw rest (split_at word (length name) 0 h.long
+    ∙ ap (λ front. front ++ get_or word (length name) 0 ∷ drop (suc (length name)) word) h.front
+    ∙ ap (λ byte. name ++ byte ∷ drop (suc (length name)) word) h.sign
+    ∙ ap (λ (count : ℕ). name ++ 61 ∷ drop count word) one)
+
+abbrev row_of : Bor (List ℕ) × Field → List ℕ × Field
+row_of row = (row.0.now, row.1)
+
+-- a table is its first row and the others
+pub record FirstRow (table : List (Bor (List ℕ) × Field)) (first : Bor (List ℕ) × Field) : Type 0 where
+  pub rows : map row_of table ≡ row_of first ∷ map row_of (take (length table - 1) (drop 1 table))
+  pub bare : IsBare first.0.now
+  pub others : All (λ row. IsBare row.0.now) (take (length table - 1) (drop 1 table))
+
+pub first_row : (table : List (Bor (List ℕ) × Field)) (d : Bor (List ℕ) × Field)
+    → All (λ row. IsBare row.0.now) table → 1 ≤ length table →
+    FirstRow table (slice_index_or table 0 d)
+first_row [] d bare h = absurd (omega arith)
+first_row (row ∷ rows) d bare h =
+    let whole : take (suc (length rows) - 1) rows ≡ rows = grind (arith, common_steps) in
+    record {
+      rows = rw whole refl;
+      bare = All-head (λ row. IsBare row.0.now) row rows bare;
+      others = rw whole (All-tail (λ row. IsBare row.0.now) row rows bare);
+    }
+
+-- ---- one word
+
+abbrev told_of : Draft → Result (Field × List ℕ) Fault → Result Draft Fault
+told_of draft both = do
+  named ← both
+  field ← new_field draft (Some named.0)
+  number ← number_within 0 (greatest field.size) named.1
+  Ok (with_number draft field number)
+
+told_by_field : (draft : Draft) (number : List ℕ) (field : Option Field) →
+    (new_field draft field >>= λ f. number_within 0 (greatest f.size) number >>= λ n. Ok (with_number draft f n))
+    ≡ told_of draft (found field >>= λ f. Ok (f, number))
+told_by_field draft number None = refl
+told_by_field draft number (Some field) = refl
+
+told_by_sides : (layout : Layout) (draft : Draft) (sides : Result (List ℕ × List ℕ) Fault) →
+    (sides >>= λ s. new_field draft (field_of layout s.0) >>= λ f. number_within 0 (greatest f.size) s.1 >>= λ n.
+    Ok (with_number draft f n))
+    ≡ told_of draft (sides >>= λ s. found (look_up s.0 (fields_of layout)) >>= λ f. Ok (f, s.1))
+unfolding field_of
+told_by_sides layout draft (Err fault) = refl
+told_by_sides layout draft (Ok sides) = told_by_field draft sides.1 (look_up sides.0 (fields_of layout))
+
+-- a word is identified by the field that it names
+pub after_word_named : (layout : Layout) (draft : Draft) (word : List ℕ) (both : Result (Field × List ℕ) Fault)
+    → both ≡ field_and_number layout word →
+    after_word layout draft word ≡ told_of draft both
+unfolding after_word field_and_number
+after_word_named layout draft word both e = told_by_sides layout draft (sides_of word) ∙ ap (told_of draft) (sym e)
+
+-- ---- one word after another
+
+pub after_first : (layout : Layout) (draft next : Draft) (line : List ℕ)
+    → 0 < position_or_len (λ byte. byte == 32) line →
+    after_word layout draft (first_word line) ≡ Ok next
+    → after_words layout next (words_of (after_first_word line)) ≡ after_words layout draft (words_of line)
+unfolding after_words
+after_first layout draft next line some e = rw (words_first line some, e) refl
+
+pub faulty_first : (layout : Layout) (draft : Draft) (line : List ℕ) (fault : Fault)
+    → 0 < position_or_len (λ byte. byte == 32) line →
+    after_word layout draft (first_word line) ≡ Err fault → after_words layout draft (words_of line) ≡ Err fault
+unfolding after_words
+faulty_first layout draft line fault some e = rw (words_first line some, e) refl
+
+pub after_none : (layout : Layout) (draft : Draft) (line : List ℕ) → length line ≡ 0
+    → after_words layout draft (words_of line) ≡ Ok draft
+unfolding after_words
+after_none layout draft line none = rw (empty_words line none) refl
+
+-- ---- some rows of a table
+
+told_by_row : (table rows : List (List ℕ × Field)) (name number : List ℕ) (row : Option Field)
+    (both : Field × List ℕ) → row ≡ look_up name rows → AreOwn table rows →
+    (found row >>= λ f. Ok (f, number)) ≡ Ok both → (found (look_up name table) >>= λ f. Ok (f, number)) ≡ Ok both
+told_by_row table rows name number None both e own h = absurd (search (rules, h))
+told_by_row table rows name number (Some f) both e own h = rw (own_row table rows name f own (sym e)) h
+
+told_by_parts : (table rows : List (List ℕ × Field)) (sides : Result (List ℕ × List ℕ) Fault)
+    (both : Field × List ℕ) → AreOwn table rows →
+    (sides >>= λ s. found (look_up s.0 rows) >>= λ f. Ok (f, s.1)) ≡ Ok both
+    → (sides >>= λ s. found (look_up s.0 table) >>= λ f. Ok (f, s.1)) ≡ Ok both
+told_by_parts table rows (Err fault) both own h = h
+told_by_parts table rows (Ok sides) both own h =
+    told_by_row table rows sides.0 sides.1 (look_up sides.0 rows) both refl own h
+
+-- the field that a word names in the rows from an index on is the one that it names in the table
+pub named_from_index : (word : List ℕ) (table : List (Bor (List ℕ) × Field)) (index : ℕ) (both : Field × List ℕ) →
+    All (λ row. look_up row.0.now (map row_of table) ≡ Some row.1) table
+    → named word (map row_of (drop index table)) ≡ Ok both →
+    named word (map row_of table) ≡ Ok both
+named_from_index word table index both own h =
+    told_by_parts (map row_of table) (map row_of (drop index table)) (sides_of word) both
+    (All-map (λ row. look_up row.0 (map row_of table) ≡ Some row.1) row_of (drop index table)
+    (All-drop (λ row. look_up row.0.now (map row_of table) ≡ Some row.1) index table own)) h
+
+-- ---- a table in another order
+
+abbrev beside : List ℕ → Option Field → Result (Field × List ℕ) Fault
+beside number field = do
+  f ← found field
+  Ok (f, number)
+
+in_order : (rows table : List (List ℕ × Field)) (sides : Result (List ℕ × List ℕ) Fault)
+    → AreOwn table rows → AreOwn rows table →
+    (sides >>= λ s. beside s.1 (look_up s.0 rows)) ≡ (sides >>= λ s. beside s.1 (look_up s.0 table))
+in_order rows table (Err fault) own back = refl
+in_order rows table (Ok sides) own back = ap (beside sides.1) (same_rows rows table sides.0 own back)
+
+pub named_in_order : (word : List ℕ) (rows table : List (List ℕ × Field)) → AreOwn table rows → AreOwn rows table
+    → named word rows ≡ named word table
+named_in_order word rows table own back = in_order rows table (sides_of word) own back

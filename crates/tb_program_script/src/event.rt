@@ -1,0 +1,309 @@
+//! Events from their lines.
+
+ghost use Rattle.std.specs.Prelude.{◌≡◌, ◌≤◌, ◌<◌, ◌+◌, ◌-◌, ◌⊎◌, ◌++◌, ◌∷◌, ℕ, List, Some, All, length, map, IfOk};
+ghost use Rattle.std.specs.Option.{MatchOption};
+ghost use Rattle.std.specs.Int.{to_le_bytes, w128};
+ghost use Rattle.tb_program_script.specs.Text.{words_of, first_word, after_first_word};
+ghost use Rattle.tb_program_script.specs.Steps.{Gives, Makes, Tells, look_up};
+ghost use Rattle.tb_program_script.specs.Number.{number_of};
+ghost use Rattle.tb_program_script.specs.Event.{Lies, IsBare, named, field_and_number, greatest, new_field, with_number, put, after_word, after_words, blank, hex_bytes};
+
+use crate::fault::{Fault, LineError};
+use crate::number::{in_bounds, leading_number, long_first};
+use crate::text::{Words, trim_spaces};
+use hex::FromHexError;
+use std::alloc::Global;
+
+/// What an event asks for, and so what its fields are.
+#[derive(Clone, Copy)]
+pub enum Layout {
+    Account,
+    Transfer,
+}
+
+/// A field: its index among the fields, and its bytes in the event.
+#[derive(Clone, Copy)]
+pub struct Field {
+    pub index: usize,
+    pub offset: usize,
+    pub size: usize,
+}
+
+/// An event so far: its bytes, and which of its fields were given.
+#[derive(Clone, Copy)]
+pub struct Draft {
+    pub bytes: [u8; 128],
+    pub given: [bool; 13],
+}
+
+impl Draft {
+    /// An event, none of whose fields was given.
+    pub fn new() -> Draft
+        ensures { result ≡ blank }
+    {
+        Draft {
+            bytes: [0; 128],
+            given: [false; 13],
+        }
+    }
+}
+
+/// A field at an index among the fields and at an offset, with a size in bytes.
+macro_rules! lying_at {
+    ($index:expr, $offset:expr, $size:expr) => {
+        Field {
+            index: $index,
+            offset: $offset,
+            size: $size,
+        }
+    };
+}
+
+/// An account's fields under their names, in the order in which lines mostly give them.
+const ACCOUNT_FIELDS: [(&[u8], Field); 13] = [
+    (b"id", lying_at!(0, 0, 16)),
+    (b"ledger", lying_at!(9, 112, 4)),
+    (b"code", lying_at!(10, 116, 2)),
+    (b"flags", lying_at!(11, 118, 2)),
+    (b"user_data_128", lying_at!(5, 80, 16)),
+    (b"user_data_64", lying_at!(6, 96, 8)),
+    (b"user_data_32", lying_at!(7, 104, 4)),
+    (b"reserved", lying_at!(8, 108, 4)),
+    (b"debits_pending", lying_at!(1, 16, 16)),
+    (b"debits_posted", lying_at!(2, 32, 16)),
+    (b"credits_pending", lying_at!(3, 48, 16)),
+    (b"credits_posted", lying_at!(4, 64, 16)),
+    (b"timestamp", lying_at!(12, 120, 8)),
+];
+
+/// A transfer's fields, likewise.
+const TRANSFER_FIELDS: [(&[u8], Field); 13] = [
+    (b"id", lying_at!(0, 0, 16)),
+    (b"debit_account_id", lying_at!(1, 16, 16)),
+    (b"credit_account_id", lying_at!(2, 32, 16)),
+    (b"amount", lying_at!(3, 48, 16)),
+    (b"pending_id", lying_at!(4, 64, 16)),
+    (b"timeout", lying_at!(8, 108, 4)),
+    (b"ledger", lying_at!(9, 112, 4)),
+    (b"code", lying_at!(10, 116, 2)),
+    (b"flags", lying_at!(11, 118, 2)),
+    (b"user_data_128", lying_at!(5, 80, 16)),
+    (b"user_data_64", lying_at!(6, 96, 8)),
+    (b"user_data_32", lying_at!(7, 104, 4)),
+    (b"timestamp", lying_at!(12, 120, 8)),
+];
+
+/// The field that the first word of a line names, the number of rows of the table after its own, and the line from its
+/// number on.
+#[derive(Clone, Copy)]
+struct NamedField<'a> {
+    field: Field,
+    rows_after: usize,
+    from_number: &'a [u8],
+}
+
+/// What follows a name and its `=`, if the line begins with these.
+fn after_name<'a>(line: &'a [u8], name: &[u8]) -> Option<&'a [u8]>
+    ensures { MatchOption result ((others : List ℕ) → line.now ≡ name.now ++ 61 ∷ others
+        → ⊥) (λ others. line.now ≡ name.now ++ 61 ∷ others.now) }
+{
+    let end = name.len();
+    if end < line.len() && line[end] == b'=' && &line[..end] == name {
+        Some(&line[end + 1..])
+    } else {
+        None
+    }
+}
+
+/// The field of a table that the first word of a line names. The end of the word isn't looked for: the name is compared
+/// with those of the table in place.
+#[inline(always)]
+fn named<'a>(mut table: &[(&[u8], Field)], line: &'a [u8]) -> Result<NamedField<'a>, Fault>
+    requires { All (λ row. IsBare row.0.now) table.now }
+    ensures both { Tells (λ first. (first.field, first_word first.from_number.now)) result
+        (named (first_word line.now) (map (λ row. (row.0.now, row.1)) table.entry.now)) }
+    ensures rest { IfOk result (λ first. after_first_word first.from_number.now ≡ after_first_word line.now) }
+    ensures rows_after { IfOk result (λ first. first.rows_after ≤ length table.entry.now) }
+{
+    while let [(name, field), others @ ..] = table {
+        if let Some(from_number) = after_name(line, name) {
+            return Ok(NamedField {
+                field: *field,
+                rows_after: others.len(),
+                from_number,
+            });
+        }
+        table = others;
+    }
+    Err(Fault::BadField)
+}
+
+/// The field of a table that the first word of a line names, looked for among the rows from an index on first: the
+/// fields of an event mostly come in the table's order.
+#[inline(always)]
+fn named_from<'a>(
+    table: &[(&[u8], Field)],
+    index: usize,
+    line: &'a [u8],
+) -> Result<NamedField<'a>, Fault>
+    requires index { index ≤ length table.now }
+    requires bare { All (λ row. IsBare row.0.now) table.now }
+    requires own { All (λ row. look_up row.0.now (map (λ row. (row.0.now, row.1)) table.now) ≡ Some row.1) table.now }
+    ensures both { Tells (λ first. (first.field, first_word first.from_number.now)) result
+        (named (first_word line.now) (map (λ row. (row.0.now, row.1)) table.now)) }
+    ensures rest { IfOk result (λ first. after_first_word first.from_number.now ≡ after_first_word line.now) }
+    ensures rows_after { IfOk result (λ first. first.rows_after ≤ length table.now) }
+{
+    match named(&table[index..], line) {
+        Ok(first) => Ok(first),
+        Err(_) => named(table, line),
+    }
+}
+
+/// What the first word of a line says of an event. `index` is the row that its field probably has.
+#[tactic(auto, unfolding(crate::specs::Event::field_and_number))]
+fn field_and_number(layout: Layout, index: usize, line: &[u8]) -> Result<NamedField, Fault>
+    requires { index ≤ 13 }
+    ensures both { Tells (λ first. (first.field, first_word first.from_number.now)) result
+        (field_and_number layout (first_word line.now)) }
+    ensures rest { IfOk result (λ first. after_first_word first.from_number.now ≡ after_first_word line.now) }
+    ensures rows_after { IfOk result (λ first. first.rows_after ≤ 13) }
+    ensures lies { IfOk result (λ first. Lies first.field) }
+{
+    match layout {
+        Layout::Account => named_from(&ACCOUNT_FIELDS, index, line),
+        Layout::Transfer => named_from(&TRANSFER_FIELDS, index, line),
+    }
+}
+
+/// The greatest number of this many bytes.
+fn greatest(size: usize) -> u128
+    requires { (size ≡ 2) ⊎ ((size ≡ 4) ⊎ ((size ≡ 8) ⊎ (size ≡ 16))) }
+    ensures { result ≡ greatest size }
+{
+    if size == 2 {
+        0xffff
+    } else if size == 4 {
+        0xffff_ffff
+    } else if size == 8 {
+        0xffff_ffff_ffff_ffff
+    } else {
+        u128::MAX
+    }
+}
+
+/// The field, where it wasn't given before.
+fn new_field(draft: &Draft, f: Field) -> Result<Field, Fault>
+    requires { Lies f }
+    ensures field { result ≡ new_field draft.now (Some f) }
+    ensures lies { IfOk result Lies }
+{
+    if draft.given[f.index] {
+        Err(Fault::BadField)
+    } else {
+        Ok(f)
+    }
+}
+
+/// What the lower half of a number of 128 bits stays below.
+const HALF: u128 = 1 << 64;
+
+/// The bytes of a number, the lowest first. Two halves take fewer instructions than the whole.
+fn bytes_of(n: u128) -> [u8; 16]
+    ensures { result ≡ to_le_bytes w128 n }
+{
+    let mut bytes = [0; 16];
+    bytes[..8].copy_from_slice(&((n % HALF) as u64).to_le_bytes());
+    bytes[8..].copy_from_slice(&((n / HALF) as u64).to_le_bytes());
+    bytes
+}
+
+/// Puts a number into a field's bytes.
+fn write(draft: &mut Draft, f: Field, n: u128)
+    requires { Lies f }
+    ensures { draft.new ≡ with_number draft.old f n }
+{
+    let bytes = bytes_of(n);
+    let offset = f.offset;
+    match f.size {
+        2 => draft.bytes[offset..offset + 2].copy_from_slice(&bytes[..2]),
+        4 => draft.bytes[offset..offset + 4].copy_from_slice(&bytes[..4]),
+        8 => draft.bytes[offset..offset + 8].copy_from_slice(&bytes[..8]),
+        _ => draft.bytes[offset..offset + 16].copy_from_slice(&bytes),
+    }
+    draft.given[f.index] = true;
+}
+
+/// Puts a number into a field's bytes, if it is there and fits.
+#[inline(always)]
+fn put(draft: &mut Draft, f: Field, n: Option<u128>) -> Result<(), Fault>
+    requires { Lies f }
+    ensures { Makes result draft.new (put draft.old f n) }
+{
+    let n = in_bounds(n, 0, greatest(f.size))?;
+    write(draft, f, n);
+    Ok(())
+}
+
+/// Puts the number of a line's first word into a field's bytes, and gives what is left of the line after the word.
+#[inline(always)]
+fn put_first<'a>(draft: &mut Draft, f: Field, line: &'a [u8]) -> Result<&'a [u8], Fault>
+    requires { Lies f }
+    ensures draft { Makes result draft.new (put draft.old f (number_of (first_word line.now))) }
+    ensures rest { IfOk result (λ rest. rest.now ≡ after_first_word line.now) }
+{
+    if let Some((n, rest)) = leading_number(line) {
+        put(draft, f, Some(u128::from(n)))?;
+        return Ok(rest);
+    }
+    let (n, rest) = long_first(line);
+    put(draft, f, n)?;
+    Ok(rest)
+}
+
+/// Takes the first word of a line, NAME=N, and returns the rest of the line. `index` is the row that its field probably
+/// has; the index of the row after it is returned too.
+#[tactic(auto, using(crate::proofs::Named::after_word_named))]
+fn assign<'a>(
+    layout: Layout,
+    draft: &mut Draft,
+    index: usize,
+    line: &'a [u8],
+) -> Result<(usize, &'a [u8]), Fault>
+    requires { index ≤ 13 }
+    ensures draft { Makes result draft.new (after_word layout draft.old (first_word line.now)) }
+    ensures index { IfOk result (λ both. both.0 ≤ 13) }
+    ensures rest { IfOk result (λ both. both.1.now ≡ after_first_word line.now) }
+{
+    let first = field_and_number(layout, index, line)?;
+    let f = new_field(draft, first.field)?;
+    let rest = put_first(draft, f, first.from_number)?;
+    Ok((13 - first.rows_after, rest))
+}
+
+/// Takes all words of a line, each a field with its number.
+#[tactic(auto, unfolding(crate::specs::Event::after_words))]
+pub fn assign_all(layout: Layout, draft: &mut Draft, words: Words) -> Result<(), Fault>
+    ensures { Makes result draft.new (after_words layout draft.old (words_of words.entry.rest.now)) }
+{
+    let mut rest = trim_spaces(words.rest);
+    let mut index = 0;
+    while !rest.is_empty() {
+        let (next, remainder) = assign(layout, draft, index, rest)?;
+        index = next;
+        rest = trim_spaces(remainder);
+    }
+    Ok(())
+}
+
+/// The bytes that hexadecimal digits give; there must be exactly as many pairs of these.
+#[tactic(auto, unfolding(crate::specs::Event::hex_bytes))]
+pub fn hex_bytes(alloc: Global, word: &[u8]) -> Result<Vec<u8>, LineError>
+    ensures { Gives (λ v. v.items) result (hex_bytes word.now) }
+{
+    match hex::decode(alloc, word) {
+        Ok(bytes) => Ok(bytes),
+        Err(FromHexError::OutOfMemory) => Err(LineError::NoMemory),
+        Err(_) => Err(LineError::Fault(Fault::BadHex)),
+    }
+}

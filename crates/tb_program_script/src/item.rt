@@ -1,0 +1,73 @@
+//! What a script says.
+
+ghost use Rattle.std.specs.Prelude.{◌≡◌};
+ghost use Rattle.tb_program_script.specs.Script.{clock_of, limit_of, capacity_of, credit_of, submitters_of};
+
+use crate::bytes::Bytes;
+use crate::submitter_number::SubmitterNumber;
+use tb_layout::BATCH_MAX;
+
+/// The settings that the script gives.
+#[derive(Clone, Copy)]
+pub struct Settings {
+    pub clock: Option<u64>,
+    pub limit: Option<u32>,
+    pub capacity: Option<u32>,
+    pub credit: Option<u32>,
+    pub submitters: Option<u32>,
+}
+
+impl Settings {
+    /// What the clock starts at, in nanoseconds: 0 where the script doesn't say.
+    pub fn clock(&self) -> u64
+        ensures { result ≡ clock_of self.now }
+    {
+        self.clock.unwrap_or(0)
+    }
+
+    /// The most events of a batch: as many as there can be where the script doesn't say.
+    pub fn limit(&self) -> u32
+        ensures { result ≡ limit_of self.now }
+    {
+        self.limit.unwrap_or(BATCH_MAX)
+    }
+
+    /// The places of the queue: 64 where the script doesn't say.
+    pub fn capacity(&self) -> u32
+        ensures { result ≡ capacity_of self.now }
+    {
+        self.capacity.unwrap_or(64)
+    }
+
+    /// The credit of a submitter: 16 where the script doesn't say.
+    pub fn credit(&self) -> u32
+        ensures { result ≡ credit_of self.now }
+    {
+        self.credit.unwrap_or(16)
+    }
+
+    /// How many submitters there are: 2 where the script doesn't say.
+    pub fn submitters(&self) -> u32
+        ensures { result ≡ submitters_of self.now }
+    {
+        self.submitters.unwrap_or(2)
+    }
+}
+
+/// What a script queues, in the order of its lines.
+#[derive(Drop)]
+pub enum ScriptItem {
+    Packet(Submission),
+    /// A pulse with its moment, in nanoseconds, which may be too large.
+    Pulse(u64),
+    /// The Close.
+    Shut,
+}
+
+/// A packet, as its submitter hands it in.
+#[derive(Drop)]
+pub struct Submission {
+    pub submitter: SubmitterNumber,
+    pub operation: u8,
+    pub bytes: Bytes,
+}

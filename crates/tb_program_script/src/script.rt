@@ -1,0 +1,377 @@
+//! A script, line after line.
+
+ghost use Rattle.std.specs.Prelude.{◌≡◌, [], IfOk, OnOk};
+ghost use Rattle.tb_program_script.specs.Text.{words_of};
+ghost use Rattle.tb_program_script.specs.Steps.{Tells, Leaves};
+ghost use Rattle.tb_program_script.specs.Keyword.{no_word, one_word, two_words};
+ghost use Rattle.tb_program_script.specs.Script.{ParsedScript, nothing_parsed, items_of, has_begun, may_stand, with_packet, with_pulse, with_close, with_bytes, with_event, packet_numbers, with_line, is_text as is_text_line, after_line, InBounds};
+
+use crate::bytes::Bytes;
+use crate::event::{Draft, Layout, assign_all, hex_bytes};
+use crate::fault::{Fault, LineError};
+use crate::item::{ScriptItem, Settings, Submission};
+use crate::keyword::{Keyword, keyword_of};
+use crate::number::{in_bounds, number_within, two_short_numbers};
+use crate::submitter_number::SubmitterNumber;
+use crate::text::Words;
+use std::alloc::Global;
+use std::marker::Model;
+use tb_layout::{BATCH_MAX, CAPACITY_MAX, CLOCK_MAX, NoMemory, SUBMITTERS_MAX};
+
+/// The most bytes of a line, its ending byte not counted.
+const LINE_MAX: usize = 65_536;
+
+/// What the lines so far say.
+#[derive(Drop)]
+pub struct Script {
+    settings: Settings,
+    items: Vec<ScriptItem>,
+    packet: Option<Submission>,
+    /// How many bytes the last packet that ended has: probably the next has as many.
+    probable_size: usize,
+    shut: bool,
+}
+
+impl Model for Script {
+    ghost Value = { ParsedScript };
+
+    ghost view = { λ script. record {
+      settings = script.settings;
+      items = script.items.items;
+      packet = script.packet;
+      shut = script.shut;
+    } };
+
+    ghost invariant = { λ script. InBounds script.settings };
+}
+
+fn no_word(words: Words) -> Result<(), Fault>
+    ensures { Tells (λ _. []) result (no_word (words_of words.entry.rest.now)) }
+{
+    let mut words = words;
+    match words.next() {
+        None => Ok(()),
+        Some(_) => Err(Fault::WrongNumberOfWords),
+    }
+}
+
+fn one_word(words: Words) -> Result<&[u8], Fault>
+    ensures { Tells (λ word. word.now) result (one_word (words_of words.entry.rest.now)) }
+{
+    let mut words = words;
+    match (words.next(), words.next()) {
+        (Some(word), None) => Ok(word),
+        _ => Err(Fault::WrongNumberOfWords),
+    }
+}
+
+/// The words of a line that has two.
+fn two_words(words: Words) -> Result<(&[u8], &[u8]), Fault>
+    ensures { Tells (λ both. (both.0.now, both.1.now)) result (two_words (words_of words.entry.rest.now)) }
+{
+    let mut words = words;
+    match (words.next(), words.next(), words.next()) {
+        (Some(word), Some(more), None) => Ok((word, more)),
+        _ => Err(Fault::WrongNumberOfWords),
+    }
+}
+
+/// The numbers of a packet's line: its submitter, at most this one, and its operation.
+#[inline(always)]
+fn packet_numbers(words: Words, most: u32) -> Result<(u32, u8), Fault>
+    ensures { Tells (λ both. (both.0, both.1)) result (packet_numbers most (words_of words.entry.rest.now)) }
+{
+    let most = u128::from(most);
+    if let Some((submitter, operation)) = two_short_numbers(words.rest) {
+        let submitter = in_bounds(Some(u128::from(submitter)), 0, most)?;
+        let operation = in_bounds(Some(u128::from(operation)), 0, 255)?;
+        return Ok((submitter as u32, operation as u8));
+    }
+    let (submitter, operation) = two_words(words)?;
+    let submitter = number_within(submitter, 0, most)?;
+    let operation = number_within(operation, 0, 255)?;
+    Ok((submitter as u32, operation as u8))
+}
+
+/// Whether a line has only bytes 32 to 126.
+pub(crate) fn is_text(line: &[u8]) -> bool
+    ensures { result ≡ is_text_line line.now }
+{
+    line.iter()
+        .fold(true, |text, b| text & (32 <= *b && *b <= 126))
+}
+
+impl Script {
+    /// A script without lines so far. Takes no memory.
+    pub fn new(alloc: Global) -> Script
+        ensures { result ≡ nothing_parsed }
+    {
+        Script {
+            settings: Settings {
+                clock: None,
+                limit: None,
+                capacity: None,
+                credit: None,
+                submitters: None,
+            },
+            items: Vec::new(alloc),
+            packet: None,
+            probable_size: 0,
+            shut: false,
+        }
+    }
+
+    /// Whether there was a packet, a pulse or a Close.
+    fn has_begun(&self) -> bool
+        ensures { result ≡ has_begun self.now }
+    {
+        !self.items.is_empty() || self.packet.is_some()
+    }
+
+    /// Whether a line with a keyword may follow those so far.
+    fn may_stand(&self, keyword: Keyword) -> bool
+        ensures { result ≡ may_stand self.now keyword }
+    {
+        match keyword {
+            Keyword::Clock => !self.has_begun() && self.settings.clock.is_none(),
+            Keyword::Limit => !self.has_begun() && self.settings.limit.is_none(),
+            Keyword::Capacity => !self.has_begun() && self.settings.capacity.is_none(),
+            Keyword::Credit => !self.has_begun() && self.settings.credit.is_none(),
+            Keyword::Submitters => !self.has_begun() && self.settings.submitters.is_none(),
+            Keyword::Packet => true,
+            Keyword::Account | Keyword::Transfer | Keyword::Id | Keyword::Hex => {
+                self.packet.is_some()
+            }
+            Keyword::Pulse | Keyword::Shut => !self.shut,
+        }
+    }
+
+    /// Puts the packet to which lines still add at the end of the items.
+    fn end_packet(&mut self) -> Result<(), NoMemory>
+        ensures { OnOk result (self.new ≡ record self.old { items = items_of self.old; packet = None }) }
+    {
+        if let Some(packet) = self.packet.take() {
+            self.probable_size = packet.bytes.len();
+            self.items.push(ScriptItem::Packet(packet))?;
+        }
+        Ok(())
+    }
+
+    /// Begins a packet with room for as many bytes as the packet before has. So all these rooms together are no larger
+    /// than the packets.
+    fn begin_packet(
+        &mut self,
+        alloc: Global,
+        submitter: SubmitterNumber,
+        operation: u8,
+    ) -> Result<(), NoMemory>
+        ensures { OnOk result (self.new ≡ with_packet self.old submitter operation) }
+    {
+        self.end_packet()?;
+        self.packet = Some(Submission {
+            submitter,
+            operation,
+            bytes: Bytes::with_capacity(alloc, self.probable_size)?,
+        });
+        Ok(())
+    }
+
+    /// Puts a pulse at the end of the items.
+    fn add_pulse(&mut self, moment: u64) -> Result<(), NoMemory>
+        ensures { OnOk result (self.new ≡ with_pulse self.old moment) }
+    {
+        self.end_packet()?;
+        self.items.push(ScriptItem::Pulse(moment))?;
+        Ok(())
+    }
+
+    fn add_close(&mut self) -> Result<(), NoMemory>
+        ensures { OnOk result (self.new ≡ with_close self.old) }
+    {
+        self.end_packet()?;
+        self.items.push(ScriptItem::Shut)?;
+        self.shut = true;
+        Ok(())
+    }
+
+    fn add_bytes(&mut self, bytes: &[u8]) -> Result<(), NoMemory>
+        ensures { OnOk result (self.new ≡ with_bytes self.old bytes.now) }
+    {
+        if let Some(packet) = &mut self.packet {
+            packet.bytes.extend_from_slice(bytes)?;
+        }
+        Ok(())
+    }
+
+    #[tactic(auto, unfolding(crate::specs::Script::with_line))]
+    fn set_clock(&mut self, words: Words) -> Result<(), LineError>
+        ensures { Leaves result self.new (with_line self.old Keyword.Clock (words_of words.entry.rest.now)) }
+    {
+        let n = number_within(one_word(words)?, 0, CLOCK_MAX as u128)?;
+        self.settings.clock = Some(n as u64);
+        Ok(())
+    }
+
+    #[tactic(auto, unfolding(crate::specs::Script::with_line))]
+    fn set_limit(&mut self, words: Words) -> Result<(), LineError>
+        ensures { Leaves result self.new (with_line self.old Keyword.Limit (words_of words.entry.rest.now)) }
+    {
+        let n = number_within(one_word(words)?, 1, BATCH_MAX as u128)?;
+        self.settings.limit = Some(n as u32);
+        Ok(())
+    }
+
+    #[tactic(auto, unfolding(crate::specs::Script::with_line))]
+    fn set_capacity(&mut self, words: Words) -> Result<(), LineError>
+        ensures { Leaves result self.new (with_line self.old Keyword.Capacity (words_of words.entry.rest.now)) }
+    {
+        let n = number_within(one_word(words)?, 1, CAPACITY_MAX as u128)?;
+        self.settings.capacity = Some(n as u32);
+        Ok(())
+    }
+
+    #[tactic(auto, unfolding(crate::specs::Script::with_line))]
+    fn set_credit(&mut self, words: Words) -> Result<(), LineError>
+        ensures { Leaves result self.new (with_line self.old Keyword.Credit (words_of words.entry.rest.now)) }
+    {
+        let n = number_within(one_word(words)?, 1, CAPACITY_MAX as u128)?;
+        self.settings.credit = Some(n as u32);
+        Ok(())
+    }
+
+    #[tactic(auto, unfolding(crate::specs::Script::with_line))]
+    fn set_submitters(&mut self, words: Words) -> Result<(), LineError>
+        ensures { Leaves result self.new (with_line self.old Keyword.Submitters (words_of words.entry.rest.now)) }
+    {
+        let n = number_within(one_word(words)?, 1, SUBMITTERS_MAX as u128)?;
+        self.settings.submitters = Some(n as u32);
+        Ok(())
+    }
+
+    #[tactic(auto, unfolding(crate::specs::Script::with_line))]
+    fn take_packet(&mut self, alloc: Global, words: Words) -> Result<(), LineError>
+        ensures { Leaves result self.new (with_line self.old Keyword.Packet (words_of words.entry.rest.now)) }
+    {
+        let most = self.settings.submitters().saturating_sub(1);
+        let (submitter, operation) = packet_numbers(words, most)?;
+        self.begin_packet(alloc, SubmitterNumber::new(submitter), operation)?;
+        Ok(())
+    }
+
+    #[tactic(auto, unfolding(crate::specs::Event::event_of))]
+    fn take_event(&mut self, layout: Layout, words: Words) -> Result<(), LineError>
+        ensures { Leaves result self.new (with_event self.old layout (words_of words.entry.rest.now)) }
+    {
+        let mut draft = Draft::new();
+        assign_all(layout, &mut draft, words)?;
+        self.add_bytes(&draft.bytes)?;
+        Ok(())
+    }
+
+    #[tactic(auto, unfolding(crate::specs::Script::with_line))]
+    fn take_id(&mut self, words: Words) -> Result<(), LineError>
+        ensures { Leaves result self.new (with_line self.old Keyword.Id (words_of words.entry.rest.now)) }
+    {
+        let id = number_within(one_word(words)?, 0, u128::MAX)?;
+        self.add_bytes(&id.to_le_bytes())?;
+        Ok(())
+    }
+
+    #[tactic(auto, unfolding(crate::specs::Script::with_line))]
+    fn take_pulse(&mut self, words: Words) -> Result<(), LineError>
+        ensures { Leaves result self.new (with_line self.old Keyword.Pulse (words_of words.entry.rest.now)) }
+    {
+        let moment = number_within(one_word(words)?, 0, u64::MAX as u128)?;
+        self.add_pulse(moment as u64)?;
+        Ok(())
+    }
+
+    #[tactic(auto, unfolding(crate::specs::Script::with_line))]
+    fn take_hex(&mut self, alloc: Global, words: Words) -> Result<(), LineError>
+        ensures { Leaves result self.new (with_line self.old Keyword.Hex (words_of words.entry.rest.now)) }
+    {
+        let bytes = hex_bytes(alloc, one_word(words)?)?;
+        self.add_bytes(&bytes)?;
+        Ok(())
+    }
+
+    #[tactic(auto, unfolding(crate::specs::Script::with_line))]
+    fn take_close(&mut self, words: Words) -> Result<(), LineError>
+        ensures { Leaves result self.new (with_line self.old Keyword.Shut (words_of words.entry.rest.now)) }
+    {
+        no_word(words)?;
+        self.add_close()?;
+        Ok(())
+    }
+
+    /// Takes a line in its place, with the words after its first.
+    #[tactic(auto, unfolding(crate::specs::Script::with_line))]
+    fn take_line(&mut self, alloc: Global, keyword: Keyword, words: Words) -> Result<(), LineError>
+        ensures { Leaves result self.new (with_line self.old keyword (words_of words.entry.rest.now)) }
+    {
+        match keyword {
+            Keyword::Clock => self.set_clock(words),
+            Keyword::Limit => self.set_limit(words),
+            Keyword::Capacity => self.set_capacity(words),
+            Keyword::Credit => self.set_credit(words),
+            Keyword::Submitters => self.set_submitters(words),
+            Keyword::Packet => self.take_packet(alloc, words),
+            Keyword::Account => self.take_event(Layout::Account, words),
+            Keyword::Transfer => self.take_event(Layout::Transfer, words),
+            Keyword::Id => self.take_id(words),
+            Keyword::Hex => self.take_hex(alloc, words),
+            Keyword::Pulse => self.take_pulse(words),
+            Keyword::Shut => self.take_close(words),
+        }
+    }
+
+    /// Takes a line after those so far; the caller says whether it is text. After an error the script isn't to be used.
+    #[tactic(auto, unfolding(crate::specs::Script::after_line))]
+    pub(crate) fn told_line(
+        &mut self,
+        alloc: Global,
+        line: &[u8],
+        is_text: bool,
+    ) -> Result<(), LineError>
+        requires { is_text ≡ is_text_line line.now }
+        ensures { Leaves result self.new (after_line self.old line.now) }
+    {
+        if line.len() > LINE_MAX {
+            return Err(LineError::Fault(Fault::LineTooLong));
+        }
+        if !is_text {
+            return Err(LineError::Fault(Fault::BadByte));
+        }
+        let mut words = Words { rest: line };
+        let Some(word) = words.next() else {
+            return Ok(());
+        };
+        if word.starts_with(b"#") {
+            return Ok(());
+        }
+        let Some(keyword) = keyword_of(word) else {
+            return Err(LineError::Fault(Fault::UnknownWord));
+        };
+        if !self.may_stand(keyword) {
+            return Err(LineError::Fault(Fault::OutOfPlace));
+        }
+        self.take_line(alloc, keyword, words)
+    }
+
+    /// Takes a line after those so far. After an error the script isn't to be used.
+    pub fn line(&mut self, alloc: Global, line: &[u8]) -> Result<(), LineError>
+        ensures { Leaves result self.new (after_line self.old line.now) }
+    {
+        self.told_line(alloc, line, is_text(line))
+    }
+
+    /// The settings, and all items. The packet to which lines still added is the last of them.
+    pub fn finish(self) -> Result<(Settings, Vec<ScriptItem>), NoMemory>
+        ensures all { IfOk result (λ both. (both.0 ≡ self.settings) × (both.1.items ≡ items_of self)) }
+        ensures bounds { IfOk result (λ both. InBounds both.0) }
+    {
+        let mut script = self;
+        script.end_packet()?;
+        Ok((script.settings, script.items))
+    }
+}

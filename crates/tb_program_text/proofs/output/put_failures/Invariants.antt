@@ -1,0 +1,8 @@
+use Rattle.std.proofs.Common.{◌≡◌, ◌++◌, take, string_bytes}
+use Rattle.std.specs.List.{flat_map}
+use Rattle.tb_program_text.specs.Output.{failure_text}
+use Rattle.tb_program_text.proofs.output.put_failures.Given as goal
+
+abbrev pub invariant-loop-failure : goal.invariant-loop-failure
+invariant-loop-failure l =
+    string_bytes l.out ≡ string_bytes l.fn.out ++ flat_map failure_text (take l.failure-index l.failures)

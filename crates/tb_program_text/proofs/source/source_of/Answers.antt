@@ -1,0 +1,6 @@
+-- Found by the prover itself; on file since the check of an edit then costs less.
+use Rattle.std.proofs.Common.{rules}
+use Rattle.tb_program_text.proofs.source.source_of.Goals as goal
+
+pub returns-in-None : goal.returns-in-None
+returns-in-None c = search rules

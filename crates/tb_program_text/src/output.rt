@@ -1,0 +1,217 @@
+//! The lines of the output.
+
+ghost use Rattle.std.specs.Io.KnownBytes.{Appends};
+ghost use Rattle.std.specs.Prelude.{◌≡◌, ◌++◌, OnOk, IfErr, codes, string_bytes};
+ghost use Rattle.tb_program_command.specs.declared.program_fault.ProgramFault.TheVariants.{Write as WriteFault};
+ghost use Rattle.std.specs.List.{flat_map};
+ghost use Rattle.tb_program_text.specs.Output.{fault_line, refused_line, failure_text, found_debits, found_credits, found_text, answer_text, outcome_text, packet_front, reply_line, pulse_line, refused_pulse_line, clock_line, account_front, balances_text, account_line, state_text};
+ghost use Rattle.tb_machine.specs.Replay.{balanced_accounts};
+
+use itoa::{Buffer, Integer};
+use std::alloc::AllocError;
+use std::io::Write;
+use tb_layout::{Account, Failure};
+use tb_machine::Machine;
+use tb_program_command::ProgramFault;
+use tb_work::{Answer, Outcome, Refusal, Reply};
+
+/// Adds a number in decimal. This takes fewer instructions than `write!`.
+fn put_number<I: Integer>(out: &mut String, number: I) -> Result<(), AllocError>
+    ensures { OnOk result (string_bytes out.new ≡ string_bytes out.old ++ I.text number) }
+{
+    let mut buffer = Buffer::new();
+    out.push_str(buffer.format(number))
+}
+
+/// Adds a text and a number after it.
+#[inline(always)]
+fn put_field<I: Integer>(out: &mut String, text: &str, number: I) -> Result<(), AllocError>
+    ensures { OnOk result (string_bytes out.new ≡ string_bytes out.old ++ text.now ++ I.text number) }
+{
+    out.push_str(text)?;
+    put_number(out, number)
+}
+
+/// Adds the line of a fault, which has the number of the script's line, or 0.
+pub fn put_fault(out: &mut String, line: usize, text: &str) -> Result<(), AllocError>
+    ensures { OnOk result (string_bytes out.new ≡ string_bytes out.old ++ fault_line line text.now) }
+{
+    write!(out, "fault {line} {text}\n")
+}
+
+/// Adds the line of a packet that was not admitted.
+#[tactic(auto, unfolding(crate::specs::Output::refused_line))]
+pub fn put_refused(out: &mut String, submitter: u32, refusal: Refusal) -> Result<(), AllocError>
+    ensures { OnOk result (string_bytes out.new ≡ string_bytes out.old ++ refused_line submitter refusal) }
+{
+    let number = refusal.number();
+    let name = refusal.name();
+    write!(out, "packet {submitter} refused {number} {name}\n")
+}
+
+fn put_failures(out: &mut String, failures: &[Failure]) -> Result<(), AllocError>
+    ensures { OnOk result (string_bytes out.new ≡ string_bytes out.old ++ flat_map failure_text failures.now) }
+{
+    for failure in failures {
+        put_field(out, " ", failure.index)?;
+        put_field(out, ":", failure.code)?;
+    }
+    Ok(())
+}
+
+#[tactic(auto, unfolding(crate::specs::Output::found_debits))]
+fn put_found_debits(out: &mut String, account: &Account) -> Result<(), AllocError>
+    ensures { OnOk result (string_bytes out.new ≡ string_bytes out.old ++ found_debits account.now) }
+{
+    put_field(out, " ", account.id)?;
+    put_field(out, ":", account.debits_pending)?;
+    put_field(out, ":", account.debits_posted)
+}
+
+#[tactic(auto, unfolding(crate::specs::Output::found_credits))]
+fn put_found_credits(out: &mut String, account: &Account) -> Result<(), AllocError>
+    ensures { OnOk result (string_bytes out.new ≡ string_bytes out.old ++ found_credits account.now) }
+{
+    put_field(out, ":", account.credits_pending)?;
+    put_field(out, ":", account.credits_posted)
+}
+
+fn put_all_found(out: &mut String, accounts: &[Account]) -> Result<(), AllocError>
+    ensures { OnOk result (string_bytes out.new ≡ string_bytes out.old ++ flat_map found_text accounts.now) }
+{
+    for account in accounts {
+        put_found_debits(out, account)?;
+        put_found_credits(out, account)?;
+    }
+    Ok(())
+}
+
+fn put_answer(out: &mut String, answer: &Answer) -> Result<(), AllocError>
+    ensures { OnOk result (string_bytes out.new ≡ string_bytes out.old ++ answer_text answer.now) }
+{
+    match answer {
+        Answer::Failures(failures) => put_failures(out, failures.as_slice()),
+        Answer::Accounts(accounts) => put_all_found(out, accounts.as_slice()),
+    }
+}
+
+fn put_outcome(out: &mut String, outcome: &Outcome) -> Result<(), AllocError>
+    ensures { OnOk result (string_bytes out.new ≡ string_bytes out.old ++ outcome_text outcome.now) }
+{
+    match outcome {
+        Outcome::Committed { place, answer } => {
+            put_field(out, " committed ", *place)?;
+            put_answer(out, answer)
+        }
+        Outcome::Shutdown => out.push_str(" shutdown"),
+        Outcome::Stopped => out.push_str(" stopped"),
+    }
+}
+
+#[tactic(auto, unfolding(crate::specs::Output::packet_front))]
+fn put_packet_front(out: &mut String, submitter: u32, number: u64) -> Result<(), AllocError>
+    ensures { OnOk result (string_bytes out.new ≡ string_bytes out.old ++ packet_front submitter number) }
+{
+    put_field(out, "packet ", submitter)?;
+    put_field(out, " ", number)
+}
+
+/// Adds the line of a packet that was queued.
+pub fn put_reply(out: &mut String, reply: &Reply) -> Result<(), AllocError>
+    ensures { OnOk result (string_bytes out.new ≡ string_bytes out.old ++ reply_line reply.now) }
+{
+    put_packet_front(out, reply.submitter, reply.number)?;
+    put_outcome(out, &reply.outcome)?;
+    out.push_str("\n")
+}
+
+/// Adds the line of a pulse at a place.
+#[tactic(auto, unfolding(crate::specs::Output::pulse_line))]
+pub fn put_pulse(out: &mut String, place: u64) -> Result<(), AllocError>
+    ensures { OnOk result (string_bytes out.new ≡ string_bytes out.old ++ pulse_line place) }
+{
+    put_field(out, "pulse ", place)?;
+    out.push_str("\n")
+}
+
+/// Adds the line of a pulse whose moment is too large.
+pub fn put_refused_pulse(out: &mut String) -> Result<(), AllocError>
+    ensures { OnOk result (string_bytes out.new ≡ string_bytes out.old ++ refused_pulse_line) }
+{
+    out.push_str("pulse refused 12 MomentTooLarge\n")
+}
+
+/// Adds the line of the Close.
+pub fn put_close(out: &mut String) -> Result<(), AllocError>
+    ensures { OnOk result (string_bytes out.new ≡ string_bytes out.old ++ codes "shut\n") }
+{
+    out.push_str("shut\n")
+}
+
+/// Adds the line of the clock.
+fn put_clock(out: &mut String, clock: u64) -> Result<(), AllocError>
+    ensures { OnOk result (string_bytes out.new ≡ string_bytes out.old ++ clock_line clock) }
+{
+    put_field(out, "clock ", clock)?;
+    out.push_str("\n")
+}
+
+#[tactic(auto, unfolding(crate::specs::Output::account_front))]
+fn put_account_front(out: &mut String, id: u128, timestamp: u64) -> Result<(), AllocError>
+    ensures { OnOk result (string_bytes out.new ≡ string_bytes out.old ++ account_front id timestamp) }
+{
+    put_field(out, "account ", id)?;
+    put_field(out, " ", timestamp)
+}
+
+#[tactic(auto, unfolding(crate::specs::Output::balances_text))]
+fn put_balances(out: &mut String, account: &Account) -> Result<(), AllocError>
+    ensures { OnOk result (string_bytes out.new ≡ string_bytes out.old ++ balances_text account.now) }
+{
+    put_field(out, " ", account.debits_pending)?;
+    put_field(out, " ", account.debits_posted)?;
+    put_field(out, " ", account.credits_pending)?;
+    put_field(out, " ", account.credits_posted)?;
+    out.push_str("\n")
+}
+
+/// Adds the line of an account, with its balances.
+fn put_account(out: &mut String, account: &Account) -> Result<(), AllocError>
+    ensures { OnOk result (string_bytes out.new ≡ string_bytes out.old ++ account_line account.now) }
+{
+    put_account_front(out, account.id, account.timestamp)?;
+    put_balances(out, account)
+}
+
+fn put_accounts(out: &mut String, machine: &Machine) -> Result<(), AllocError>
+    ensures { OnOk result (string_bytes out.new ≡ string_bytes out.old
+        ++ flat_map account_line (balanced_accounts machine.now.facts)) }
+{
+    for place in 0..machine.accounts() {
+        let account = machine.account_at(place).unwrap();
+        put_account(out, &account)?;
+    }
+    Ok(())
+}
+
+/// Adds the line of the clock, and those of the accounts in the order of their making.
+pub fn put_state(out: &mut String, machine: &Machine) -> Result<(), AllocError>
+    ensures { OnOk result (string_bytes out.new ≡ string_bytes out.old ++ state_text machine.now) }
+{
+    put_clock(out, machine.clock())?;
+    put_accounts(out, machine)
+}
+
+/// Writes all of a text, once it is made.
+pub fn write_out<W: Write>(writer: &mut W, text: &str) -> Result<(), ProgramFault>
+    ensures written { OnOk result (Appends (W.contents writer.old) (W.contents writer.new) text.now) }
+    ensures refused { IfErr result (λ fault. fault ≡ WriteFault) }
+{
+    if writer.write_all(text.as_bytes()).is_err() {
+        return Err(ProgramFault::Write);
+    }
+    if writer.flush().is_err() {
+        return Err(ProgramFault::Write);
+    }
+    Ok(())
+}

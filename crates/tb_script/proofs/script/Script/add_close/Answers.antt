@@ -1,5 +1,0 @@
-use Rattle.std.proofs.Common.{rules}
-use Rattle.tb_script.proofs.script.Script.add_close.Goals as goal
-
-pub returns : goal.returns
-returns c = search rules

@@ -1,0 +1,193 @@
+-- What was taken of a sender, with its end, is all that it queued.
+use Rattle.std.proofs.Common.{◌≡◌, ◌<◌, ◌≤◌, ◌⊎◌, inl, inr, ⊎_elim, ℕ, zero, suc, ◌+◌, Bool, true, false, true≢false, List, [], ◌∷◌, ◌++◌, map, length, get_or, sym, refl, ap, ◌∙◌, subst, arith, append-nil, nat_lt}
+use Rattle.std.specs.Prelude.{◌==◌, ◌||◌, ◌&&◌, not, filter, if◌then◌else◌}
+use Rattle.std.specs.List.{list_any, AllByRecursion}
+use Rattle.std.proofs.lemmas.Bool.{eq-eqb}
+use Rattle.std.proofs.lemmas.Bool.Decides.{nat_tests}
+use Rattle.tb_work.specs.Queue.{part, is_end, IsUnended, IsEnded, IsSubmitted, IsQueueOf}
+use Rattle.tb_work.specs.declared.item.Item.{Item}
+use Rattle.tb_work.specs.declared.item.Ticket.{Ticket}
+use Rattle.tb_submit.specs.declared.rule.PassEntry.{PassEntry}
+use Rattle.tb_submit.specs.Ends.{EndedState, IntakeState, Seat, SenderState, control_seat, queued_by, seat_at}
+use Rattle.tb_submit.specs.Inside.{entry_of}
+use Rattle.tb_submit.specs.Lists.{AreWithin, IsCompleteQueue, IsWithin}
+use Rattle.tb_submit.specs.Rule.{IsWhole, entry}
+use Rattle.tb_submit.proofs.RuleSteps.{part_append}
+
+-- ---- a part with its end
+
+nothing_left : {A : Type 0} (xs ys : List A) → xs ++ ys ≡ [] → ys ≡ []
+nothing_left [] ys e = e
+nothing_left (x ∷ xs) ys e = cc
+
+before_nothing : {A : Type 0} (xs ys : List A) → xs ++ ys ≡ [] → xs ≡ []
+before_nothing [] ys e = refl
+before_nothing (x ∷ xs) ys e = cc
+
+or_parts : (a b : Bool) → (a || b) ≡ true → (a ≡ true) ⊎ (b ≡ true)
+or_parts true b e = inl refl
+or_parts false b e = inr e
+
+and_parts : (a b : Bool) → (not a && b) ≡ true → (a ≡ false) × (b ≡ true)
+and_parts true b e = absurd (true≢false (sym e))
+and_parts false b e = (refl, e)
+
+after_end : (body : List Item) (last : Item) (xs ys : List Item) → IsUnended body → xs ++ ys ≡ body ++ last ∷ []
+    → list_any is_end xs ≡ true → ys ≡ []
+after_end body last [] ys clear is has = absurd (true≢false (sym has))
+after_end [] last (x ∷ xs) ys clear is has = nothing_left xs ys cc
+after_end (b ∷ body) last (x ∷ xs) ys clear is has =
+    let first : x ≡ b = cc in
+    let rest : xs ++ ys ≡ body ++ last ∷ [] = cc in
+    let none = and_parts (is_end b) _ clear in
+    ⊎_elim (λ (t : is_end x ≡ true). absurd (true≢false (sym t ∙ ap is_end first ∙ none.0)))
+    (λ t. after_end body last xs ys none.1 rest t) (or_parts (is_end x) (list_any is_end xs) has)
+
+-- what was taken, with an end in it, of a list that ends there
+whole_part : (items xs ys : List Item) → IsEnded items → xs ++ ys ≡ items → list_any is_end xs ≡ true → xs ≡ items
+whole_part items xs ys ended is has =
+    sym (append-nil xs) ∙ ap (λ rest. xs ++ rest)
+    (sym (after_end ended.body ended.last xs ys ended.unended (is ∙ ended.parts) has)) ∙ is
+
+-- ---- by rising number
+
+entry_at : (P : PassEntry → Type 0) (ends : List EndedState) (last : PassEntry)
+    → AllByRecursion P (map entry_of ends ++ last ∷ []) → (k : ℕ) (d : EndedState) → k < length ends
+    → P (entry_of (get_or ends k d))
+entry_at P [] last all k d below = absurd (omega (arith, below))
+entry_at P (ended ∷ ends) last all zero d below = all.0
+entry_at P (ended ∷ ends) last all (suc k) d below = entry_at P ends last all.1 k d (omega (arith, below))
+
+last_entry : (P : PassEntry → Type 0) (ends : List EndedState) (last : PassEntry)
+    → AllByRecursion P (map entry_of ends ++ last ∷ []) → P last
+last_entry P [] last all = all.0
+last_entry P (ended ∷ ends) last all = last_entry P ends last all.1
+
+pub by_number : (F : ℕ → List Item → Type 0) (ends : List EndedState) (control : SenderState)
+    → ((k : ℕ) (d : EndedState) → k < length ends → F k (get_or ends k d).queued) → F (length ends) control.queued →
+    (sender : ℕ) → sender ≤ length ends → F sender (queued_by ends control sender)
+by_number F [] control each last zero below = last
+by_number F [] control each last (suc sender) below = absurd (omega (arith, below))
+by_number F (ended ∷ ends) control each last zero below = each 0 ended (omega arith)
+by_number F (ended ∷ ends) control each last (suc sender) below =
+    by_number (λ k. F (suc k)) ends control (λ k d within. each (suc k) d (omega (arith, within))) last
+    sender (omega (arith, below))
+
+-- ---- what holds of each part holds of the queue
+
+abbrev part_if : Bool → Ticket → ℕ → List Ticket → List Item
+part_if b ticket sender queue =
+    map (λ (t : Ticket). t.item) (if b then ticket ∷ filter (λ (t : Ticket). t.sender == sender) queue
+    else filter (λ (t : Ticket). t.sender == sender) queue)
+
+all_after : (P : Item → Type 0) (b : Bool) (ticket : Ticket) (sender : ℕ) (queue : List Ticket)
+    → AllByRecursion P (part_if b ticket sender queue) → AllByRecursion P (part sender queue)
+all_after P true ticket sender queue all = all.1
+all_after P false ticket sender queue all = all
+
+all_of_parts : (P : ℕ → Item → Type 0) (queue : List Ticket)
+    → ((sender : ℕ) → AllByRecursion (P sender) (part sender queue))
+    → AllByRecursion (λ (ticket : Ticket). P ticket.sender ticket.item) queue
+all_of_parts P [] each = tt
+all_of_parts P (ticket ∷ queue) each = (
+  (subst (AllByRecursion (P ticket.sender)) (ap (λ b. part_if b ticket ticket.sender queue)
+      (eq-eqb ticket.sender ticket.sender refl)) (each ticket.sender)).0,
+  all_of_parts P queue (λ sender. all_after (P sender) (ticket.sender == sender) ticket sender queue (each sender)),
+)
+
+within_or_above : (n m : ℕ) → (n ≤ m) ⊎ (m < n)
+within_or_above n m = by (nat_lt m n) refl
+  where
+    above : nat_lt m n ≡ true → m < n
+    above is = grind (arith, nat_tests)
+
+    within : nat_lt m n ≡ false → n ≤ m
+    within is = grind (arith, nat_tests)
+
+    by : (b : Bool) → nat_lt m n ≡ b → (n ≤ m) ⊎ (m < n)
+    by true is = inr (above is)
+    by false is = inl (within is)
+
+-- ---- all senders of a queue
+
+-- a sender's part was taken whole
+abbrev IsDrained : IntakeState → ℕ → List Item → Type 0
+IsDrained intake sender items = (part sender intake.taken ≡ items) × IsCompleteQueue intake.limit intake.submitters sender items
+
+-- all have ended, and the end of each was taken
+pub record AreSettled (intake : IntakeState) (ends : List EndedState) (control : SenderState) : Type 0 where
+  pub long : length ends ≡ intake.submitters
+  pub seats : (k : ℕ) (d : EndedState) → k < length ends → (get_or ends k d).origin.seat ≡ seat_at intake k
+  pub filed : (k : ℕ) (d : EndedState) → k < length ends →
+      IsCompleteQueue (get_or ends k d).origin.seat.limit (get_or ends k d).origin.seat.submitters
+      (get_or ends k d).origin.seat.number (get_or ends k d).queued
+  pub control_seat_is : control.seat ≡ control_seat intake
+  pub control_filed : IsCompleteQueue control.seat.limit control.seat.submitters control.seat.number control.queued
+  pub items : List Ticket
+  pub whole : IsWhole (map entry_of ends ++ entry control.seat.number control.queued ∷ []) intake.taken
+      (intake.submitters + 1) items
+  pub finished : (sender : ℕ) → sender ≤ intake.submitters → list_any is_end (part sender intake.taken) ≡ true
+
+drained : (intake : IntakeState) (items : List Ticket) (number : ℕ) (seat : Seat) (queued : List Item)
+    → seat ≡ seat_at intake number → IsCompleteQueue seat.limit seat.submitters seat.number queued →
+    part seat.number (intake.taken ++ items) ≡ queued → list_any is_end (part number intake.taken) ≡ true
+    → IsDrained intake number queued
+drained intake items number seat queued seat_is filed is has =
+    let mine : IsCompleteQueue intake.limit intake.submitters number queued = subst
+    (λ (s : Seat). IsCompleteQueue s.limit s.submitters s.number queued) seat_is filed in
+    let all : part number (intake.taken ++ items)
+    ≡ queued = subst (λ (s : Seat). part s.number (intake.taken ++ items) ≡ queued) seat_is is in (
+      whole_part queued (part number intake.taken) (part number items) mine.ended
+          (sym (part_append number intake.taken items) ∙ all) has,
+      mine,
+    )
+
+all_drained : (intake : IntakeState) (ends : List EndedState) (control : SenderState)
+    → AreSettled intake ends control → (sender : ℕ) → sender ≤ intake.submitters
+    → IsDrained intake sender (queued_by ends control sender)
+all_drained intake ends control is sender below =
+    let IsPart : PassEntry → Type 0 = λ e. part e.number (intake.taken ++ is.items) ≡ e.pushed in
+    let last = entry control.seat.number control.queued in
+    by_number (IsDrained intake) ends control
+    (λ k d within. drained intake is.items k (get_or ends k d).origin.seat (get_or ends k d).queued
+    (is.seats k d within) (is.filed k d within) (entry_at IsPart ends last is.whole.0 k d within)
+    (is.finished k (omega (arith, within, is.long))))
+    (subst (λ n. IsDrained intake n control.queued) (sym is.long)
+    (drained intake is.items intake.submitters control.seat control.queued is.control_seat_is is.control_filed
+    (last_entry IsPart ends last is.whole.0) (is.finished intake.submitters (omega arith))))
+    sender (omega (arith, below, is.long))
+
+none_above : (intake : IntakeState) (ends : List EndedState) (control : SenderState)
+    → AreSettled intake ends control → (sender : ℕ) → intake.submitters < sender → part sender intake.taken ≡ []
+none_above intake ends control is sender above =
+    before_nothing (part sender intake.taken) (part sender is.items)
+    (sym (part_append sender intake.taken is.items) ∙ is.whole.1 sender (omega (arith, above)))
+
+-- what holds of all that each sender queued holds of what was taken
+each_part : (P : ℕ → Item → Type 0) (intake : IntakeState) (ends : List EndedState) (control : SenderState)
+    → AreSettled intake ends control →
+    ((sender : ℕ) (items : List Item) → IsCompleteQueue intake.limit intake.submitters sender items
+    → AllByRecursion (P sender) items) → (sender : ℕ) → AllByRecursion (P sender) (part sender intake.taken)
+each_part P intake ends control is each sender = ⊎_elim
+    (λ (below : sender ≤ intake.submitters). let own = all_drained intake ends control is sender below in subst
+    (AllByRecursion (P sender)) (sym own.0) (each sender _ own.1))
+    (λ (above : intake.submitters < sender). subst (AllByRecursion (P sender))
+    (sym (none_above intake ends control is sender above)) tt)
+    (within_or_above sender intake.submitters)
+
+pub settled_queue : (intake : IntakeState) (ends : List EndedState) (control : SenderState)
+    → AreSettled intake ends control → IsQueueOf intake.submitters intake.taken (queued_by ends control)
+settled_queue intake ends control is = record {
+  parts = λ sender below. (all_drained intake ends control is sender below).0;
+  no_other_sender = none_above intake ends control is;
+  submitted = all_of_parts (IsSubmitted intake.submitters) intake.taken
+      (each_part (IsSubmitted intake.submitters) intake ends control is (λ sender items filed. filed.submitted));
+  numbered = λ sender below. (all_drained intake ends control is sender below).1.numbered;
+  ended = λ sender below. (all_drained intake ends control is sender below).1.ended;
+}
+
+pub settled_within : (intake : IntakeState) (ends : List EndedState) (control : SenderState)
+    → AreSettled intake ends control → AreWithin intake.limit intake.taken
+settled_within intake ends control is =
+    all_of_parts (λ sender. IsWithin intake.limit) intake.taken
+    (each_part (λ sender. IsWithin intake.limit) intake ends control is (λ sender items filed. filed.within))

@@ -1,0 +1,371 @@
+-- Each step keeps the rule.
+use Rattle.std.proofs.Common.{◌≡◌, ◌≢◌, ◌⊎◌, ℕ, zero, suc, ◌+◌, ◌==◌, Bool, cond, List, [], ◌∷◌, ◌++◌, length, set, map, filter, sym, refl, ap, ◌∙◌, subst, ⊎_elim, inl, inr, append_assoc, append-nil, Option, Some, None, arith, nat_lt, true, false, ◌<◌, ◌≤◌}
+use Rattle.std.proofs.lemmas.List.{map-append}
+use Rattle.std.proofs.lemmas.List.Elements.{filter-append}
+use Rattle.std.proofs.lemmas.Bool.Decides.{nat_tests}
+use Rattle.std.proofs.lemmas.Bool.{eq-eqb, ne_eqb, cases_eq}
+use Rattle.std.specs.List.{AllByRecursion}
+use mathlib.Core.Option.{some, some-injective, some-ne-none}
+use lib.ListN.{get_elem?}
+use Rattle.crossbeam_queue.specs.Fifo.{Pushes, Pops, Forks, Merges, Learns}
+use Rattle.crossbeam_queue.proofs.Lists.{at_set, set_else, at_longer, at_last}
+use Rattle.tb_work.specs.Queue.{part}
+use Rattle.tb_work.specs.declared.item.Item.{Item}
+use Rattle.tb_work.specs.declared.item.Ticket.{Ticket}
+use Rattle.tb_submit.specs.declared.rule.PassEntry.{PassEntry}
+use Rattle.tb_submit.specs.declared.rule.IntakeMark.{IntakeMark}
+use Rattle.tb_submit.specs.declared.rule.View.{View}
+use Rattle.tb_submit.specs.Rule.{sender, intake, opening, empty_view, next_of, view_counting_on, newcomer, both_views, with_pushed, with_taken, Stands, FitsEntry, FitsMark, Fits, InView, Kept, IsWhole, Tells}
+
+-- a new value at a place that is taken
+put_here : {A : Type 0} (l : List A) (i : ℕ) (a b : A) → get_elem? l i ≡ some a → get_elem? (set l i b) i ≡ some b
+put_here [] i a b e = absurd (some-ne-none a (sym e))
+put_here (x ∷ xs) zero a b e = refl
+put_here (x ∷ xs) (suc i) a b e = put_here xs i a b e
+
+at_end : {A : Type 0} (l : List A) (a b : A) (j : ℕ) → get_elem? (l ++ a ∷ []) j ≡ some b
+    → (get_elem? l j ≡ some b) ⊎ ((j ≡ length l) × (a ≡ b))
+at_end [] a b zero e = inr (refl, some-injective a b e)
+at_end [] a b (suc j) e = absurd (some-ne-none b (sym e))
+at_end (x ∷ xs) a b zero e = inl e
+at_end (x ∷ xs) a b (suc j) e = ⊎_elim inl (λ r. inr (ap suc r.0, r.1)) (at_end xs a b j e)
+
+abbrev AllAt : (ℕ → View → Type 0) → List View → Type 0
+AllAt F views = (pass : ℕ) (v : View) → get_elem? views pass ≡ some v → F pass v
+
+all_set : (F : ℕ → View → Type 0) (views : List View) (pass : ℕ) (w : View) → F pass w
+    → ((j : ℕ) (u : View) → j ≢ pass → get_elem? views j ≡ some u → F j u) → AllAt F (set views pass w)
+all_set F views pass w mine others j u e =
+    ⊎_elim (λ (x : (j ≡ pass) × (w ≡ u)). subst (λ (y : ℕ × View). F y.0 y.1) (λ i. (sym x.0 i, x.1 i)) mine)
+    (λ (x : (j ≢ pass) × (get_elem? views j ≡ some u)). others j u x.0 x.1) (at_set views pass j w u e)
+
+each_map : {A : Type 0} (P Q : A → Type 0) (xs : List A) → ((x : A) → P x → Q x)
+    → AllByRecursion P xs → AllByRecursion Q xs
+each_map P Q [] f e = tt
+each_map P Q (x ∷ xs) f e = (f x e.0, each_map P Q xs f e.1)
+
+each_append : {A : Type 0} (P : A → Type 0) (xs ys : List A) → AllByRecursion P xs → AllByRecursion P ys
+    → AllByRecursion P (xs ++ ys)
+each_append P [] ys a b = b
+each_append P (x ∷ xs) ys a b = (a.0, each_append P xs ys a.1 b)
+
+stands_left : (s : ℕ) (xs ys : List PassEntry) → Stands s xs → Stands s (xs ++ ys)
+stands_left s [] ys h = absurd h
+stands_left s (x ∷ xs) ys h = ⊎_elim inl (λ r. inr (stands_left s xs ys r)) h
+
+stands_right : (s : ℕ) (xs ys : List PassEntry) → Stands s ys → Stands s (xs ++ ys)
+stands_right s [] ys h = h
+stands_right s (x ∷ xs) ys h = inr (stands_right s xs ys h)
+
+pub part_append : (s : ℕ) (xs ys : List Ticket) → part s (xs ++ ys) ≡ part s xs ++ part s ys
+part_append s xs ys = ap (map (λ (t : Ticket). t.item)) (filter-append (λ (t : Ticket). t.sender == s) xs ys)
+    ∙ map-append (λ (t : Ticket). t.item) (filter (λ (t : Ticket). t.sender == s) xs)
+    (filter (λ (t : Ticket). t.sender == s) ys)
+
+pub part_one : (s : ℕ) (x : Ticket) → x.sender ≡ s → part s (x ∷ []) ≡ x.item ∷ []
+part_one s x e = ap (λ (b : Bool). map (λ (t : Ticket). t.item) (cond b (x ∷ []) [])) (eq-eqb x.sender s e)
+
+part_other : (s : ℕ) (x : Ticket) → x.sender ≢ s → part s (x ∷ []) ≡ []
+part_other s x n = ap (λ (b : Bool). map (λ (t : Ticket). t.item) (cond b (x ∷ []) [])) (ne_eqb x.sender s n)
+
+-- a list with one more ticket at its end
+part_more : (s : ℕ) (got items : List Ticket) (x : Ticket)
+    → part s (got ++ (items ++ x ∷ [])) ≡ part s (got ++ items) ++ part s (x ∷ [])
+part_more s got items x = ap (part s) (sym (append_assoc got items (x ∷ []))) ∙ part_append s (got ++ items) (x ∷ [])
+
+part_same : (s : ℕ) (got items : List Ticket) (x : Ticket) → x.sender ≢ s
+    → part s (got ++ (items ++ x ∷ [])) ≡ part s (got ++ items)
+part_same s got items x n =
+    part_more s got items x ∙ ap (λ l. part s (got ++ items) ++ l) (part_other s x n)
+    ∙ append-nil (part s (got ++ items))
+
+-- a pass whose view loses no number keeps every number in its place
+in_set : (views : List View) (pass : ℕ) (v w : View) → get_elem? views pass ≡ some v
+    → ((s : ℕ) → Stands s v.entries → Stands s w.entries)
+    → (p s : ℕ) → InView views p s → InView (set views pass w) p s
+in_set views pass v w at keeps p s h = ⊎_elim
+    (λ (e : p ≡ pass). (
+      w,
+      subst (λ (q : ℕ). get_elem? (set views pass w) q ≡ some w) (sym e) (put_here views pass v w at),
+      keeps s (subst (λ (u : View). Stands s u.entries)
+          (some-injective h.0 v (sym h.1 ∙ ap (get_elem? views) e ∙ at)) h.2),
+    ))
+    (λ (n : p ≢ pass). (h.0, set_else views pass p w n ∙ h.1, h.2))
+    (cases_eq p pass)
+
+none_there : (u : View) (j : ℕ) → j ≢ 0 → get_elem? (opening ∷ []) j ≡ some u → ⊥
+none_there u zero n e = n refl
+none_there u (suc j) n e = some-ne-none u (sym e)
+
+pushes_here : (n pass : ℕ) (x : Ticket) (k : ℕ) (l : List Item) → x.sender ≡ k
+    → Pushes Kept n pass (sender k l) x (λ w. w ≡ with_pushed (sender k l) x)
+pushes_here n pass x k l own items views _ h at =
+    let w : View = sender k (l ++ x.item ∷ []) in
+    let mine = (h.fits pass (sender k l) at).0.0 in
+    let more = items ++ x ∷ [] in (
+      w,
+      record {
+        pass_of = h.pass_of;
+        reader = h.reader;
+        count = h.count;
+        taken = h.taken;
+        fits = all_set (Fits h.pass_of h.reader h.count h.taken more) views pass w
+            (((mine.0, mine.1, part_more k h.taken items x ∙ (λ i. mine.2 i ++ part_one k x own i)), tt), tt)
+            (λ j u other e. (
+              each_map (FitsEntry h.pass_of h.count (h.taken ++ items) j)
+                  (FitsEntry h.pass_of h.count (h.taken ++ more) j) u.entries
+                  (λ y f. (
+                    f.0,
+                    f.1,
+                    part_same y.number h.taken items x
+                        (λ same. other (sym f.1 ∙ ap h.pass_of (sym same ∙ own) ∙ mine.1)) ∙ f.2,
+                  ))
+                  (h.fits j u e).0,
+              (h.fits j u e).1,
+            ));
+        stands = λ s below. in_set views pass (sender k l) w at (λ t stands. stands) (h.pass_of s) s (h.stands s below);
+        no_other_sender = λ s above. part_same s h.taken items x
+            (λ same. (let f = mine.0 in let g = sym own ∙ same in absurd (omega arith))) ∙ h.no_other_sender s above;
+      },
+      refl,
+    )
+
+-- a pass beside the reader's has no mark, so the list taken and the count may change
+mark_apart : (reader count next : ℕ) (got more : List Ticket) (j pass : ℕ) (m : Option IntakeMark) → j ≢ pass
+    → pass ≡ reader → FitsMark reader count got j m → FitsMark reader next more j m
+mark_apart reader count next got more j pass None other is f = tt
+mark_apart reader count next got more j pass (Some m) other is f = absurd (other (f.0 ∙ sym is))
+
+pub begins : Kept [] (opening ∷ [])
+begins = record {
+  pass_of = λ s. 0;
+  reader = 0;
+  count = 0;
+  taken = [];
+  fits = all_set (Fits (λ s. 0) 0 0 [] []) (opening ∷ []) 0 opening (tt, (refl, refl, refl))
+      (λ j u n e. absurd (none_there u j n e));
+  stands = λ s below. absurd (omega arith);
+  no_other_sender = λ s above. refl;
+}
+
+pub pushes : (n pass : ℕ) (v : View) (x : Ticket) (k : ℕ) (l : List Item) → v ≡ sender k l → x.sender ≡ k
+    → Pushes Kept n pass v x (λ w. w ≡ with_pushed v x)
+pushes n pass v x k l is mine =
+    subst (λ (u : View). Pushes Kept n pass u x (λ w. w ≡ with_pushed u x)) (sym is) (pushes_here n pass x k l mine)
+
+nothing_in : {A : Type 0} (xs ys : List A) (y : A) → xs ++ y ∷ ys ≡ [] → ⊥
+nothing_in [] ys y e = cc
+nothing_in (x ∷ xs) ys y e = cc
+
+-- a number that has no part in the list isn't the sender of one in it
+stands_in : (got items : List Ticket) (x : Ticket) → part x.sender (got ++ x ∷ items) ≡ [] → ⊥
+stands_in got items x e =
+    nothing_in (part x.sender got) (part x.sender items) x.item
+    (ap (λ l. part x.sender got ++ l) (sym (part_append x.sender (x ∷ []) items
+    ∙ ap (λ l. l ++ part x.sender items) (part_one x.sender x refl)))
+    ∙ sym (part_append x.sender got (x ∷ items)) ∙ e)
+
+given_out : (got items : List Ticket) (x : Ticket) (count : ℕ)
+    → ((s : ℕ) → count ≤ s → part s (got ++ x ∷ items) ≡ []) → x.sender < count
+given_out got items x count none = by (nat_lt x.sender count) refl
+  where
+    below : nat_lt x.sender count ≡ true → x.sender < count
+    below e = grind (arith, nat_tests)
+
+    above : nat_lt x.sender count ≡ false → count ≤ x.sender
+    above e = grind (arith, nat_tests)
+
+    by : (b : Bool) → nat_lt x.sender count ≡ b → x.sender < count
+    by true e = below e
+    by false e = absurd (stands_in got items x (none x.sender (above e)))
+
+takes_here : (pass : ℕ) (es : List PassEntry) (got : List Ticket) (n : ℕ)
+    → Pops Kept pass (intake es got n) (λ x w. (w ≡ with_taken (intake es got n) x) × (x.sender < n))
+takes_here pass es got n x items views h at =
+    let w : View = intake es (got ++ x ∷ []) n in
+    let mine = h.fits pass (intake es got n) at in
+    let more = h.taken ++ x ∷ [] in
+    let same : more ++ items ≡ h.taken ++ (x ∷ items) = append_assoc h.taken (x ∷ []) items in
+    let old : AllAt (λ j u. AllByRecursion (FitsEntry h.pass_of h.count (more ++ items) j) u.entries) views =
+    λ j u e. subst (λ all. AllByRecursion (FitsEntry h.pass_of h.count all j) u.entries)
+    (sym same) (h.fits j u e).0 in (
+      w,
+      record {
+        pass_of = h.pass_of;
+        reader = h.reader;
+        count = h.count;
+        taken = more;
+        fits = all_set (Fits h.pass_of h.reader h.count more items) views pass w
+            (old pass (intake es got n) at, (mine.1.0, ap (λ g. g ++ x ∷ []) mine.1.1, mine.1.2))
+            (λ j u other e. (
+              old j u e,
+              mark_apart h.reader h.count h.count h.taken more j pass u.mark other
+                  mine.1.0 (h.fits j u e).1,
+            ));
+        stands = λ s below. in_set views pass (intake es got n) w at (λ t stands. stands)
+            (h.pass_of s) s (h.stands s below);
+        no_other_sender = λ s above. ap (part s) same ∙ h.no_other_sender s above;
+      },
+      (refl, omega (arith, mine.1.2, given_out h.taken items x h.count h.no_other_sender)),
+    )
+
+pub takes : (pass : ℕ) (v : View) (es : List PassEntry) (got : List Ticket) (n : ℕ) → v ≡ intake es got n
+    → Pops Kept pass v (λ x w. (w ≡ with_taken v x) × (x.sender < next_of v.mark))
+takes pass v es got n is =
+    subst (λ (u : View). Pops Kept pass u (λ x w. (w ≡ with_taken u x) × (x.sender < next_of u.mark))) (sym is)
+    (takes_here pass es got n)
+
+-- one number stands in another pass
+abbrev pass_at : (ℕ → ℕ) → ℕ → ℕ → ℕ → ℕ
+pass_at pass_of n pass s = cond (s == n) pass (pass_of s)
+
+passed_there : (pass_of : ℕ → ℕ) (n pass s : ℕ) → s ≡ n → pass_at pass_of n pass s ≡ pass
+passed_there pass_of n pass s e = ap (λ (b : Bool). cond b pass (pass_of s)) (eq-eqb s n e)
+
+passed_else : (pass_of : ℕ → ℕ) (n pass s : ℕ) → s ≢ n → pass_at pass_of n pass s ≡ pass_of s
+passed_else pass_of n pass s e = ap (λ (b : Bool). cond b pass (pass_of s)) (ne_eqb s n e)
+
+in_longer : (views : List View) (r : View) (p s : ℕ) → InView views p s → InView (views ++ r ∷ []) p s
+in_longer views r p s h = (h.0, at_longer views (r ∷ []) p h.0 h.1, h.2)
+
+forks_here : (pass : ℕ) (es : List PassEntry) (got : List Ticket) (n : ℕ)
+    → Forks Kept pass (intake es got n) (view_counting_on (intake es got n)) (newcomer (intake es got n))
+forks_here pass es got n items views h at =
+    let l : View = intake es got (n + 1) in
+    let r : View = sender n [] in
+    let vs : List View = set views pass l in
+    let mine = h.fits pass (intake es got n) at in
+    let pass_of : ℕ → ℕ = pass_at h.pass_of n (length vs) in
+    let all : List Ticket = h.taken ++ items in
+    let entry_on : (j : ℕ) (e : PassEntry) → FitsEntry h.pass_of h.count all j e → FitsEntry pass_of (h.count + 1) all j e
+    =
+    λ j e f. (
+      omega (arith, f.0),
+      passed_else h.pass_of n (length vs) e.number
+          (λ same. (let a = f.0 in let b = mine.1.2 in absurd (omega arith))) ∙ f.1,
+      f.2,
+    ) in
+    let old : AllAt (Fits pass_of h.reader (h.count + 1) h.taken items) vs
+    = all_set (Fits pass_of h.reader (h.count + 1) h.taken items) views pass l (
+      each_map (FitsEntry h.pass_of h.count all pass) (FitsEntry pass_of (h.count + 1) all pass) es
+          (entry_on pass) mine.0,
+      (mine.1.0, mine.1.1, ap (λ c. c + 1) mine.1.2),
+    )
+    (λ j u other e. (
+      each_map (FitsEntry h.pass_of h.count all j) (FitsEntry pass_of (h.count + 1) all j) u.entries
+          (entry_on j) (h.fits j u e).0,
+      mark_apart h.reader h.count (h.count + 1) h.taken h.taken j pass u.mark other mine.1.0 (h.fits j u e).1,
+    )) in
+    record {
+      pass_of = pass_of;
+      reader = h.reader;
+      count = h.count + 1;
+      taken = h.taken;
+      fits = λ j u e. ⊎_elim (λ x. old j u x)
+          (λ (is : (j ≡ length vs) × (r ≡ u)). subst (λ (y : ℕ × View). Fits pass_of h.reader
+          (h.count + 1) h.taken items y.0 y.1) (λ i. (sym is.0 i, is.1 i)) (
+            (
+              (
+                omega (arith, mine.1.2),
+                passed_there h.pass_of n (length vs) n refl,
+                h.no_other_sender n
+                    (omega (arith, mine.1.2)),
+              ),
+              tt,
+            ),
+            tt,
+          ))
+          (at_end vs r u j e);
+      stands = λ s below. ⊎_elim
+          (λ (is : s ≡ n). (
+            r,
+            subst (λ (p : ℕ). get_elem? (vs ++ r ∷ []) p ≡ some r)
+                (sym (passed_there h.pass_of n (length vs) s is)) (at_last vs r (length vs) refl),
+            inl (sym is),
+          ))
+          (λ (no : s ≢ n). subst (λ (p : ℕ). InView (vs ++ r ∷ []) p s) (sym (passed_else h.pass_of n (length vs) s no))
+          (in_longer vs r (h.pass_of s) s (in_set views pass (intake es got n) l at (λ t stands. stands)
+          (h.pass_of s) s (h.stands s (let e = mine.1.2 in omega arith)))))
+          (cases_eq s n);
+      no_other_sender = λ s above. h.no_other_sender s (omega arith);
+    }
+
+pub forks : (pass : ℕ) (v : View) (es : List PassEntry) (got : List Ticket) (n : ℕ) → v ≡ intake es got n
+    → Forks Kept pass v (view_counting_on v) (newcomer v)
+forks pass v es got n is =
+    subst (λ (u : View). Forks Kept pass u (view_counting_on u) (newcomer u)) (sym is) (forks_here pass es got n)
+
+-- any two passes may be joined: the numbers of the second one stand in the first from then on
+pub merges : (pass : ℕ) (v : View) (other : ℕ) (u : View) → Merges Kept pass v other u (both_views v u) empty_view
+merges pass v other u items views h at two at' =
+    let both : View = both_views v u in
+    let vs : List View = set views pass both in
+    let all : List Ticket = h.taken ++ items in
+    let was : get_elem? views other ≡ some u = ⊎_elim (λ x. absurd (two x.0)) (λ x. x.1)
+    (at_set views pass other both u at') in
+    let mine = h.fits pass v at in
+    let theirs = h.fits other u was in
+    let pass_of : ℕ → ℕ = λ s. cond (h.pass_of s == other) pass (h.pass_of s) in
+    let moved : (s : ℕ) → h.pass_of s ≡ other → pass_of s ≡ pass = λ s e.
+    ap (λ (b : Bool). cond b pass (h.pass_of s)) (eq-eqb (h.pass_of s) other e) in
+    let stays : (s : ℕ) → h.pass_of s ≢ other → pass_of s ≡ h.pass_of s = λ s e.
+    ap (λ (b : Bool). cond b pass (h.pass_of s)) (ne_eqb (h.pass_of s) other e) in
+    let apart : (j : ℕ) (e : PassEntry) → j ≢ other → FitsEntry h.pass_of h.count all j e
+    → FitsEntry pass_of h.count all j e
+    = λ j e no f. (f.0, stays e.number (λ same. no (sym f.1 ∙ same)) ∙ f.1, f.2) in
+    let taken_in : (e : PassEntry) → FitsEntry h.pass_of h.count all other e
+    → FitsEntry pass_of h.count all pass e = λ e f. (f.0, moved e.number f.1, f.2) in
+    let Now : ℕ → View → Type 0 = λ j y. j ≢ other → Fits pass_of h.reader h.count h.taken items j y in
+    let now : AllAt Now vs = all_set Now views pass both
+    (λ no. (
+      each_append (FitsEntry pass_of h.count all pass) v.entries u.entries
+          (each_map (FitsEntry h.pass_of h.count all pass) (FitsEntry pass_of h.count all pass) v.entries
+          (λ e. apart pass e no) mine.0)
+          (each_map (FitsEntry h.pass_of h.count all other)
+          (FitsEntry pass_of h.count all pass) u.entries taken_in theirs.0),
+      mine.1,
+    ))
+    (λ j y _ e no. (
+      each_map (FitsEntry h.pass_of h.count all j) (FitsEntry pass_of h.count all j) y.entries
+          (λ x. apart j x no) (h.fits j y e).0,
+      (h.fits j y e).1,
+    )) in
+    let two' : pass ≢ other = λ e. two (sym e) in
+    let here : get_elem? (set vs other empty_view) pass ≡ some both = set_else vs other pass empty_view two'
+    ∙ put_here views pass v both at in
+    record {
+      pass_of = pass_of;
+      reader = h.reader;
+      count = h.count;
+      taken = h.taken;
+      fits = all_set (Fits pass_of h.reader h.count h.taken items) vs other empty_view (tt, tt)
+          (λ j y no e. now j y e no);
+      stands = λ s below. let c = h.stands s below in ⊎_elim
+          (λ (is : h.pass_of s ≡ other). subst (λ (p : ℕ). InView (set vs other empty_view) p s) (sym (moved s is)) (
+            both,
+            here,
+            stands_right s v.entries u.entries
+                (subst (λ (y : View). Stands s y.entries) (some-injective c.0 u
+                (sym c.1 ∙ ap (get_elem? views) is ∙ was)) c.2),
+          ))
+          (λ (no : h.pass_of s ≢ other). subst (λ (p : ℕ). InView (set vs other empty_view) p s) (sym (stays s no))
+          (let d = in_set views pass v both at (λ t x. stands_left t v.entries u.entries x) (h.pass_of s) s c in
+          (d.0, set_else vs other (h.pass_of s) empty_view no ∙ d.1, d.2)))
+          (cases_eq (h.pass_of s) other);
+      no_other_sender = h.no_other_sender;
+    }
+
+learns_here : (pass : ℕ) (es : List PassEntry) (got : List Ticket) (n : ℕ)
+    → Learns Kept pass (intake es got n) (IsWhole es got n)
+learns_here pass es got n items views h at =
+    let mine = h.fits pass (intake es got n) at in
+    let same : h.taken ++ items ≡ got ++ items = ap (λ g. g ++ items) (sym mine.1.1) in (
+      each_map (FitsEntry h.pass_of h.count (h.taken ++ items) pass)
+          (λ (e : PassEntry). part e.number (got ++ items) ≡ e.pushed) es
+          (λ e f. ap (part e.number) (sym same) ∙ f.2) mine.0,
+      (λ s above. ap (part s) (sym same) ∙ h.no_other_sender s (omega (arith, mine.1.2))),
+    )
+
+pub learns : (pass : ℕ) (v : View) (es : List PassEntry) (got : List Ticket) (n : ℕ) → v ≡ intake es got n
+    → Learns Kept pass v (Tells v)
+learns pass v es got n is = subst (λ (u : View). Learns Kept pass u (Tells u)) (sym is) (learns_here pass es got n)

@@ -1,0 +1,6 @@
+use Rattle.std.proofs.Common.{◌∙◌}
+use Rattle.tb_tables.proofs.Pairs.{without_pair}
+use Rattle.tb_tables.proofs.expiries.remove_pair.Goals as goal
+
+pub returns-else-eq : goal.returns-else-eq
+returns-else-eq c = λ m p. c.remove.ensures.updates.0 (record { 0 = (m, p) }) ∙ without_pair c.args.moment c.args.index m p _

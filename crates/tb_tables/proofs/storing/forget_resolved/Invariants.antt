@@ -1,9 +1,0 @@
-use Rattle.std.proofs.Common.{◌≡◌, ℕ, not, take, ◌&&◌}
-use Rattle.tb_tables.proofs.Words.{AllByRecursion, Facts, is_indexed, is_resolved_at, is_spent, CanForget}
-use Rattle.tb_tables.proofs.storing.forget_resolved.Given as goal
-
-abbrev pub invariant-loop-change : goal.invariant-loop-change
-invariant-loop-change l =
-    (facts : Facts) → AllByRecursion (λ change. CanForget facts change l.transfers.entries) l.changes → (m p : ℕ)
-    → is_indexed l.expiries m p ≡ (not (is_resolved_at p (take l.change-index l.changes) && is_spent facts m p)
-    && is_indexed l.fn.expiries m p)

@@ -1,0 +1,35 @@
+use Rattle.std.proofs.Common.{arith, refl}
+use Rattle.tb_tables.proofs.RemovedPairs.{row-there, fits, spent-is}
+use Rattle.tb_tables.proofs.storing.remove_expiry_at.Goals as goal
+
+pub row_at-row-requires : goal.row_at-row-requires
+row_at-row-requires c = rw (row-there c.requires.2) refl
+
+pub expires_at-requires : goal.expires_at-requires
+expires_at-requires c =
+    let same = c.row_at-row.ensures _ _ (row-there c.requires.2) in
+    grind (arith, fits c.requires.2, same, c.is_spent.ensures, c.if-is_spent.true)
+
+pub returns-then-is_spent : goal.returns-then-is_spent
+returns-then-is_spent c =
+    λ facts t can m p. grind (
+      arith,
+      spent-is can m p,
+      c.row_at-row.ensures _ _
+          (row-there can),
+      c.is_spent.ensures,
+      c.if-is_spent.true,
+      c.expires_at.ensures,
+      c.remove_pair.ensures m p,
+    )
+
+pub returns-else-is_spent : goal.returns-else-is_spent
+returns-else-is_spent c =
+    λ facts t can m p. grind (
+      arith,
+      spent-is can m p,
+      c.row_at-row.ensures _ _
+          (row-there can),
+      c.is_spent.ensures,
+      c.if-is_spent.false,
+    )

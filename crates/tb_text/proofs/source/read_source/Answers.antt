@@ -1,5 +1,0 @@
-use Rattle.std.proofs.Common.{rules}
-use Rattle.tb_text.proofs.source.read_source.Goals as goal
-
-pub returns-clause-source : goal.returns-clause-source
-returns-clause-source c = search rules

@@ -1,0 +1,132 @@
+//! The submitters' reply rings, and what was taken from them.
+
+ghost use Rattle.std.specs.Prelude.{◌≡◌, replicate, slice_set, is_some, true, unwrap_or, IfOk, OnOk, IfErr, OnErr};
+ghost use Rattle.tb_world.specs.Mailbox.{mailbox_at, mailboxes_with, with_reply, empty_mailbox, after_pop};
+
+use std::alloc::{AllocError, Global};
+use std::collections::VecDeque;
+use std::marker::Model;
+use tb_layout::NoMemory;
+use tb_work::Reply;
+
+/// A submitter's reply ring, and the replies that it received.
+#[derive(Drop)]
+pub struct Mailbox {
+    ring: VecDeque<Reply>,
+    received: Vec<Reply>,
+}
+
+impl Model for Mailbox {
+    ghost use Rattle.tb_world.specs.Mailbox.{Mailbox as MailboxValue};
+
+    ghost Value = { MailboxValue };
+
+    ghost view = { λ mailbox. record { ring = mailbox.ring.items; received = mailbox.received.items } };
+}
+
+impl Mailbox {
+    fn new(alloc: Global) -> Mailbox
+        ensures { result ≡ empty_mailbox }
+    {
+        Mailbox {
+            ring: VecDeque::new(alloc),
+            received: Vec::new(alloc),
+        }
+    }
+
+    /// Puts a reply into the ring. Where memory is refused it comes back, and nothing has changed.
+    fn give(&mut self, reply: Reply) -> Result<(), Reply>
+        ensures ok { OnOk result (self.new ≡ with_reply self.old reply) }
+        ensures err { IfErr result (λ back. (back ≡ reply) × (self.new ≡ self.old)) }
+    {
+        match self.ring.push_back(reply) {
+            Ok(()) => Ok(()),
+            Err(failed) => Err(failed.value),
+        }
+    }
+
+    /// Takes the first reply of the ring, where there is one.
+    fn take(&mut self) -> Result<bool, NoMemory>
+        ensures moves { IfOk result (λ moves. moves ≡ is_some (after_pop self.old)) }
+        ensures mailbox { OnOk result (self.new ≡ unwrap_or (after_pop self.old) self.old) }
+        ensures err { OnErr result ((is_some (after_pop self.old) ≡ true) × (self.new ≡ self.old)) }
+    {
+        if self.ring.is_empty() {
+            return Ok(false);
+        }
+        self.received.reserve(1)?;
+        if let Some(reply) = self.ring.pop_front() {
+            self.received.push_reserved(reply);
+        }
+        Ok(true)
+    }
+}
+
+/// The mailboxes of all submitters, in the order of their numbers.
+#[derive(Drop)]
+pub struct Mailboxes {
+    mailboxes: Vec<Mailbox>,
+}
+
+impl Model for Mailboxes {
+    ghost use Rattle.std.specs.Prelude.{List};
+    ghost use Rattle.tb_world.specs.Mailbox.{Mailbox as MailboxValue};
+
+    ghost Value = { List MailboxValue };
+
+    ghost view = { λ mailboxes. mailboxes.mailboxes.items };
+}
+
+impl Mailboxes {
+    /// An empty ring for each of the submitters; none has received anything.
+    pub(crate) fn new(alloc: Global, submitters: u32) -> Result<Mailboxes, NoMemory>
+        ensures { IfOk result (λ mailboxes. mailboxes ≡ replicate submitters empty_mailbox) }
+    {
+        let mut mailboxes = Vec::new(alloc);
+        for _ in 0..submitters {
+            mailboxes.push(Mailbox::new(alloc))?;
+        }
+        Ok(Mailboxes { mailboxes })
+    }
+
+    /// Puts a reply into its submitter's ring; it is dropped where there is no such submitter. Where memory is
+    /// refused it comes back, and nothing has changed.
+    pub(crate) fn give(&mut self, reply: Reply) -> Result<(), Reply>
+        ensures ok { OnOk result (self.new ≡ mailboxes_with self.old reply) }
+        ensures err { IfErr result (λ back. (back ≡ reply) × (self.new ≡ self.old)) }
+    {
+        let submitter = reply.submitter as usize;
+        if submitter >= self.mailboxes.len() {
+            drop(reply);
+            return Ok(());
+        }
+        let mailbox = &mut self.mailboxes[submitter];
+        mailbox.give(reply)
+    }
+
+    /// Takes the first reply of a submitter's ring, where there is one.
+    pub(crate) fn take(&mut self, submitter: u32) -> Result<bool, NoMemory>
+        ensures moves { IfOk result (λ moves. moves ≡ is_some (after_pop (mailbox_at self.old submitter))) }
+        ensures mailboxes { OnOk result (self.new ≡ slice_set self.old submitter
+            (unwrap_or (after_pop (mailbox_at self.old submitter)) (mailbox_at self.old submitter))) }
+        ensures err { OnErr result ((is_some (after_pop (mailbox_at self.old submitter)) ≡ true)
+            × (self.new ≡ self.old)) }
+    {
+        let submitter = submitter as usize;
+        if submitter >= self.mailboxes.len() {
+            return Ok(false);
+        }
+        let mailbox = &mut self.mailboxes[submitter];
+        mailbox.take()
+    }
+
+    /// What a submitter received; nothing where there is no such submitter.
+    pub(crate) fn received(&self, submitter: u32) -> &[Reply]
+        ensures { result.now ≡ (mailbox_at self.now submitter).received }
+    {
+        match self.mailboxes.get(submitter as usize) {
+            Some(mailbox) => mailbox.received.as_slice(),
+            None => &[],
+        }
+    }
+}
