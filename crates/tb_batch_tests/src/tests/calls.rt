@@ -70,3 +70,25 @@ fn a_lookup_has_room_for_its_accounts(rt: HostRuntime) {
     let parts = lookup_of_two(&rt).into_parts();
     assert!(rt; parts.operation == 131 && parts.accounts.capacity() >= 2);
 }
+
+/// How many bytes the body of a batch of one packet of `events` transfers has room for.
+fn room_of_body(
+    rt: &(impl Abort + Alloc<A = Global>),
+    batcher: &mut Batcher,
+    events: usize,
+) -> usize {
+    let flags = Vec::from_elem(rt.alloc(), 0u8, events).expect(rt, "memory");
+    join(rt, batcher, 130, flags.as_slice());
+    let parts = batcher.seal().expect(rt, "a batch").into_parts();
+    parts.body.capacity()
+}
+
+/// The batch after a large one begins with the room of that one, and the batches after it with their own.
+#[test]
+fn room_shrinks_after_a_large_batch(rt: HostRuntime) {
+    let made = Batcher::new(rt.alloc(), 8190).ok();
+    let mut batcher = made.expect(&rt, "a batcher");
+    assert!(rt; room_of_body(&rt, &mut batcher, 8190) >= 1_048_320);
+    room_of_body(&rt, &mut batcher, 1);
+    assert!(rt; room_of_body(&rt, &mut batcher, 1) <= 1024);
+}

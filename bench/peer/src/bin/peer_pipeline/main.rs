@@ -2,12 +2,17 @@
 //! batcher, committer over the state machine, demultiplexer, and a ring of replies for each submitter.
 //!
 //!     peer_pipeline run EVENTS PACKETS SUBMITTERS CREDIT CAPACITY LIMIT
+//!     peer_pipeline live SUBMITTERS LOADS
 //!
-//! Each submitter makes a thousand accounts and sends PACKETS packets of EVENTS plain transfers between them, with at
+//! `run`: each submitter makes a thousand accounts and sends PACKETS packets of EVENTS plain transfers between them, with at
 //! most CREDIT of them unanswered, over a queue of CAPACITY slots and in batches of at most LIMIT events. Prints sums
 //! over the replies and the balances, which are the same in every order.
+//!
+//! `live`: the first submitter sends a packet of one event for each byte of the standard input, and writes a byte when it
+//! has the reply. LOADS others send packets of one event at credit 16 until the input ends, the rest sleep until then.
 
 mod events;
+mod live;
 mod ring;
 mod stages;
 mod submitter;
@@ -15,6 +20,7 @@ mod work;
 
 use crossbeam_queue::ArrayQueue;
 use events::ACCOUNTS;
+use live::run_live;
 use peer::machine::Machine;
 use peer::packet::Refusal;
 use ring::{Consumer, Producer, ring};
@@ -32,7 +38,7 @@ const STAGE_SLOTS: usize = 8;
 #[derive(Clone, Copy)]
 struct Opening {
     submitters: u32,
-    /// The places of the submission queue.
+    /// The slots of the submission queue.
     capacity: usize,
     /// The most events of a batch.
     limit: u32,
@@ -53,18 +59,23 @@ fn sum_of_balances(machine: &Machine, accounts: u64) -> u128 {
         .sum()
 }
 
-/// A thread for each submitter and each stage; this one is the batcher.
-fn run(opening: Opening, load: Load) -> Result<Report, Refusal> {
+/// Runs a thread for each submitter, which drives it, and for each stage; this one is the batcher.
+fn run(
+    opening: Opening,
+    credit: u64,
+    drive: impl Fn(Submitter) -> Result<Tally, Refusal> + Sync,
+) -> Result<Report, Refusal> {
     let Opening {
         submitters,
         capacity,
         limit,
     } = opening;
+    let drive = &drive;
     let queue = Arc::new(ArrayQueue::new(capacity));
     let (batches, parcels) = ring(STAGE_SLOTS);
     let (made, outcomes) = ring(STAGE_SLOTS);
     let (outlets, inlets): (Vec<Producer<Reply>>, Vec<Consumer<Reply>>) =
-        (0..submitters).map(|_| ring(load.credit as usize)).unzip();
+        (0..submitters).map(|_| ring(credit as usize)).unzip();
     thread::scope(|scope| {
         let drivers: Vec<_> = (0..submitters)
             .zip(inlets)
@@ -75,7 +86,7 @@ fn run(opening: Opening, load: Load) -> Result<Report, Refusal> {
                 limit,
                 queued: 0,
             })
-            .map(|submitter| scope.spawn(move || submitter.drive(load)))
+            .map(|submitter| scope.spawn(move || drive(submitter)))
             .collect();
         let committer = scope.spawn(move || commit_all(parcels, made));
         scope.spawn(move || route_all(outcomes, outlets));
@@ -94,7 +105,7 @@ fn run(opening: Opening, load: Load) -> Result<Report, Refusal> {
 
 /// The line of a run.
 fn line_of_run(opening: Opening, load: Load) -> Result<String, Refusal> {
-    let Report { tally, machine } = run(opening, load)?;
+    let Report { tally, machine } = run(opening, load.credit, |submitter| submitter.drive(load))?;
     let Tally {
         replies,
         failures,
@@ -122,13 +133,23 @@ fn line_of(words: &[&str]) -> Result<String, Box<dyn Error>> {
             };
             line_of_run(opening, load).map_err(|why| format!("{why:?}").into())
         }
-        _ => Err("usage: run EVENTS PACKETS SUBMITTERS CREDIT CAPACITY LIMIT".into()),
+        ["live", submitters, loads] => {
+            run_live(submitters.parse()?, loads.parse()?).map_err(|why| format!("{why:?}"))?;
+            Ok(String::new())
+        }
+        _ => Err(
+            "usage: run EVENTS PACKETS SUBMITTERS CREDIT CAPACITY LIMIT | live SUBMITTERS LOADS"
+                .into(),
+        ),
     }
 }
 
 fn main() -> Result<(), Box<dyn Error>> {
     let words: Vec<String> = std::env::args().skip(1).collect();
     let words: Vec<&str> = words.iter().map(String::as_str).collect();
-    println!("{}", line_of(&words)?);
+    let line = line_of(&words)?;
+    if !line.is_empty() {
+        println!("{line}");
+    }
     Ok(())
 }

@@ -17,7 +17,7 @@ pub struct Submitter {
     pub queued: u64,
 }
 
-/// What a submitter sends: so many packets of so many events, with at most `credit` of them unanswered.
+/// What a submitter sends: `packets` packets of `events` events, with at most `credit` of them unanswered.
 #[derive(Clone, Copy)]
 pub struct Load {
     pub events: u64,
@@ -27,7 +27,7 @@ pub struct Load {
 
 impl Submitter {
     /// The packet's number.
-    fn submit(&mut self, packet: Packet) -> Result<u64, Refusal> {
+    pub fn submit(&mut self, packet: Packet) -> Result<u64, Refusal> {
         let count = packet.admit(self.limit)?;
         let number = self.queued;
         let job = Job {
@@ -42,7 +42,7 @@ impl Submitter {
     }
 
     /// Waits for the next reply.
-    fn receive(&mut self, tally: &mut Tally) {
+    pub fn receive(&mut self, tally: &mut Tally) {
         let backoff = Backoff::new();
         loop {
             if let Some(reply) = self.replies.pop() {
@@ -53,7 +53,7 @@ impl Submitter {
         }
     }
 
-    /// Makes the accounts, and then sends the load; what its replies came to.
+    /// Makes the accounts, and then sends the load; the sums over its replies.
     fn send(&mut self, load: Load) -> Result<Tally, Refusal> {
         let mut tally = Tally::default();
         self.submit(accounts(self.submitter))?;
@@ -73,7 +73,12 @@ impl Submitter {
     /// Sends the load, and ends.
     pub fn drive(mut self, load: Load) -> Result<Tally, Refusal> {
         let tally = self.send(load);
-        push_waiting(&self.queue, Item::End);
+        self.end();
         tally
+    }
+
+    /// Queues nothing more.
+    pub fn end(&self) {
+        push_waiting(&self.queue, Item::End);
     }
 }

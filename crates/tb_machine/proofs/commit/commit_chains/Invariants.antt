@@ -12,9 +12,9 @@ invariant-loop-start g l = record {
   extends : Extends l.fn.tables l.tables;
   len : vec_len l.out ≤ l.start;
   capacity : vec_capacity l.out ≡ vec_capacity l.fn.out;
-  left : IsLeft g.E.Event.operation l.fn.clock l.fn.tables.now
-      (map g.E.Event.event_of l.chunks) l.clock l.tables.now l.start
-      (map g.E.Event.event_of (drop l.start l.chunks)) l.out.items;
+  left : IsLeft g.E.CreateEvent.operation l.fn.clock l.fn.tables.now
+      (map g.E.CreateEvent.event_of l.chunks) l.clock l.tables.now l.start
+      (map g.E.CreateEvent.event_of (drop l.start l.chunks)) l.out.items;
 }
 
 abbrev pub decreases-loop-start : goal.decreases-loop-start

@@ -8,8 +8,8 @@ abbrev pub invariant-loop-index : goal.invariant-loop-index
 invariant-loop-index g l = record {
   clock : l.clock ≤ clock_max;
   extends : Extends l.fn.tables l.tables;
-  fault : first_fault g.E.Event.operation 0 l.fn.clock l.fn.tables.now (map g.E.Event.event_of l.chunks)
-      ≡ first_fault g.E.Event.operation l.index l.clock l.tables.now (map g.E.Event.event_of (drop l.index l.chunks));
-  stored : facts_with_all g.E.Event.operation l.fn.clock l.fn.tables.now (map g.E.Event.event_of l.chunks)
-      ≡ facts_with_all g.E.Event.operation l.clock l.tables.now (map g.E.Event.event_of (drop l.index l.chunks));
+  fault : first_fault g.E.CreateEvent.operation 0 l.fn.clock l.fn.tables.now (map g.E.CreateEvent.event_of l.chunks)
+      ≡ first_fault g.E.CreateEvent.operation l.index l.clock l.tables.now (map g.E.CreateEvent.event_of (drop l.index l.chunks));
+  stored : facts_with_all g.E.CreateEvent.operation l.fn.clock l.fn.tables.now (map g.E.CreateEvent.event_of l.chunks)
+      ≡ facts_with_all g.E.CreateEvent.operation l.clock l.tables.now (map g.E.CreateEvent.event_of (drop l.index l.chunks));
 }
