@@ -14,7 +14,7 @@ use Rattle.tb_work.specs.declared.outcome.Outcome.{Outcome}
 use Rattle.tb_work.specs.declared.outcome.Outcome.TheVariants.{Committed, Shutdown, Stopped}
 use Rattle.tb_work.specs.declared.refusal.Refusal.{Refusal}
 use Rattle.tb_core.specs.Due.{Place, Ahead, Behind, outcome_at}
-use Rattle.tb_core.specs.inside.Passage.{place_after}
+use Rattle.tb_core.specs.inside.Decision.{place_after}
 use Rattle.tb_program_script.specs.declared.fault.Fault.{Fault}
 use Rattle.tb_program_script.specs.Fault.{fault_text}
 use Rattle.tb_program_script.specs.Script.{ParsedScript, items_of, clock_of, limit_of, script_of}
