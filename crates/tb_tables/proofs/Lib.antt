@@ -1,6 +1,7 @@
 pub mod Words
 pub mod Histories
 pub mod FoundById
+pub mod Columns
 pub mod IdBytes
 mod Sums
 pub mod Laws

@@ -22,6 +22,9 @@ pub use Rattle.tb_tables.specs.declared.amounts.Phase.{Phase}
 pub use Rattle.tb_tables.specs.declared.balance.Balance.{Balance}
 pub use Rattle.tb_tables.specs.declared.change.Change.{Change}
 pub use Rattle.tb_tables.specs.declared.indices.Indices.{Indices}
-pub use Rattle.tb_tables.specs.Row.{Row}
+pub use Rattle.tb_tables.specs.declared.row.Row.{Row}
+pub use Rattle.tb_tables.specs.declared.stored_status.StoredStatus.{StoredStatus}
+pub use Rattle.tb_tables.specs.declared.stored_transfer.StoredTransfer.{StoredTransfer}
+pub use Rattle.tb_tables.specs.Columns.{entries_of, entry_of, status_found, status_of_stored, transfer_under}
 pub use Rattle.tb_tables.specs.declared.status.Status.{Status}
 pub use Rattle.tb_tables.specs.declared.status.Status.TheVariants.{Expired, Pending, Posted, Voided}

@@ -10,13 +10,16 @@ use Rattle.tb_tables.specs.Sums.{sums_of, account_rows}
 use Rattle.tb_tables.specs.Contents.{Allow, AreGrounded, Contain, transfer_rows, resolves_at}
 use Rattle.tb_tables.specs.declared.change.Change.{Change}
 use Rattle.tb_tables.specs.declared.indices.Indices.{Indices}
-use Rattle.tb_tables.specs.Row.{Row}
+use Rattle.tb_tables.specs.declared.row.Row.{Row}
 use Rattle.tb_tables.specs.declared.status.Status.{Status}
 use Rattle.tb_tables.specs.declared.status.Status.TheVariants.{Pending, Posted, Voided, Expired}
 
--- the row of a transfer that nothing resolved
+-- the status of a transfer that nothing resolved, and its row
+abbrev pub status_first : Transfer → Option Status
+status_first transfer = if is_pending transfer then Some Pending else None
+
 abbrev pub new_row : Transfer → Row
-new_row transfer = record { transfer = transfer; status = if is_pending transfer then Some Pending else None }
+new_row transfer = record { transfer = transfer; status = status_first transfer }
 
 -- a transfer that the facts allow, on its way in or out, and the rows after those of the others
 pub record Step (transfer : Transfer) (indices : Indices) : Type 0 where

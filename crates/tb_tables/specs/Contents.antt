@@ -14,7 +14,7 @@ use Rattle.tb_tables.specs.Conditions.{HasNoBalances, MayAdd, MayResolve}
 use Rattle.tb_tables.specs.Lawful.{IsLawful, has_id}
 use Rattle.tb_tables.specs.Sums.{sums_of, account_rows, AreAt}
 use Rattle.tb_tables.specs.declared.indices.Indices.{Indices}
-use Rattle.tb_tables.specs.Row.{Row}
+use Rattle.tb_tables.specs.declared.row.Row.{Row}
 use Rattle.tb_tables.specs.declared.status.Status.{Status}
 use Rattle.tb_tables.specs.declared.status.Status.TheVariants.{Pending, Posted, Voided, Expired}
 use Rattle.tb_tables.specs.declared.change.Change.{Change}

@@ -1,5 +1,5 @@
 pub mod Facts
-pub mod Row
+pub mod Columns
 pub mod Status
 pub mod Balances
 pub mod Conditions

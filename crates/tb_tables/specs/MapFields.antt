@@ -7,7 +7,7 @@ abbrev pub contents_in : Inside → Contents
 contents_in maps =
     record {
       accounts = maps.accounts.entries;
-      transfers = maps.transfers.entries;
+      transfers = maps.transfers;
       failed = maps.failed.keys;
       is_in_expiries = is_in_expiries maps.expiries;
     }

@@ -8,8 +8,8 @@
 //!
 //! The modules, lowest first:
 //!
-//! - `split_u128`, `row`: a transfer with its status as it is in memory;
 //! - `hashing`, `by_id`: how ids are hashed, and maps by id;
+//! - `stored_transfer`, `stored_status`, `transfers`: the map of transfers as it is in memory, seen as rows: a transfer and its status;
 //! - `balance`, `amounts`: one balance of an account, an amount between two;
 //! - `entries`, `expiries`: one entry of a map, one pair of the set of expiries;
 //! - `storing`, `timeouts`: all that one transfer changes, over facts that the maps contain (`AreContained`);
@@ -29,11 +29,13 @@ mod maps;
 mod mark;
 mod note;
 mod row;
-mod split_u128;
 mod status;
+mod stored_status;
+mod stored_transfer;
 mod storing;
 mod tables;
 mod timeouts;
+mod transfers;
 
 pub use hashing::Seed;
 pub use mark::Mark;

@@ -6,14 +6,14 @@ ghost use Rattle.std.specs.Option.{option_map};
 
 use crate::by_id::{ById, Ids};
 use crate::change::Change;
-use crate::entries::{index_of, pop_account, pop_failed, push_account, push_failed, push_transfer};
+use crate::entries::{index_of, pop_account, pop_failed, push_account, push_failed};
 use crate::expiries::Expiries;
 use crate::hashing::{IdHasher, Seed};
 use crate::indices::Indices;
-use crate::row::Row;
 use crate::status::Status;
 use crate::storing::{apply, insert_expiry, remove_expiry, remove_resolved, undo_transfer};
 use crate::timeouts::expire_all;
+use crate::transfers::Transfers;
 use std::alloc::Global;
 use std::marker::Model;
 use tb_layout::{Account, NoMemory, Transfer};
@@ -22,7 +22,7 @@ use tb_layout::{Account, NoMemory, Transfer};
 #[derive(Drop)]
 pub struct Maps {
     accounts: ById<Account>,
-    transfers: ById<Row>,
+    transfers: Transfers,
     failed: Ids,
     expiries: Expiries,
 }
@@ -56,7 +56,7 @@ impl Maps {
         let hasher = IdHasher::new(seed);
         Maps {
             accounts: ById::with_hasher(alloc, hasher),
-            transfers: ById::with_hasher(alloc, hasher),
+            transfers: Transfers::new(alloc, hasher),
             failed: Ids::with_hasher(alloc, hasher),
             expiries: Expiries::new(alloc),
         }
@@ -113,7 +113,7 @@ impl Maps {
     {
         let index = self.transfers.len();
         insert_expiry(&mut self.expiries, transfer, index)?;
-        let added = push_transfer(&mut self.transfers, transfer);
+        let added = self.transfers.push(transfer);
         if added == Ok(true) {
             apply(&mut self.accounts, &mut self.transfers, indices, *transfer);
         } else {
@@ -227,37 +227,35 @@ impl Maps {
     pub fn transfer(&self, id: u128) -> Option<Transfer>
         ensures { result ≡ transfer_with self.now.facts id }
     {
-        self.transfers.get(&id).map(|row| row.transfer())
+        self.transfers.transfer(id)
     }
 
     /// The index of the transfer with this id.
     pub fn transfer_index(&self, id: u128) -> Option<usize>
         ensures { IsIndexOfTransfer self.now.facts id result }
     {
-        self.transfers.get_index_of(&id)
+        self.transfers.index_of(id)
     }
 
     /// The transfer at an index.
     pub fn transfer_at(&self, index: usize) -> Option<Transfer>
         ensures { result ≡ slice_get self.now.facts.transfers index }
     {
-        let (_, row) = self.transfers.get_index(index)?;
-        Some(row.transfer())
+        self.transfers.transfer_at(index)
     }
 
     /// The status of the pending transfer with this id.
     pub fn status(&self, id: u128) -> Option<Status>
         ensures { result ≡ status_with self.now.facts id }
     {
-        self.transfers.get(&id).and_then(|row| row.status())
+        self.transfers.status(id)
     }
 
     /// The status of the pending transfer at an index.
     pub fn status_at(&self, index: usize) -> Option<Status>
         ensures { result ≡ status_if_pending self.now.facts (slice_get self.now.facts.transfers index) }
     {
-        let (_, row) = self.transfers.get_index(index)?;
-        row.status()
+        self.transfers.status_at(index)
     }
 
     /// Whether an id is among those that failed.

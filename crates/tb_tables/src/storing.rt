@@ -13,11 +13,12 @@ ghost use Rattle.tb_tables.specs.Changing.{Step, IsBefore, IsAfter, IsStored, Is
 use crate::amounts::{Phase, add_amount, phase_of, post_if, subtract_amount, unpost_if};
 use crate::by_id::ById;
 use crate::change::Change;
-use crate::entries::{pop_transfer, resolved_status, row_at, set_status};
+use crate::entries::resolved_status;
 use crate::expiries::{Expiries, insert_pair, remove_pair};
 use crate::indices::Indices;
 use crate::row::Row;
 use crate::status::Status;
+use crate::transfers::Transfers;
 use tb_layout::{Account, NANOSECONDS_PER_SECOND, NoMemory, Transfer};
 
 /// Whether a transfer has a moment at which it expires.
@@ -69,17 +70,19 @@ pub fn remove_expiry(expiries: &mut Expiries, transfer: &Transfer, index: usize)
 /// the post or void is stored.
 fn resolve_pending(
     accounts: &mut ById<Account>,
-    transfers: &mut ById<Row>,
+    transfers: &mut Transfers,
     indices: Indices,
     pending: usize,
     transfer: Transfer,
 )
     requires names { indices.pending ≡ Some pending }
-    requires before { (step : Step transfer indices) × IsBefore step accounts.old.entries transfers.old.entries }
-    ensures { (step : Step transfer indices) → IsBefore step accounts.old.entries transfers.old.entries
-        → IsAfter step accounts.new.entries transfers.new.entries }
+    requires before { (step : Step transfer indices) × IsBefore step accounts.old.entries transfers.old }
+    ensures { (step : Step transfer indices) → IsBefore step accounts.old.entries transfers.old
+        → IsAfter step accounts.new.entries transfers.new }
 {
-    let reserved = set_status(transfers, pending, resolved_status(transfer.is_post())).amount;
+    let reserved = transfers
+        .set_status(pending, resolved_status(transfer.is_post()))
+        .amount;
     subtract_amount(accounts, indices, Phase::Pending, reserved);
     post_if(accounts, indices, transfer.is_post(), transfer.amount);
 }
@@ -87,13 +90,13 @@ fn resolve_pending(
 /// Adds a stored transfer's amounts to its accounts, and resolves what it names.
 pub fn apply(
     accounts: &mut ById<Account>,
-    transfers: &mut ById<Row>,
+    transfers: &mut Transfers,
     indices: Indices,
     transfer: Transfer,
 )
-    requires { (step : Step transfer indices) × IsBefore step accounts.old.entries transfers.old.entries }
-    ensures { (step : Step transfer indices) → IsBefore step accounts.old.entries transfers.old.entries
-        → IsAfter step accounts.new.entries transfers.new.entries }
+    requires { (step : Step transfer indices) × IsBefore step accounts.old.entries transfers.old }
+    ensures { (step : Step transfer indices) → IsBefore step accounts.old.entries transfers.old
+        → IsAfter step accounts.new.entries transfers.new }
 {
     match indices.pending {
         None => add_amount(accounts, indices, phase_of(&transfer), transfer.amount),
@@ -104,17 +107,17 @@ pub fn apply(
 /// Takes back what a post or a void changed, once it is stored no more.
 fn unresolve_pending(
     accounts: &mut ById<Account>,
-    transfers: &mut ById<Row>,
+    transfers: &mut Transfers,
     indices: Indices,
     pending: usize,
     transfer: Transfer,
 )
     requires names { indices.pending ≡ Some pending }
-    requires after { (step : Step transfer indices) × IsAfter step accounts.old.entries transfers.old.entries }
-    ensures { (step : Step transfer indices) → IsAfter step accounts.old.entries transfers.old.entries
-        → IsBefore step accounts.new.entries transfers.new.entries }
+    requires after { (step : Step transfer indices) × IsAfter step accounts.old.entries transfers.old }
+    ensures { (step : Step transfer indices) → IsAfter step accounts.old.entries transfers.old
+        → IsBefore step accounts.new.entries transfers.new }
 {
-    let reserved = set_status(transfers, pending, Status::Pending).amount;
+    let reserved = transfers.set_status(pending, Status::Pending).amount;
     unpost_if(accounts, indices, transfer.is_post(), transfer.amount);
     add_amount(accounts, indices, Phase::Pending, reserved);
 }
@@ -122,13 +125,13 @@ fn unresolve_pending(
 /// Takes a transfer's amounts out of its accounts, and resolves what it names no more, once it is stored no more.
 fn unapply(
     accounts: &mut ById<Account>,
-    transfers: &mut ById<Row>,
+    transfers: &mut Transfers,
     indices: Indices,
     transfer: Transfer,
 )
-    requires { (step : Step transfer indices) × IsAfter step accounts.old.entries transfers.old.entries }
-    ensures { (step : Step transfer indices) → IsAfter step accounts.old.entries transfers.old.entries
-        → IsBefore step accounts.new.entries transfers.new.entries }
+    requires { (step : Step transfer indices) × IsAfter step accounts.old.entries transfers.old }
+    ensures { (step : Step transfer indices) → IsAfter step accounts.old.entries transfers.old
+        → IsBefore step accounts.new.entries transfers.new }
 {
     match indices.pending {
         None => subtract_amount(accounts, indices, phase_of(&transfer), transfer.amount),
@@ -139,21 +142,21 @@ fn unapply(
 /// Takes the last transfer off, with what it changed.
 pub fn undo_transfer(
     accounts: &mut ById<Account>,
-    transfers: &mut ById<Row>,
+    transfers: &mut Transfers,
     expiries: &mut Expiries,
     indices: Indices,
 )
     requires { (facts : Facts) × (transfer : TransferRecord)
-        × IsStored facts transfer indices accounts.old.entries transfers.old.entries }
+        × IsStored facts transfer indices accounts.old.entries transfers.old }
     ensures maps { (facts : Facts) (transfer : TransferRecord)
-        → IsStored facts transfer indices accounts.old.entries transfers.old.entries
-        → Contain facts accounts.new.entries transfers.new.entries }
+        → IsStored facts transfer indices accounts.old.entries transfers.old
+        → Contain facts accounts.new.entries transfers.new }
     ensures index { (facts : Facts) (transfer : TransferRecord)
-        → IsStored facts transfer indices accounts.old.entries transfers.old.entries → (m p : ℕ)
+        → IsStored facts transfer indices accounts.old.entries transfers.old → (m p : ℕ)
         → is_in_expiries expiries.new m p ≡ (not (is_timed_of transfer
         && same_pair (expires_at_of transfer) (length facts.transfers) m p) && is_in_expiries expiries.old m p) }
 {
-    let transfer = pop_transfer(transfers);
+    let transfer = transfers.pop();
     remove_expiry(expiries, &transfer, transfers.len());
     unapply(accounts, transfers, indices, transfer);
 }
@@ -172,27 +175,27 @@ fn named_by(change: &Change<Indices>) -> Option<usize>
 fn is_spent(row: &Row) -> bool
     ensures { result ≡ (is_timed_of row.now.transfer && not (is_open_status row.now.status)) }
 {
-    is_timed(&row.transfer()) && !row.is_open()
+    is_timed(&row.transfer) && !row.is_open()
 }
 
 /// Takes the pair of the transfer at an index out of the set, where it reserves nothing any more.
-fn remove_expiry_at(expiries: &mut Expiries, transfers: &ById<Row>, index: usize)
+fn remove_expiry_at(expiries: &mut Expiries, transfers: &Transfers, index: usize)
     requires { (facts : Facts) × (transfer : TransferRecord)
-        × IsRemovable facts transfer transfers.now.entries index }
+        × IsRemovable facts transfer transfers.now index }
     ensures { (facts : Facts) (transfer : TransferRecord)
-        → IsRemovable facts transfer transfers.now.entries index → (m p : ℕ)
+        → IsRemovable facts transfer transfers.now index → (m p : ℕ)
         → is_in_expiries expiries.new m p ≡ (not ((index == p) && is_spent_at facts m p) && is_in_expiries expiries.old m p) }
 {
-    let row = row_at(transfers, index);
-    if is_spent(row) {
-        remove_pair(expiries, expires_at(&row.transfer()), index);
+    let row = transfers.row_at(index);
+    if is_spent(&row) {
+        remove_pair(expiries, expires_at(&row.transfer), index);
     }
 }
 
 /// Takes the pair of the transfer that a change resolved out of the set.
-fn remove_expiry_of(expiries: &mut Expiries, transfers: &ById<Row>, change: &Change<Indices>)
-    requires { (facts : Facts) × CanRemove facts change.now transfers.now.entries }
-    ensures { (facts : Facts) → CanRemove facts change.now transfers.now.entries → (m p : ℕ)
+fn remove_expiry_of(expiries: &mut Expiries, transfers: &Transfers, change: &Change<Indices>)
+    requires { (facts : Facts) × CanRemove facts change.now transfers.now }
+    ensures { (facts : Facts) → CanRemove facts change.now transfers.now → (m p : ℕ)
         → is_in_expiries expiries.new m p ≡ (not (resolves_at p change.now && is_spent_at facts m p)
         && is_in_expiries expiries.old m p) }
 {
@@ -203,10 +206,10 @@ fn remove_expiry_of(expiries: &mut Expiries, transfers: &ById<Row>, change: &Cha
 
 /// Takes the pairs of the transfers that some changes resolved out of the set. Where that is empty, the changes
 /// aren't gone through.
-pub fn remove_resolved(expiries: &mut Expiries, transfers: &ById<Row>, changes: &[Change<Indices>])
-    requires { (facts : Facts) × AllByRecursion (λ change. CanRemove facts change transfers.now.entries) changes.now }
+pub fn remove_resolved(expiries: &mut Expiries, transfers: &Transfers, changes: &[Change<Indices>])
+    requires { (facts : Facts) × AllByRecursion (λ change. CanRemove facts change transfers.now) changes.now }
     ensures { (facts : Facts) → AllByRecursion (λ change.
-        CanRemove facts change transfers.now.entries) changes.now → (m p : ℕ)
+        CanRemove facts change transfers.now) changes.now → (m p : ℕ)
         → is_in_expiries expiries.new m p ≡ (not (is_resolved_at p changes.now && is_spent_at facts m p)
         && is_in_expiries expiries.old m p) }
 {

@@ -8,20 +8,20 @@ ghost use Rattle.tb_tables.specs.Changing.{CanExpire, expire_one};
 
 use crate::amounts::{Phase, subtract_amount};
 use crate::by_id::ById;
-use crate::entries::{index_of, row_at, set_status};
+use crate::entries::index_of;
 use crate::expiries::{Expiries, take_due};
 use crate::indices::Indices;
-use crate::row::Row;
 use crate::status::Status;
+use crate::transfers::Transfers;
 use tb_layout::Account;
 
 /// Lets the transfer at an index expire: its amount is reserved no more.
-fn expire(accounts: &mut ById<Account>, transfers: &mut ById<Row>, index: usize)
-    requires { (facts : Facts) × CanExpire facts accounts.old.entries transfers.old.entries index }
-    ensures { (facts : Facts) (can : CanExpire facts accounts.old.entries transfers.old.entries index)
-        → Contain (expire_one can.transfer.id facts) accounts.new.entries transfers.new.entries }
+fn expire(accounts: &mut ById<Account>, transfers: &mut Transfers, index: usize)
+    requires { (facts : Facts) × CanExpire facts accounts.old.entries transfers.old index }
+    ensures { (facts : Facts) (can : CanExpire facts accounts.old.entries transfers.old index)
+        → Contain (expire_one can.transfer.id facts) accounts.new.entries transfers.new }
 {
-    let transfer = set_status(transfers, index, Status::Expired);
+    let transfer = transfers.set_status(index, Status::Expired);
     let indices = Indices {
         debit: index_of(accounts, transfer.debit_account_id),
         credit: index_of(accounts, transfer.credit_account_id),
@@ -34,16 +34,16 @@ fn expire(accounts: &mut ById<Account>, transfers: &mut ById<Row>, index: usize)
 /// expires.
 pub fn expire_all(
     accounts: &mut ById<Account>,
-    transfers: &mut ById<Row>,
+    transfers: &mut Transfers,
     expiries: &mut Expiries,
     clock: u64,
 )
-    requires { (facts : Facts) × AreContained accounts.old.entries transfers.old.entries (is_in_expiries expiries.old) facts }
-    ensures { (facts : Facts) → AreContained accounts.old.entries transfers.old.entries (is_in_expiries expiries.old) facts
-        → AreContained accounts.new.entries transfers.new.entries (is_in_expiries expiries.new) (expire_due clock facts) }
+    requires { (facts : Facts) × AreContained accounts.old.entries transfers.old (is_in_expiries expiries.old) facts }
+    ensures { (facts : Facts) → AreContained accounts.old.entries transfers.old (is_in_expiries expiries.old) facts
+        → AreContained accounts.new.entries transfers.new (is_in_expiries expiries.new) (expire_due clock facts) }
 {
     while let Some(index) = take_due(expiries, clock) {
-        if row_at(transfers, index).is_open() {
+        if transfers.row_at(index).is_open() {
             expire(accounts, transfers, index);
         }
     }

@@ -4,6 +4,6 @@ use Rattle.tb_tables.proofs.storing.remove_resolved.Given as goal
 
 abbrev pub invariant-loop-change : goal.invariant-loop-change
 invariant-loop-change l =
-    (facts : Facts) → AllByRecursion (λ change. CanRemove facts change l.transfers.entries) l.changes → (m p : ℕ)
+    (facts : Facts) → AllByRecursion (λ change. CanRemove facts change l.transfers) l.changes → (m p : ℕ)
     → is_in_expiries l.expiries m p ≡ (not (is_resolved_at p (take l.change-index l.changes) && is_spent facts m p)
     && is_in_expiries l.fn.expiries m p)

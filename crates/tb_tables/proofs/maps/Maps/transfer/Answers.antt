@@ -3,11 +3,4 @@ use Rattle.tb_tables.proofs.LookUps.{row-found}
 use Rattle.tb_tables.proofs.maps.Maps.transfer.Goals as goal
 
 pub returns : goal.returns
-returns c =
-    rw (← c.self.view_is) (grind (
-      arith,
-      row-found c.self.invariant.hold c.args.id,
-      c.get.ensures.value,
-      c.map.ensures.cases,
-      c.map.ensures.variant,
-    ))
+returns c = rw (← c.self.view_is) (grind (arith, row-found c.self.invariant.hold c.args.id, c.transfer.ensures))

@@ -1,0 +1,22 @@
+use Rattle.std.proofs.Common.{arith}
+use Rattle.tb_tables.proofs.Columns.{transfer-found}
+use Rattle.tb_tables.proofs.transfers.Transfers.transfer.Goals as goal
+
+pub returns-in_err-stored : goal.returns-in_err-stored
+returns-in_err-stored c =
+    rw (← c.self.view_is) (grind (
+      arith,
+      transfer-found c.args.id _ _ c.self.invariant,
+      c.in_err-stored.ensures.value,
+      c.in_err-stored.is,
+      c.from_residual.ensures,
+    ))
+
+pub returns : goal.returns
+returns c =
+    rw (← c.self.view_is) (grind (
+      arith,
+      transfer-found c.args.id _ _ c.self.invariant,
+      c.in_ok-stored.ensures.value,
+      c.transfer.ensures,
+    ))

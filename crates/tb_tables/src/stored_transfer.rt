@@ -1,0 +1,67 @@
+//! A transfer as the map of transfers stores it.
+
+ghost use Rattle.std.specs.Prelude.{◌≡◌};
+
+use tb_layout::Transfer;
+
+/// A transfer without its id, which is its key in the map: 112 bytes.
+#[derive(Clone, Copy, Default)]
+pub struct StoredTransfer {
+    debit_account_id: u128,
+    credit_account_id: u128,
+    amount: u128,
+    pending_id: u128,
+    user_data_128: u128,
+    user_data_64: u64,
+    timestamp: u64,
+    user_data_32: u32,
+    timeout: u32,
+    ledger: u32,
+    code: u16,
+    flags: u16,
+}
+
+impl StoredTransfer {
+    ghost use Rattle.tb_tables.specs.Columns.{transfer_under};
+
+    /// Copies the fields of a transfer, all but its id.
+    pub fn of(transfer: &Transfer) -> StoredTransfer
+        ensures { transfer_under transfer.now.id result ≡ transfer.now }
+    {
+        StoredTransfer {
+            debit_account_id: transfer.debit_account_id,
+            credit_account_id: transfer.credit_account_id,
+            amount: transfer.amount,
+            pending_id: transfer.pending_id,
+            user_data_128: transfer.user_data_128,
+            user_data_64: transfer.user_data_64,
+            timestamp: transfer.timestamp,
+            user_data_32: transfer.user_data_32,
+            timeout: transfer.timeout,
+            ledger: transfer.ledger,
+            code: transfer.code,
+            flags: transfer.flags,
+        }
+    }
+
+    /// Returns the transfer with this id.
+    pub fn transfer(&self, id: u128) -> Transfer
+        ensures { result ≡ transfer_under id self.now }
+    {
+        Transfer {
+            id,
+            debit_account_id: self.debit_account_id,
+            credit_account_id: self.credit_account_id,
+            amount: self.amount,
+            pending_id: self.pending_id,
+            user_data_128: self.user_data_128,
+            user_data_64: self.user_data_64,
+            user_data_32: self.user_data_32,
+            timeout: self.timeout,
+            ledger: self.ledger,
+            code: self.code,
+            flags: self.flags,
+            timestamp: self.timestamp,
+        }
+    }
+}

@@ -1,0 +1,188 @@
+//! The map of transfers: each under its id, in order of making, with a status.
+
+ghost use Rattle.std.specs.Prelude.{◌≡◌, ◌≢◌, ◌<◌, ◌++◌, ◌∷◌, [], ℕ, Ok, Some, IfOk, IsSome, is_some, not, true, nat_eq, length, position, slice_get, List};
+ghost use Rattle.std.specs.List.{IsDistinct};
+ghost use Rattle.std.specs.Map.{keys_of, lookup};
+ghost use Rattle.std.specs.Option.{option_map};
+ghost use Rattle.indexmap.specs.IndexMap.{get, set_value_at};
+ghost use Rattle.tb_layout.specs.declared.transfer.Transfer.{Transfer as TransferRecord};
+ghost use Rattle.tb_tables.specs.declared.row.Row.{Row as RowRecord};
+ghost use Rattle.tb_tables.specs.declared.stored_transfer.StoredTransfer.{StoredTransfer as StoredRecord};
+ghost use Rattle.tb_tables.specs.Changing.{new_row};
+ghost use Rattle.tb_tables.specs.Columns.{transfer_under, status_found};
+
+use crate::by_id::ById;
+use crate::hashing::IdHasher;
+use crate::row::Row;
+use crate::status::Status;
+use crate::stored_status::StoredStatus;
+use crate::stored_transfer::StoredTransfer;
+use indexmap::map::Entry;
+use std::alloc::Global;
+use std::marker::Model;
+use tb_layout::{NoMemory, Transfer};
+
+const _: () = prove!(size_of::<StoredTransfer>() == 112);
+
+const _: () = prove!(size_of::<StoredStatus>() == 1);
+
+/// The transfers and their statuses, in two columns: a status next to its transfer would be padded to 16 bytes.
+#[derive(Drop)]
+pub struct Transfers {
+    rows: ById<StoredTransfer>,
+    statuses: Vec<StoredStatus>,
+}
+
+impl Model for Transfers {
+    ghost use Rattle.std.specs.Prelude.{◌≡◌, ℕ, List, length};
+    ghost use Rattle.tb_tables.specs.declared.row.Row.{Row as RowRecord};
+    ghost use Rattle.tb_tables.specs.Columns.{entries_of};
+
+    ghost Value = { List (ℕ × RowRecord) };
+
+    ghost view = { λ columns. entries_of columns.rows.entries columns.statuses.items };
+
+    ghost invariant = { λ columns. length columns.statuses.items ≡ length columns.rows.entries };
+}
+
+/// Adds a transfer's row after the others, unless its id is there; whether it was added. It is written in place: made
+/// before, it would be moved there.
+fn push_row(rows: &mut ById<StoredTransfer>, transfer: &Transfer) -> Result<bool, NoMemory>
+    ensures new { IfOk result (λ added. added ≡ not (is_some (get nat_eq rows.old transfer.now.id))) }
+    ensures added { result ≡ Ok true → (stored : StoredRecord) × (transfer_under transfer.now.id stored ≡ transfer.now)
+        × (rows.new.entries ≡ rows.old.entries ++ (transfer.now.id, stored) ∷ []) }
+    ensures same { result ≢ Ok true → rows.new.entries ≡ rows.old.entries }
+{
+    match rows.entry(transfer.id)? {
+        Entry::Occupied(entry) => {
+            entry.into_mut();
+            Ok(false)
+        }
+        Entry::Vacant(entry) => {
+            let row = entry.insert(StoredTransfer::default());
+            *row = StoredTransfer::of(transfer);
+            Ok(true)
+        }
+    }
+}
+
+impl Transfers {
+    /// Makes a map without transfers. Takes no memory.
+    pub fn new(alloc: Global, hasher: IdHasher) -> Transfers
+        ensures { result ≡ [] }
+    {
+        Transfers {
+            rows: ById::with_hasher(alloc, hasher),
+            statuses: Vec::new(alloc),
+        }
+    }
+
+    /// Reserves capacity in both columns.
+    pub fn reserve(&mut self, additional: usize) -> Result<(), NoMemory>
+        ensures { self.new ≡ self.old }
+    {
+        self.rows.reserve(additional)?;
+        self.statuses.reserve(additional)?;
+        Ok(())
+    }
+
+    /// Returns how many transfers there are.
+    pub fn len(&self) -> usize
+        ensures { result ≡ length self.now }
+    {
+        self.rows.len()
+    }
+
+    /// Adds a transfer after the others, unless its id is there; whether it was added. The id is looked up once.
+    pub fn push(&mut self, transfer: &Transfer) -> Result<bool, NoMemory>
+        ensures new { IfOk result (λ added. added ≡ not (is_some (lookup (nat_eq transfer.now.id) self.old))) }
+        ensures added { result ≡ Ok true → self.new ≡ self.old ++ (transfer.now.id, new_row transfer.now) ∷ [] }
+        ensures same { result ≢ Ok true → self.new ≡ self.old }
+    {
+        self.statuses.reserve(1)?;
+        if !push_row(&mut self.rows, transfer)? {
+            return Ok(false);
+        }
+        self.statuses.push_reserved(StoredStatus::first(transfer));
+        Ok(true)
+    }
+
+    /// Takes the last transfer off.
+    pub fn pop(&mut self) -> Transfer
+        requires { 0 < length self.old }
+        ensures { (id : ℕ) (row : RowRecord) (others : List (ℕ × RowRecord)) → self.old ≡ others ++ (id, row) ∷ []
+            → (result ≡ row.transfer) × (self.new ≡ others) }
+    {
+        self.statuses.pop();
+        let (id, stored) = self.rows.pop().unwrap();
+        stored.transfer(id)
+    }
+
+    /// Sets the status of the transfer at an index, and gives that transfer.
+    pub fn set_status(&mut self, index: usize, status: Status) -> Transfer
+        requires { IsSome (slice_get self.old index) }
+        ensures transfer { (id : ℕ) (row : RowRecord) → slice_get self.old index ≡ Some (id, row)
+            → result ≡ row.transfer }
+        ensures entries { (id : ℕ) (row : RowRecord) → slice_get self.old index ≡ Some (id, row)
+            → self.new ≡ set_value_at self.old index (record row { status = Some status }) }
+        ensures unique { IsDistinct nat_eq (keys_of self.old) }
+    {
+        self.statuses[index] = StoredStatus::of(status);
+        let (id, stored) = self.rows.pair_mut(index);
+        stored.transfer(*id)
+    }
+
+    /// Returns the transfer at an index, with its status.
+    pub fn row_at(&self, index: usize) -> Row
+        requires { IsSome (slice_get self.now index) }
+        ensures { (id : ℕ) (row : RowRecord) → slice_get self.now index ≡ Some (id, row) → result ≡ row }
+    {
+        let (id, stored) = self.rows.get_index(index).unwrap();
+        Row {
+            transfer: stored.transfer(*id),
+            status: self.statuses[index].status(),
+        }
+    }
+
+    /// Returns the transfer with this id.
+    pub fn transfer(&self, id: u128) -> Option<Transfer>
+        ensures { result ≡ option_map (λ (row : RowRecord). row.transfer) (lookup (nat_eq id) self.now) }
+    {
+        let stored = self.rows.get(&id)?;
+        Some(stored.transfer(id))
+    }
+
+    /// Returns the index of the transfer with this id.
+    pub fn index_of(&self, id: u128) -> Option<usize>
+        ensures { result ≡ position (nat_eq id) (keys_of self.now) }
+    {
+        self.rows.get_index_of(&id)
+    }
+
+    /// Returns the transfer at an index.
+    pub fn transfer_at(&self, index: usize) -> Option<Transfer>
+        ensures { result ≡ option_map (λ (entry : ℕ × RowRecord). entry.1.transfer) (slice_get self.now index) }
+    {
+        let (id, stored) = self.rows.get_index(index)?;
+        Some(stored.transfer(*id))
+    }
+
+    /// Returns the status of the pending transfer with this id.
+    pub fn status(&self, id: u128) -> Option<Status>
+        ensures { result ≡ status_found (lookup (nat_eq id) self.now) }
+    {
+        let index = self.rows.get_index_of(&id)?;
+        self.statuses[index].status()
+    }
+
+    /// Returns the status of the pending transfer at an index.
+    pub fn status_at(&self, index: usize) -> Option<Status>
+        ensures { result ≡ status_found (option_map (λ (entry : ℕ × RowRecord). entry.1) (slice_get self.now index)) }
+    {
+        if index < self.statuses.len() {
+            self.statuses[index].status()
+        } else {
+            None
+        }
+    }
+}
