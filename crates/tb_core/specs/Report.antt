@@ -47,8 +47,8 @@ pub record NothingStopped (run : Run) : Type 0 where
   pub ledger : run.ledger.stopped ≡ false
   pub replies : (submitter : ℕ) → submitter < run.submitters → any_stopped (run.replies submitter) ≡ false
 
--- The queue is as its senders filled it. What was committed is a prefix of what is ahead of the Close, and all of it exactly
--- if nothing stopped. The machine's state is its replay, and each submitter's replies are those due.
+-- The queue is as its senders filled it. What was committed is a prefix of what is ahead of the Close, and all of it
+-- exactly if nothing stopped. The machine's state is its replay, and each submitter's replies are those due.
 pub record LawfulReport (run : Run) : Type 0 where
   pub filled : IsQueueOf run.submitters run.queue run.queued
   pub committed : IsPrefix (committed_in run) (ahead_in run)

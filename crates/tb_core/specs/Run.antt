@@ -31,9 +31,10 @@ HasPackets (parcel.Pulse moment) = Unit {0}
 HasPackets (parcel.Return job cause) = Unit {0}
 HasPackets parcel.Last = Unit {0}
 
--- a ledger took these decisions from its opening clock: it committed the first of them, and all of them exactly where it
--- isn't marked; and these are the replies
-pub record Commits (clock : ℕ) (decisions : List Decision) (ledger : LedgerState) (replies : List ReplyValue) : Type 0 where
+-- a ledger took these decisions from its opening clock: it committed the first of them, and all of them exactly if it
+-- hasn't stopped; and these are the replies
+pub record Commits (clock : ℕ) (decisions : List Decision) (ledger : LedgerState)
+    (replies : List ReplyValue) : Type 0 where
   pub from : ledger.opening ≡ clock
   pub remainder : List Input
   pub committed : inputs ledger ++ remainder ≡ inputs_in decisions
@@ -90,9 +91,9 @@ pub record IsListed (clock : ℕ) (items : List Item) (ledger : LedgerState) (re
   pub committed : inputs ledger ≡ ahead items
   pub replied : replies ≡ all_due clock items (ahead items)
 
--- A front made decisions of these items, a ledger took the first of them, and the rest is on the way. What was committed is
--- a prefix of what is ahead, and the replies are a prefix of those due: all of them if nothing is on the way. Unless one of
--- both stopped, all that is ahead is committed or on the way.
+-- A front made decisions on these items, a ledger took the first of them, and the rest is on the way. What was committed
+-- is a prefix of what is ahead, and the replies are a prefix of those due: all of them if nothing is on the way. Unless
+-- one of both stopped, all that is ahead is committed or on the way.
 pub record IsPartial (clock : ℕ) (items : List Item) (stopped : Bool) (ledger : LedgerState) (answers : List ReplyValue)
     (way : List Decision) : Type 0 where
   pub committed : IsPrefix (inputs ledger) (ahead items)
@@ -104,5 +105,5 @@ pub record IsPartial (clock : ℕ) (items : List Item) (stopped : Bool) (ledger 
 abbrev pub EachPartIsLawful : Type 0
 EachPartIsLawful =
     (clock : ℕ) (items : List Item) (closed stopped : Bool) (applied way : List Decision) (ledger : LedgerState)
-    (answers : List ReplyValue) → AreDecisions items closed stopped (applied ++ way) → Commits clock applied ledger answers →
-    IsPartial clock items stopped ledger answers way
+    (answers : List ReplyValue) → AreDecisions items closed stopped (applied ++ way) →
+    Commits clock applied ledger answers → IsPartial clock items stopped ledger answers way

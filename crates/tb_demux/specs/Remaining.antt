@@ -16,13 +16,13 @@ use Rattle.tb_demux.specs.Cutting.{cut_replies_from}
 
 -- the failures not yet given
 abbrev pub failures_remaining : RemainingFailures → List Failure
-failures_remaining remaining_failures = drop remaining_failures.taken remaining_failures.failures
+failures_remaining rest = drop rest.taken rest.failures
 
 -- the failures left are those of the packets still to come
-pub record AreRemaining (remaining_failures : RemainingFailures) (jobs : List Numbered) : Type 0 where
-  pub places : remaining_failures.place + length jobs ≤ places_max
-  pub taken : remaining_failures.taken ≤ length remaining_failures.failures
-  pub rise : RiseWithin remaining_failures.offset (remaining_failures.offset + count_of_all jobs) (failures_remaining remaining_failures)
+pub record AreRemaining (rest : RemainingFailures) (jobs : List Numbered) : Type 0 where
+  pub places : rest.place + length jobs ≤ places_max
+  pub taken : rest.taken ≤ length rest.failures
+  pub rise : RiseWithin rest.offset (rest.offset + count_of_all jobs) (failures_remaining rest)
   pub no_lookup : list_all (λ job. not (is_lookup job.packet)) jobs ≡ true
 
 -- the answer of a lookup goes to one packet
@@ -31,14 +31,14 @@ pub record IsForOne (outcome : Outcome) (jobs : List Numbered) : Type 0 where
   pub fits : (job : Numbered) → jobs ≡ job ∷ [] → IsOutcomeOf job.packet outcome
 
 abbrev pub IsSourceOf : ReplySource → List Numbered → Type 0
-IsSourceOf (Failures remaining_failures) jobs = AreRemaining remaining_failures jobs
+IsSourceOf (Failures rest) jobs = AreRemaining rest jobs
 IsSourceOf (Lookup outcome) jobs = IsForOne outcome jobs
 IsSourceOf Shutdown jobs = Unit {0}
 IsSourceOf Stopped jobs = Unit {0}
 
 -- the replies to the packets still to come
 abbrev pub replies_remaining : ReplySource → List Numbered → List ReplyValue
-replies_remaining (Failures remaining_failures) jobs = cut_replies_from remaining_failures.place remaining_failures.offset (failures_remaining remaining_failures) jobs
+replies_remaining (Failures rest) jobs = cut_replies_from rest.place rest.offset (failures_remaining rest) jobs
 replies_remaining (Lookup outcome) jobs = map (reply_with outcome) jobs
 replies_remaining Shutdown jobs = map (reply_with ShutdownOutcome) jobs
 replies_remaining Stopped jobs = map (reply_with StoppedOutcome) jobs

@@ -80,11 +80,15 @@ pub record Outcome : Type 0 where
   pub facts : Facts
 
 -- a chain that is not open succeeds where it has no fault
-abbrev pub closed_outcome : {Event : Type 0} → Operation Event → ℕ → Facts → List Event → Option (ChainFault Event) → Outcome
+abbrev pub closed_outcome : {Event : Type 0} → Operation Event → ℕ → Facts → List Event
+    → Option (ChainFault Event) → Outcome
 closed_outcome operation clock facts chain None =
     record { results = replicate (length chain) 0; facts = facts_with_all operation clock facts chain }
 closed_outcome operation clock facts chain (Some fault) =
-    record { results = failed_results (length chain) (Some fault); facts = facts_after_failure operation facts (Some fault) }
+    record {
+      results = failed_results (length chain) (Some fault);
+      facts = facts_after_failure operation facts (Some fault);
+    }
 
 -- an open chain fails, and its last event is not examined
 abbrev pub open_outcome : {Event : Type 0} → Operation Event → Facts → List Event → Option (ChainFault Event) → Outcome

@@ -3,7 +3,7 @@ use Rattle.std.proofs.Common.{◌≡◌, ◌∙◌, ◌+◌, ℕ, zero, suc, Lis
 use Rattle.tb_submit.specs.Ends.{EndedState, replies_of}
 use Rattle.tb_program.specs.Answering.{AreAllDone}
 use Rattle.tb_program.specs.Drivers.{IsDone, told_of}
-use Rattle.tb_program.specs.RunText.{packets_text, told_text}
+use Rattle.tb_program.specs.RunText.{packets_text, lines_of_packets}
 use Rattle.tb_program.specs.declared.run.driver.ScriptDriver.{ScriptDriver}
 
 pub first_done : (driver : ScriptDriver) (others : List ScriptDriver) → IsDone driver → AreAllDone others
@@ -15,7 +15,7 @@ first_done driver others done all (suc k) d is = all k d is
 pub first_text : (before after : List ℕ) (submitter : ℕ) (driver : ScriptDriver) (others all : List ScriptDriver)
     (ended : EndedState) (rest ends : List EndedState)
     → all ≡ driver ∷ others → ends ≡ ended ∷ rest
-    → after ≡ before ++ told_text submitter (told_of driver) (ended.read ++ ended.lying)
+    → after ≡ before ++ lines_of_packets submitter (told_of driver) (ended.read ++ ended.lying)
     → after ++ packets_text (submitter + 1) (map told_of others) (replies_of rest)
     ≡ before ++ packets_text submitter (map told_of all) (replies_of ends)
 unfolding packets_text

@@ -20,10 +20,10 @@ use Rattle.tb_program.specs.declared.run.notes.Told.TheVariants.{Queued, Refused
 -- ---- a submitter's packets
 
 -- the line of a packet: the next reply, or why it was refused
-abbrev pub told_line : ℕ → Told → List ReplyValue → List ℕ
-told_line submitter Queued [] = []
-told_line submitter Queued (reply ∷ replies) = reply_line reply
-told_line submitter (Refused refusal) replies = refused_line submitter refusal
+abbrev pub line_of_packet : ℕ → Told → List ReplyValue → List ℕ
+line_of_packet submitter Queued [] = []
+line_of_packet submitter Queued (reply ∷ replies) = reply_line reply
+line_of_packet submitter (Refused refusal) replies = refused_line submitter refusal
 
 -- the replies that are left after it
 abbrev pub replies_after : Told → List ReplyValue → List ReplyValue
@@ -31,10 +31,10 @@ replies_after Queued [] = []
 replies_after Queued (reply ∷ replies) = replies
 replies_after (Refused refusal) replies = replies
 
-unfoldable pub told_text : ℕ → List Told → List ReplyValue → List ℕ
-told_text submitter [] replies = []
-told_text submitter (told ∷ others) replies =
-    told_line submitter told replies ++ told_text submitter others (replies_after told replies)
+unfoldable pub lines_of_packets : ℕ → List Told → List ReplyValue → List ℕ
+lines_of_packets submitter [] replies = []
+lines_of_packets submitter (told ∷ others) replies =
+    line_of_packet submitter told replies ++ lines_of_packets submitter others (replies_after told replies)
 
 -- ---- the packets of all, by rising number of their submitters
 
@@ -42,7 +42,7 @@ told_text submitter (told ∷ others) replies =
 unfoldable pub packets_text : ℕ → List (List Told) → (ℕ → List ReplyValue) → List ℕ
 packets_text submitter [] replies = []
 packets_text submitter (own ∷ others) replies =
-    told_text submitter own (replies zero) ++ packets_text (submitter + 1) others (λ k. replies (suc k))
+    lines_of_packets submitter own (replies zero) ++ packets_text (submitter + 1) others (λ k. replies (suc k))
 
 -- ---- what was committed
 

@@ -55,7 +55,7 @@ pub fn parse(alloc: Global, text: &[u8]) -> Result<Script, ScriptError>
     while !rest.is_empty() {
         let (line, after) = split_line(rest);
         number += 1;
-        match script.told_line(alloc, line, are_text || is_text(line)) {
+        match script.line_if_text(alloc, line, are_text || is_text(line)) {
             Ok(()) => rest = after,
             Err(LineError::NoMemory) => return Err(ScriptError::NoMemory),
             Err(LineError::Fault(fault)) => return Err(ScriptError::Faulty(number, fault)),

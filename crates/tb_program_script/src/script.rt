@@ -327,7 +327,7 @@ impl Script {
 
     /// Takes a line after those so far; the caller says whether it is text. After an error the script isn't to be used.
     #[tactic(auto, unfolding(crate::specs::Script::after_line))]
-    pub(crate) fn told_line(
+    pub(crate) fn line_if_text(
         &mut self,
         alloc: Global,
         line: &[u8],
@@ -362,7 +362,7 @@ impl Script {
     pub fn line(&mut self, alloc: Global, line: &[u8]) -> Result<(), LineError>
         ensures { Leaves result self.new (after_line self.old line.now) }
     {
-        self.told_line(alloc, line, is_text(line))
+        self.line_if_text(alloc, line, is_text(line))
     }
 
     /// The settings, and all items. The packet to which lines still added is the last of them.

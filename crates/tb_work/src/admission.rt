@@ -3,11 +3,9 @@
 ghost use Rattle.std.specs.Prelude.{◌≡◌};
 ghost use Rattle.tb_work.specs.Admission as spec;
 
-use crate::packet::Packet;
+use crate::packet::{EVENT_SIZE, Packet};
 use crate::refusal::Refusal;
 use tb_layout::{CREATE_ACCOUNTS, CREATE_TRANSFERS, LOOKUP_ACCOUNTS};
-
-const EVENT_SIZE: usize = 128;
 
 const ID_SIZE: usize = 16;
 

@@ -16,7 +16,7 @@ use tb_layout::{
 };
 
 /// The bytes of an event of an account or a transfer.
-const EVENT_SIZE: usize = 128;
+pub(crate) const EVENT_SIZE: usize = 128;
 
 /// The bytes of an id.
 const ID_SIZE: usize = 16;

@@ -9,7 +9,7 @@ ghost use Rattle.tb_machine.specs.Replay.{replay};
 ghost use Rattle.tb_submit.specs.Ends.{replies_of};
 ghost use Rattle.tb_program.specs.Answering.{AreAllAnswered, AreAllDone, IsAnswered, IsAnsweredBy};
 ghost use Rattle.tb_program.specs.Drivers.{IsDone, told_of};
-ghost use Rattle.tb_program.specs.RunText.{replies_after, ledger_text, packets_text, pulses_text, refused_pulses_text, run_text, told_line, told_text};
+ghost use Rattle.tb_program.specs.RunText.{replies_after, ledger_text, packets_text, pulses_text, refused_pulses_text, run_text, line_of_packet, lines_of_packets};
 ghost use Rattle.tb_program.specs.declared.run.notes.Told.TheVariants.{Queued};
 
 use crate::run::driver::ScriptDriver;
@@ -59,7 +59,7 @@ impl Replies {
     /// Adds the line of a packet: its reply, or why it was refused.
     fn put_told(&mut self, out: &mut String, submitter: u32, told: Told) -> Result<(), AllocError>
         requires { told ≡ Queued → 0 < length self.old }
-        ensures text { OnOk result (string_bytes out.new ≡ string_bytes out.old ++ told_line submitter told self.old) }
+        ensures text { OnOk result (string_bytes out.new ≡ string_bytes out.old ++ line_of_packet submitter told self.old) }
         ensures left { OnOk result (self.new ≡ replies_after told self.old) }
     {
         match told {
@@ -73,7 +73,7 @@ impl Replies {
 }
 
 /// Adds the lines of packets whose results are noted.
-#[tactic(auto, unfolding(crate::specs::RunText::told_text))]
+#[tactic(auto, unfolding(crate::specs::RunText::lines_of_packets))]
 fn put_all_told(
     out: &mut String,
     submitter: u32,
@@ -81,7 +81,7 @@ fn put_all_told(
     replies: &mut Replies,
 ) -> Result<(), AllocError>
     requires { IsAnswered told.now replies.old }
-    ensures { OnOk result (string_bytes out.new ≡ string_bytes out.old ++ told_text submitter told.now replies.old) }
+    ensures { OnOk result (string_bytes out.new ≡ string_bytes out.old ++ lines_of_packets submitter told.now replies.old) }
 {
     for told in told {
         replies.put_told(out, submitter, *told)?;
@@ -99,7 +99,7 @@ fn put_packets(
     requires { IsAnsweredBy driver ended }
     ensures done { OnOk result (IsDone driver) }
     ensures text { OnOk result (string_bytes out.new
-        ≡ string_bytes out.old ++ told_text submitter (told_of driver) (ended.read ++ ended.lying)) }
+        ≡ string_bytes out.old ++ lines_of_packets submitter (told_of driver) (ended.read ++ ended.lying)) }
 {
     let Some(Notes { told, replies, .. }) = driver.into_notes() else {
         drop(ended);
