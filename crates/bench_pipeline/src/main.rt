@@ -30,7 +30,7 @@ use std::process::ExitCode;
 use std::sync::Wait;
 use std::thread::Threads;
 use std::{env, io};
-use tb_drive::{ControlLines, Finished, LinesDriver, drive_all};
+use tb_drive::{ControlPlan, Finished, PlanDriver, drive_all};
 use tb_pipe::open;
 
 /// A driver for each submitter, by rising number.
@@ -50,7 +50,7 @@ fn run<R: Threads + Wait + Sync>(
     alloc: Global,
     opening: Opening,
     load: Load,
-) -> Option<Finished<LoadDriver, LinesDriver>> {
+) -> Option<Finished<LoadDriver, PlanDriver>> {
     let Opening {
         submitters,
         capacity,
@@ -59,7 +59,7 @@ fn run<R: Threads + Wait + Sync>(
     let drivers = drivers(alloc, submitters, load)?;
     match open(alloc, 0, limit, capacity, load.credit, submitters) {
         Ok(opened) => {
-            let control = ControlLines::none(alloc).driver();
+            let control = ControlPlan::none(alloc).driver();
             drive_all(rt, alloc, opened, drivers, control).ok()
         }
         Err(_) => None,
@@ -78,7 +78,7 @@ fn tally_of(drivers: Vec<LoadDriver>) -> Tally {
 /// The line of a run.
 fn line_of_run(
     alloc: Global,
-    finished: Finished<LoadDriver, LinesDriver>,
+    finished: Finished<LoadDriver, PlanDriver>,
     submitters: u32,
 ) -> Option<String> {
     let Finished {
@@ -144,7 +144,7 @@ fn run_live<I: Read + Drop + Send, O: Write + Drop + Send, R: Threads + Wait + S
     let parties = parties(alloc, request, echo, &over)?;
     match open(alloc, 0, 8190, 64, 16, request.submitters) {
         Ok(opened) => {
-            let control = ControlLines::none(alloc).driver();
+            let control = ControlPlan::none(alloc).driver();
             drive_all(rt, alloc, opened, parties, control)
                 .ok()
                 .map(drop)

@@ -30,7 +30,7 @@ use std::alloc::Global;
 use std::process::ExitCode;
 use std::sync::Wait;
 use std::thread::Threads;
-use tb_drive::{ControlLines, Finished, LinesDriver, drive_all, submit_ahead};
+use tb_drive::{ControlPlan, Finished, PlanDriver, drive_all, submit_ahead};
 use tb_pipe::{Opened, open};
 use tb_work::Packet;
 
@@ -140,11 +140,11 @@ fn open_for_desks(alloc: Global) -> Option<Opened>
 }
 
 /// Runs the service. None if memory ran out before the run, or a thread couldn't be started.
-fn run<R: Threads + Wait + Sync>(rt: &R, alloc: Global) -> Option<Finished<Desk, LinesDriver>>
+fn run<R: Threads + Wait + Sync>(rt: &R, alloc: Global) -> Option<Finished<Desk, PlanDriver>>
     ensures counted { IfSome result (λ finished. HaveCounted finished.drivers.items finished.report.ends.items) }
     ensures ended { IfSome result (λ finished. HaveEnded finished.drivers.items finished.report.ends.items) }
 {
-    let lines = ControlLines {
+    let plan = ControlPlan {
         moments: vec![in alloc; HOUR].ok()?,
         shuts: false,
     };
@@ -153,7 +153,7 @@ fn run<R: Threads + Wait + Sync>(rt: &R, alloc: Global) -> Option<Finished<Desk,
         drop(opened);
         return None;
     };
-    match drive_all(rt, alloc, opened, desks, lines.driver()) {
+    match drive_all(rt, alloc, opened, desks, plan.driver()) {
         Ok(finished) => Some(finished),
         Err(_) => None,
     }

@@ -2,11 +2,14 @@
 //! and the balances are printed. So an application uses the pipeline: `open`, a driver for each submitter, `drive_all`.
 #![tactic(auto)]
 
+ghost use Rattle.std.specs.Prelude.{◌≡◌, IfSome, IsSomeAnd, length, slice_get};
+ghost use Rattle.example_two_tellers.specs.First.{QueuedFirst};
+
 use std::alloc::Global;
 use std::process::ExitCode;
 use std::sync::Wait;
 use std::thread::Threads;
-use tb_drive::{Action, ControlLines, Driver, Finished, LinesDriver, drive_all, submit_ahead};
+use tb_drive::{Action, ControlPlan, Driver, Finished, PlanDriver, drive_all, submit_ahead};
 use tb_layout::{Account, Transfer};
 use tb_pipe::open;
 use tb_work::{Packet, Refusal, Reply};
@@ -50,8 +53,38 @@ fn new_teller(id: u128, debit_account_id: u128, credit_account_id: u128, amount:
     Teller { turns: 40, last }
 }
 
-/// What becomes of two accounts, queued ahead, and of the tellers' transfers. None for want of memory or a thread.
-fn run<R: Threads + Wait + Sync>(rt: &R, alloc: Global) -> Option<Finished<Teller, LinesDriver>> {
+/// Runs the tellers' transfers, after a packet that the first one's submitter queues ahead. None if memory ran out before
+/// the run, or a thread couldn't be started.
+fn run_with<R: Threads + Wait + Sync>(
+    rt: &R,
+    alloc: Global,
+    accounts: Packet,
+    tellers: Vec<Teller>,
+) -> Option<Finished<Teller, PlanDriver>>
+    requires { length tellers.items ≡ 2 }
+    ensures { IfSome result (λ finished.
+        IsSomeAnd (slice_get finished.unsettled.value.items 0) (QueuedFirst accounts)) }
+{
+    let Ok(mut opened) = open(alloc, 0, 100, 64, 32, 2) else {
+        return None;
+    };
+    let Ok(_number) = submit_ahead(rt, alloc, &mut opened, 0, accounts) else {
+        return None;
+    };
+    match drive_all(
+        rt,
+        alloc,
+        opened,
+        tellers,
+        ControlPlan::none(alloc).driver(),
+    ) {
+        Ok(finished) => Some(finished),
+        Err(_) => None,
+    }
+}
+
+/// Makes two accounts and runs two tellers. None as `run_with`.
+fn run<R: Threads + Wait + Sync>(rt: &R, alloc: Global) -> Option<Finished<Teller, PlanDriver>> {
     let first = Account {
         id: 1,
         ledger: 1,
@@ -60,12 +93,7 @@ fn run<R: Threads + Wait + Sync>(rt: &R, alloc: Global) -> Option<Finished<Telle
     };
     let accounts = Packet::of_accounts(alloc, &[first, Account { id: 2, ..first }], 0).ok()?;
     let tellers = vec![in alloc; new_teller(0, 1, 2, 30), new_teller(100, 2, 1, 10)].ok()?;
-    let Ok(mut opened) = open(alloc, 0, 100, 64, 32, 2) else {
-        return None;
-    };
-    submit_ahead(rt, alloc, &mut opened, 0, accounts).ok()?;
-    let control = ControlLines::none(alloc).driver();
-    drive_all(rt, alloc, opened, tellers, control).ok()
+    run_with(rt, alloc, accounts, tellers)
 }
 
 fn main(rt: HostRuntime) -> ExitCode {

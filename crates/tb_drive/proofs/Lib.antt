@@ -1,4 +1,5 @@
 mod Control
 mod Pulsed
+mod Results
 mod Seen
 mod Refusing

@@ -1,4 +1,4 @@
--- The pulses of a driver of lines, one after another.
+-- The pulses of a plan's driver, one after another.
 use Rattle.std.proofs.Common.{◌≡◌, ◌∙◌, ◌<◌, ◌≤◌, ◌+◌, ◌^◌, ℕ, true, false, List, [], ◌∷◌, ◌++◌, Some, slice_get, ap, sym, subst, arith, append_assoc, append-nil}
 use Rattle.std.specs.Prelude.{if◌then◌else◌, min, take}
 use Rattle.std.proofs.Math.Numerals.{add-one}
@@ -10,7 +10,7 @@ use Rattle.std.proofs.lemmas.Option.{slice_get_within, get_or_from_slice_get}
 use Rattle.tb_submit.specs.Ends.{SenderState}
 use Rattle.tb_work.specs.declared.item.Item.{Item}
 use Rattle.tb_work.specs.declared.item.Item.TheVariants as item
-use Rattle.tb_drive.specs.Lines.{is_refused, pulse_of, pulses_of, refused_of, with_items}
+use Rattle.tb_drive.specs.Plan.{is_refused, pulse_of, pulses_of, refused_of, with_items}
 use Rattle.tb_drive.specs.Threads.{HasQueued}
 
 one_more : (moments : List ℕ) (asked moment : ℕ) → slice_get moments asked ≡ Some moment
@@ -44,7 +44,7 @@ pub refused_told : (has : List Item → Type 0) (items : List Item) (moment : �
 refused_told has items moment out told =
     subst (λ last. has (items ++ last)) (sym (pulse_out_of_range moment out)) (subst has (sym (append-nil items)) told)
 
--- ---- what a driver of lines has asked for
+-- ---- what a plan's driver has asked for
 
 pub queued_next : (moments : List ℕ) (next asked moment : ℕ) (items : List Item) → next ≡ asked + 1
     → slice_get moments asked ≡ Some moment → is_refused moment ≡ false → items ≡ pulses_of (take asked moments)

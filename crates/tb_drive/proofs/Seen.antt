@@ -1,5 +1,5 @@
 -- What drivers have seen, list by list.
-use Rattle.std.proofs.Common.{◌≡◌, ◌∙◌, ◌<◌, ℕ, zero, suc, List, [], ◌∷◌, ◌++◌, Some, length, slice_get, get_or, refl, ap, sym, subst, arith, append_assoc, append-nil}
+use Rattle.std.proofs.Common.{◌≡◌, ◌∙◌, ◌<◌, ℕ, zero, suc, List, [], ◌∷◌, ◌++◌, Some, length, slice_get, get_or, ap, sym, subst, arith, append_assoc, append-nil}
 use Rattle.std.specs.Prelude.{slice_index_or}
 use Rattle.std.proofs.lemmas.Option.{slice_get_within, slice_get-get_or, get_or_from_slice_get}
 use Rattle.tb_submit.specs.Ends.{EndedState, SenderState, SubmitterState, queued_by}
@@ -65,17 +65,6 @@ module _ {D : Type 0} (has_seen : D → ℕ → List Numbered → List ReplyValu
       subst (λ items. has_seen driver limit (jobs_in items) ended.read)
       (sym (queued_by_end ends control k before before_is))
       (subst (λ r. has_seen driver limit (jobs_in before.queued) r) read seen)
-
--- what was queued ahead is the front part of what each end queued
-pub fronts_queued : (submitters : List SubmitterState) (ends : List EndedState) (control : SenderState)
-    → AreFronts submitters ends → (k : ℕ) (submitter : SubmitterState) → k < length ends
-    → slice_get submitters k ≡ Some submitter → IsFront submitter.queued (queued_by ends control k)
-fronts_queued submitters [] control fronts k submitter below is = absurd (omega (arith, below))
-fronts_queued [] (ended ∷ ends) control fronts k submitter below is = cc
-fronts_queued (first ∷ submitters) (ended ∷ ends) control fronts zero submitter below is =
-    fronts zero submitter ended is refl
-fronts_queued (first ∷ submitters) (ended ∷ ends) control fronts (suc k) submitter below is =
-    fronts_queued submitters ends control (λ k. fronts (suc k)) k submitter (omega (arith, below)) is
 
 -- ---- front parts
 

@@ -1,8 +1,8 @@
 pub mod Actions
 pub mod Ahead
-pub mod Lines
+pub mod Plan
 pub mod Refusing
 pub mod Reported
-pub mod Seated
+pub mod Tasks
 pub mod Seen
 pub mod Threads

@@ -3,15 +3,14 @@ use Rattle.std.specs.Prelude.{◌≡◌, List}
 use Rattle.std.specs.declared.thread.PromisedHandle.{PromisedHandle}
 use Rattle.tb_submit.specs.Ends.{SenderState}
 use Rattle.tb_work.specs.declared.item.Item.{Item}
-use Rattle.tb_drive.specs.Seated.{DrivenState, SeatedState}
-use Rattle.tb_drive.specs.Lines.{with_items}
-use Rattle.tb_drive.specs.declared.controlling.ControlLeft.{ControlLeft}
-use Rattle.tb_drive.specs.declared.controlling.SeatedControl.{SeatedControl}
-use Rattle.tb_drive.specs.declared.submitting.EndOfSubmitter.{EndOfSubmitter}
+use Rattle.tb_drive.specs.Tasks.{ControlTaskState, SubmitterResultState, SubmitterTaskState}
+use Rattle.tb_drive.specs.Plan.{with_items}
+use Rattle.tb_drive.specs.declared.controlling.ControlResult.{ControlResult}
+use Rattle.tb_drive.specs.declared.submitting.SubmitterPromise.{SubmitterPromise}
 
 -- what a thread was started with
-abbrev pub started_from : {D : Type 0} → PromisedHandle DrivenState (EndOfSubmitter D) → SeatedState
-started_from handle = handle.promise.seated.value
+abbrev pub started_from : {D : Type 0} → PromisedHandle SubmitterResultState (SubmitterPromise D) → SubmitterTaskState
+started_from handle = handle.promise.task.value
 
 -- ---- the control
 
@@ -20,6 +19,6 @@ abbrev pub HasQueued : SenderState → SenderState → (List Item → Type 0) �
 HasQueued before control are = (items : List Item) × (control ≡ with_items before items) × are items
 
 -- the control's thread leaves the end of this control, and its driver, which has ended with what was queued
-abbrev pub IsControlLeft : {C : Type 0} → (C → C → List Item → Type 0) → SeatedControl C → ControlLeft C → Type 0
-IsControlLeft has_ended seated left =
-    HasQueued seated.control left.end (has_ended seated.driver left.driver)
+abbrev pub IsControlResultOf : {C : Type 0} → (C → C → List Item → Type 0) → ControlTaskState C → ControlResult C → Type 0
+IsControlResultOf has_ended task left =
+    HasQueued task.control left.end (has_ended task.driver left.driver)

@@ -5,7 +5,7 @@ ghost use Rattle.tb_work.specs.declared.item.Item.{Item as ItemValue};
 ghost use Rattle.tb_work.specs.declared.item.Item.TheVariants as item;
 ghost use Rattle.tb_work.specs.declared.refusal.Refusal.TheVariants as refusal;
 ghost use Rattle.tb_drive.specs.Actions.{ControlsOn};
-ghost use Rattle.tb_drive.specs.Lines.{is_refused};
+ghost use Rattle.tb_drive.specs.Plan.{is_refused};
 
 use std::sync::Wait;
 use tb_work::Refusal;

@@ -5,12 +5,13 @@ ghost use Rattle.tb_layout.specs.Limits.{moment_max, queued_max};
 ghost use Rattle.tb_submit.specs.Ends.{sender_with};
 ghost use Rattle.tb_work.specs.declared.item.Item.{Item as ItemValue};
 ghost use Rattle.tb_work.specs.declared.refusal.Refusal.TheVariants as refusal;
-ghost use Rattle.tb_drive.specs.Lines.{is_refused, last_item, pulse_of, with_items};
-ghost use Rattle.tb_drive.specs.Threads.{HasQueued, IsControlLeft};
+ghost use Rattle.tb_drive.specs.Plan.{is_refused, last_item, pulse_of, with_items};
+ghost use Rattle.tb_drive.specs.Threads.{HasQueued, IsControlResultOf};
 
 use crate::control_driver::{ControlAction, ControlDriver};
 use crate::stop::Stop;
 use crossbeam_utils::Backoff;
+use std::marker::Model;
 use std::snapshot::Snapshot;
 use std::sync::Wait;
 use std::thread::Promise;
@@ -18,32 +19,43 @@ use tb_layout::QUEUED_MAX;
 use tb_submit::{Control, ControlEnd};
 use tb_work::Refusal;
 
-/// The control with its driver.
+/// The control with its driver, which hasn't queued anything yet.
 #[derive(Drop)]
-pub(crate) struct SeatedControl<C: ControlDriver> {
+pub(crate) struct ControlTask<C: ControlDriver> {
     pub(crate) control: Control,
     pub(crate) driver: C,
 }
 
-/// What the control's thread leaves: the control's end, and the driver.
+impl<C: ControlDriver> Model for ControlTask<C> {
+    ghost use Rattle.std.specs.Prelude.{[]};
+    ghost use Rattle.tb_drive.specs.Tasks.{ControlTaskState};
+
+    ghost Value = { ControlTaskState C };
+
+    ghost view = { λ task. record { control = task.control; driver = task.driver } };
+
+    ghost invariant = { λ task. C.has_queued task.driver task.driver [] };
+}
+
+/// What the control's thread returns: the control's end, and the driver.
 #[derive(Drop)]
-pub(crate) struct ControlLeft<C: ControlDriver> {
+pub(crate) struct ControlResult<C: ControlDriver> {
     pub(crate) end: ControlEnd,
     pub(crate) driver: C,
 }
 
-/// The promise that the end that comes back, unless the thread was told to stop, is that of the control that was handed
-/// over, and that its driver, which comes back too, has ended with what was queued.
+/// The promise that the end, unless the thread was told to stop, is that of the task's control, and that the driver is the
+/// task's and has ended with what was queued.
 #[derive(Drop)]
-pub(crate) struct EndOfControl<C: ControlDriver> {
-    pub(crate) seated: Snapshot<SeatedControl<C>>,
+pub(crate) struct ControlPromise<C: ControlDriver> {
+    pub(crate) task: Snapshot<ControlTask<C>>,
 }
 
-impl<C: ControlDriver> Promise<Option<ControlLeft<C>>> for EndOfControl<C> {
+impl<C: ControlDriver> Promise<Option<ControlResult<C>>> for ControlPromise<C> {
     ghost use Rattle.std.specs.Prelude.{IfSome};
-    ghost use Rattle.tb_drive.specs.Threads.{IsControlLeft};
+    ghost use Rattle.tb_drive.specs.Threads.{IsControlResultOf};
 
-    ghost kept_by = { λ p r. IfSome r (IsControlLeft C.has_ended p.seated.value) };
+    ghost kept_by = { λ p r. IfSome r (IsControlResultOf C.has_ended p.task.value) };
 }
 
 /// Queues a pulse once, as `Control::pulse` does. After 2^56 pulses the queue is full, whatever else there is to
@@ -139,18 +151,17 @@ fn end<R: Wait>(rt: &R, control: Control, shuts: bool, stop: &Stop) -> Option<Co
     unreachable!()
 }
 
-impl<C: ControlDriver> SeatedControl<C> {
+impl<C: ControlDriver> ControlTask<C> {
     /// Does what the driver says, and then ends the control. None if the thread is told to stop.
-    pub(crate) fn drive<R: Wait>(self, rt: &R, stop: &Stop) -> Option<ControlLeft<C>>
-        requires { C.has_queued self.driver self.driver [] }
-        ensures { IfSome result (IsControlLeft C.has_ended self) }
+    pub(crate) fn drive<R: Wait>(self, rt: &R, stop: &Stop) -> Option<ControlResult<C>>
+        ensures { IfSome result (IsControlResultOf C.has_ended self) }
     {
-        let SeatedControl {
+        let ControlTask {
             mut control,
             mut driver,
         } = self;
         let shuts = follow(rt, &mut control, &mut driver, stop)?;
         let end = end(rt, control, shuts, stop)?;
-        Some(ControlLeft { end, driver })
+        Some(ControlResult { end, driver })
     }
 }

@@ -10,7 +10,7 @@ ghost use Rattle.tb_work.specs.declared.refusal.Refusal.TheVariants as refusal;
 ghost use Rattle.tb_drive.specs.Ahead.{with_packet};
 ghost use Rattle.tb_drive.specs.Seen.{HasSeen, HasSeenEnd, HasAsked, IsFront, jobs_in};
 ghost use Rattle.tb_drive.specs.Refusing.{IsFinalRefusal, final_refusal};
-ghost use Rattle.tb_drive.specs.Seated.{IsEnd, IsLeftBy};
+ghost use Rattle.tb_drive.specs.Tasks.{IsEnd, IsResultOf};
 
 use crate::driver::{Action, Driver};
 use crate::stop::Stop;
@@ -30,54 +30,53 @@ struct Stopped;
 
 /// A submitter with its driver, which has seen what the submitter queued and read.
 #[derive(Drop)]
-pub(crate) struct Seated<D: Driver> {
+pub(crate) struct SubmitterTask<D: Driver> {
     pub(crate) submitter: Submitter,
     pub(crate) driver: D,
 }
 
-impl<D: Driver> Model for Seated<D> {
+impl<D: Driver> Model for SubmitterTask<D> {
     ghost use Rattle.tb_drive.specs.Seen.{HasSeen};
-    ghost use Rattle.tb_drive.specs.Seated.{SeatedState};
+    ghost use Rattle.tb_drive.specs.Tasks.{SubmitterTaskState};
 
-    ghost Value = { SeatedState };
+    ghost Value = { SubmitterTaskState };
 
-    ghost view = { λ seated. record { submitter = seated.submitter; share = D.share seated.driver } };
+    ghost view = { λ task. record { submitter = task.submitter; share = D.share task.driver } };
 
-    ghost invariant = { λ seated. HasSeen D.has_seen seated.driver seated.submitter };
+    ghost invariant = { λ task. HasSeen D.has_seen task.driver task.submitter };
 }
 
-/// What a submitter's thread leaves: the submitter's end, unless it was told to stop first, and the driver, which has
-/// seen what the end queued and read, and answered that it ends.
+/// What a submitter's thread returns: the submitter's end, unless it was told to stop first, and the driver, which has
+/// seen what the end queued and read, and returned that it ends.
 #[derive(Drop)]
-pub(crate) struct Driven<D: Driver> {
+pub(crate) struct SubmitterResult<D: Driver> {
     pub(crate) ended: Option<Ended>,
     pub(crate) driver: D,
 }
 
-impl<D: Driver> Model for Driven<D> {
+impl<D: Driver> Model for SubmitterResult<D> {
     ghost use Rattle.std.specs.Prelude.{IfSome};
     ghost use Rattle.tb_drive.specs.Seen.{HasSeenEnd};
-    ghost use Rattle.tb_drive.specs.Seated.{DrivenState};
+    ghost use Rattle.tb_drive.specs.Tasks.{SubmitterResultState};
 
-    ghost Value = { DrivenState };
+    ghost Value = { SubmitterResultState };
 
-    ghost view = { λ driven. record { ended = driven.ended; share = D.share driven.driver } };
+    ghost view = { λ one. record { ended = one.ended; share = D.share one.driver } };
 
-    ghost invariant = { λ driven. IfSome driven.ended (λ ended. HasSeenEnd D.has_seen driven.driver ended
-        × HasSeenEnd D.has_ended driven.driver ended) };
+    ghost invariant = { λ one. IfSome one.ended (λ ended. HasSeenEnd D.has_seen one.driver ended
+        × HasSeenEnd D.has_ended one.driver ended) };
 }
 
-/// The promise that the end that comes back is that of the submitter that was handed over, and the driver the one that
-/// was.
+/// The promise that the end is that of the task's submitter, and the driver the task's.
 #[derive(Drop)]
-pub(crate) struct EndOfSubmitter<D: Driver> {
-    pub(crate) seated: Snapshot<Seated<D>>,
+pub(crate) struct SubmitterPromise<D: Driver> {
+    pub(crate) task: Snapshot<SubmitterTask<D>>,
 }
 
-impl<D: Driver> Promise<Driven<D>> for EndOfSubmitter<D> {
-    ghost use Rattle.tb_drive.specs.Seated.{IsLeftBy};
+impl<D: Driver> Promise<SubmitterResult<D>> for SubmitterPromise<D> {
+    ghost use Rattle.tb_drive.specs.Tasks.{IsResultOf};
 
-    ghost kept_by = { λ p r. IsLeftBy p.seated.value r };
+    ghost kept_by = { λ p r. IsResultOf p.task.value r };
 }
 
 /// Submits a packet once, as `Submitter::submit` does; where it is refused it comes back. After 2^56 packets the queue
@@ -246,12 +245,12 @@ fn end<D: Driver, R: Wait>(
     unreachable!()
 }
 
-impl<D: Driver> Seated<D> {
+impl<D: Driver> SubmitterTask<D> {
     /// Does what the driver says, and then ends the submitter, unless it is told to stop.
-    pub(crate) fn drive<R: Wait>(self, rt: &R, alloc: Global, stop: &Stop) -> Driven<D>
-        ensures { IsLeftBy self result }
+    pub(crate) fn drive<R: Wait>(self, rt: &R, alloc: Global, stop: &Stop) -> SubmitterResult<D>
+        ensures { IsResultOf self result }
     {
-        let Seated {
+        let SubmitterTask {
             mut submitter,
             mut driver,
         } = self;
@@ -259,6 +258,6 @@ impl<D: Driver> Seated<D> {
             Ok(()) => end(rt, submitter, &mut driver, stop),
             Err(Stopped) => None,
         };
-        Driven { ended, driver }
+        SubmitterResult { ended, driver }
     }
 }

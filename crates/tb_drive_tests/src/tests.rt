@@ -6,7 +6,7 @@ use std::sync::Wait;
 use std::test::Fail;
 use std::thread;
 use std::thread::Threads;
-use tb_drive::{Action, ControlLines, Driver, Finished, LinesDriver, drive_all};
+use tb_drive::{Action, ControlPlan, Driver, Finished, PlanDriver, drive_all};
 use tb_pipe::open;
 use tb_submit::Ended;
 use tb_work::{Bytes, Outcome, Packet, Refusal, Reply};
@@ -141,10 +141,10 @@ fn run<R: Threads + Wait + Sync>(
     capacity: u32,
     credit: u32,
     drivers: Vec<Noter>,
-) -> Result<Finished<Noter, LinesDriver>, Fail> {
+) -> Result<Finished<Noter, PlanDriver>, Fail> {
     let submitters = u32::try_from(drivers.len())?;
     let opened = open(alloc, 0, 4, capacity, credit, submitters)?;
-    let control = ControlLines::none(alloc).driver();
+    let control = ControlPlan::none(alloc).driver();
     match drive_all(rt, alloc, opened, drivers, control) {
         Ok(finished) => Ok(finished),
         Err(_) => Err("the run is given up")?,
@@ -172,7 +172,7 @@ fn replies_left(alloc: Global, ended: &mut Ended) -> Result<Vec<Option<Saw>>, Al
 }
 
 /// What was seen of each submitter, the drivers and the ends both in the order in which they came back.
-fn seen_in(alloc: Global, finished: Finished<Noter, LinesDriver>) -> Result<Vec<Seen>, AllocError> {
+fn seen_in(alloc: Global, finished: Finished<Noter, PlanDriver>) -> Result<Vec<Seen>, AllocError> {
     let Finished {
         report,
         drivers,

@@ -145,7 +145,7 @@ impl Engine {
         Ok(())
     }
 
-    /// AreDecisions a ticket through the front and the ledger. If there is no memory for its outcomes, it is returned and
+    /// Passes a ticket through the front and the ledger. If there is no memory for its outcomes, it is returned and
     /// nothing has changed.
     fn take(&mut self, ticket: Ticket) -> Result<(), Ticket>
         requires { ticket.sender ≤ self.old.front.submitters }
@@ -168,7 +168,7 @@ impl Engine {
         Ok(())
     }
 
-    /// AreDecisions an item of the control through the front and the ledger.
+    /// Passes an item of the control through the front and the ledger.
     fn take_control(&mut self, item: Item) -> Result<(), Refusal>
         ensures taken { OnOk result ((clock : ℕ) (items : List ItemValue) (read : List ReplyValue)
             → HasTaken clock items (read ++ self.old.unread) self.old.front self.old.ledger

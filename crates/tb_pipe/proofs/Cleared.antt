@@ -35,3 +35,15 @@ one_cleared lets_through first all next number later handed has next_is one late
       (λ is. subst lets_through has.counted (one is));
   counted = later_is ∙ ap (λ n. next_number n handed) has.counted ∙ sym (number_more 0 has.more handed);
 }
+
+-- ---- parcels that are given one after the other
+
+pub one_given : (now next first yielded : List Parcel) (handed : Parcel) → next ≡ now ++ handed ∷ []
+    → now ≡ first ++ yielded → next ≡ first ++ (yielded ++ handed ∷ [])
+one_given now next first yielded handed one is =
+    one ∙ ap (λ ps. ps ++ handed ∷ []) is ∙ append_assoc first yielded (handed ∷ [])
+
+pub one_counted : (first now next : ℕ) (yielded : List Parcel) (handed : Parcel) → next ≡ next_number now handed
+    → now ≡ number_after first yielded → next ≡ number_after first (yielded ++ handed ∷ [])
+one_counted first now next yielded handed one is =
+    one ∙ ap (λ n. next_number n handed) is ∙ sym (number_more first yielded handed)

@@ -28,6 +28,7 @@ use Rattle.tb_core.specs.Grouping.{AreJoined, AreJoinedParcels, IsJoinedParcel, 
 use Rattle.tb_core.specs.Journal.{LedgerState, inputs}
 use Rattle.tb_core.specs.Run.{Commits, Ran, replies_in}
 use Rattle.tb_rings.specs.declared.Outlet.{Outlet}
+use Rattle.tb_submit.specs.Ends.{IntakeState}
 use Rattle.tb_submit.specs.Lists.{IsWithin, AreWithin}
 use Rattle.tb_pipe.specs.Carried.{is_last, is_final, has_final, answers_in, AllBatched, AllCommitted}
 use Rattle.tb_pipe.proofs.Lists.{all_taken, all_more, all_first}
@@ -37,14 +38,14 @@ pub record HasRun (clock limit : ℕ) (queue : List Ticket) (ledger : LedgerStat
   pub joined : AreJoined limit ledger.groups
 
 -- where each stage took all that the one before it gave, and gave all that it made of it
-pub drained : (clock limit submitters : ℕ) (queue : List Ticket)
+pub drained : (clock : ℕ) (intake : IntakeState)
     (given_parcels taken_parcels left_parcels : List Parcel) (ledger : LedgerState)
     (given_outcomes taken_outcomes left_outcomes : List Outcomes) →
-    AllBatched limit submitters queue given_parcels → AllCommitted clock taken_parcels ledger given_outcomes
+    AllBatched intake given_parcels → AllCommitted clock taken_parcels ledger given_outcomes
     → taken_parcels ++ left_parcels ≡ given_parcels → taken_outcomes ++ left_outcomes ≡ given_outcomes
     → has_final taken_outcomes ≡ true →
-    HasRun clock limit queue ledger (answers_in taken_outcomes)
-drained clock limit submitters queue given_parcels taken_parcels left_parcels ledger given_outcomes taken_outcomes
+    HasRun clock intake.limit intake.taken ledger (answers_in taken_outcomes)
+drained clock intake given_parcels taken_parcels left_parcels ledger given_outcomes taken_outcomes
     left_outcomes batched committed parcels_are outcomes_are final =
     let all_parcels : taken_parcels ≡ batched.before
     ++ parcel.Last ∷ [] =
@@ -69,8 +70,8 @@ drained clock limit submitters queue given_parcels taken_parcels left_parcels le
         commits = subst (λ rs. Commits clock (all_decisions_in batched.before) ledger rs) (sym answers)
             (subst (λ ps. Commits clock ps ledger (answers_in committed.before)) spelling committed.commits);
       };
-      joined = committed.joined limit (subst (AreJoinedParcels limit) (sym all_parcels)
-          (all_more (IsJoinedParcel limit) batched.before (parcel.Last ∷ []) batched.joined (tt, tt)));
+      joined = committed.joined intake.limit (subst (AreJoinedParcels intake.limit) (sym all_parcels)
+          (all_more (IsJoinedParcel intake.limit) batched.before (parcel.Last ∷ []) batched.joined (tt, tt)));
     }
 
 -- ---- no packet of the journal has more events than the limit

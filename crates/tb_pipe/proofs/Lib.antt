@@ -1,4 +1,5 @@
 pub mod Lists
+mod Late
 pub mod Batches
 pub mod Commits
 pub mod Drained

@@ -4,7 +4,7 @@ use Rattle.tb_work.specs.Packet.{ReplyValue}
 use Rattle.tb_rings.specs.Ends.{given, taken, outlet_ring}
 use Rattle.tb_rings.specs.declared.Outlet.{Outlet}
 use Rattle.tb_submit.specs.Ends.{IntakeState, Origin, Seat, origins, origins_from, seat_at}
-use Rattle.tb_pipe.specs.Carried.{AllBatched, AllCommitted}
+use Rattle.tb_pipe.specs.Carried.{AllCommitted}
 use Rattle.tb_pipe.specs.Outlets.{SameOutlets}
 use Rattle.tb_pipe.specs.Stages.{HaveServed}
 use Rattle.tb_pipe.specs.Run.{IsPipeline, IsServed, pipeline_of, served_of}
@@ -57,8 +57,7 @@ served_is stages remains is served =
       served = record {
         rings = (served.rings.1 ∙ is.rings.0 ∙ sym served.rings.0, served.rings.3 ∙ is.rings.1 ∙ sym served.rings.2);
         number = served.rings.4.0 ∙ is.number ∙ sym (ap (λ (i : IntakeState). i.submitters) same);
-        batched = subst (λ (i : IntakeState). AllBatched i.limit i.submitters remains.intake.taken
-            (given remains.batches)) (sym same) served.batched;
+        batched = served.batched;
         committed = subst (λ n. AllCommitted n (taken remains.committed.inlet) remains.committed.ledger
             (given remains.committed.outlet)) (sym clock) served.committed;
         routed = served.routed;

@@ -1,18 +1,20 @@
 -- What the rings between the stages carry.
-use Rattle.std.specs.Prelude.{◌≡◌, ℕ, ◌+◌, ◌%◌, ◌^◌, Bool, true, false, List, [], ◌∷◌, ◌++◌, if◌then◌else◌, ⊤}
+use Rattle.std.specs.Prelude.{◌≡◌, ℕ, ◌+◌, ◌%◌, ◌^◌, ◌⊎◌, Bool, true, false, List, [], ◌∷◌, ◌++◌, length, if◌then◌else◌, Contains, ⊤}
 use Rattle.std.specs.List.{flat_map, list_any}
-use Rattle.tb_work.specs.Queue.{items_in}
-use Rattle.tb_work.specs.Packet.{ReplyValue}
+use Rattle.tb_work.specs.Queue.{ahead, items_in}
+use Rattle.tb_work.specs.Packet.{Numbered, ReplyValue}
 use Rattle.tb_work.specs.declared.item.Ticket.{Ticket}
+use Rattle.tb_batch.specs.Grouping.{is_taken}
 use Rattle.tb_core.specs.declared.parcel.Parcel.{Parcel}
 use Rattle.tb_core.specs.declared.parcel.Parcel.TheVariants as parcel
 use Rattle.tb_core.specs.declared.outcomes.Outcomes.{Outcomes}
 use Rattle.tb_core.specs.declared.outcomes.Outcomes.TheVariants as outcomes
-use Rattle.tb_core.specs.Front.{FrontState, all_decisions_in, held_by, KnowsEnds, HaveAllEnded}
+use Rattle.tb_core.specs.Front.{FrontState, all_ended, all_decisions_in, group_as_batch, held_by, KnowsEnds, HaveAllEnded}
 use Rattle.tb_core.specs.Grouping.{AreJoined, AreJoinedParcels}
 use Rattle.tb_core.specs.Journal.{LedgerState}
-use Rattle.tb_core.specs.inside.Decision.{AreDecisions}
+use Rattle.tb_core.specs.inside.Decision.{AreDecisions, inputs_in}
 use Rattle.tb_core.specs.Run.{Commits, replies_in}
+use Rattle.tb_submit.specs.Ends.{IntakeState}
 
 abbrev pub is_last : Parcel → Bool
 is_last (parcel.Batch jobs) = false
@@ -71,26 +73,63 @@ given_on (outcomes.One reply) = outcomes.One reply ∷ []
 given_on outcomes.Nothing = []
 given_on outcomes.Last = outcomes.Last ∷ []
 
--- a front of so many submitters under a limit took a queue, and these parcels were given on
-pub record IsBatched (limit submitters : ℕ) (queue : List Ticket) (front : FrontState)
-    (given : List Parcel) : Type 0 where
-  pub under : front.limit ≡ limit
-  pub among : front.submitters ≡ submitters
-  pub passes : AreDecisions (items_in queue) front.closed front.stopped (all_decisions_in given ++ held_by front)
-  pub joined : AreJoinedParcels limit given
-  pub unended : has_last given ≡ false
-  pub knows : KnowsEnds queue front
+-- ---- when a batch is sealed
 
--- all of a queue was given on, each sender's end is in it, and after all that stands the last parcel
-pub record AllBatched (limit submitters : ℕ) (queue : List Ticket) (given : List Parcel) : Type 0 where
+-- the queue was seen empty when all packets and pulses of these parcels had been taken, and no other
+pub record WasEmptyAfter (intake : IntakeState) (parcels : List Parcel) : Type 0 where
+  pub before : List Ticket
+  pub after : List Ticket
+  pub parts : intake.taken ≡ before ++ after
+  pub seen : Contains intake.seen_empty (length before)
+  pub inputs : ahead (items_in before) ≡ inputs_in (all_decisions_in parcels)
+
+-- whether the packet that begins the next batch joins the batch before it
+abbrev pub goes_on : ℕ → List Numbered → List Numbered → Bool
+goes_on limit group [] = true
+goes_on limit group (job ∷ jobs) = is_taken limit group job
+
+-- A batch is followed by another only if the next packet doesn't join it, or the queue was seen empty between them.
+-- What else follows a batch seals it: a pulse, a returned packet, the end of all.
+abbrev pub AreSealedLate : IntakeState → List Parcel → Type 0
+AreSealedLate intake parcels =
+    (before after : List Parcel) (group next : List Numbered)
+    → parcels ≡ before ++ parcel.Batch group ∷ parcel.Batch next ∷ after
+    → (goes_on intake.limit group next ≡ false) ⊎ WasEmptyAfter intake (before ++ parcel.Batch group ∷ [])
+
+-- the next packet begins a group: none is held, and neither a Close, nor a stop, nor all ends were taken
+abbrev pub BeginsNext : FrontState → Type 0
+BeginsNext front = (front.held ≡ []) × (front.closed ≡ false) × (front.stopped ≡ false) × (all_ended front ≡ false)
+
+-- the group held may be sealed before anything else is taken: the queue was just seen empty, or all have ended
+abbrev pub MaySeal : IntakeState → FrontState → Type 0
+MaySeal intake front = Contains intake.seen_empty (length intake.taken) ⊎ (all_ended front ≡ true)
+
+-- ---- what each stage did
+
+-- A front took what the intake took, and these parcels were given on. The group held follows them as a batch would. If
+-- the next packet begins a group right after a batch, the queue was seen empty between them.
+pub record IsBatched (intake : IntakeState) (front : FrontState) (given : List Parcel) : Type 0 where
+  pub under : front.limit ≡ intake.limit
+  pub among : front.submitters ≡ intake.submitters
+  pub passes : AreDecisions (items_in intake.taken) front.closed front.stopped (all_decisions_in given ++ held_by front)
+  pub joined : AreJoinedParcels intake.limit given
+  pub late : AreSealedLate intake (given ++ group_as_batch front.held)
+  pub empty : BeginsNext front → (before : List Parcel) (group : List Numbered)
+      → given ≡ before ++ parcel.Batch group ∷ [] → WasEmptyAfter intake given
+  pub unended : has_last given ≡ false
+  pub knows : KnowsEnds intake.taken front
+
+-- all that the intake took was given on, each sender's end is in it, and after all that stands the last parcel
+pub record AllBatched (intake : IntakeState) (given : List Parcel) : Type 0 where
   pub closed : Bool
   pub stopped : Bool
   pub before : List Parcel
   pub parts : given ≡ before ++ parcel.Last ∷ []
-  pub passes : AreDecisions (items_in queue) closed stopped (all_decisions_in before)
-  pub joined : AreJoinedParcels limit before
+  pub passes : AreDecisions (items_in intake.taken) closed stopped (all_decisions_in before)
+  pub joined : AreJoinedParcels intake.limit before
+  pub late : AreSealedLate intake before
   pub unended : has_last before ≡ false
-  pub ended : HaveAllEnded submitters queue
+  pub ended : HaveAllEnded intake.submitters intake.taken
 
 -- a ledger took these parcels, and these outcomes were given on
 pub record IsCommitted (clock : ℕ) (taken : List Parcel) (ledger : LedgerState) (given : List Outcomes) : Type 0 where

@@ -61,7 +61,7 @@ run_of clock intake ends control ledger settled =
 pub record IsServed (remains : Remains) : Type 0 where
   pub rings : IsRing remains.batches remains.committed.inlet × IsRing remains.committed.outlet remains.routed.inlet
   pub number : length remains.routed.outlets.items ≡ remains.intake.submitters
-  pub batched : AllBatched remains.intake.limit remains.intake.submitters remains.intake.taken (given remains.batches)
+  pub batched : AllBatched remains.intake (given remains.batches)
   pub committed : AllCommitted remains.committed.ledger.opening
       (taken remains.committed.inlet) remains.committed.ledger (given remains.committed.outlet)
   pub routed : AllRouted (taken remains.routed.inlet) remains.routed.outlets.items

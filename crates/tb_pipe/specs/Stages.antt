@@ -8,7 +8,7 @@ use Rattle.tb_pipe.specs.declared.stages.Remains.{Remains}
 
 -- each stage did as much as it had taken
 pub record IsReady (stages : Stages) : Type 0 where
-  pub batched : IsBatched stages.intake.limit stages.intake.submitters stages.intake.taken
+  pub batched : IsBatched stages.intake
       stages.front (given stages.batches)
   pub committed : IsCommitted stages.ledger.opening (taken stages.parcels) stages.ledger (given stages.made)
   pub replies : AllGiven (answers_in (taken stages.outcomes)) stages.outlets.items
@@ -18,8 +18,11 @@ pub record HaveServed (stages : Stages) (remains : Remains) : Type 0 where
   pub rings : SameOutlet stages.batches remains.batches × SameInlet stages.parcels remains.committed.inlet
       × SameOutlet stages.made remains.committed.outlet × SameInlet stages.outcomes remains.routed.inlet
       × SameOutlets stages.outlets.items remains.routed.outlets.items
-  pub intake : remains.intake ≡ record stages.intake { taken = remains.intake.taken }
-  pub batched : AllBatched stages.intake.limit stages.intake.submitters remains.intake.taken (given remains.batches)
+  pub intake : remains.intake ≡ record stages.intake {
+    taken = remains.intake.taken;
+    seen_empty = remains.intake.seen_empty;
+  }
+  pub batched : AllBatched remains.intake (given remains.batches)
   pub committed : AllCommitted stages.ledger.opening (taken remains.committed.inlet) remains.committed.ledger
       (given remains.committed.outlet)
   pub routed : AllRouted (taken remains.routed.inlet) remains.routed.outlets.items

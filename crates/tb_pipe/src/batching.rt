@@ -1,10 +1,12 @@
 //! The batcher's stage: tickets from the submission queue, batches into their ring.
 
-ghost use Rattle.std.specs.Prelude.{◌≡◌, ℕ, ◌≤◌, List, [], ◌∷◌, ◌++◌};
+ghost use Rattle.std.specs.Prelude.{◌≡◌, ◌≤◌, [], ◌∷◌, ◌++◌, false};
+ghost use Rattle.tb_core.specs.Front.{all_ended};
 ghost use Rattle.tb_rings.specs.Ends.{given, SameOutlet};
-ghost use Rattle.tb_pipe.specs.Carried.{IsBatched, AllBatched};
-ghost use Rattle.tb_work.specs.declared.item.Ticket.{Ticket as TicketValue};
+ghost use Rattle.tb_submit.specs.Ends.{IntakeState, with_taken};
+ghost use Rattle.tb_pipe.specs.Carried.{AllBatched, IsBatched, MaySeal, next_number, number_after};
 
+use crate::clearing::is_batch;
 use crate::gate::Gate;
 use crate::waiting::give_waiting;
 use arrayvec::ArrayVec;
@@ -15,119 +17,129 @@ use tb_rings::{Outlet, SpinWait};
 use tb_submit::Intake;
 use tb_work::Ticket;
 
-/// Gives a parcel on, and tells the gate where it is a batch. Answers how many batches there are so far.
-fn give<R: Wait, G: Gate>(
-    rt: &R,
-    gate: &G,
-    batches: &mut Outlet<Parcel>,
-    parcel: Parcel,
-    sealed: u64,
-) -> u64
-    ensures ring { SameOutlet batches.old batches.new }
-    ensures given { given batches.new ≡ given batches.old ++ parcel ∷ [] }
-{
-    let is_batch = matches!(parcel, Parcel::Batch(_));
-    give_waiting(rt, batches, parcel);
-    if is_batch {
-        gate.sealed(sealed);
-        return sealed.wrapping_add(1);
-    }
-    sealed
+/// The batch ring with the gate, and how many batches were given.
+#[derive(Drop)]
+pub(crate) struct BatchRing<'g, G: Gate> {
+    outlet: Outlet<Parcel>,
+    gate: &'g G,
+    batches: u64,
 }
 
-/// Gives parcels on in order, and leaves none. Answers how many batches there are so far.
-fn give_all<R: Wait, G: Gate>(
-    rt: &R,
-    gate: &G,
-    batches: &mut Outlet<Parcel>,
-    parcels: &mut ArrayVec<Parcel, 2>,
-    sealed: u64,
-) -> u64
-    ensures ring { SameOutlet batches.old batches.new }
-    ensures given { given batches.new ≡ given batches.old ++ parcels.old.items }
-    ensures none { parcels.new.items ≡ [] }
-{
-    if parcels.is_empty() {
-        return sealed;
+impl<'g, G: Gate> BatchRing<'g, G> {
+    /// Returns the ring with its gate, to which no batch was reported.
+    pub(crate) fn new(outlet: Outlet<Parcel>, gate: &'g G) -> BatchRing<'g, G>
+        ensures { result.outlet ≡ outlet }
+    {
+        BatchRing {
+            outlet,
+            gate,
+            batches: 0,
+        }
     }
-    let mut sealed = sealed;
-    for parcel in mem::replace(parcels, ArrayVec::new()) {
-        sealed = give(rt, gate, batches, parcel, sealed);
+
+    /// Returns the ring without its gate.
+    pub(crate) fn into_outlet(self) -> Outlet<Parcel>
+        ensures { result ≡ self.entry.outlet }
+    {
+        let BatchRing {
+            outlet,
+            gate: _,
+            batches: _,
+        } = self;
+        outlet
     }
-    sealed
+
+    /// Gives a parcel, and reports it to the gate if it is a batch.
+    fn give<R: Wait>(&mut self, rt: &R, parcel: Parcel)
+        ensures ring { SameOutlet self.old.outlet self.new.outlet }
+        ensures given { given self.new.outlet ≡ given self.old.outlet ++ parcel ∷ [] }
+        ensures counted { self.new.batches ≡ next_number self.old.batches parcel }
+    {
+        let counts = is_batch(&parcel);
+        give_waiting(rt, &mut self.outlet, parcel);
+        if counts {
+            self.gate.sealed(self.batches);
+            self.batches = self.batches.wrapping_add(1);
+        }
+    }
+
+    /// Gives parcels in order, and leaves none.
+    fn give_all<R: Wait>(&mut self, rt: &R, parcels: &mut ArrayVec<Parcel, 2>)
+        ensures ring { SameOutlet self.old.outlet self.new.outlet }
+        ensures given { given self.new.outlet ≡ given self.old.outlet ++ parcels.old.items }
+        ensures counted { self.new.batches ≡ number_after self.old.batches parcels.old.items }
+        ensures none { parcels.new.items ≡ [] }
+    {
+        if parcels.is_empty() {
+            return;
+        }
+        for parcel in mem::replace(parcels, ArrayVec::new()) {
+            self.give(rt, parcel);
+        }
+    }
+
+    /// Passes one ticket through the front. `parcels` lends capacity for what the front yields.
+    fn pass_ticket<R: Wait>(
+        &mut self,
+        rt: &R,
+        front: &mut Front,
+        parcels: &mut ArrayVec<Parcel, 2>,
+        ticket: Ticket,
+    )
+        requires sender { ticket.sender ≤ front.old.submitters }
+        requires empty { parcels.old.items ≡ [] }
+        ensures ring { SameOutlet self.old.outlet self.new.outlet }
+        ensures none { parcels.new.items ≡ [] }
+        ensures batched { (intake : IntakeState) → all_ended front.old ≡ false
+            → IsBatched intake front.old (given self.old.outlet)
+            → IsBatched (with_taken intake ticket) front.new (given self.new.outlet) }
+    {
+        front.take_into(parcels, ticket);
+        self.give_all(rt, parcels);
+    }
+
+    /// Gives the group held, if there is one, so that no later packet joins it.
+    fn pass_group<R: Wait>(&mut self, rt: &R, front: &mut Front)
+        ensures ring { SameOutlet self.old.outlet self.new.outlet }
+        ensures batched { (intake : IntakeState) → MaySeal intake front.old
+            → IsBatched intake front.old (given self.old.outlet)
+            → IsBatched intake front.new (given self.new.outlet) }
+        ensures none { front.new.held ≡ [] }
+    {
+        if let Some(batch) = front.idle() {
+            self.give(rt, Parcel::Batch(batch));
+        }
+    }
 }
 
-/// AreDecisions one ticket through the front, with room for its parcels. Answers how many batches there are so far.
-fn pass_ticket<R: Wait, G: Gate>(
-    rt: &R,
-    gate: &G,
-    front: &mut Front,
-    batches: &mut Outlet<Parcel>,
-    parcels: &mut ArrayVec<Parcel, 2>,
-    ticket: Ticket,
-    sealed: u64,
-) -> u64
-    requires sender { ticket.sender ≤ front.old.submitters }
-    requires empty { parcels.old.items ≡ [] }
-    ensures ring { SameOutlet batches.old batches.new }
-    ensures none { parcels.new.items ≡ [] }
-    ensures batched { (limit submitters : ℕ) (queue : List TicketValue)
-        → IsBatched limit submitters queue front.old (given batches.old)
-        → IsBatched limit submitters (queue ++ ticket ∷ []) front.new (given batches.new) }
-{
-    front.take_into(parcels, ticket);
-    give_all(rt, gate, batches, parcels, sealed)
-}
-
-/// Gives the group held on, where there is one: nothing waits to join it. Answers how many batches there are so far.
-fn pass_group<R: Wait, G: Gate>(
-    rt: &R,
-    gate: &G,
-    front: &mut Front,
-    batches: &mut Outlet<Parcel>,
-    sealed: u64,
-) -> u64
-    ensures ring { SameOutlet batches.old batches.new }
-    ensures batched { (limit submitters : ℕ) (queue : List TicketValue)
-        → IsBatched limit submitters queue front.old (given batches.old)
-        → IsBatched limit submitters queue front.new (given batches.new) }
-    ensures none { front.new.held ≡ [] }
-{
-    match front.idle() {
-        Some(batch) => give(rt, gate, batches, Parcel::Batch(batch), sealed),
-        None => sealed,
-    }
-}
-
-/// Takes until the end of each sender was taken, and gives all on, and then the last parcel.
+/// Takes tickets and gives parcels until each sender has ended, and then gives the last parcel. What can't join the group
+/// held seals it, and so does an empty queue.
 pub(crate) fn batch_all<R: Wait, G: Gate>(
     rt: &R,
-    gate: &G,
     intake: &mut Intake,
     front: &mut Front,
-    batches: &mut Outlet<Parcel>,
+    ring: &mut BatchRing<'_, G>,
 )
-    requires { IsBatched intake.old.limit intake.old.submitters intake.old.taken front.old (given batches.old) }
-    ensures ring { SameOutlet batches.old batches.new }
-    ensures intake { intake.new ≡ record intake.old { taken = intake.new.taken } }
-    ensures all { AllBatched intake.old.limit intake.old.submitters intake.new.taken (given batches.new) }
+    requires { IsBatched intake.old front.old (given ring.old.outlet) }
+    ensures ring { SameOutlet ring.old.outlet ring.new.outlet }
+    ensures intake { intake.new ≡ record intake.old { taken = intake.new.taken; seen_empty = intake.new.seen_empty } }
+    ensures all { AllBatched intake.new (given ring.new.outlet) }
 {
     let mut parcels = ArrayVec::new();
-    let mut sealed = 0;
     let spin = SpinWait::new();
     for _ in rt.forever() {
         if front.finished() {
-            pass_group(rt, gate, front, batches, sealed);
-            give_waiting(rt, batches, Parcel::Last);
+            ring.pass_group(rt, front);
+            ring.give(rt, Parcel::Last);
             return;
         }
         match intake.take(rt) {
             Some(ticket) => {
-                sealed = pass_ticket(rt, gate, front, batches, &mut parcels, ticket, sealed);
+                ring.pass_ticket(rt, front, &mut parcels, ticket);
                 spin.reset();
             }
             None => {
-                sealed = pass_group(rt, gate, front, batches, sealed);
+                ring.pass_group(rt, front);
                 intake.wait(rt, &spin);
             }
         }

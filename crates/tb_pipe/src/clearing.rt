@@ -31,7 +31,7 @@ impl Cleared {
     }
 }
 
-fn is_batch(parcel: &Parcel) -> bool
+pub(crate) fn is_batch(parcel: &Parcel) -> bool
     ensures { result ≡ is_batch parcel.now }
 {
     match parcel {

@@ -63,7 +63,7 @@ fn give_on<R: Wait>(rt: &R, outlet: &mut Outlet<Outcomes>, outcomes: Outcomes)
     }
 }
 
-/// AreDecisions one parcel through the ledger; whether it is the last.
+/// Passes one parcel through the ledger; whether it is the last.
 fn commit<R: Wait>(
     rt: &R,
     ledger: &mut Ledger,

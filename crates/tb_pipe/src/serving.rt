@@ -81,7 +81,10 @@ impl Pipeline {
         gate: &G,
     ) -> Result<Served, (Intake, Refusal)>
         ensures clock { IfOk result (λ served. served.clock ≡ self.clock) }
-        ensures intake { IfOk result (λ served. served.intake ≡ record self.intake { taken = served.intake.taken }) }
+        ensures intake { IfOk result (λ served. served.intake ≡ record self.intake {
+          taken = served.intake.taken;
+          seen_empty = served.intake.seen_empty;
+        }) }
         ensures submitters { IfOk result (λ served. served.submitters ≡ self.submitters) }
         ensures refused { IfErr result (λ back. (back.0 ≡ self.intake) × (back.1 ≡ NoThreadRefusal)) }
     {

@@ -6,7 +6,7 @@ ghost use Rattle.tb_pipe.specs.Carried.{IsCommitted, AllCommitted, answers_in};
 ghost use Rattle.tb_pipe.specs.Outlets.{SameOutlets, AllGiven, AllRouted};
 ghost use Rattle.tb_pipe.specs.Stages.{IsReady, HaveServed};
 
-use crate::batching::batch_all;
+use crate::batching::{BatchRing, batch_all};
 use crate::committing::{Commitment, Committed, commit_all};
 use crate::gate::Gate;
 use crate::routing::{Routed, Routing, route_until_last};
@@ -134,11 +134,12 @@ impl Stages {
             drop(batches);
             return Err(intake);
         };
-        batch_all(rt, gate, &mut intake, &mut front, &mut batches);
+        let mut ring = BatchRing::new(batches, gate);
+        batch_all(rt, &mut intake, &mut front, &mut ring);
         drop(front);
         Ok(Remains {
             intake,
-            batches,
+            batches: ring.into_outlet(),
             committed: committer.join(rt),
             routed: demultiplexer.join(rt),
         })

@@ -11,7 +11,8 @@ use Rattle.tb_pipe_tests.specs.Together.{IsOpenedAs, IsRun, run_with}
 -- what serving leaves of a pipeline, settled
 pub is_run : (pipeline : PipelineState) (served : ServedState) (queued : ℕ → List Item) (ledger : LedgerState)
     (ends : List EndedState) → served.clock ≡ pipeline.clock
-    → served.intake ≡ record pipeline.intake { taken = served.intake.taken } →
+    → served.intake
+    ≡ record pipeline.intake { taken = served.intake.taken; seen_empty = served.intake.seen_empty } →
     LawfulReport (run_with served.clock served.intake.limit served.intake.submitters served.intake.taken queued ledger
     ends) → IsGrouping served.intake.limit ledger.groups →
     IsRun pipeline.clock pipeline.intake.limit pipeline.intake.submitters ledger ends

@@ -8,7 +8,7 @@ use Rattle.tb_machine.specs.Replay.{State}
 use Rattle.tb_work.specs.Packet.{ReplyValue}
 use Rattle.tb_work.specs.declared.item.Item.{Item}
 use Rattle.tb_work.specs.declared.packet.Packet as packets
-use Rattle.tb_drive.specs.Lines.{lines_of, refused_of}
+use Rattle.tb_drive.specs.Plan.{planned_items, refused_of}
 use Rattle.tb_drive.specs.Seen.{jobs_in}
 use Rattle.tb_program_script.specs.Script.{ParsedScript, clock_of, limit_of, submitters_of, items_of, script_of}
 use Rattle.tb_program.specs.Noting.{IsHandedIn}
@@ -96,7 +96,7 @@ abbrev pub IsTextOf : ParsedScript → List ℕ → Type 0
 IsTextOf parsed text =
     let items = items_of parsed in
     IsRunText (clock_of parsed.settings) (limit_of parsed.settings) (shares_of 0 (submitters_of parsed.settings) items)
-    (lines_of (moments_in items) (shuts_in items))
+    (planned_items (moments_in items) (shuts_in items))
     (refused_of (moments_in items)) text
 
 -- the same of the bytes of a script without a fault

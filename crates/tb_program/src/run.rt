@@ -2,7 +2,7 @@
 
 ghost use Rattle.std.specs.Prelude.{◌≡◌, ◌≤◌, ℕ, List, [], false, true, length, map, IfOk, IfSome, IsErrOf, string_bytes};
 ghost use Rattle.std.specs.Io.KnownBytes.{Appends, Keeps};
-ghost use Rattle.tb_drive.specs.Lines.{lines_of, refused_of};
+ghost use Rattle.tb_drive.specs.Plan.{planned_items, refused_of};
 ghost use Rattle.tb_drive.specs.Reported.{AreTogether};
 ghost use Rattle.tb_layout.specs.Limits.{submitters_max};
 ghost use Rattle.tb_program.specs.Drivers.{AreNew, lists_of, share_of};
@@ -25,7 +25,7 @@ use std::alloc::Global;
 use std::io::{Read, Write};
 use std::sync::Wait;
 use std::thread::Threads;
-use tb_drive::{ControlLines, drive_all};
+use tb_drive::{ControlPlan, drive_all};
 use tb_layout::NoMemory;
 use tb_pipe::{Opened, open};
 use tb_program_command::ProgramFault;
@@ -80,7 +80,7 @@ fn run_opened<T: Threads + Wait + Sync>(
     alloc: Global,
     opened: Opened,
     drivers: Vec<ScriptDriver>,
-    lines: ControlLines,
+    lines: ControlPlan,
 ) -> Result<String, ProgramFault>
     requires together { AreTogether opened.pipeline opened.submitters.items opened.control }
     requires number { length drivers.items ≡ length opened.pipeline.submitters }
@@ -90,7 +90,7 @@ fn run_opened<T: Threads + Wait + Sync>(
     requires new { AreNew drivers.items }
     ensures { IfOk result (λ text. IsRunText opened.pipeline.clock opened.pipeline.intake.limit
         (map share_of drivers.items)
-        (lines_of lines.moments.items lines.shuts) (refused_of lines.moments.items) (string_bytes text)) }
+        (planned_items lines.moments.items lines.shuts) (refused_of lines.moments.items) (string_bytes text)) }
 {
     match drive_all(rt, alloc, opened, drivers, lines.driver()) {
         Ok(finished) => Ok(text_of(alloc, finished)?),

@@ -15,7 +15,7 @@ use Rattle.tb_work.specs.declared.item.Ticket.{Ticket}
 use Rattle.tb_submit.specs.declared.rule.PassEntry.{PassEntry}
 use Rattle.tb_submit.specs.declared.rule.IntakeMark.{IntakeMark}
 use Rattle.tb_submit.specs.declared.rule.View.{View}
-use Rattle.tb_submit.specs.Rule.{sender, intake, opening, empty_view, next_of, view_counting_on, newcomer, both_views, with_pushed, with_taken, Stands, FitsEntry, FitsMark, Fits, InView, Kept, IsWhole, Tells}
+use Rattle.tb_submit.specs.Rule.{sender, intake, opening, empty_view, next_of, view_counting_on, newcomer, view_seen_empty, both_views, with_pushed, with_taken, Stands, FitsEntry, FitsMark, Fits, InView, Kept, IsWhole, Tells}
 
 -- a new value at a place that is taken
 put_here : {A : Type 0} (l : List A) (i : ℕ) (a b : A) → get_elem? l i ≡ some a → get_elem? (set l i b) i ≡ some b
@@ -179,11 +179,11 @@ given_out got items x count none = by (nat_lt x.sender count) refl
     by true e = below e
     by false e = absurd (stands_in got items x (none x.sender (above e)))
 
-takes_here : (pass : ℕ) (es : List PassEntry) (got : List Ticket) (n : ℕ)
-    → Pops Kept pass (intake es got n) (λ x w. (w ≡ with_taken (intake es got n) x) × (x.sender < n))
-takes_here pass es got n x items views h at =
-    let w : View = intake es (got ++ x ∷ []) n in
-    let mine = h.fits pass (intake es got n) at in
+takes_here : (pass : ℕ) (es : List PassEntry) (got : List Ticket) (n : ℕ) (seen : List ℕ)
+    → Pops Kept pass (intake es got n seen) (λ x w. (w ≡ with_taken (intake es got n seen) x) × (x.sender < n))
+takes_here pass es got n seen x items views h at =
+    let w : View = intake es (got ++ x ∷ []) n seen in
+    let mine = h.fits pass (intake es got n seen) at in
     let more = h.taken ++ x ∷ [] in
     let same : more ++ items ≡ h.taken ++ (x ∷ items) = append_assoc h.taken (x ∷ []) items in
     let old : AllAt (λ j u. AllByRecursion (FitsEntry h.pass_of h.count (more ++ items) j) u.entries) views =
@@ -196,24 +196,24 @@ takes_here pass es got n x items views h at =
         count = h.count;
         taken = more;
         fits = all_set (Fits h.pass_of h.reader h.count more items) views pass w
-            (old pass (intake es got n) at, (mine.1.0, ap (λ g. g ++ x ∷ []) mine.1.1, mine.1.2))
+            (old pass (intake es got n seen) at, (mine.1.0, ap (λ g. g ++ x ∷ []) mine.1.1, mine.1.2))
             (λ j u other e. (
               old j u e,
               mark_apart h.reader h.count h.count h.taken more j pass u.mark other
                   mine.1.0 (h.fits j u e).1,
             ));
-        stands = λ s below. in_set views pass (intake es got n) w at (λ t stands. stands)
+        stands = λ s below. in_set views pass (intake es got n seen) w at (λ t stands. stands)
             (h.pass_of s) s (h.stands s below);
         no_other_sender = λ s above. ap (part s) same ∙ h.no_other_sender s above;
       },
       (refl, omega (arith, mine.1.2, given_out h.taken items x h.count h.no_other_sender)),
     )
 
-pub takes : (pass : ℕ) (v : View) (es : List PassEntry) (got : List Ticket) (n : ℕ) → v ≡ intake es got n
-    → Pops Kept pass v (λ x w. (w ≡ with_taken v x) × (x.sender < next_of v.mark))
-takes pass v es got n is =
+pub takes : (pass : ℕ) (v : View) (es : List PassEntry) (got : List Ticket) (n : ℕ) (seen : List ℕ)
+    → v ≡ intake es got n seen → Pops Kept pass v (λ x w. (w ≡ with_taken v x) × (x.sender < next_of v.mark))
+takes pass v es got n seen is =
     subst (λ (u : View). Pops Kept pass u (λ x w. (w ≡ with_taken u x) × (x.sender < next_of u.mark))) (sym is)
-    (takes_here pass es got n)
+    (takes_here pass es got n seen)
 
 -- one number stands in another pass
 abbrev pass_at : (ℕ → ℕ) → ℕ → ℕ → ℕ → ℕ
@@ -228,13 +228,13 @@ passed_else pass_of n pass s e = ap (λ (b : Bool). cond b pass (pass_of s)) (ne
 in_longer : (views : List View) (r : View) (p s : ℕ) → InView views p s → InView (views ++ r ∷ []) p s
 in_longer views r p s h = (h.0, at_longer views (r ∷ []) p h.0 h.1, h.2)
 
-forks_here : (pass : ℕ) (es : List PassEntry) (got : List Ticket) (n : ℕ)
-    → Forks Kept pass (intake es got n) (view_counting_on (intake es got n)) (newcomer (intake es got n))
-forks_here pass es got n items views h at =
-    let l : View = intake es got (n + 1) in
+forks_here : (pass : ℕ) (es : List PassEntry) (got : List Ticket) (n : ℕ) (seen : List ℕ)
+    → Forks Kept pass (intake es got n seen) (view_counting_on (intake es got n seen)) (newcomer (intake es got n seen))
+forks_here pass es got n seen items views h at =
+    let l : View = intake es got (n + 1) seen in
     let r : View = sender n [] in
     let vs : List View = set views pass l in
-    let mine = h.fits pass (intake es got n) at in
+    let mine = h.fits pass (intake es got n seen) at in
     let pass_of : ℕ → ℕ = pass_at h.pass_of n (length vs) in
     let all : List Ticket = h.taken ++ items in
     let entry_on : (j : ℕ) (e : PassEntry) → FitsEntry h.pass_of h.count all j e → FitsEntry pass_of (h.count + 1) all j e
@@ -284,16 +284,44 @@ forks_here pass es got n items views h at =
             inl (sym is),
           ))
           (λ (no : s ≢ n). subst (λ (p : ℕ). InView (vs ++ r ∷ []) p s) (sym (passed_else h.pass_of n (length vs) s no))
-          (in_longer vs r (h.pass_of s) s (in_set views pass (intake es got n) l at (λ t stands. stands)
+          (in_longer vs r (h.pass_of s) s (in_set views pass (intake es got n seen) l at (λ t stands. stands)
           (h.pass_of s) s (h.stands s (let e = mine.1.2 in omega arith)))))
           (cases_eq s n);
       no_other_sender = λ s above. h.no_other_sender s (omega arith);
     }
 
-pub forks : (pass : ℕ) (v : View) (es : List PassEntry) (got : List Ticket) (n : ℕ) → v ≡ intake es got n
-    → Forks Kept pass v (view_counting_on v) (newcomer v)
-forks pass v es got n is =
-    subst (λ (u : View). Forks Kept pass u (view_counting_on u) (newcomer u)) (sym is) (forks_here pass es got n)
+pub forks : (pass : ℕ) (v : View) (es : List PassEntry) (got : List Ticket) (n : ℕ) (seen : List ℕ)
+    → v ≡ intake es got n seen → Forks Kept pass v (view_counting_on v) (newcomer v)
+forks pass v es got n seen is =
+    subst (λ (u : View). Forks Kept pass u (view_counting_on u) (newcomer u)) (sym is) (forks_here pass es got n seen)
+
+-- the reader's pass notes that the queue was seen empty: the second pass knows nothing
+notes_here : (pass : ℕ) (es : List PassEntry) (got : List Ticket) (n : ℕ) (seen : List ℕ)
+    → Forks Kept pass (intake es got n seen) (view_seen_empty (intake es got n seen)) empty_view
+notes_here pass es got n seen items views h at =
+    let l : View = view_seen_empty (intake es got n seen) in
+    let vs : List View = set views pass l in
+    let mine = h.fits pass (intake es got n seen) at in
+    let old : AllAt (Fits h.pass_of h.reader h.count h.taken items) vs
+    = all_set (Fits h.pass_of h.reader h.count h.taken items) views pass l mine (λ j u other e. h.fits j u e) in
+    record {
+      pass_of = h.pass_of;
+      reader = h.reader;
+      count = h.count;
+      taken = h.taken;
+      fits = λ j u e. ⊎_elim (λ x. old j u x)
+          (λ (is : (j ≡ length vs) × (empty_view ≡ u)). subst (Fits h.pass_of h.reader h.count h.taken items j)
+          is.1 (tt, tt))
+          (at_end vs empty_view u j e);
+      stands = λ s below. in_longer vs empty_view (h.pass_of s) s (in_set views pass (intake es got n seen) l at
+          (λ t stands. stands) (h.pass_of s) s (h.stands s below));
+      no_other_sender = h.no_other_sender;
+    }
+
+pub notes : (pass : ℕ) (v : View) (es : List PassEntry) (got : List Ticket) (n : ℕ) (seen : List ℕ)
+    → v ≡ intake es got n seen → Forks Kept pass v (view_seen_empty v) empty_view
+notes pass v es got n seen is =
+    subst (λ (u : View). Forks Kept pass u (view_seen_empty u) empty_view) (sym is) (notes_here pass es got n seen)
 
 -- any two passes may be joined: the numbers of the second one stand in the first from then on
 pub merges : (pass : ℕ) (v : View) (other : ℕ) (u : View) → Merges Kept pass v other u (both_views v u) empty_view
@@ -355,10 +383,10 @@ merges pass v other u items views h at two at' =
       no_other_sender = h.no_other_sender;
     }
 
-learns_here : (pass : ℕ) (es : List PassEntry) (got : List Ticket) (n : ℕ)
-    → Learns Kept pass (intake es got n) (IsWhole es got n)
-learns_here pass es got n items views h at =
-    let mine = h.fits pass (intake es got n) at in
+learns_here : (pass : ℕ) (es : List PassEntry) (got : List Ticket) (n : ℕ) (seen : List ℕ)
+    → Learns Kept pass (intake es got n seen) (IsWhole es got n)
+learns_here pass es got n seen items views h at =
+    let mine = h.fits pass (intake es got n seen) at in
     let same : h.taken ++ items ≡ got ++ items = ap (λ g. g ++ items) (sym mine.1.1) in (
       each_map (FitsEntry h.pass_of h.count (h.taken ++ items) pass)
           (λ (e : PassEntry). part e.number (got ++ items) ≡ e.pushed) es
@@ -366,6 +394,7 @@ learns_here pass es got n items views h at =
       (λ s above. ap (part s) (sym same) ∙ h.no_other_sender s (omega (arith, mine.1.2))),
     )
 
-pub learns : (pass : ℕ) (v : View) (es : List PassEntry) (got : List Ticket) (n : ℕ) → v ≡ intake es got n
-    → Learns Kept pass v (Tells v)
-learns pass v es got n is = subst (λ (u : View). Learns Kept pass u (Tells u)) (sym is) (learns_here pass es got n)
+pub learns : (pass : ℕ) (v : View) (es : List PassEntry) (got : List Ticket) (n : ℕ) (seen : List ℕ)
+    → v ≡ intake es got n seen → Learns Kept pass v (Tells v)
+learns pass v es got n seen is =
+    subst (λ (u : View). Learns Kept pass u (Tells u)) (sym is) (learns_here pass es got n seen)

@@ -1,5 +1,5 @@
 -- What a contract sees of the ends of a queue.
-use Rattle.std.specs.Prelude.{ℕ, zero, suc, Bool, false, List, [], ◌∷◌, ◌++◌, Option, Some}
+use Rattle.std.specs.Prelude.{ℕ, zero, suc, Bool, false, List, [], ◌∷◌, ◌++◌, length, Option, Some}
 use Rattle.atomic_table.specs.Seated.{TableId}
 use Rattle.tb_rings.specs.Ends.{RingId, outlet_ring}
 use Rattle.tb_rings.specs.declared.Outlet.{Outlet}
@@ -42,16 +42,21 @@ pub record EndedState : Type 0 where
   pub lying : List ReplyValue
   pub settled : Bool
 
--- the intake, with what it took; its queue has so many places
+-- the intake, with what it took, and after how many tickets it saw its queue empty; the queue has so many places
 pub record IntakeState : Type 0 where
   pub queue : TableId
   pub submitters : ℕ
   pub limit : ℕ
   pub capacity : ℕ
   pub taken : List Ticket
+  pub seen_empty : List ℕ
 
 abbrev pub with_taken : IntakeState → Ticket → IntakeState
 with_taken intake ticket = record intake { taken = intake.taken ++ ticket ∷ [] }
+
+-- the intake, which sees its queue empty after all that it took
+abbrev pub with_empty : IntakeState → IntakeState
+with_empty intake = record intake { seen_empty = intake.seen_empty ++ length intake.taken ∷ [] }
 
 -- ---- the senders of an intake's queue
 
@@ -87,7 +92,14 @@ new_control intake = record { seat = control_seat intake; queued = [] }
 
 abbrev pub new_intake : TableId → ℕ → ℕ → ℕ → IntakeState
 new_intake queue submitters limit capacity =
-    record { queue = queue; submitters = submitters; limit = limit; capacity = capacity; taken = [] }
+    record {
+      queue = queue;
+      submitters = submitters;
+      limit = limit;
+      capacity = capacity;
+      taken = [];
+      seen_empty = [];
+    }
 
 -- ---- one item more
 

@@ -1,5 +1,5 @@
 -- What the private types keep.
-use Rattle.std.specs.Prelude.{◌≡◌, ℕ, ◌-◌, ◌<◌, ◌≤◌, min, length, List, [], ◌∷◌, Option, Some, None, ⊤}
+use Rattle.std.specs.Prelude.{◌≡◌, ℕ, ◌-◌, ◌<◌, ◌≤◌, min, length, List, [], ◌∷◌, ◌++◌, Option, Some, None, ⊤}
 use Rattle.atomic_table.specs.Seated.{TableId}
 use Rattle.crossbeam_queue.specs.Passes.{Pass, view}
 use Rattle.tb_layout.specs.Limits.{batch_max, capacity_max}
@@ -30,14 +30,23 @@ abbrev pub count_of : Option IntakeMark → ℕ
 count_of None = 0
 count_of (Some mark) = mark.count
 
--- the pass with the mark: its queue and how many places that has, the entries that were gathered, what was taken, and
--- how many numbers were given out
+abbrev pub seen_empty_of : Option IntakeMark → List ℕ
+seen_empty_of None = []
+seen_empty_of (Some mark) = mark.seen_empty
+
+-- the pass with the mark: its queue and how many places that has, the entries that were gathered, what was taken, how
+-- many numbers were given out, and after how many tickets the queue was seen empty
 pub record ReaderState : Type 0 where
   pub queue : TableId
   pub capacity : ℕ
   pub entries : List PassEntry
   pub taken : List Ticket
   pub count : ℕ
+  pub seen_empty : List ℕ
+
+-- the reader, which sees its queue empty after all that was taken
+abbrev pub reader_with_empty : ReaderState → ReaderState
+reader_with_empty reader = record reader { seen_empty = reader.seen_empty ++ length reader.taken ∷ [] }
 
 abbrev pub seat_with : Option TableId → ℕ → ℕ → ℕ → Seat
 seat_with queue submitters limit number =

@@ -1,5 +1,5 @@
 -- The queue's rule: what was taken followed by what is queued has, as each sender's part, just what its pass pushed.
-use Rattle.std.specs.Prelude.{◌≡◌, ℕ, ◌+◌, ◌<◌, ◌≤◌, ◌⊎◌, List, [], ◌∷◌, ◌++◌, Option, Some, None, ⊤}
+use Rattle.std.specs.Prelude.{◌≡◌, ℕ, ◌+◌, ◌<◌, ◌≤◌, ◌⊎◌, List, [], ◌∷◌, ◌++◌, length, Option, Some, None, ⊤}
 use Rattle.std.specs.List.{AllByRecursion}
 use mathlib.Core.Option.{some}
 use lib.ListN.{get_elem?}
@@ -22,12 +22,14 @@ view_with entries mark = record { entries = entries; mark = mark }
 abbrev pub sender : ℕ → List Item → View
 sender number pushed = view_with (entry number pushed ∷ []) None
 
--- the intake's pass: what was taken, and how many numbers were given out
-abbrev pub intake : List PassEntry → List Ticket → ℕ → View
-intake entries taken count = view_with entries (Some (record { taken = taken; count = count }))
+-- the intake's pass: what was taken, how many numbers were given out, and after how many tickets the queue was seen
+-- empty
+abbrev pub intake : List PassEntry → List Ticket → ℕ → List ℕ → View
+intake entries taken count seen_empty =
+    view_with entries (Some (record { taken = taken; count = count; seen_empty = seen_empty }))
 
 abbrev pub opening : View
-opening = intake [] [] 0
+opening = intake [] [] 0 []
 
 -- a pass that was joined to another
 abbrev pub empty_view : View
@@ -41,7 +43,8 @@ next_of (Some mark) = mark.count
 
 abbrev pub one_number_more : Option IntakeMark → Option IntakeMark
 one_number_more None = None
-one_number_more (Some mark) = Some (record { taken = mark.taken; count = mark.count + 1 })
+one_number_more (Some mark) =
+    Some (record { taken = mark.taken; count = mark.count + 1; seen_empty = mark.seen_empty })
 
 abbrev pub view_counting_on : View → View
 view_counting_on view = view_with view.entries (one_number_more view.mark)
@@ -61,10 +64,20 @@ with_pushed view ticket = view_with (first_entry_with ticket.item view.entries) 
 
 abbrev pub taken_more : Ticket → Option IntakeMark → Option IntakeMark
 taken_more ticket None = None
-taken_more ticket (Some mark) = Some (record { taken = mark.taken ++ ticket ∷ []; count = mark.count })
+taken_more ticket (Some mark) =
+    Some (record { taken = mark.taken ++ ticket ∷ []; count = mark.count; seen_empty = mark.seen_empty })
 
 abbrev pub with_taken : View → Ticket → View
 with_taken view ticket = view_with view.entries (taken_more ticket view.mark)
+
+-- the queue was seen empty, after all that was taken
+abbrev pub empty_more : Option IntakeMark → Option IntakeMark
+empty_more None = None
+empty_more (Some mark) =
+    Some (record { taken = mark.taken; count = mark.count; seen_empty = mark.seen_empty ++ length mark.taken ∷ [] })
+
+abbrev pub view_seen_empty : View → View
+view_seen_empty view = view_with view.entries (empty_more view.mark)
 
 -- ---- the rule
 

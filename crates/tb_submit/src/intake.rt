@@ -1,7 +1,7 @@
 //! The intake.
 
 ghost use Rattle.std.specs.Prelude.{◌≡◌, ◌+◌, ◌≤◌, [], IfSome, IfNone};
-ghost use Rattle.tb_submit.specs.Ends.{new_intake, with_taken};
+ghost use Rattle.tb_submit.specs.Ends.{new_intake, with_empty, with_taken};
 
 use crate::reader::Reader;
 use std::marker::Model;
@@ -29,6 +29,7 @@ impl Model for Intake {
       limit = i.limit;
       capacity = i.reader.capacity;
       taken = i.reader.taken;
+      seen_empty = i.reader.seen_empty;
     } };
 
     ghost invariant = { λ i. (i.reader.entries ≡ []) × (i.reader.count ≡ i.submitters + 1) };
@@ -39,7 +40,7 @@ impl Intake {
     pub(crate) fn new(reader: Reader, submitters: u32, limit: u32) -> Intake
         requires entries { reader.entries ≡ [] }
         requires count { reader.count ≡ submitters + 1 }
-        requires none { reader.taken ≡ [] }
+        requires none { (reader.taken ≡ []) × (reader.seen_empty ≡ []) }
         ensures { result ≡ new_intake reader.queue submitters limit reader.capacity }
     {
         Intake {
@@ -49,10 +50,11 @@ impl Intake {
         }
     }
 
-    /// Takes the front of the queue; None only where the queue was empty at some moment of the call. Takes no memory.
+    /// Takes the front of the queue; None only where the queue was empty at some moment of the call;
+    /// `seen_empty` records each None. Takes no memory.
     pub fn take<R: Wait>(&mut self, rt: &R) -> Option<Ticket>
         ensures some { IfSome result (λ ticket. self.new ≡ with_taken self.old ticket) }
-        ensures none { IfNone result (self.new ≡ self.old) }
+        ensures none { IfNone result (self.new ≡ with_empty self.old) }
         ensures sender { IfSome result (λ ticket. ticket.sender ≤ self.old.submitters) }
     {
         self.reader.take(rt)

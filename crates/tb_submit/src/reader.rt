@@ -2,11 +2,11 @@
 
 ghost use Rattle.std.specs.Prelude.{◌≡◌, ◌+◌, ◌<◌, [], ◌∷◌, ◌++◌, List, Some, OnOk, IfOk, IfSome, IfNone};
 ghost use Rattle.tb_work.specs.declared.item.Ticket.{Ticket};
-ghost use Rattle.tb_submit.specs.Inside.{seat_with};
+ghost use Rattle.tb_submit.specs.Inside.{reader_with_empty, seat_with};
 ghost use Rattle.tb_submit.specs.Lists.{IsCompleteQueue};
 ghost use Rattle.tb_submit.specs.Rule.{entry, IsWhole};
 
-use crate::rule::{Gathers, Newcomer, Queue, QueuePass, Queued, Taken};
+use crate::rule::{Gathers, Newcomer, Queue, QueuePass, Queued, SeenEmpty, Taken};
 use crate::sender::{EndedSender, Sender};
 use std::alloc::Global;
 use std::marker::Model;
@@ -40,7 +40,7 @@ impl Model for Reader {
     ghost use Rattle.std.specs.Prelude.{◌≡◌};
     ghost use Rattle.std.specs.Arc.{arc_value};
     ghost use Rattle.crossbeam_queue.specs.Passes.{IsPassOf, ruled_capacity};
-    ghost use Rattle.tb_submit.specs.Inside.{ReaderState, taken_of, count_of, view_of};
+    ghost use Rattle.tb_submit.specs.Inside.{ReaderState, taken_of, count_of, seen_empty_of, view_of};
     ghost use Rattle.tb_submit.specs.Rule.{intake};
 
     ghost Value = { ReaderState };
@@ -51,18 +51,20 @@ impl Model for Reader {
       entries = (view_of s.pass).entries;
       taken = taken_of (view_of s.pass).mark;
       count = count_of (view_of s.pass).mark;
+      seen_empty = seen_empty_of (view_of s.pass).mark;
     } };
 
     ghost invariant = { λ s. IsPassOf (arc_value s.queue) s.pass
         × (view_of s.pass ≡ intake (view_of s.pass).entries (taken_of (view_of s.pass).mark)
-        (count_of (view_of s.pass).mark)) };
+        (count_of (view_of s.pass).mark) (seen_empty_of (view_of s.pass).mark)) };
 }
 
 impl Reader {
     /// The pass that takes from a new queue of so many places.
     pub(crate) fn new(alloc: Global, capacity: usize) -> Result<Reader, NoMemory>
         requires { 0 < capacity }
-        ensures fresh { IfOk result (λ reader. (reader.entries ≡ []) × (reader.taken ≡ []) × (reader.count ≡ 0)) }
+        ensures fresh { IfOk result (λ reader. (reader.entries ≡ []) × (reader.taken ≡ []) × (reader.count ≡ 0)
+            × (reader.seen_empty ≡ [])) }
         ensures capacity { IfOk result (λ reader. reader.capacity ≡ capacity) }
     {
         let sleeper = Sleeper::new(alloc)?;
@@ -84,7 +86,8 @@ impl Reader {
     ) -> Result<Sender, NoMemory>
         requires { number ≡ self.old.count }
         ensures queue { (self.new.queue ≡ self.old.queue) × (self.new.capacity ≡ self.old.capacity) }
-        ensures same { (self.new.entries ≡ self.old.entries) × (self.new.taken ≡ self.old.taken) }
+        ensures same { (self.new.entries ≡ self.old.entries) × (self.new.taken ≡ self.old.taken)
+            × (self.new.seen_empty ≡ self.old.seen_empty) }
         ensures count { OnOk result (self.new.count ≡ self.old.count + 1) }
         ensures sender { IfOk result (λ sender. sender
             ≡ record { seat = seat_with (Some self.old.queue) submitters limit number; queued = [] }) }
@@ -102,13 +105,24 @@ impl Reader {
         })
     }
 
+    /// Records that the queue was seen empty. Only proofs see the record; the cost is one load.
+    fn note_empty(&mut self)
+        ensures { self.new ≡ reader_with_empty self.old }
+    {
+        drop(self.queue.another::<SeenEmpty>(&mut self.pass));
+    }
+
     /// Takes the front of the queue; None only where it was empty at some moment of the call.
     pub(crate) fn take<R: Wait>(&mut self, rt: &R) -> Option<Ticket>
         ensures some { IfSome result (λ ticket. self.new ≡ record self.old { taken = self.old.taken ++ ticket ∷ [] }) }
-        ensures none { IfNone result (self.new ≡ self.old) }
+        ensures none { IfNone result (self.new ≡ reader_with_empty self.old) }
         ensures sender { IfSome result (λ ticket. ticket.sender < self.old.count) }
     {
-        self.queue.pop_as::<Taken, R>(rt, &mut self.pass)
+        let ticket = self.queue.pop_as::<Taken, R>(rt, &mut self.pass);
+        if ticket.is_none() {
+            self.note_empty();
+        }
+        ticket
     }
 
     /// Waits as `Sleeper::wait` does; each push wakes it.

@@ -12,10 +12,11 @@ pub struct PassEntry {
     pub pushed: LinkedList<Item>,
 }
 
-/// What the intake took, and how many numbers were given out.
+/// What the intake took, how many numbers were given out, and after how many tickets the queue was seen empty.
 pub struct IntakeMark {
     pub taken: LinkedList<Ticket>,
     pub count: u32,
+    pub seen_empty: LinkedList<u64>,
 }
 
 /// What a pass knows.
@@ -44,6 +45,17 @@ impl Split<View> for Newcomer {
     ghost left = { view_counting_on };
 
     ghost right = { newcomer };
+}
+
+/// The intake's pass records that the queue was seen empty; the new pass knows nothing.
+pub struct SeenEmpty;
+
+impl Split<View> for SeenEmpty {
+    ghost use Rattle.tb_submit.specs.Rule.{view_seen_empty, empty_view};
+
+    ghost left = { view_seen_empty };
+
+    ghost right = { λ view. empty_view };
 }
 
 /// A pass takes in what another knows.

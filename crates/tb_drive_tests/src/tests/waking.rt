@@ -6,7 +6,7 @@ use std::sync::Wait;
 use std::test::Fail;
 use std::thread;
 use std::thread::Threads;
-use tb_drive::{Action, ControlLines, Driver, Finished, LinesDriver, drive_all};
+use tb_drive::{Action, ControlPlan, Driver, Finished, PlanDriver, drive_all};
 use tb_pipe::open;
 use tb_work::{Refusal, Reply};
 
@@ -66,7 +66,7 @@ impl Driver for Sender {
 }
 
 /// How many replies each driver was given.
-fn replies_to(alloc: Global, finished: Finished<Sender, LinesDriver>) -> Result<Vec<u32>, Fail> {
+fn replies_to(alloc: Global, finished: Finished<Sender, PlanDriver>) -> Result<Vec<u32>, Fail> {
     let mut replies = Vec::new(alloc);
     for driver in &finished.drivers {
         replies.push(driver.replies)?;
@@ -92,7 +92,7 @@ fn replies_of<R: Threads + Wait + Sync>(
         alloc,
         opened,
         drivers,
-        ControlLines::none(alloc).driver(),
+        ControlPlan::none(alloc).driver(),
     ) {
         Ok(finished) => replies_to(alloc, finished),
         Err(_) => Err("the run is given up")?,

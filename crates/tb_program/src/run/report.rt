@@ -18,7 +18,7 @@ use std::alloc::{AllocError, Global};
 use std::marker::Model;
 use std::vec::IntoIter;
 use tb_core::{Entry, Ledger};
-use tb_drive::{Finished, LinesDriver};
+use tb_drive::{Finished, PlanDriver};
 use tb_layout::NoMemory;
 use tb_pipe::Report;
 use tb_program_text::{put_pulse, put_refused, put_refused_pulse, put_reply, put_state};
@@ -219,7 +219,7 @@ fn text_with_room(alloc: Global, ledger: &Ledger) -> Result<String, AllocError>
 }
 
 /// A text with all lines of a run added to it.
-fn with_run(text: String, finished: Finished<ScriptDriver, LinesDriver>) -> Result<String, NoMemory>
+fn with_run(text: String, finished: Finished<ScriptDriver, PlanDriver>) -> Result<String, NoMemory>
     requires few { length finished.drivers.items ≤ submitters_max }
     requires number { length finished.report.ends.items ≡ length finished.drivers.items }
     requires answered { AreAllAnswered finished.drivers.items finished.report.ends.items }
@@ -233,6 +233,7 @@ fn with_run(text: String, finished: Finished<ScriptDriver, LinesDriver>) -> Resu
         report,
         drivers,
         control,
+        ..
     } = finished;
     let Report { ledger, ends } = report;
     let mut out = text;
@@ -246,7 +247,7 @@ fn with_run(text: String, finished: Finished<ScriptDriver, LinesDriver>) -> Resu
 /// room for the shortest lines of what was committed.
 pub fn text_of(
     alloc: Global,
-    finished: Finished<ScriptDriver, LinesDriver>,
+    finished: Finished<ScriptDriver, PlanDriver>,
 ) -> Result<String, NoMemory>
     requires few { length finished.drivers.items ≤ submitters_max }
     requires number { length finished.report.ends.items ≡ length finished.drivers.items }

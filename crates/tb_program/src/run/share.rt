@@ -6,7 +6,7 @@ ghost use Rattle.tb_program_script.specs.declared.item.ScriptItem.{ScriptItem as
 ghost use Rattle.tb_program_script.specs.declared.item.ScriptItem.TheVariants.{Packet as PacketItem};
 
 use std::alloc::Global;
-use tb_drive::ControlLines;
+use tb_drive::ControlPlan;
 use tb_layout::NoMemory;
 use tb_program_script::{ScriptItem, Submission};
 use tb_program_text::packet_of;
@@ -16,7 +16,7 @@ use tb_work::Packet;
 #[derive(Drop)]
 pub struct Shares {
     pub packets: Vec<Vec<Packet>>,
-    pub lines: ControlLines,
+    pub lines: ControlPlan,
 }
 
 impl Shares {
@@ -32,7 +32,7 @@ impl Shares {
         }
         Ok(Shares {
             packets,
-            lines: ControlLines::none(alloc),
+            lines: ControlPlan::none(alloc),
         })
     }
 

@@ -1,5 +1,5 @@
 use Rattle.std.proofs.Common.{rules, []}
-use Rattle.tb_drive.specs.Lines.{pulse_of}
+use Rattle.tb_drive.specs.Plan.{pulse_of}
 use Rattle.tb_drive.proofs.Pulsed.{has_queued_more, nothing_queued}
 use Rattle.tb_drive.proofs.controlling.follow.Goals as goal
 

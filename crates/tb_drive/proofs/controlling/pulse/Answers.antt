@@ -1,6 +1,6 @@
 use Rattle.std.proofs.Common.{rules, ◌≡◌, true, false, subst, sym}
 use Rattle.tb_work.specs.declared.refusal.Refusal.TheVariants.{MomentTooLarge}
-use Rattle.tb_drive.specs.Lines.{is_refused}
+use Rattle.tb_drive.specs.Plan.{is_refused}
 use Rattle.tb_drive.proofs.Pulsed.{none_queued, queued_told, refused_told}
 use Rattle.tb_drive.proofs.controlling.pulse.Goals as goal
 

@@ -1,12 +1,13 @@
 use Rattle.std.proofs.Common.{◌≡◌, []}
 use Rattle.tb_rings.specs.Ends.{given, SameOutlet}
 use Rattle.tb_pipe.specs.Carried.{IsBatched}
+use Rattle.tb_pipe.proofs.Batches.{IsSameIntake}
 use Rattle.tb_pipe.proofs.batching.batch_all.Given as goal
 
 abbrev pub invariant-loop : goal.invariant-loop
 invariant-loop g l = record {
-  ring : SameOutlet l.initial.batches l.batches;
-  intake : l.intake ≡ record l.initial.intake { taken = l.intake.taken };
+  ring : SameOutlet l.initial.ring.outlet l.ring.outlet;
+  intake : IsSameIntake l.initial.intake l.intake;
   none : l.parcels.items ≡ [];
-  batched : IsBatched l.initial.intake.limit l.initial.intake.submitters l.intake.taken l.front (given l.batches);
+  batched : IsBatched l.intake l.front (given l.ring.outlet);
 }

@@ -1,6 +1,6 @@
 use Rattle.std.proofs.Common.{refl, ◌∙◌, subst, Bool, ◌++◌, ◌∷◌, []}
 use Rattle.tb_rings.specs.Ends.{given, taken}
-use Rattle.tb_pipe.specs.Carried.{AreCleared, CommittedTo}
+use Rattle.tb_pipe.specs.Carried.{CommittedTo}
 use Rattle.tb_pipe.proofs.Cleared.{none_cleared, one_cleared}
 use Rattle.tb_pipe.proofs.committing.commit_all.Goals as goal
 

@@ -1,8 +1,12 @@
 use Rattle.std.proofs.Common.{◌∙◌, ap, arith, rules, subst, sym, ℕ, []}
+use Rattle.tb_core.specs.Front.{FrontState}
 use Rattle.tb_core.specs.Grouping.{AreJoined}
 use Rattle.tb_core.specs.Journal.{LedgerState}
 use Rattle.tb_core.specs.Run.{Commits}
-use Rattle.tb_submit.specs.Ends.{seat_at}
+use Rattle.tb_rings.specs.Ends.{given}
+use Rattle.tb_submit.specs.Ends.{IntakeState, seat_at}
+use Rattle.tb_pipe.specs.Carried.{IsBatched}
+use Rattle.tb_pipe.proofs.Fresh.{fresh_batched}
 use Rattle.tb_pipe.proofs.Origins.{length-origins, seat-origins}
 use Rattle.tb_pipe.proofs.opening.open_with.Goals as goal
 
@@ -25,4 +29,14 @@ invariant_of-result c =
     subst (λ ledger. Commits c.args.ledger.opening [] ledger []) (sym c.requires) (search rules) in
     let joined : (limit : ℕ) → AreJoined limit c.args.ledger.groups =
     subst (λ (ledger : LedgerState). (limit : ℕ) → AreJoined limit ledger.groups) (sym c.requires) (search rules) in
-    search (rules, commits, joined)
+    let intake = c.in_ok-ends.ends.intake in
+    let intake_is = c.in_ok-ends.ensures.intake in
+    let front = c.in-Ok.front in
+    let front_is = c.in-Ok.ensures.front in
+    let batched : IsBatched intake front (given c.in-Some.rings.batches) =
+    fresh_batched intake front (given c.in-Some.rings.batches)
+    (ap (λ (f : FrontState). f.limit) front_is ∙ sym (ap (λ (i : IntakeState). i.limit) intake_is))
+    (ap (λ (f : FrontState). f.submitters) front_is ∙ sym (ap (λ (i : IntakeState). i.submitters) intake_is))
+    c.in-Ok.ensures.passes c.in-Ok.ensures.ends (ap (λ (f : FrontState). f.held) front_is)
+    (ap (λ (i : IntakeState). i.taken) intake_is) c.in-Some.ensures.empty.0 in
+    search (rules, commits, joined, batched)

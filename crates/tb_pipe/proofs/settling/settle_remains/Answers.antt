@@ -4,7 +4,7 @@ use Rattle.tb_core.specs.Journal.{inputs}
 use Rattle.tb_core.specs.Report.{IsPrefix, LawfulReport}
 use Rattle.tb_rings.specs.Ends.{given, taken, lies}
 use Rattle.std.proofs.lemmas.List.{length-map}
-use Rattle.tb_submit.specs.Ends.{EndedState, SenderState, end_origin, queued_by, replies_of, seat_at}
+use Rattle.tb_submit.specs.Ends.{EndedState, SenderState, end_origin, queued_by, seat_at}
 use Rattle.tb_pipe.proofs.Origins.{length-origins}
 use Rattle.tb_pipe.specs.Carried.{answers_in}
 use Rattle.tb_pipe.specs.Run.{run_of}
@@ -23,7 +23,7 @@ run c =
     let outs : taken remains.routed.inlet ++ lies c.lying-2.new.self
     ≡ given remains.committed.outlet =
     ap (λ x. x ++ lies c.lying-2.new.self) (sym two.same.0) ∙ two.all ∙ two.same.1 in
-    drained remains.committed.ledger.opening remains.intake.limit remains.intake.submitters remains.intake.taken
+    drained remains.committed.ledger.opening remains.intake
     (given remains.batches) (taken remains.committed.inlet) (lies c.lying.new.self) remains.committed.ledger
     (given remains.committed.outlet) (taken remains.routed.inlet)
     (lies c.lying-2.new.self) is.batched is.committed parcels outs is.routed.ended

@@ -5,9 +5,9 @@ use Rattle.std.specs.declared.alloc.Global.{Global}
 use Rattle.tb_core.specs.Journal.{inputs}
 use Rattle.tb_core.specs.Headline.{moments_in, moments_queued}
 use Rattle.tb_core.specs.Report.{IsPrefix}
-use Rattle.tb_drive.specs.Lines.{lines_of, refused_of}
+use Rattle.tb_drive.specs.Plan.{planned_items, refused_of, with_items}
 use Rattle.tb_drive.specs.Seen.{jobs_in}
-use Rattle.tb_submit.specs.Ends.{replies_of}
+use Rattle.tb_submit.specs.Ends.{queued_by, replies_of}
 use Rattle.tb_work.specs.Packet.{ReplyValue}
 use Rattle.tb_work.specs.declared.item.Item.{Item}
 use Rattle.tb_program.specs.Drivers.{HasSeenOf, share_of, told_of}
@@ -36,14 +36,15 @@ returns-in_ok-text_of-in-Ok g c =
     let ledger = finished.report.ledger in
     let drivers = finished.drivers.items in
     let told = map told_of drivers in
-    let lines = lines_of c.args.lines.moments.items c.args.lines.shuts in
+    let lines = planned_items c.args.lines.moments.items c.args.lines.shuts in
     let moments = c.driver.ensures.moments in
-    let queued : items ≡ lines = ended.0
-    ∙ ap (λ (m : Vec ℕ Global). lines_of m.items c.driver.result.shuts) moments
-    ∙ ap (λ shuts. lines_of c.args.lines.moments.items shuts) c.driver.ensures.shuts in
+    let all_lines : items ≡ lines = ended.0
+    ∙ ap (λ (m : Vec ℕ Global). planned_items m.items c.driver.result.shuts) moments
+    ∙ ap (λ shuts. planned_items c.args.lines.moments.items shuts) c.driver.ensures.shuts in
     let counted : finished.control.refused ≡ refused_of c.args.lines.moments.items = ended.1
     ∙ ap (λ (m : Vec ℕ Global). refused_of m.items) moments in
-    let all : opened.control.queued ++ items ≡ lines = ap (λ before. before ++ items) c.requires.silent ∙ queued in
+    let queued = queued_by finished.unsettled.value.items (with_items opened.control items) in
+    let all : opened.control.queued ++ items ≡ lines = ap (λ before. before ++ items) c.requires.silent ∙ all_lines in
     let replies = replies_of finished.report.ends.items in
     let shares : map share_of drivers ≡ map share_of c.args.drivers.items = c.in-Ok.ensures.shares in
     let long = length-map c.args.drivers.items share_of ∙ c.requires.number ∙ c.requires.together.2 in
@@ -53,7 +54,7 @@ returns-in_ok-text_of-in-Ok g c =
         limit = opened.pipeline.intake.limit;
         submitters = opened.pipeline.intake.submitters;
         queue = reported.queue;
-        queued = reported.queued;
+        queued = queued;
         ledger = ledger;
         replies = replies;
       };
@@ -62,11 +63,11 @@ returns-in_ok-text_of-in-Ok g c =
       submitters_are = sym long;
       report = reported.report;
       grouping = reported.grouping;
-      control = reported.control ∙ all;
+      control = reported.controlled ∙ all;
       pulses = subst (λ controlled. IsPrefix (moments_in (inputs ledger)) (moments_queued controlled)) all
           reported.pulses;
       number = length-map drivers told_of ∙ sym (length-map drivers share_of) ∙ ap length shares;
-      handed = subst (λ all. AreHandedIn opened.pipeline.intake.limit replies all told reported.queued) shares
+      handed = subst (λ all. AreHandedIn opened.pipeline.intake.limit replies all told queued) shares
           (all_handed_in reported c.in_ok-text_of-in-Ok.ensures.done);
       printed = subst (λ refused. string_bytes c.in_ok-text_of-in-Ok.field-0
           ≡ run_text told replies (inputs ledger) refused ledger.state) counted

@@ -1,0 +1,13 @@
+use Rattle.std.proofs.Common.{[], ◌∷◌, subst}
+use Rattle.tb_drive.specs.Plan.{last_item}
+use Rattle.tb_drive.specs.Tasks.{ControlTaskState}
+use Rattle.tb_drive.specs.Threads.{HasQueued}
+use Rattle.tb_drive.proofs.Pulsed.{has_queued_more}
+use Rattle.tb_drive.proofs.controlling.ControlTask.drive.Goals as goal
+
+pub returns : goal.returns
+returns g c =
+    subst (λ (task : ControlTaskState _). HasQueued task.control c.in_ok-end.end
+    (g.C.ControlDriver.has_ended task.driver c.follow.new.driver)) c.self.view_is
+    (has_queued_more _ c.follow.new.control _ (last_item c.in_ok-shuts.shuts ∷ []) _ _
+    (c.in_ok-shuts.ensures c.self.invariant) c.in_ok-end.ensures (λ items had. had))

@@ -1,0 +1,47 @@
+use Rattle.std.proofs.Common.{rules, ◌≡◌, ◌∙◌, ◌∷◌, ◌++◌, [], append_assoc, length, map, refl, ap, sym, arith}
+use Rattle.std.proofs.lemmas.List.{map-append}
+use Rattle.std.specs.Vec.Iter.{into_iter_items}
+use Rattle.tb_submit.specs.Ends.{origin_of}
+use Rattle.tb_drive.specs.Tasks.{SubmitterTaskState, task_origin, task_share, task_submitter}
+use Rattle.tb_drive.proofs.Seen.{first_has, others_have}
+use Rattle.tb_drive.proofs.threads.assign.Goals as goal
+
+pub invariant_of-push : goal.invariant_of-push
+invariant_of-push g c =
+    let submitters : c.loop-submitter.submitter-iterator.rest.items
+    ≡ c.in-Some.submitter ∷ c.next.new.self.rest.items = search rules in
+    let drivers : into_iter_items c.loop-submitter.drivers
+    ≡ c.in-Some-next.driver ∷ into_iter_items c.next-in-loop-submitter.new.self =
+    c.in-Some-next.ensures.items in
+    first_has g.D.Driver.has_seen drivers submitters c.loop-submitter.invariant.seen
+
+pub loop-submitter-preserved : goal.loop-submitter-preserved
+loop-submitter-preserved g c =
+    let submitters : c.loop-submitter.submitter-iterator.rest.items
+    ≡ c.in-Some.submitter ∷ c.next.new.self.rest.items = search rules in
+    let drivers : into_iter_items c.loop-submitter.drivers
+    ≡ c.in-Some-next.driver ∷ into_iter_items c.next-in-loop-submitter.new.self =
+    c.in-Some-next.ensures.items in
+    let all = c.loop-submitter.all.items in
+    let driver = c.in-Some-next.driver in
+    let task : SubmitterTaskState = record { submitter = c.in-Some.submitter; share = g.D.Driver.share driver } in
+    let pushed : c.push.new.self.items ≡ all ++ task ∷ [] = c.in_ok-push.ensures.items in
+    record {
+      own = rw (
+        pushed,
+        map-append task_origin all (task ∷ []),
+        map-append origin_of c.loop-submitter.yielded
+            (c.in-Some.submitter ∷ []),
+        c.loop-submitter.invariant.own,
+      ) refl;
+      submitters = rw (pushed, map-append task_submitter all (task ∷ []), c.loop-submitter.invariant.submitters) refl;
+      shares = rw (pushed, map-append task_share all (task ∷ []))
+          (append_assoc (map task_share all) (g.D.Driver.share driver ∷ []) _
+          ∙ sym (ap (λ ds. map task_share all ++ map g.D.Driver.share ds) drivers)
+          ∙ c.loop-submitter.invariant.shares);
+      long = omega (arith, c.loop-submitter.invariant.long, ap length drivers, ap length submitters);
+      seen = others_have g.D.Driver.has_seen drivers submitters c.loop-submitter.invariant.seen;
+    }
+
+pub loop-submitter-init : goal.loop-submitter-init
+loop-submitter-init g c = search rules

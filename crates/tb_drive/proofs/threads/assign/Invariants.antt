@@ -1,0 +1,16 @@
+use Rattle.std.proofs.Common.{◌≡◌, ◌++◌, map, length}
+use Rattle.std.specs.Vec.Iter.{into_iter_items}
+use Rattle.tb_submit.specs.Ends.{origin_of}
+use Rattle.tb_drive.specs.Tasks.{task_origin, task_share, task_submitter}
+use Rattle.tb_drive.specs.Seen.{HaveSeen}
+use Rattle.tb_drive.proofs.threads.assign.Given as goal
+
+abbrev pub invariant-loop-submitter : goal.invariant-loop-submitter
+invariant-loop-submitter g l = record {
+  own : map task_origin l.all.items ≡ map origin_of l.yielded;
+  submitters : map task_submitter l.all.items ≡ l.yielded;
+  shares : map task_share l.all.items ++ map g.D.Driver.share (into_iter_items l.drivers)
+      ≡ map g.D.Driver.share l.fn.drivers.items;
+  long : length (into_iter_items l.drivers) ≡ length l.submitter-iterator.rest.items;
+  seen : HaveSeen g.D.Driver.has_seen (into_iter_items l.drivers) l.submitter-iterator.rest.items;
+}
