@@ -10,7 +10,7 @@ use Rattle.example_payments.specs.Desk.{HasCounted, IsNew}
 use Rattle.example_payments.specs.Ready.{IsUnread}
 use Rattle.example_payments.specs.declared.desk.Desk.{Desk}
 
--- a submitter for which a packet is queued has read nothing if it hadn't before
+-- a submitter with a packet queued has read nothing if it hadn't before
 pub unread_still : (before after : List SubmitterState) (desk number : ℕ) (packet : Packet) → desk < length before
     → All IsUnread before
     → ((submitter : SubmitterState) → slice_get before desk ≡ Some submitter

@@ -27,7 +27,7 @@ pub struct Desk {
 impl Desk {
     ghost use Rattle.example_payments.specs.Desk.{HasCounted};
 
-    /// Returns a desk for these orders, of which `ahead` packets are queued already.
+    /// Returns a desk for these orders; `ahead` of its packets are queued already.
     pub fn new(alloc: Global, till: Till, orders: Vec<Order>, ahead: usize) -> Desk
         ensures { HasCounted result.tally [] }
     {

@@ -33,7 +33,7 @@ pulse_in_range moment in_range = ap (λ refused. if refused then [] else item.Pu
 pulse_out_of_range : (moment : ℕ) → is_refused moment ≡ true → pulse_of moment ≡ []
 pulse_out_of_range moment out = ap (λ refused. if refused then [] else item.Pulse moment ∷ []) out
 
--- what is so of what was queued after a pulse was told of, in both cases
+-- what holds of the items queued after the result of a pulse, in both cases
 pub queued_told : (has : List Item → Type 0) (items : List Item) (moment : ℕ) → is_refused moment ≡ false
     → has (items ++ item.Pulse moment ∷ []) → has (items ++ pulse_of moment)
 queued_told has items moment in_range told =
@@ -100,7 +100,7 @@ pub none_queued : (control now : SenderState) (moment : ℕ) → is_refused mome
 none_queued control now moment out same =
     same ∙ nothing_queued control ∙ ap (λ items. with_items control items) (sym (pulse_out_of_range moment out))
 
--- what was queued in two turns, the second of which changes what is known
+-- what was queued in two turns, if the second changes what is known
 pub has_queued_more : (before now next : SenderState) (more : List Item) (had have : List Item → Type 0)
     → HasQueued before now had → next ≡ with_items now more
     → ((items : List Item) → had items → have (items ++ more)) → HasQueued before next have

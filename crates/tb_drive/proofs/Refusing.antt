@@ -1,4 +1,4 @@
--- What a driver is told of a refused packet.
+-- What a driver learns of a refused packet.
 use Rattle.std.proofs.Common.{◌≡◌, ◌⊎◌, Bool, true, false, Option, Some, None, refl, ⊎_elim}
 use Rattle.std.specs.Prelude.{◌==◌, if◌then◌else◌}
 use Rattle.tb_submit.specs.Ends.{SubmitterState}

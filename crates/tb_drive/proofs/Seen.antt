@@ -7,7 +7,7 @@ use Rattle.tb_work.specs.Packet.{Numbered, ReplyValue}
 use Rattle.tb_work.specs.declared.item.Item.{Item}
 use Rattle.tb_drive.specs.Seen.{AreFronts, HaveSeen, HaveSeenEnds, HasSeen, HasSeenEnd, IsFront, jobs_in}
 
--- what a submitter queued stands in its end
+-- what a submitter queued is in its end
 queued_by_end : (ends : List EndedState) (control : SenderState) (k : ℕ) (ended : EndedState)
     → slice_get ends k ≡ Some ended → queued_by ends control k ≡ ended.queued
 queued_by_end [] control k ended is = cc

@@ -8,14 +8,15 @@ use Rattle.tb_drive.specs.declared.control_driver.ControlAction.TheVariants as c
 use Rattle.tb_drive.specs.declared.driver.Action.{Action}
 use Rattle.tb_drive.specs.declared.driver.Action.TheVariants.{Submit, Receive, End}
 
--- one thing is so of the packet that is to be queued, another where there is none, and a third one besides at the end
+-- the claim that holds after an action: one of the packet to be queued, one if there is none, and at the end one
+-- besides
 abbrev pub GoesOn : Action → (packets.Packet → Type 0) → Type 0 → Type 0 → Type 0
 GoesOn (Submit packet) asks keeps ends = asks packet
 GoesOn Receive asks keeps ends = keeps
 GoesOn End asks keeps ends = keeps × ends
 
--- one thing is so of the moment of the pulse that is to be queued, one if the control waits, and one of the item by which
--- it ends
+-- the claim that holds after an action of the control: one of the pulse's moment, one if it waits, and one of the item
+-- by which it ends
 abbrev pub ControlsOn : ControlAction → (ℕ → Type 0) → Type 0 → (Item → Type 0) → Type 0
 ControlsOn (control.Pulse moment) asks keeps ends = asks moment
 ControlsOn control.Wait asks keeps ends = keeps

@@ -21,7 +21,7 @@ pulses_of moments = flat_map pulse_of moments
 abbrev pub refused_of : List ℕ → ℕ
 refused_of moments = count_by is_refused moments
 
--- the item by which the control ends
+-- the control's last item
 abbrev pub last_item : Bool → Item
 last_item true = item.Close
 last_item false = item.End
@@ -44,7 +44,7 @@ HasPulsed first driver asked items =
 abbrev pub HasQueuedOf : PlanDriver → PlanDriver → List Item → Type 0
 HasQueuedOf first driver items = HasPulsed first driver driver.next items
 
--- the same, while it wasn't told of the last pulse yet
+-- the same, before the result of the last pulse is known
 abbrev pub HasAskedOf : PlanDriver → PlanDriver → ℕ → List Item → Type 0
 HasAskedOf first driver moment items =
     (asked : ℕ) × (driver.next ≡ asked + 1) × (asked + 1 < 2 ^ 64)

@@ -7,11 +7,11 @@ use Rattle.tb_work.specs.declared.packet.Packet.{Packet}
 use Rattle.tb_work.specs.declared.refusal.Refusal.{Refusal}
 use Rattle.tb_work.specs.declared.refusal.Refusal.TheVariants.{NoMemory}
 
--- a reply read that told of a shutdown or a stop, and then the packet itself; a credit that is used up is none
+-- the first reply read with a shutdown or a stop, and then the packet's own admission; a used-up credit is none
 abbrev pub final_refusal : ℕ → List ReplyValue → Packet → Option Refusal
 final_refusal limit read packet = or_else (told_in read) (refusal_in (admission_of limit packet))
 
--- the refusal is the one that is due, or where none is, want of memory, if the packet takes any
+-- the refusal is the one that is due, or if none is, NoMemory, if the packet takes any
 abbrev pub IsFinalRefusal : ℕ → List ReplyValue → Packet → Refusal → Type 0
 IsFinalRefusal limit read packet refusal =
     IsRefusal (final_refusal limit read packet) (λ other. (other ≡ NoMemory) × TakesMemory packet) refusal

@@ -21,10 +21,10 @@ AreTogether pipeline submitters control =
     (map origin_of submitters ≡ pipeline.submitters) × (control.seat ≡ control_seat pipeline.intake)
     × (length pipeline.submitters ≡ pipeline.intake.submitters)
 
--- Of a pipeline with this clock and this limit, the report is lawful of some queue that its senders filled. What each
--- submitter queued is what its end says that wasn't settled yet, and what it had queued before is the front part of
--- that; the control queued what is given. Each end is settled, and each driver has seen what its submitter queued and
--- read, and was asked until it ended.
+-- The report of a pipeline with this clock and this limit is lawful, of some queue that its senders filled. Each
+-- submitter queued what its end says before it was settled, and what it had queued before the run comes first; the
+-- control queued what is given. Each end is settled. Each driver has seen what its submitter queued and read, and was
+-- asked until it ended.
 pub record HasReported {D : Type 0} (has_seen has_ended : D → ℕ → List Numbered → List ReplyValue → Type 0)
     (clock limit submitters : ℕ) (before : List SubmitterState) (unsettled : List EndedState) (control : SenderState)
     (drivers : List D) (ledger : LedgerState) (ends : List EndedState) : Type 0 where

@@ -4,7 +4,7 @@ use Rattle.tb_submit.specs.Ends.{EndedState, IntakeState, Origin, SenderState, S
 use Rattle.tb_work.specs.declared.packet.Packet.{Packet}
 use Rattle.tb_drive.specs.Seen.{AreFronts, IsFront}
 
--- a submitter with its driver, of which the share is seen
+-- a submitter with its driver, whose share is seen
 pub record SubmitterTaskState : Type 0 where
   pub submitter : SubmitterState
   pub share : List Packet

@@ -47,9 +47,9 @@ pub trait ControlDriver: Drop {
             → ControlsOn result (λ moment. has_asked first self.new moment items) (has_queued first self.new items)
             (λ last. has_ended first self.new (items ++ last ∷ [])) };
 
-    /// Takes what became of the last pulse: it is queued, or it is refused as `MomentTooLarge`, since its moment is above
-    /// 2^62. `Full` isn't told: such a pulse is tried again. None is told of a pulse that is still tried when the run is
-    /// given up.
+    /// Receives the result of the last pulse: it is queued, or refused as `MomentTooLarge`, since its moment is above
+    /// 2^62. After `Full` the pulse is tried again, and there is no result yet; nor is there one if the run is given up
+    /// meanwhile.
     fn pulsed(&mut self, told: Result<(), Refusal>)
         ensures queued { (first : Self) (moment : ℕ) (items : List ItemValue) → has_asked first self.old moment items
             → told ≡ Ok tt → is_refused moment ≡ false → has_queued first self.new (items ++ item.Pulse moment ∷ []) }

@@ -44,7 +44,7 @@ pub(crate) struct ControlResult<C: ControlDriver> {
     pub(crate) driver: C,
 }
 
-/// The promise that the end, unless the thread was told to stop, is that of the task's control, and that the driver is the
+/// The promise that the end, unless the thread was stopped, is that of the task's control, and that the driver is the
 /// task's and has ended with what was queued.
 #[derive(Drop)]
 pub(crate) struct ControlPromise<C: ControlDriver> {
@@ -73,8 +73,8 @@ fn pulse_once<R: Wait>(rt: &R, control: &mut Control, moment: u64) -> Result<(),
     control.pulse(rt, moment)
 }
 
-/// Queues a pulse, and while the queue is full tries again. The driver is told what became of it. None if the thread is
-/// told to stop.
+/// Queues a pulse, and while the queue is full tries again. The driver receives the result. None if the run is given
+/// up.
 fn pulse<C: ControlDriver, R: Wait>(
     rt: &R,
     control: &mut Control,
@@ -101,8 +101,8 @@ fn pulse<C: ControlDriver, R: Wait>(
     unreachable!()
 }
 
-/// Queues the pulses that the driver asks for, until it ends. Returns whether it ends by the Close, and None if the
-/// thread is told to stop.
+/// Queues the pulses that the driver asks for, until it ends. Returns whether it ends by the Close, and None if the run
+/// is given up.
 fn follow<C: ControlDriver, R: Wait>(
     rt: &R,
     control: &mut Control,
@@ -127,7 +127,7 @@ fn follow<C: ControlDriver, R: Wait>(
     unreachable!()
 }
 
-/// Queues the Close or the control's end, and while the queue is full tries again. None where it is told to stop.
+/// Queues the Close or the control's end, and while the queue is full tries again. None if the run is given up.
 fn end<R: Wait>(rt: &R, control: Control, shuts: bool, stop: &Stop) -> Option<ControlEnd>
     ensures { IfSome result (λ end. end ≡ sender_with control (last_item shuts)) }
 {
@@ -152,7 +152,7 @@ fn end<R: Wait>(rt: &R, control: Control, shuts: bool, stop: &Stop) -> Option<Co
 }
 
 impl<C: ControlDriver> ControlTask<C> {
-    /// Does what the driver says, and then ends the control. None if the thread is told to stop.
+    /// Does what the driver says, and then ends the control. None if the run is given up.
     pub(crate) fn drive<R: Wait>(self, rt: &R, stop: &Stop) -> Option<ControlResult<C>>
         ensures { IfSome result (IsControlResultOf C.has_ended self) }
     {

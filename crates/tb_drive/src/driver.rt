@@ -53,9 +53,9 @@ pub trait Driver: Drop {
             (has_seen self.new limit queued read) (has_ended self.new limit queued read) }
         ensures share { share self.new ≡ share self.old };
 
-    /// Takes what became of the packet that was to be submitted last: the number under which it is queued, which only
-    /// an admitted packet is, or why it is refused. `InFlight` and `Full` aren't told: such a packet is tried again.
-    /// None is told of a packet that is still tried when the run is given up.
+    /// Receives the result of the last packet: the number under which it is queued, which only an admitted packet is,
+    /// or why it is refused. After `InFlight` and `Full` the packet is tried again, and there is no result yet; nor is
+    /// there one if the run is given up meanwhile.
     fn submitted(&mut self, told: Result<u64, Refusal>)
         ensures queued { (job : Numbered) (limit : ℕ) (queued : List Numbered) (read : List ReplyValue)
             → has_asked self.old job.packet limit queued read → told ≡ Ok job.number

@@ -123,10 +123,9 @@ pub fn submit_ahead<R: Wait>(
 }
 
 /// Runs a pipeline until all of its senders have ended. Each submitter has the driver of the same index and a thread of
-/// its own, the control has its driver and one more, and the calling thread serves. The drivers come back in their order
-/// with the report, in which a submitter's end still gives the replies that its driver hasn't taken, and the control's
-/// comes back too. If a thread can't be started the others are told to stop, and what was queued is lost with the
-/// pipeline.
+/// its own, the control has its driver and one more, and the calling thread serves. Returns the drivers in their order
+/// with the report; a submitter's end still gives the replies that its driver hasn't taken. If a thread can't be
+/// started the others are stopped, and what was queued is lost with the pipeline.
 pub fn drive_all<D: Driver + Send, C: ControlDriver + Send, R: Threads + Wait + Sync>(
     rt: &R,
     alloc: Global,

@@ -13,7 +13,7 @@ pub(crate) struct Stop {
 }
 
 impl Drop for Stop {
-    /// Frees all that is held in one call, so that no owner's proof goes through it.
+    /// Frees everything held in one call, so that no owner's proof repeats it.
     fn drop(self) {
         let Stop { asked: _, wakers } = self;
         drop(wakers);

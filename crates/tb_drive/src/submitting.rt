@@ -46,7 +46,7 @@ impl<D: Driver> Model for SubmitterTask<D> {
     ghost invariant = { λ task. HasSeen D.has_seen task.driver task.submitter };
 }
 
-/// What a submitter's thread returns: the submitter's end, unless it was told to stop first, and the driver, which has
+/// What a submitter's thread returns: the submitter's end, unless the run was given up first, and the driver, which has
 /// seen what the end queued and read, and returned that it ends.
 #[derive(Drop)]
 pub(crate) struct SubmitterResult<D: Driver> {
@@ -128,8 +128,8 @@ fn read<D: Driver>(submitter: &mut Submitter, driver: &mut D) -> bool
     }
 }
 
-/// Submits a packet. While the credit is used up it waits for a reply, while the queue is full it yields; then it reads a
-/// reply and tries again, unless it is told to stop. The driver is told what became of the packet.
+/// Submits a packet. While the credit is used up it waits for a reply, while the queue is full it yields; then it reads
+/// a reply and tries again, unless the run is given up. The driver receives the result.
 fn submit<D: Driver, R: Wait>(
     rt: &R,
     alloc: Global,
@@ -168,7 +168,7 @@ fn submit<D: Driver, R: Wait>(
     unreachable!()
 }
 
-/// Waits for the next reply, as long as one is to come and it isn't told to stop.
+/// Waits for the next reply, if one is to come and the run isn't given up.
 fn receive<D: Driver, R: Wait>(rt: &R, submitter: &mut Submitter, driver: &mut D, stop: &Stop)
     ensures own { origin_of submitter.new ≡ origin_of submitter.old }
     ensures front { submitter.new.queued ≡ submitter.old.queued }
@@ -186,7 +186,7 @@ fn receive<D: Driver, R: Wait>(rt: &R, submitter: &mut Submitter, driver: &mut D
     unreachable!()
 }
 
-/// Does what the driver says until it says that it ends, or until it is told to stop.
+/// Does what the driver says until it ends, or until the run is given up.
 fn follow<D: Driver, R: Wait>(
     rt: &R,
     alloc: Global,
@@ -215,7 +215,7 @@ fn follow<D: Driver, R: Wait>(
     unreachable!()
 }
 
-/// Ends the submitter, and while the queue is full reads replies and tries again. None where it is told to stop.
+/// Ends the submitter, and while the queue is full reads replies and tries again. None if the run is given up.
 fn end<D: Driver, R: Wait>(
     rt: &R,
     submitter: Submitter,
@@ -246,7 +246,7 @@ fn end<D: Driver, R: Wait>(
 }
 
 impl<D: Driver> SubmitterTask<D> {
-    /// Does what the driver says, and then ends the submitter, unless it is told to stop.
+    /// Does what the driver says, and then ends the submitter, unless the run is given up.
     pub(crate) fn drive<R: Wait>(self, rt: &R, alloc: Global, stop: &Stop) -> SubmitterResult<D>
         ensures { IsResultOf self result }
     {

@@ -1,4 +1,4 @@
-//! What no clause tells of a run: when a driver is asked, told and given something, and what becomes of replies that it
+//! What no clause says of a run: when a driver is asked and what it receives, and what becomes of replies that it
 //! doesn't wait for.
 
 use std::alloc::{AllocError, Global};
@@ -24,7 +24,7 @@ const MOST_REPLIES: u32 = 100;
 /// What a driver does next.
 #[derive(Clone, Copy)]
 enum Step {
-    /// Submits a packet of this operation with so many bytes, each of them 0.
+    /// Submits a packet of this operation with this number of bytes, all of them 0.
     Submit(u8, usize),
     Receive,
 }
@@ -37,7 +37,7 @@ const SUBMIT: Step = Step::Submit(CREATE_ACCOUNTS, 0);
 enum Saw {
     /// It is asked what it does next.
     Asked,
-    /// It is told what became of a packet.
+    /// It receives the result of a packet.
     Told(Result<u64, Refusal>),
     /// It is given a reply: the submitter, the number, and the user word.
     Given(u32, u64, u64),
@@ -55,7 +55,7 @@ fn given_by(reply: &Reply) -> Option<Saw> {
     }
 }
 
-/// A packet of an operation with so many bytes.
+/// A packet of an operation with this number of bytes.
 fn packet_of(alloc: Global, operation: u8, size: usize, user: u64) -> Result<Packet, AllocError> {
     let mut bytes = Vec::new(alloc);
     bytes.resize(size, 0)?;

@@ -85,7 +85,7 @@ ticket_more intake ticket front next given parcels step passes lawful ends same 
 knows_held : (queue : List Ticket) (front : FrontState) → KnowsEnds queue front → KnowsEnds queue (with_group front [])
 knows_held queue front knows = knows
 
--- the queue was seen empty once more
+-- the queue was seen empty again
 pub empty_more : (intake : IntakeState) (front : FrontState) (given : List Parcel) → IsBatched intake front given
     → IsBatched (with_empty intake) front given
 empty_more intake front given is = record {

@@ -16,7 +16,7 @@ use Rattle.tb_core.specs.Run.{Commits, replies_in}
 use Rattle.tb_pipe.specs.Carried.{is_last, is_final, has_final, answers_in, given_on, IsCommitted, CommittedTo}
 use Rattle.tb_pipe.proofs.Lists.{either_same, none_more, any_more, all_first}
 
--- ---- the last parcel comes to the last outcome, and no other does
+-- ---- the last parcel yields the last outcome, and no other does
 
 final_is : (refused : Bool) (ledger next : LedgerState) (handed : Parcel) (given : Outcomes)
     → apply_result next given ≡ apply_step refused ledger handed → is_final given ≡ is_last handed

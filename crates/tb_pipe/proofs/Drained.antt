@@ -1,4 +1,4 @@
--- What a run that has ended came to.
+-- What a run that has ended did.
 use Rattle.std.proofs.Common.{refl, sym, ap, subst, ◌∙◌, arith, ◌≡◌, ◌<◌, ◌≤◌, ℕ, zero, suc, ◌/◌, Bool, true, false, true≢false, List, [], ◌∷◌, ◌++◌, append-nil, length, map, nat_lt, drop}
 use Rattle.std.specs.Prelude.{◌==◌, ◌%◌, not, IsOk, Result, Ok, Err, Some, None, if◌then◌else◌}
 use Rattle.std.specs.Simd.{first_chunks}

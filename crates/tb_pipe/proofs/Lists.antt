@@ -1,4 +1,4 @@
--- Lists of which one value is marked.
+-- Lists with one marked value.
 use Rattle.std.proofs.Common.{refl, sym, ap, ◌∙◌, ◌≡◌, ◌⊎◌, inl, inr, ⊎_elim, Bool, true, false, true≢false, List, [], ◌∷◌, ◌++◌, append-nil}
 use Rattle.std.specs.Prelude.{◌||◌, if◌then◌else◌}
 use Rattle.std.specs.List.{list_any, AllByRecursion}
@@ -32,7 +32,7 @@ pub all_first : {A : Type 0} (P : A → Type 0) (xs ys : List A) → AllByRecurs
 all_first P [] ys all = tt
 all_first P (x ∷ xs) ys all = (all.0, all_first P xs ys all.1)
 
--- ---- after the last value, which alone is marked, nothing follows
+-- ---- after the last value, the only marked one, nothing follows
 
 nothing_left : {A : Type 0} (xs ys : List A) → xs ++ ys ≡ [] → ys ≡ []
 nothing_left [] ys none = none

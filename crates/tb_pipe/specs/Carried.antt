@@ -62,7 +62,7 @@ is_final outcomes.Last = true
 abbrev pub has_final : List Outcomes → Bool
 has_final given = list_any is_final given
 
--- the replies that outcomes come to, in order
+-- the replies of outcomes, in order
 abbrev pub answers_in : List Outcomes → List ReplyValue
 answers_in given = flat_map replies_in given
 
@@ -119,7 +119,7 @@ pub record IsBatched (intake : IntakeState) (front : FrontState) (given : List P
   pub unended : has_last given ≡ false
   pub knows : KnowsEnds intake.taken front
 
--- all that the intake took was given on, each sender's end is in it, and after all that stands the last parcel
+-- all that the intake took was given, each sender's end is in it, and the last parcel comes after all that
 pub record AllBatched (intake : IntakeState) (given : List Parcel) : Type 0 where
   pub closed : Bool
   pub stopped : Bool

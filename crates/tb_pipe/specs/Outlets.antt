@@ -18,19 +18,19 @@ abbrev pub AllGiven : List ReplyValue → List (Outlet ReplyValue) → Type 0
 AllGiven answers outlets =
     (k : ℕ) (d : Outlet ReplyValue) → k < length outlets → given (slice_index_or outlets k d) ≡ replies_to answers k
 
--- each ring was given, besides, those of these replies that go to its submitter
+-- each ring was given, besides, those of these replies that are its submitter's
 abbrev pub AllMore : List ReplyValue → List (Outlet ReplyValue) → List (Outlet ReplyValue) → Type 0
 AllMore answers old new =
     (k : ℕ) (d : Outlet ReplyValue) → k < length old
     → given (slice_index_or new k d) ≡ given (slice_index_or old k d) ++ replies_to answers k
 
--- each ring will have been given, besides, those that go to its submitter once the replies that are left are given too
+-- each ring will have been given, besides, those of its submitter once the remaining replies are given too
 abbrev pub AllLeft : List ReplyValue → List (Outlet ReplyValue) → List ReplyValue → List (Outlet ReplyValue) → Type 0
 AllLeft answers old left new =
     (k : ℕ) (d : Outlet ReplyValue) → k < length old
     → given (slice_index_or new k d) ++ replies_to left k ≡ given (slice_index_or old k d) ++ replies_to answers k
 
--- all outcomes that were taken, the last one among them, were handed out
+-- all outcomes that were taken, the last one among them, were passed on
 pub record AllRouted (taken : List Outcomes) (outlets : List (Outlet ReplyValue)) : Type 0 where
   pub made : AllGiven (answers_in taken) outlets
   pub ended : has_final taken ≡ true

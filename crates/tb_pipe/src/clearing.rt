@@ -9,7 +9,7 @@ use std::marker::Model;
 use std::sync::Wait;
 use tb_core::Parcel;
 
-/// A parcel that may be applied: where it is a batch, the gate has let it through. `clear` alone makes one.
+/// A parcel that may be applied: if it is a batch, the gate has let it through. Only `clear` makes one.
 pub(crate) struct Cleared {
     parcel: Parcel,
 }

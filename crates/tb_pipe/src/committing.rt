@@ -14,7 +14,7 @@ use std::thread::Promise;
 use tb_core::{Ledger, Outcomes, Parcel};
 use tb_rings::{Inlet, Outlet, SpinWait};
 
-/// What the committer hands back.
+/// What the committer returns.
 #[derive(Drop)]
 pub struct Committed {
     pub inlet: Inlet<Parcel>,
@@ -22,8 +22,7 @@ pub struct Committed {
     pub ledger: Ledger,
 }
 
-/// The promise that the ring ends that come back are those that were handed over, and that all that was taken is
-/// committed.
+/// The promise that the returned ring ends are those of this stage, and that all that was taken is committed.
 #[derive(Drop)]
 pub struct Commitment {
     pub inlet: Snapshot<Inlet<Parcel>>,
@@ -50,7 +49,7 @@ fn is_last(parcel: &Parcel) -> bool
     }
 }
 
-/// Gives on what a parcel came to; nothing for a pulse.
+/// Gives the outcomes of a parcel; nothing for a pulse.
 fn give_on<R: Wait>(rt: &R, outlet: &mut Outlet<Outcomes>, outcomes: Outcomes)
     ensures ring { SameOutlet outlet.old outlet.new }
     ensures given { given outlet.new ≡ given outlet.old ++ given_on outcomes }

@@ -35,7 +35,7 @@ struct Rings {
     outcomes: Inlet<Outcomes>,
 }
 
-/// The rings between the stages. None where memory is wanting.
+/// The rings between the stages. None if memory runs out.
 fn open_rings(alloc: Global) -> Option<Rings>
     ensures pairs { IfSome result (λ rings. IsRing rings.batches rings.parcels × IsRing rings.made rings.outcomes) }
     ensures empty { IfSome result (λ rings. (given rings.batches ≡ []) × (taken rings.parcels ≡ [])
@@ -57,11 +57,11 @@ fn open_rings(alloc: Global) -> Option<Rings>
     })
 }
 
-/// A pipeline whose clock starts at a number of nanoseconds, 0 to `CLOCK_MAX`. The limit is the most events of a batch,
-/// the capacity the places of the submission queue, and the credit how many packets each submitter may have queued with
-/// their replies unread; each submitter's reply ring has as many slots. It is refused for the limit (1 to 8190), then
-/// the capacity or the credit (1 to 65,536), then the number of submitters (1 to 16), then want of memory. All rings
-/// and the queue are made here; packets, batches and the state machine take their memory later. It waits for nobody.
+/// Makes a pipeline whose clock starts at a number of nanoseconds, 0 to `CLOCK_MAX`. The limit is the most events of a
+/// batch, the capacity the slots of the submission queue, and the credit how many packets each submitter may have in
+/// flight; each submitter's reply ring has as many slots. It is refused for the limit (1 to 8190), then the capacity or
+/// the credit (1 to 65,536), then the number of submitters (1 to 16), then memory. All rings and the queue are made
+/// here; packets, batches and the state machine take their memory later. It waits for nobody.
 pub fn open(
     alloc: Global,
     clock: u64,
@@ -94,8 +94,8 @@ pub fn open(
     )
 }
 
-/// The same over a new ledger that the caller made, whose clock it begins with: one with a seed (`Ledger::with_seed`) if ids
-/// come from someone who may choose them to make commits slow, or one with reserved capacity (`Ledger::reserve`), so that no
+/// The same over a new ledger that the caller made, with its clock: one with a seed (`Ledger::with_seed`) if ids come
+/// from someone who may choose them to make commits slow, or one with reserved capacity (`Ledger::reserve`), so that no
 /// commit waits for a map to grow.
 pub fn open_with(
     alloc: Global,

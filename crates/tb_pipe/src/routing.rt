@@ -14,15 +14,14 @@ use tb_core::Outcomes;
 use tb_rings::{Inlet, Outlet, SpinWait};
 use tb_work::Reply;
 
-/// What the demultiplexer hands back.
+/// What the demultiplexer returns.
 #[derive(Drop)]
 pub struct Routed {
     pub inlet: Inlet<Outcomes>,
     pub outlets: Vec<Outlet<Reply>>,
 }
 
-/// The promise that the ring ends that come back are those that were handed over, and that all that was taken is handed
-/// out.
+/// The promise that the returned ring ends are those of this stage, and that all that was taken is passed on.
 #[derive(Drop)]
 pub struct Routing {
     pub inlet: Snapshot<Inlet<Outcomes>>,

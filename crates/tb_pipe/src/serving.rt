@@ -18,7 +18,7 @@ pub struct Pipeline {
 }
 
 impl Drop for Pipeline {
-    /// Lets the stages go in one call, so that a caller's proof needn't go through all that they hold.
+    /// Frees the stages in one call, so that a caller's proof doesn't repeat it.
     fn drop(self) {
         let Pipeline { stages } = self;
         drop(stages);

@@ -13,8 +13,8 @@ use crate::stages::Remains;
 use tb_core::{Ledger, headline, run_is_lawful};
 use tb_submit::{ControlEnd, Ended, settle_queue};
 
-/// What became of all that was queued: the ledger with its journal and its machine, and each submitter's end, in
-/// the order of their numbers, which still gives the replies that it hasn't read.
+/// The result of all that was queued: the ledger with its journal and its machine, and each submitter's end, in the
+/// order of their numbers, which still gives the replies that it hasn't read.
 #[derive(Drop)]
 pub struct Report {
     pub ledger: Ledger,

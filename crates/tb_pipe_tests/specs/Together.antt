@@ -13,7 +13,7 @@ abbrev pub AreTogether : PipelineState → List SubmitterState → SenderState �
 AreTogether pipeline submitters control =
     (map origin_of submitters ≡ pipeline.submitters) × (control.seat ≡ control_seat pipeline.intake)
 
--- a pipeline that was opened with this clock and this limit, for so many submitters
+-- a pipeline that was opened with this clock and this limit, for this number of submitters
 abbrev pub IsOpenedAs : ℕ → ℕ → ℕ → PipelineState → Type 0
 IsOpenedAs clock limit submitters pipeline =
     (pipeline.clock ≡ clock) × (pipeline.intake.limit ≡ limit) × (pipeline.intake.submitters ≡ submitters)

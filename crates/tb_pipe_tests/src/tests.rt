@@ -1,8 +1,8 @@
-//! What no clause tells: worked examples by name, the gate's calls, threads, and memory that is refused.
+//! What no clause says: worked examples by name, the gate's calls, threads, and memory that is refused.
 //!
-//! The helpers give up where something fails that isn't looked at, in place of handing it up: at each way out of a
-//! function all that it owns is let go, and a proof goes through its parts. So a report is dropped by name too. Only
-//! what is tried with refused memory hands that up.
+//! The helpers give up if something fails that isn't looked at, instead of returning it: at each way out of a function
+//! everything that it owns is freed, and a proof goes through its parts. So a report is dropped by name too. Only what
+//! is tried with refused memory returns the refusal.
 
 ghost use Rattle.std.specs.Prelude.{◌≡◌, ◌++◌, ◌∷◌, [], IfOk, length, map};
 ghost use Rattle.tb_submit.specs.Ends.{origin_of, end_origin, control_seat};
@@ -53,7 +53,7 @@ fn look_of(packet: &Packet) -> (u8, usize, u64) {
     (packet.operation, packet.bytes.as_slice().len(), packet.user)
 }
 
-/// What a reply tells of its packet's place.
+/// What a reply says of its packet's place.
 #[derive(Clone, Copy, Debug, PartialEq, Eq)]
 enum Told {
     Committed(u64),
@@ -183,7 +183,7 @@ fn end_control<R: Wait + Abort>(rt: &R, control: Control, shut: bool) -> Control
     ended.ok().expect(rt, "there is a place for the end")
 }
 
-/// Room for an end of each of up to 16 submitters, asked for once more where it is refused.
+/// Room for an end of each of up to 16 submitters, asked for again if it is refused.
 fn room_for_ends(alloc: Global) -> Result<Vec<Ended>, AllocError>
     ensures { IfOk result (λ ends. ends.items ≡ []) }
 {
@@ -193,7 +193,7 @@ fn room_for_ends(alloc: Global) -> Result<Vec<Ended>, AllocError>
     }
 }
 
-/// Ends a submitter, and puts its end after the others, for which there is room.
+/// Ends a submitter, and adds its end after the others; there is room for it.
 fn end_one<R: Wait + Abort>(rt: &R, ends: &mut Vec<Ended>, submitter: Submitter)
     ensures { map end_origin ends.new.items ≡ map end_origin ends.old.items ++ origin_of submitter ∷ [] }
 {
@@ -300,14 +300,14 @@ fn finish_started<R: Threads + Wait + Sync + Abort, G: Gate>(
     }
 }
 
-/// Compares the clock of a run with one submitter, and what the replies tell that it has not read.
+/// Compares the clock of a run with one submitter, and its unread replies.
 fn assert_run(rt: &impl Abort, report: Report, wanted_clock: u64, wanted: &[Told]) {
     let mut report = report;
     assert_report(rt, &mut report, wanted_clock, 0, wanted);
     drop(report);
 }
 
-/// Compares a report's clock, and what the replies tell that a submitter has not read.
+/// Compares a report's clock, and a submitter's unread replies.
 fn assert_report(
     rt: &impl Abort,
     report: &mut Report,
@@ -326,7 +326,7 @@ fn assert_report(
     assert_eq!(rt; next_told(ended), None);
 }
 
-/// What the next reply tells that a submitter has not read.
+/// The place in the next unread reply of a submitter.
 fn next_told(ended: &mut Ended) -> Option<Told> {
     let reply = ended.reply()?;
     Some(told_by(reply))

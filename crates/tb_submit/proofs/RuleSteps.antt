@@ -130,7 +130,7 @@ pushes_here n pass x k l own items views _ h at =
       refl,
     )
 
--- a pass beside the reader's has no mark, so the list taken and the count may change
+-- a pass besides the reader's has no mark, so the list taken and the count may change
 mark_apart : (reader count next : ℕ) (got more : List Ticket) (j pass : ℕ) (m : Option IntakeMark) → j ≢ pass
     → pass ≡ reader → FitsMark reader count got j m → FitsMark reader next more j m
 mark_apart reader count next got more j pass None other is f = tt
@@ -215,7 +215,7 @@ takes pass v es got n seen is =
     subst (λ (u : View). Pops Kept pass u (λ x w. (w ≡ with_taken u x) × (x.sender < next_of u.mark))) (sym is)
     (takes_here pass es got n seen)
 
--- one number stands in another pass
+-- one number is in another pass
 abbrev pass_at : (ℕ → ℕ) → ℕ → ℕ → ℕ → ℕ
 pass_at pass_of n pass s = cond (s == n) pass (pass_of s)
 
@@ -323,7 +323,7 @@ pub notes : (pass : ℕ) (v : View) (es : List PassEntry) (got : List Ticket) (n
 notes pass v es got n seen is =
     subst (λ (u : View). Forks Kept pass u (view_seen_empty u) empty_view) (sym is) (notes_here pass es got n seen)
 
--- any two passes may be joined: the numbers of the second one stand in the first from then on
+-- any two passes may be joined: the numbers of the second one are in the first from then on
 pub merges : (pass : ℕ) (v : View) (other : ℕ) (u : View) → Merges Kept pass v other u (both_views v u) empty_view
 merges pass v other u items views h at two at' =
     let both : View = both_views v u in

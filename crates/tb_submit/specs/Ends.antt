@@ -25,8 +25,7 @@ pub record SenderState : Type 0 where
   pub seat : Seat
   pub queued : List Item
 
--- a submitter: how many packets may be queued and their replies unread, what it queued, the replies that it read, and
--- those that it has seen to lie in its ring
+-- a submitter: its credit, what it queued, the replies that it read, and those that it has seen in its ring
 pub record SubmitterState : Type 0 where
   pub origin : Origin
   pub credit : ℕ
@@ -34,7 +33,7 @@ pub record SubmitterState : Type 0 where
   pub read : List ReplyValue
   pub lying : List ReplyValue
 
--- a submitter that has ended; once it was settled, all of its replies that aren't read are known to lie in its ring
+-- a submitter that has ended; once it was settled, all of its unread replies are known to be in its ring
 pub record EndedState : Type 0 where
   pub origin : Origin
   pub queued : List Item
@@ -128,7 +127,7 @@ queued_by [] control sender = control.queued
 queued_by (ended ∷ others) control zero = ended.queued
 queued_by (ended ∷ others) control (suc sender) = queued_by others control sender
 
--- the replies that each submitter read, and those that lie for it
+-- the replies that each submitter read, and those in its ring
 abbrev pub replies_of : List EndedState → ℕ → List ReplyValue
 replies_of [] sender = []
 replies_of (ended ∷ others) zero = ended.read ++ ended.lying

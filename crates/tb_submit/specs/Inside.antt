@@ -70,7 +70,7 @@ IsLeft (Some pass) submitters limit number =
     (pass.me.1 ≡ []) × (view_of pass ≡ sender number (first_pushed (view_of pass).entries))
     × IsCompleteQueue limit submitters number (first_pushed (view_of pass).entries)
 
--- once it was settled it counts the replies that lie in its ring
+-- once it was settled it counts the replies in its ring
 abbrev pub CountsUnread : Option ℕ → List ReplyValue → Type 0
 CountsUnread None lying = ⊤
 CountsUnread (Some unread) lying = unread ≡ length lying

@@ -7,7 +7,7 @@ use Rattle.tb_work.specs.declared.item.Item.{Item}
 use Rattle.tb_work.specs.declared.item.Item.TheVariants.{Packet, Pulse, End, Close}
 use Rattle.tb_work.specs.declared.item.Ticket.{Ticket}
 
--- a packet was admitted, and so has at most so many events
+-- a packet was admitted, and so has at most `limit` events
 abbrev pub IsWithin : ℕ → Item → Type 0
 IsWithin limit (Packet job) = IsOk (admission_of limit job.packet)
 IsWithin limit (Pulse moment) = Unit {0}
@@ -17,7 +17,7 @@ IsWithin limit Close = Unit {0}
 abbrev pub AreWithin : ℕ → List Ticket → Type 0
 AreWithin limit queue = AllByRecursion (λ (ticket : Ticket). IsWithin limit ticket.item) queue
 
--- packets alone, a submitter's own, numbered from a number on, each admitted under the limit
+-- only packets, a submitter's own, numbered from a number on, each admitted under the limit
 abbrev pub ArePackets : ℕ → ℕ → ℕ → List Item → Type 0
 ArePackets limit sender number [] = Unit {0}
 ArePackets limit sender number (Packet job ∷ items) =
@@ -27,7 +27,7 @@ ArePackets limit sender number (Pulse moment ∷ items) = ⊥
 ArePackets limit sender number (End ∷ items) = ⊥
 ArePackets limit sender number (Close ∷ items) = ⊥
 
--- pulses alone
+-- only pulses
 abbrev pub ArePulses : List Item → Type 0
 ArePulses [] = Unit {0}
 ArePulses (Packet job ∷ items) = ⊥

@@ -22,8 +22,8 @@ or_else (Some refusal) other = Some refusal
 
 -- ---- opening
 
--- why a queue can't be opened, if it can't, but for want of memory: the limit, the capacity or the credit, the number
--- of submitters, in this order
+-- why a queue can't be opened, memory left out: the limit, the capacity or the credit, the number of submitters, in
+-- this order
 abbrev pub queue_refusal : ℕ → ℕ → ℕ → ℕ → Option Refusal
 queue_refusal limit capacity credit submitters =
     if nat_lt limit 1 || nat_lt batch_max limit then Some BadLimit
@@ -32,14 +32,14 @@ queue_refusal limit capacity credit submitters =
     else if nat_lt submitters 1 || nat_lt submitters_max submitters then Some BadSubmitters
     else None
 
--- why it isn't opened: the refusal that is due, or want of memory where none is
+-- why it isn't opened: the refusal that is due, or NoMemory if none is
 abbrev pub IsQueueRefusal : ℕ → ℕ → ℕ → ℕ → Refusal → Type 0
 IsQueueRefusal limit capacity credit submitters refusal =
     IsRefusal (queue_refusal limit capacity credit submitters) (λ other. other ≡ NoMemory) refusal
 
 -- ---- submitting
 
--- what an outcome tells of all packets that come later
+-- what an outcome says of all packets that come later
 abbrev pub told_by : Outcome → Option Refusal
 told_by (outcome.Committed pass answer) = None
 told_by outcome.Shutdown = Some Shutdown
@@ -58,7 +58,7 @@ refusal_in (Err refusal) = Some refusal
 abbrev pub in_flight : SubmitterState → ℕ
 in_flight submitter = length submitter.queued - length submitter.read
 
--- a reply read that told of a shutdown or a stop, the packet itself, the credit, in this order
+-- a shutdown or a stop in a reply read, the packet itself, the credit, in this order
 abbrev pub submit_refusal : SubmitterState → Packet → Option Refusal
 submit_refusal submitter packet =
     or_else (told_in submitter.read)
@@ -69,7 +69,7 @@ submit_refusal submitter packet =
 abbrev pub TakesMemory : Packet → Type 0
 TakesMemory packet = (is_lookup packet ≡ false) × (2 < count_of packet)
 
--- why a packet isn't queued: the refusal that is due, or where none is, want of memory, if it takes any, or a full queue
+-- why a packet isn't queued: the refusal that is due; if none is, NoMemory if it takes memory, or a full queue
 abbrev pub IsSubmitRefusal : SubmitterState → Packet → Refusal → Type 0
 IsSubmitRefusal submitter packet refusal =
     IsRefusal (submit_refusal submitter packet) (λ other. ((other ≡ NoMemory) × TakesMemory packet)

@@ -1,4 +1,4 @@
--- The queue's rule: what was taken followed by what is queued has, as each sender's part, just what its pass pushed.
+-- The queue's rule: what was taken followed by what is queued has, as each sender's part, exactly what its pass pushed.
 use Rattle.std.specs.Prelude.{◌≡◌, ℕ, ◌+◌, ◌<◌, ◌≤◌, ◌⊎◌, List, [], ◌∷◌, ◌++◌, length, Option, Some, None, ⊤}
 use Rattle.std.specs.List.{AllByRecursion}
 use mathlib.Core.Option.{some}
@@ -85,11 +85,11 @@ abbrev pub Stands : ℕ → List PassEntry → Type 0
 Stands number [] = ⊥
 Stands number (e ∷ entries) = (e.number ≡ number) ⊎ Stands number entries
 
--- An entry's number was given out, it stands in this pass alone, and what was pushed is its sender's part of all.
+-- An entry's number was given out, it is only in this pass, and what was pushed is its sender's part of all.
 abbrev pub FitsEntry : (ℕ → ℕ) → ℕ → List Ticket → ℕ → PassEntry → Type 0
 FitsEntry pass_of count all pass e = (e.number < count) × (pass_of e.number ≡ pass) × (part e.number all ≡ e.pushed)
 
--- Only the reader's pass has the mark, which tells what was taken and how many numbers were given out.
+-- Only the reader's pass has the mark, with what was taken and how many numbers were given out.
 abbrev pub FitsMark : ℕ → ℕ → List Ticket → ℕ → Option IntakeMark → Type 0
 FitsMark reader count taken pass None = ⊤
 FitsMark reader count taken pass (Some mark) = (pass ≡ reader) × (mark.taken ≡ taken) × (mark.count ≡ count)
@@ -102,7 +102,7 @@ Fits pass_of reader count taken items pass view =
 abbrev pub InView : List View → ℕ → ℕ → Type 0
 InView views pass number = (view : View) × (get_elem? views pass ≡ some view) × Stands number view.entries
 
--- Each number given out stands in a pass, and no other has a part.
+-- Each number given out is in a pass, and no other has a part.
 pub record Kept (items : List Ticket) (views : List View) : Type 0 where
   pub pass_of : ℕ → ℕ
   pub reader : ℕ
@@ -115,7 +115,7 @@ pub record Kept (items : List Ticket) (views : List View) : Type 0 where
 
 -- ---- what the intake's pass learns of what is queued
 
--- of each number that stands in the pass, taken and queued together are what was pushed
+-- of each number in the pass, taken and queued together are what was pushed
 abbrev pub IsWhole : List PassEntry → List Ticket → ℕ → List Ticket → Type 0
 IsWhole entries taken count items =
     AllByRecursion (λ (e : PassEntry). part e.number (taken ++ items) ≡ e.pushed) entries

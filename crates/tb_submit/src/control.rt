@@ -84,8 +84,8 @@ impl Control {
         }
     }
 
-    /// Queues the Close: packets behind it are answered Shutdown. Where the queue was full (`Full`) the control comes
-    /// back. Takes no memory.
+    /// Queues the Close: packets behind it get Shutdown. If the queue was full (`Full`) the control is returned. Takes
+    /// no memory.
     pub fn shut<R: Wait>(self, rt: &R) -> Result<ControlEnd, (Control, Refusal)>
         ensures ok { IfOk result (λ end. end ≡ sender_with self item.Close) }
         ensures full { IfErr result (λ refused. (refused.0 ≡ self) × (refused.1 ≡ refusal.Full)) }

@@ -40,7 +40,7 @@ impl Model for Ended {
 }
 
 impl Ended {
-    /// A submitter that has ended, of which the queue isn't settled yet.
+    /// A submitter that has ended, before its queue is settled.
     pub(crate) fn new(sender: EndedSender, inlet: Inlet<Reply>) -> Ended
         ensures { result ≡ record {
           origin = record { seat = sender.seat; ring = inlet_ring inlet };
@@ -77,7 +77,7 @@ impl Ended {
         }
     }
 
-    /// Tells the reader what was queued, and sees all replies that lie in its ring.
+    /// Passes to the reader what was queued, and sees all replies in its ring.
     pub(crate) fn settle(&mut self, reader: &mut Reader, outlet: &mut Outlet<Reply>)
         requires queue { self.old.origin.seat.queue ≡ Some reader.old.queue }
         requires ring { self.old.origin.ring ≡ outlet_ring outlet.old }

@@ -82,10 +82,9 @@ fn open_ends(
     })
 }
 
-/// A queue of so many places with all its ends, for submitters that each may have as many packets as the credit queued
-/// with their replies unread. It is refused for its limit (1 to 8190), then its capacity or credit (1 to 65,536), then
-/// the number of submitters (1 to 16), then want of memory. All memory but that of packets is taken here: the queue's
-/// places and a ring of `credit` slots for each submitter.
+/// A queue of `capacity` slots with all its ends, for submitters with this credit. It is refused for its limit (1 to
+/// 8190), then its capacity or credit (1 to 65,536), then the number of submitters (1 to 16), then memory. All memory
+/// but that of packets is taken here: the queue's slots and a ring of `credit` slots for each submitter.
 pub fn open_queue(
     alloc: Global,
     limit: u32,

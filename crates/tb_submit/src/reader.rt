@@ -23,7 +23,7 @@ pub(crate) struct Reader {
 }
 
 impl Drop for Reader {
-    /// Lets all that is held go in one call, so that no owner's proof goes through it.
+    /// Frees everything held in one call, so that no owner's proof repeats it.
     fn drop(self) {
         let Reader {
             queue,
@@ -60,7 +60,7 @@ impl Model for Reader {
 }
 
 impl Reader {
-    /// The pass that takes from a new queue of so many places.
+    /// The pass that takes from a new queue of `capacity` slots.
     pub(crate) fn new(alloc: Global, capacity: usize) -> Result<Reader, NoMemory>
         requires { 0 < capacity }
         ensures fresh { IfOk result (λ reader. (reader.entries ≡ []) × (reader.taken ≡ []) × (reader.count ≡ 0)

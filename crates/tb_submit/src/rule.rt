@@ -1,5 +1,5 @@
-//! The queue's rule: what was taken followed by what is queued has, as each sender's part, just what its
-//! pass pushed. What passes know is known to proofs alone: no value of these types is made.
+//! The queue's rule: what was taken followed by what is queued has, as each sender's part, exactly what its pass
+//! pushed. Only proofs see what passes know: no value of these types is made.
 
 use crossbeam_queue::protocol::{Join, Lesson, Outcome, Protocol, Split};
 use crossbeam_queue::{Pass, RuledArrayQueue};

@@ -22,7 +22,7 @@ pub(crate) struct Sender {
 }
 
 impl Drop for Sender {
-    /// Lets all that is held go in one call, so that no owner's proof goes through it.
+    /// Frees everything held in one call, so that no owner's proof repeats it.
     fn drop(self) {
         let Sender {
             queue,
@@ -129,7 +129,7 @@ pub(crate) struct EndedSender {
 }
 
 impl Drop for EndedSender {
-    /// Lets all that is held go in one call, so that no owner's proof goes through it.
+    /// Frees everything held in one call, so that no owner's proof repeats it.
     fn drop(self) {
         let EndedSender {
             pass,

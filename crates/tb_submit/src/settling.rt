@@ -1,4 +1,4 @@
-//! What a queue came to, once all its senders have ended.
+//! A queue, once all its senders have ended.
 
 ghost use Rattle.std.specs.Prelude.{◌≡◌, ◌≤◌, ◌<◌, ◌++◌, ℕ, map, length, slice_index_or, true, All};
 ghost use Rattle.std.specs.List.{list_any};
@@ -17,7 +17,7 @@ use crate::reader::Reader;
 use tb_rings::Outlet;
 use tb_work::Reply;
 
-/// Tells the reader what each of them queued; each sees what lies in its ring.
+/// Passes to the reader what each of them queued; each sees what is in its ring.
 fn settle_all(reader: &mut Reader, ends: Vec<Ended>, outlets: Vec<Outlet<Reply>>) -> Vec<Ended>
     requires { (intake : IntakeState) × (intake.queue ≡ reader.old.queue)
         × (map end_origin ends.items ≡ origins intake outlets.items) }
@@ -43,8 +43,8 @@ fn settle_all(reader: &mut Reader, ends: Vec<Ended>, outlets: Vec<Outlet<Reply>>
     ends
 }
 
-/// Once all senders have ended and the end of each was taken, what was taken is the queue as they filled
-/// it, and each submitter's end sees all of its replies that were given. Takes no memory, and waits for
+/// Establishes, once all senders have ended and the end of each was taken, that what was taken is the queue as they
+/// filled it, and that each submitter's end sees all of its replies that were given. Takes no memory, and waits for
 /// nobody.
 pub fn settle_queue(
     intake: Intake,

@@ -50,7 +50,7 @@ impl Model for Submitter {
         s.told (taken s.inlet) };
 }
 
-/// What an outcome tells of all packets that come later.
+/// What an outcome says of all packets that come later.
 fn told_by(outcome: &Outcome) -> Option<Refusal>
     ensures { result ≡ spec.told_by outcome.now }
 {
@@ -111,12 +111,11 @@ impl Submitter {
         None
     }
 
-    /// Queues a packet; its number is the count of this submitter's packets before it, of which there are fewer than
-    /// 2^56. A refused packet comes back as it was, and no number is used. It is refused 7 or 8 once a reply that was
-    /// read said Shutdown or Stopped (whichever came first), then by what `admit` says of it, then InFlight where as
-    /// many packets as the credit are queued and their replies unread, then NoMemory, then Full. Room for its failures
-    /// is made here, and not before the credit allows it: for a packet of more than two events it takes an allocation,
-    /// and for a lookup none.
+    /// Queues a packet; its number is the count of this submitter's packets before it, fewer than 2^56. A refused
+    /// packet is returned as it was, and no number is used. It is refused 7 or 8 once a reply that was read said
+    /// Shutdown or Stopped (whichever came first), then by what `admit` says of it, then InFlight if as many packets as
+    /// the credit are in flight, then NoMemory, then Full. Room for its failures is made here, and not before the
+    /// credit allows it: for a packet of more than two events it takes an allocation, and for a lookup none.
     pub fn submit<R: Wait>(
         &mut self,
         rt: &R,

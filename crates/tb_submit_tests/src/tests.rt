@@ -13,7 +13,7 @@ mod refusals;
 mod rounds;
 mod threads;
 
-/// A packet of so many bytes, each of them 7.
+/// A packet of this number of bytes, each of them 7.
 fn packet_of(rt: &(impl Abort + Alloc<A = Global>), operation: u8, length: usize) -> Packet {
     let mut bytes = Vec::new(rt.alloc());
     bytes.resize(length, 7).expect(rt, "memory");
@@ -34,7 +34,7 @@ fn look_of(packet: &Packet) -> (u8, usize, u64, u64) {
     (packet.operation, bytes.len(), sum, packet.user)
 }
 
-/// What `look_of` tells of a packet as `packet_of` makes it.
+/// What `look_of` returns for a packet as `packet_of` makes it.
 fn made_look(operation: u8, length: usize) -> (u8, usize, u64, u64) {
     (operation, length, (length as u64).wrapping_mul(7), 1000)
 }
@@ -51,8 +51,7 @@ fn queue_of(
     (submitter, ends)
 }
 
-/// Submits a packet of so many bytes: its number, or why it was refused; a refused packet comes back as
-/// it was.
+/// Submits a packet of this number of bytes: its number, or why it was refused; a refused packet is returned as it was.
 fn submit(
     rt: &(impl Abort + Wait + Alloc<A = Global>),
     submitter: &mut Submitter,

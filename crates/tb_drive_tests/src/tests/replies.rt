@@ -78,7 +78,7 @@ fn sixteen(alloc: Global, steps: &'static [Step]) -> Result<Vec<Noter>, AllocErr
     Ok(drivers)
 }
 
-/// Each driver comes back at its submitter's index, with replies to its submitter's packets alone.
+/// Each driver comes back at its submitter's index, with replies only to its submitter's packets.
 #[test]
 fn drivers_in_order(rt: HostRuntime) -> Result<(), Fail> {
     let alloc = rt.alloc();
@@ -104,7 +104,7 @@ fn is_one(seen: &Seen, submitter: u32) -> bool {
     }
 }
 
-/// Sixteen packets for a queue of one place: no driver is told that it is full.
+/// Sixteen packets for a queue of one slot: no driver receives `Full`.
 #[test]
 fn not_told_of_a_full_queue(rt: HostRuntime) -> Result<(), Fail> {
     let alloc = rt.alloc();

@@ -1,4 +1,4 @@
-//! What a driver is told of its packets.
+//! The results that a driver receives.
 
 use super::{CREATE_ACCOUNTS, SUBMIT, Saw, Step, run_one};
 use std::test::Fail;
@@ -24,7 +24,7 @@ const BAD_SEEN: [Saw; 9] = [
     Saw::Asked,
 ];
 
-/// A driver is told once why a packet is refused, and is asked again.
+/// A driver learns once why a packet is refused, and is asked again.
 #[test]
 fn told_why_it_is_refused(rt: HostRuntime) -> Result<(), Fail> {
     let seen = run_one(&rt, rt.alloc(), 64, 16, &BAD, 0)?;
@@ -54,8 +54,8 @@ const FOUR_SEEN: [Saw; 12] = [
     Saw::Asked,
 ];
 
-/// No driver is told of a credit that is used up, nor of a queue that is full: its packet is tried again. The last
-/// reply is read only where the queue was full as the submitter ended.
+/// No driver receives `InFlight` or `Full`: its packet is tried again. The last reply is read only if the queue was
+/// full as the submitter ended.
 #[test]
 fn not_told_of_a_used_up_credit(rt: HostRuntime) -> Result<(), Fail> {
     let seen = run_one(&rt, rt.alloc(), 1, 1, &FOUR, 0)?;

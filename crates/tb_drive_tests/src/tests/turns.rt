@@ -13,7 +13,7 @@ use tb_work::{Outcome, Refusal, Reply};
 /// How many pulses and how many packets there are.
 const ROUNDS: u32 = 3;
 
-/// How often a driver looks whether it is its turn, before it goes on out of turn.
+/// How often a driver looks whether it is its turn, before it continues out of turn.
 const MOST_LOOKS: u32 = 100_000_000;
 
 /// Waits for a turn of the submitter, which has each odd one; the control has each even one.

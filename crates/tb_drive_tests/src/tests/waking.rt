@@ -10,9 +10,8 @@ use tb_drive::{Action, ControlPlan, Driver, Finished, PlanDriver, drive_all};
 use tb_pipe::open;
 use tb_work::{Refusal, Reply};
 
-/// Sends packets without events, one after the other, and waits for each reply. Before each it gives way a number of times
-/// below `longest` that a fixed sequence of numbers says, so that the pipeline is idle after some packets and busy after
-/// others.
+/// Sends packets without events, one after the other, and waits for each reply. Before each it yields a number of times
+/// below `longest`, given by a fixed sequence, so that the pipeline is idle after some packets and busy after others.
 #[derive(Drop)]
 struct Sender {
     packets: u32,

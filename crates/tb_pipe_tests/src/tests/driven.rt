@@ -104,7 +104,7 @@ fn end_control<R: Wait>(rt: &R, control: Control, shut: bool) -> ControlEnd
     unreachable!()
 }
 
-/// The next reply; None where it doesn't come in so many turns.
+/// The next reply; None if it doesn't come in this number of turns.
 fn reply_within(submitter: &mut Submitter, turns: u32) -> Option<Told>
     ensures { origin_of submitter.new ≡ origin_of submitter.old }
 {
@@ -311,8 +311,7 @@ pub(super) struct Driving {
 }
 
 /// A thread drives the last submitter and the control. The report, and what the driver saw; there is room for the last
-/// end. From opening to the
-/// report it is proved lawful by the clauses of the calls alone.
+/// end. From opening to the report it is proved lawful by the clauses of the calls.
 pub(super) fn run<R: Threads + Wait + Sync + Abort>(
     rt: &R,
     alloc: Global,
@@ -390,7 +389,7 @@ pub(super) fn drive_lone(lone: Lone, ends: Vec<Ended>) -> Driving
     }
 }
 
-/// Opens for so many submitters, of which all but the last end at once.
+/// Opens a pipeline whose submitters but the last end at once.
 fn opened_driving<R: Wait + Abort>(
     rt: &R,
     alloc: Global,
@@ -415,7 +414,7 @@ fn opened_driving<R: Wait + Abort>(
     }
 }
 
-/// Compares what the driver saw, the clock after the run, and how many batches the gate was told of and let through.
+/// Compares what the driver saw, the clock after the run, and how many batches the gate saw and let through.
 fn assert_driven<R: Threads + Wait + Sync + Abort>(
     rt: &R,
     alloc: Global,

@@ -22,8 +22,8 @@ fn waits_for(counter: &AtomicU64, number: u64) -> bool {
     false
 }
 
-/// Holds batch 0 until so many batches were sealed, and, where both are to meet, the last of these seals until
-/// batch 0 was asked for.
+/// Holds batch 0 until this number of batches was sealed, and, if both are to meet, the last of these seals until batch
+/// 0 was asked for.
 #[derive(Drop)]
 struct Meeting {
     sealed: AtomicU64,
@@ -84,7 +84,7 @@ impl Notes {
     }
 }
 
-/// Puts a batch after a note. One thread alone writes each note.
+/// Adds a batch to a note. Only one thread writes each note.
 fn note(notes: &AtomicU64, batch: u64) {
     let noted = notes.load(SeqCst).wrapping_mul(10);
     notes.store(noted.wrapping_add(batch).wrapping_add(1), SeqCst);
@@ -138,7 +138,7 @@ impl Counted {
     }
 }
 
-/// Counts the next batch; any other spoils the count. One thread alone writes each count.
+/// Counts the next batch; any other spoils the count. Only one thread writes each count.
 fn count(counter: &AtomicU64, batch: u64) {
     let is_next = counter.load(SeqCst) == batch;
     counter.store(
@@ -198,7 +198,7 @@ fn twenty_places() -> [Told; 20] {
     told
 }
 
-/// While batch 0 is held so many batches are sealed.
+/// While batch 0 is held this number of batches is sealed.
 fn assert_sealed_ahead<R: Threads + Wait + Sync + Abort>(rt: &R, alloc: Global, number: u64) {
     let gate = Meeting::new(number, false);
     let report = run_queued(rt, alloc, &twenty_in_turn(), false, &[], &gate);
@@ -211,13 +211,14 @@ fn six_batches_sealed_ahead(rt: HostRuntime) {
     assert_sealed_ahead(&rt, rt.alloc(), 6);
 }
 
-/// The committer has one batch, and eight lie in the ring before it.
+/// The committer has one batch, and eight are in the ring before it.
 #[test]
 fn nine_batches_sealed_ahead(rt: HostRuntime) {
     assert_sealed_ahead(&rt, rt.alloc(), 9);
 }
 
-/// Two packets with a pulse between them: batches 0 and 1 are told, each once and in order, and asked for as noted.
+/// Two packets with a pulse between them: the gate sees batches 0 and 1, each once and in order, and is asked for them
+/// as noted.
 fn assert_asked<R: Threads + Wait + Sync + Abort>(rt: &R, alloc: Global, yes_at: u64, asked: u64) {
     let steps = [
         Step::Packet(CREATE_ACCOUNTS, 1),
@@ -245,7 +246,7 @@ fn asked_until_it_says_yes(rt: HostRuntime) {
     assert_asked(&rt, rt.alloc(), 4, 11_112_222);
 }
 
-/// A batch is told as sealed once the committer can take it.
+/// The gate sees a batch once the committer can take it.
 #[test]
 fn sealed_after_the_push(rt: HostRuntime) {
     let gate = Meeting::new(1, true);

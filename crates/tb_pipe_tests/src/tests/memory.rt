@@ -1,6 +1,6 @@
-//! What is tried with each allocation refused in turn, by `tools/refuse-each-growth`. Which allocation is the one that
-//! is refused differs from run to run, since the stages and the test itself take memory at once: so the tests look at
-//! the answers alone, and ask once more for what they need themselves.
+//! What is tried with each allocation refused in turn, by `tools/refuse-each-growth`. Which allocation is refused
+//! differs from run to run, since the stages and the test itself allocate at once: so the tests look only at the
+//! replies, and ask again for what they need themselves.
 
 ghost use Rattle.std.specs.Prelude.{◌≡◌, ◌++◌, ◌∷◌, [], IfOk, map};
 ghost use Rattle.tb_submit.specs.Ends.{control_seat, end_origin, origin_of};
@@ -27,7 +27,7 @@ fn packet_again(alloc: Global, id: u8) -> Result<Packet, AllocError> {
     }
 }
 
-/// A pipeline of one submitter, opened once more where that is refused for want of memory, which is told.
+/// A pipeline of one submitter, opened again if memory ran out, and whether it did.
 fn open_again(rt: &impl Abort, alloc: Global, told: &mut bool) -> Result<Lone, Refusal>
     ensures { IfOk result (λ lone. AreTogether lone.pipeline (lone.submitter ∷ []) lone.control) }
 {
@@ -41,7 +41,7 @@ fn open_again(rt: &impl Abort, alloc: Global, told: &mut bool) -> Result<Lone, R
     }
 }
 
-/// Submits a packet with this account. It takes no memory, since the room for one failure lies in the job.
+/// Submits a packet with this account. It takes no memory, since the room for one failure is in the job.
 fn submit_account<R: Wait + Abort>(
     rt: &R,
     alloc: Global,
@@ -137,7 +137,7 @@ fn seven_replies(report: &mut Report) -> [Option<Told>; 7] {
     replies
 }
 
-/// The replies to the six packets of the seven items, of which so many are committed.
+/// The replies to the six packets of the seven items, if this number is committed.
 fn replies_where(committed: u64) -> [Option<Told>; 7] {
     let mut replies = [None; 7];
     let places = [0, 1, 3, 4, 5, 6];
@@ -151,10 +151,10 @@ fn replies_where(committed: u64) -> [Option<Told>; 7] {
     replies
 }
 
-/// The clock where so many of the seven items are committed.
+/// The clock if this number of the seven items is committed.
 const CLOCKS: [u64; 8] = [0, 1, 2, 5, 6, 7, 8, 9];
 
-/// So many of the seven items are committed, all of them where a want of memory was told.
+/// This number of the seven items is committed; all of them unless a stop was reported.
 fn assert_seven(rt: &impl Abort, report: &mut Report, told: bool) {
     let committed = report.ledger.places();
     assert!(rt; committed < 7 && !told || committed == 7);
@@ -168,7 +168,7 @@ fn assert_none_taken<R: Wait + Abort>(rt: &R, intake: &mut Intake, refusal: Refu
     assert_eq!(rt; ten_tickets(rt, intake), ALL_TICKETS);
 }
 
-/// Serves all that was queued, and compares what became of it.
+/// Serves everything queued, and compares the results.
 fn assert_each_growth<R: Threads + Wait + Sync + Abort>(
     rt: &R,
     lone: Lone,
@@ -232,7 +232,7 @@ fn queue_three<R: Wait + Abort>(
     Ok(())
 }
 
-/// Drives what is queued. Where the first commit is refused the journal stays empty, and the submitter is told twice,
+/// Drives what is queued. If the first commit is refused the journal stays empty, and the submitter learns it twice,
 /// and then by a refusal.
 fn assert_first_commit<R: Threads + Wait + Sync + Abort + Print>(
     rt: &R,

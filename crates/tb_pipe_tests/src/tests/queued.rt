@@ -1,4 +1,4 @@
-//! Runs of which all is queued before they are served.
+//! Runs with everything queued before they are served.
 
 ghost use Rattle.std.specs.Prelude.{◌≡◌, map};
 ghost use Rattle.tb_submit.specs.Ends.{end_origin, origin_of};
@@ -106,7 +106,7 @@ fn closes_after<R: Threads + Wait + Sync + Abort>(rt: &R, alloc: Global, count: 
     run_queued(rt, alloc, &steps[..count], true, &ids[count..], &Open)
 }
 
-/// The replies where so many of six packets are ahead of the Close.
+/// The replies if this number of six packets is ahead of the Close.
 fn told_where(count: usize) -> [Told; 6] {
     let mut told = [Told::Shutdown; 6];
     for k in 0..6usize {

@@ -56,7 +56,7 @@ fn end_alone<R: Wait + Abort>(rt: &R, control: Control) -> ControlEnd
         .expect(rt, "there is a place for the end")
 }
 
-/// A pipeline of one submitter, for which a packet is queued.
+/// A pipeline of one submitter, with a packet queued.
 fn queue_one<R: Wait + Abort>(rt: &R, alloc: Global, packet: Packet) -> Queued
     ensures own { end_origin result.ended ∷ [] ≡ result.pipeline.submitters }
     ensures control { result.control ≡ record { seat = control_seat result.pipeline.intake; queued = item.End ∷ [] } }
@@ -82,7 +82,7 @@ fn queue_one<R: Wait + Abort>(rt: &R, alloc: Global, packet: Packet) -> Queued
     }
 }
 
-/// The ends of the submitters, of which there is one.
+/// The ends of the submitters; there is one.
 fn only_end(rt: &impl Abort, alloc: Global, ended: Ended) -> Vec<Ended>
     ensures { result.items ≡ ended ∷ [] }
 {
@@ -126,7 +126,7 @@ fn only_reply(report: &mut Report) -> Reply
     reply
 }
 
-/// One packet from `open` to its reply. What the reply says is known from the clauses of the calls alone.
+/// One packet from `open` to its reply. What the reply says is known only from the clauses of the calls.
 fn reply_to_one<R: Threads + Wait + Sync + Abort>(rt: &R, alloc: Global, packet: Packet) -> Reply
     ensures { IsReplyToOne 0 packet result }
 {

@@ -65,7 +65,7 @@ fn refusals_in_order(rt: HostRuntime) {
     submit_to_new(&rt, 1, 1, packets.as_slice());
 }
 
-/// Submits a packet of each kind of fault, and one without, after a reply that told of the end.
+/// Submits a packet of each kind of fault, and one without, after a reply with a shutdown.
 fn submit_behind(
     rt: &(impl Abort + Wait + Alloc<A = Global>),
     submitter: &mut Submitter,
@@ -76,7 +76,7 @@ fn submit_behind(
     }
 }
 
-/// Two packets are answered, and refusals are told once the replies were read.
+/// Two packets get replies, and refusals follow once the replies were read.
 fn told_behind(
     rt: &(impl Abort + Wait + Alloc<A = Global>),
     first: Says,

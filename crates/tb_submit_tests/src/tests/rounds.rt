@@ -5,7 +5,7 @@ use std::sync::Wait;
 use tb_submit::{Ends, Submitter};
 use tb_work::{Packet, Reply};
 
-/// A packet goes through the queue and comes back with its reply; its number, and the packet.
+/// A packet passes the queue and comes back with its reply; its number, and the packet.
 fn round(
     rt: &(impl Abort + Wait + Alloc<A = Global>),
     submitter: &mut Submitter,
@@ -25,7 +25,7 @@ fn round(
     (number, packet)
 }
 
-/// Credit and places come back with each reply: one packet goes round so many times.
+/// Credit and slots are free again with each reply: one packet goes round this number of times.
 fn rounds(rt: &(impl Abort + Wait + Alloc<A = Global>), count: u64) {
     let (mut submitter, mut ends) = queue_of(rt, 4, 1, 1);
     let mut packet = packet_of(rt, 129, 128);

@@ -39,7 +39,7 @@ fn submit_one<R: Wait>(
     0
 }
 
-/// Submits so many packets and ends; whether all were queued.
+/// Submits `count` packets and ends; whether all were queued.
 fn submit_all<R: Wait>(rt: &R, alloc: Global, submitter: Submitter, count: u64) -> bool {
     let mut submitter = submitter;
     let mut turns = MOST_TURNS;
@@ -91,7 +91,7 @@ impl Counts {
     }
 }
 
-/// Takes until so many senders have ended.
+/// Takes until this number of senders has ended.
 fn take_all<R: Wait>(rt: &R, intake: &mut Intake, senders: u32) -> Counts {
     let mut counts = Counts {
         next: [0; 17],

@@ -67,8 +67,8 @@ pub record Goes (batcher : FrontState) (committer : LedgerState) : Type 0 where
   pub front : batcher.stopped ≡ false
   pub ledger : committer.stopped ≡ false
 
--- Of what was pushed some was taken; the front's decisions on that were applied, or are on the way; and the replies to
--- what was applied are with their submitters, or on the way. If no allocation failed, nothing stopped.
+-- Of what was pushed some was taken; the front's decisions on that were applied, or are on the way. The replies to what
+-- was applied are with their submitters, or on the way. If no allocation failed, nothing stopped.
 pub record Holds (Unrefused : Type 0) (clock submitters : ℕ) (pushed : List Ticket) (world : WorldState) : Type 0 where
   pub taken : List Ticket
   pub applied : List Decision
