@@ -1,32 +1,11 @@
 -- Desks that have counted nothing, and submitters that have read nothing.
-use Rattle.std.proofs.Common.{◌≡◌, ◌∙◌, ◌<◌, ℕ, List, zero, suc, [], ◌∷◌, ◌++◌, Some, All, length, map, refl, set, slice_get, inl, inr, ap, sym, subst, arith}
-use Rattle.std.proofs.lemmas.List.{length-set}
-use Rattle.std.proofs.lemmas.List.Elements.{All-append, All-map, All-set}
-use Rattle.std.proofs.lemmas.Option.{get_or_from_slice_get, slice_get_cases, slice_get_within}
-use Rattle.tb_drive.specs.Ahead.{with_packet}
+use Rattle.std.proofs.Common.{◌≡◌, ℕ, List, zero, suc, [], ◌∷◌, ◌++◌, Some, All, map, refl, slice_get, sym, subst, arith}
+use Rattle.std.proofs.lemmas.List.Elements.{All-append, All-map}
+use Rattle.std.proofs.lemmas.Option.{get_or_from_slice_get, slice_get_within}
 use Rattle.tb_submit.specs.Ends.{Origin, SubmitterState, new_submitter}
-use Rattle.tb_work.specs.declared.packet.Packet.{Packet}
 use Rattle.example_payments.specs.Desk.{HasCounted, IsNew}
 use Rattle.example_payments.specs.Ready.{IsUnread}
 use Rattle.example_payments.specs.declared.desk.Desk.{Desk}
-
--- a submitter with a packet queued has read nothing if it hadn't before
-pub unread_still : (before after : List SubmitterState) (desk number : ℕ) (packet : Packet) → desk < length before
-    → All IsUnread before
-    → ((submitter : SubmitterState) → slice_get before desk ≡ Some submitter
-    → after ≡ set before desk (with_packet submitter number packet))
-    → All IsUnread after × (length after ≡ length before)
-unread_still before after desk number packet within unread is =
-    elim ((slice_get_cases before desk).1) as (λ _. All IsUnread after × (length after ≡ length before)) [
-      | inl w ↦
-          let one = with_packet w.0 number packet in
-          let same : after ≡ set before desk one = is w.0 w.2 in
-          let read : IsUnread w.0 = subst IsUnread w.3 (unread desk w.0 within) in (
-            subst (All IsUnread) (sym same) (All-set IsUnread before desk one read unread),
-            ap length same ∙ length-set before desk one,
-          )
-      | inr w ↦ absurd (omega arith)
-    ]
 
 one_new : (desk : Desk) → IsNew desk → All IsNew (desk ∷ [])
 one_new desk new zero d within = new

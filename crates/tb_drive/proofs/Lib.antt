@@ -1,3 +1,4 @@
+pub mod Ahead
 mod Control
 mod Pulsed
 mod Results

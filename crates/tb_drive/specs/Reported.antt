@@ -21,10 +21,10 @@ AreTogether pipeline submitters control =
     (map origin_of submitters ≡ pipeline.submitters) × (control.seat ≡ control_seat pipeline.intake)
     × (length pipeline.submitters ≡ pipeline.intake.submitters)
 
--- The report of a pipeline with this clock and this limit is lawful, of some queue that its senders filled. Each
--- submitter queued what its end says before it was settled, and what it had queued before the run comes first; the
--- control queued what is given. Each end is settled. Each driver has seen what its submitter queued and read, and was
--- asked until it ended.
+-- The report of a pipeline with this clock and this limit is lawful, of some queue that its senders filled. `unsettled`
+-- has the submitters' ends from before they were settled, each at its submitter's index. An end says what was queued, and
+-- what was queued before the run comes first. `control` says what the control queued. Each end is settled. Each driver
+-- has seen what its submitter queued and read, and was asked until it ended.
 pub record HasReported {D : Type 0} (has_seen has_ended : D → ℕ → List Numbered → List ReplyValue → Type 0)
     (clock limit submitters : ℕ) (before : List SubmitterState) (unsettled : List EndedState) (control : SenderState)
     (drivers : List D) (ledger : LedgerState) (ends : List EndedState) : Type 0 where

@@ -25,15 +25,16 @@ pub enum ControlAction {
 
 /// Says when the control queues a pulse, and how it ends. The control's own thread calls it, one call after another.
 ///
-/// `next` may wait: for a clock, for a channel, for another thread. Until it returns, the control hasn't ended, so the run
-/// can't end or be given up. If a thread can't be started, no other driver is asked any more: so what only another
-/// driver's word would end is waited for by `ControlAction::Wait`, not in `next`. A pulse is queued once `next` returns it, behind all packets that are queued by then.
+/// `next` may wait: for a clock, for a channel, for another thread. Until it returns, the control hasn't ended, so the
+/// run can't end or be given up. If a thread can't be started, no other driver is asked any more: so what only another
+/// driver can say is waited for by `ControlAction::Wait`, not in `next`. A pulse is queued once `next` returns it, after
+/// all packets that are queued by then.
 ///
-/// Its implementor says what is to be known of a driver after a run, by three relations, which hold of anything unless
-/// they are given. Each is between a driver as it was when the run began, the same driver later, and what it has had
-/// queued in the run. `has_queued` is of a driver that was told of all that it asked for. `has_asked` is of one that
-/// besides asked for a pulse at a moment and wasn't told yet what became of it, and `has_ended` of one that ended: the
-/// last item is its Close or its End.
+/// Its implementor says what is known of a driver after a run, by three relations, which hold of anything unless they
+/// are given. Each is between a driver as it was when the run began, the same driver later, and what it has had queued
+/// in the run. `has_queued` is of a driver that has the results of all that it asked for. `has_asked` is of one that
+/// besides asked for a pulse at a moment and has no result yet. `has_ended` is of one that ended: the last item is its
+/// Close or its End.
 pub trait ControlDriver: Drop {
     ghost has_queued: { Self → Self → List ItemValue → Type 0 } = { λ _ _ _. ⊤ };
 

@@ -23,20 +23,20 @@ pub enum Action {
     End,
 }
 
-/// Says what a submitter does, and takes what comes of it. A thread of the submitter's own calls it, one call after
+/// Says what a submitter does, and receives the results. A thread of the submitter's own calls it, one call after
 /// another. It needn't end anything itself.
 ///
 /// `next` may wait: for a channel, for input, for another thread. Until it returns, replies to the submitter's packets
-/// are put into its ring, and the driver isn't given them; nor can the run end or be given up. A driver that waits for
-/// input and for replies asks for input without waiting while replies are to come, and answers `Receive` if there is
-/// none.
+/// are put into its ring, and the driver doesn't receive them; nor can the run end or be given up. A driver that waits
+/// for input and for replies asks for input without waiting while replies are to come, and returns `Receive` if there
+/// is none.
 ///
-/// Its implementor says what is to be known of a driver after a run, by three relations, which hold of anything unless
-/// they are given. `has_seen` is between a driver, the most events of a packet, the packets that it was told are queued,
-/// and the replies that it was given, both in their order. `has_asked` is the same of a driver that besides asked for a
-/// packet to be queued and wasn't told yet what became of it, and `has_ended` of one that answered `End`: a driver is
-/// asked until it does. `share` is what a driver was made to queue, as its implementor defines it; it stays as it is
-/// whatever the driver is asked and told, so that a caller knows its own drivers again.
+/// Its implementor says what is known of a driver after a run, by three relations, which hold of anything unless they
+/// are given. `has_seen` is between a driver, the most events of a packet, the packets that are queued by what it was
+/// told, and the replies that it received, both in their order. `has_asked` is the same of a driver that besides asked
+/// for a packet to be queued and has no result yet. `has_ended` is of one that returned `End`: a driver is asked until
+/// it does. `share` is what a driver was made to queue, as its implementor defines it; no call changes it, so that a
+/// caller knows its own drivers again.
 pub trait Driver: Drop {
     ghost has_seen: { Self → ℕ → List Numbered → List ReplyValue → Type 0 } = { λ _ _ _ _. ⊤ };
 

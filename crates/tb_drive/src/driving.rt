@@ -32,8 +32,8 @@ use tb_work::{Packet, Refusal};
 #[derive(Drop)]
 pub struct Finished<D, C> {
     pub report: Report,
-    /// The ends of the report before they were settled. It is a ghost copy without bytes: by it contracts name what each
-    /// submitter queued, which a settled end doesn't say any more.
+    /// The report's ends from before they were settled, as a ghost copy without bytes. Contracts name by it what each
+    /// submitter queued, since a settled end doesn't say that.
     pub unsettled: Snapshot<Vec<Ended>>,
     pub drivers: Vec<D>,
     pub control: C,
