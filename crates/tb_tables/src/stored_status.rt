@@ -17,6 +17,8 @@ pub enum StoredStatus {
     Expired,
 }
 
+const _: () = prove!(size_of::<StoredStatus>() == 1);
+
 impl StoredStatus {
     /// Returns the status of a transfer that nothing resolved.
     pub fn first(transfer: &Transfer) -> StoredStatus

@@ -21,6 +21,8 @@ pub struct StoredTransfer {
     flags: u16,
 }
 
+const _: () = prove!(size_of::<StoredTransfer>() == 112);
+
 impl StoredTransfer {
     ghost use Rattle.tb_tables.specs.Columns.{transfer_under};
 

@@ -22,10 +22,6 @@ use std::alloc::Global;
 use std::marker::Model;
 use tb_layout::{NoMemory, Transfer};
 
-const _: () = prove!(size_of::<StoredTransfer>() == 112);
-
-const _: () = prove!(size_of::<StoredStatus>() == 1);
-
 /// The transfers and their statuses, in two columns: a status next to its transfer would be padded to 16 bytes.
 #[derive(Drop)]
 pub struct Transfers {
