@@ -1,8 +1,8 @@
 //! Entries of the maps, in order of making.
 
-ghost use Rattle.std.specs.Prelude.{◌≡◌, ◌<◌, ◌++◌, ◌∷◌, ◌==◌, ◌≢◌, [], ℕ, None, Some, Ok, IfOk, OnOk, OnErr, IsSome, is_some, not, true, false, nat_eq, slice_get, List};
+ghost use Rattle.std.specs.Prelude.{◌≡◌, ◌++◌, ◌∷◌, ◌==◌, ◌≢◌, [], Some, Ok, IfOk, OnOk, OnErr, IsSome, is_some, not, true, false, nat_eq, slice_get};
 ghost use Rattle.std.specs.List.{list_any};
-ghost use Rattle.indexmap.specs.IndexMap.{get, keys, index_map_len, set_value_at, IsUnique};
+ghost use Rattle.indexmap.specs.IndexMap.{get, keys};
 ghost use Rattle.tb_tables.specs.Changes.{without_last};
 ghost use Rattle.tb_tables.specs.Changing.{status_after};
 

@@ -5,7 +5,6 @@ ghost use Rattle.std.specs.List.{IsDistinct};
 ghost use Rattle.std.specs.Map.{keys_of, lookup};
 ghost use Rattle.std.specs.Option.{option_map};
 ghost use Rattle.indexmap.specs.IndexMap.{get, set_value_at};
-ghost use Rattle.tb_layout.specs.declared.transfer.Transfer.{Transfer as TransferRecord};
 ghost use Rattle.tb_tables.specs.declared.row.Row.{Row as RowRecord};
 ghost use Rattle.tb_tables.specs.declared.stored_transfer.StoredTransfer.{StoredTransfer as StoredRecord};
 ghost use Rattle.tb_tables.specs.Changing.{new_row};
@@ -114,7 +113,7 @@ impl Transfers {
         stored.transfer(id)
     }
 
-    /// Sets the status of the transfer at an index, and gives that transfer.
+    /// Sets the status of the transfer at an index, and returns that transfer.
     pub fn set_status(&mut self, index: usize, status: Status) -> Transfer
         requires { IsSome (slice_get self.old index) }
         ensures transfer { (id : ℕ) (row : RowRecord) → slice_get self.old index ≡ Some (id, row)

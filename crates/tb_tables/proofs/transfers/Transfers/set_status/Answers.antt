@@ -20,7 +20,7 @@ pair_mut-stored-requires c =
 
 pub invariant_of-self : goal.invariant_of-self
 invariant_of-self c =
-    length-set c.self.inside.statuses.items c.args.index c.of.result ∙ c.self.invariant
+    length-set c.self.inside.statuses.items _ c.of.result ∙ c.self.invariant
     ∙ sym (ap length (set-itself c.self.inside.rows.entries c.args.index _ _ c.pair_mut-stored.ensures.value))
 
 pub returns-clause-transfer : goal.returns-clause-transfer
