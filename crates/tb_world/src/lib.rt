@@ -6,8 +6,8 @@
 #![tactic(auto)]
 
 mod event;
-mod left;
 mod mailbox;
+mod pending_replies;
 mod run;
 mod sender;
 mod world;

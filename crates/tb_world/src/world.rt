@@ -9,8 +9,8 @@ ghost use Rattle.tb_world.specs.Mailbox.{empty_mailbox};
 ghost use Rattle.tb_world.specs.World.{pending_of, new_world, IsMove, batch_push};
 
 use crate::event::Event;
-use crate::left::PendingReplies;
 use crate::mailbox::Mailboxes;
+use crate::pending_replies::PendingReplies;
 use crate::sender::Sender;
 use arrayvec::ArrayVec;
 use std::alloc::Global;
@@ -35,7 +35,7 @@ pub struct World {
     ledger: Ledger,
     outcome: Option<Outcomes>,
     outcomes: VecDeque<Outcomes>,
-    left: PendingReplies,
+    pending: PendingReplies,
     mailboxes: Mailboxes,
 }
 
@@ -54,7 +54,7 @@ impl Drop for World {
             ledger,
             outcome,
             outcomes,
-            left,
+            pending,
             mailboxes,
         } = self;
         drop(senders);
@@ -65,7 +65,7 @@ impl Drop for World {
         drop(ledger);
         drop(outcome);
         drop(outcomes);
-        drop(left);
+        drop(pending);
         drop(mailboxes);
     }
 }
@@ -87,7 +87,7 @@ impl Model for World {
       ledger = world.ledger;
       outcome = world.outcome;
       outcomes = world.outcomes.items;
-      replies = world.left;
+      replies = world.pending;
       mailboxes = world.mailboxes;
     } };
 
@@ -161,7 +161,7 @@ impl World {
             ledger: Ledger::new(alloc, clock),
             outcome: None,
             outcomes: VecDeque::new(alloc),
-            left: PendingReplies::nothing(),
+            pending: PendingReplies::nothing(),
             mailboxes,
         })
     }
@@ -314,12 +314,12 @@ impl World {
     fn outcome_pop(&mut self) -> bool
         ensures { IsMove self.old event.OutcomePop result self.new }
     {
-        if !self.left.is_empty() {
+        if !self.pending.is_empty() {
             return false;
         }
         match self.outcomes.pop_front() {
             Some(outcomes) => {
-                self.left.fill(outcomes);
+                self.pending.fill(outcomes);
                 true
             }
             None => false,
@@ -331,7 +331,7 @@ impl World {
         ensures ok { IfOk result (λ moves. IsMove self.old event.ReplyPush moves self.new) }
         ensures err { OnErr result ((is_some (moved self.old event.ReplyPush) ≡ true) × (self.new ≡ self.old)) }
     {
-        self.left.give(&mut self.mailboxes)
+        self.pending.give(&mut self.mailboxes)
     }
 
     /// Lets a submitter receive the first reply of its ring.

@@ -26,9 +26,9 @@ impl Model for PendingReplies {
 
     ghost Value = { List ReplyValue };
 
-    ghost view = { λ left. option_to_list left.next ++ replies_of left.cutter };
+    ghost view = { λ pending. option_to_list pending.next ++ replies_of pending.cutter };
 
-    ghost invariant = { λ left. left.next ≡ None → replies_of left.cutter ≡ [] };
+    ghost invariant = { λ pending. pending.next ≡ None → replies_of pending.cutter ≡ [] };
 }
 
 impl PendingReplies {
