@@ -41,7 +41,7 @@ IsQueueRefusal limit capacity credit submitters refusal =
 
 -- what an outcome says of all packets that come later
 abbrev pub told_by : Outcome → Option Refusal
-told_by (outcome.Committed pass answer) = None
+told_by (outcome.Committed place answer) = None
 told_by outcome.Shutdown = Some Shutdown
 told_by outcome.Stopped = Some Stopped
 

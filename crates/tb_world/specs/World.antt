@@ -20,7 +20,7 @@ use Rattle.tb_world.specs.Mailbox.{Mailbox, empty_mailbox, mailbox_at, mailboxes
 pub record WorldState : Type 0 where
   pub limit : ℕ
   pub submitters : ℕ
-  pub senders : List Sender  -- the submitters, and remainder them the control
+  pub senders : List Sender  -- the submitters, and after them the control
   pub queue : List Ticket
   pub front : FrontState
   pub parcels : List Parcel  -- those that the batcher is to push
