@@ -21,6 +21,7 @@ mod clearing;
 mod committing;
 mod gate;
 mod opening;
+mod own_end;
 mod routing;
 mod serving;
 mod settling;
@@ -29,5 +30,6 @@ mod waiting;
 
 pub use gate::{Gate, Open};
 pub use opening::{Opened, open, open_with};
+pub use own_end::OwnEnd;
 pub use serving::{Pipeline, Served};
 pub use settling::{Report, settle};
