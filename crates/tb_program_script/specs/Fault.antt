@@ -7,7 +7,7 @@ abbrev pub fault_text : Fault → List ℕ
 fault_text LineTooLong = codes "line too long"
 fault_text BadByte = codes "bad byte"
 fault_text UnknownWord = codes "unknown word"
-fault_text OutOfPlace = codes "out of index"
+fault_text OutOfPlace = codes "out of place"
 fault_text WrongNumberOfWords = codes "wrong number of words"
 fault_text BadField = codes "bad field"
 fault_text BadNumber = codes "bad number"

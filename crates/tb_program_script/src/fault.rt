@@ -32,7 +32,7 @@ impl Fault {
             Fault::LineTooLong => "line too long",
             Fault::BadByte => "bad byte",
             Fault::UnknownWord => "unknown word",
-            Fault::OutOfPlace => "out of index",
+            Fault::OutOfPlace => "out of place",
             Fault::WrongNumberOfWords => "wrong number of words",
             Fault::BadField => "bad field",
             Fault::BadNumber => "bad number",
