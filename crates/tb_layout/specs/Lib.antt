@@ -1,4 +1,5 @@
 pub mod Operation
+pub mod OperationNames
 pub mod Limits
 pub mod Bytes
 pub mod Flags

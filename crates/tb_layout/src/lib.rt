@@ -5,6 +5,7 @@
 //! - `read_account`, `read_transfer`, `read_id`, `read_failure` return the record that the layout defines;
 //! - `write_account`, `write_transfer`, `write_failure` return its bytes, and no other bytes are read as that record, `write_id` an id's;
 //! - `is_linked`, `is_pending`, `is_post`, `is_void` and the account's limit flags each read their bit;
+//! - `Operation` has the three operations, their numbers and names;
 //! - `AccountCode` and `TransferCode` have the result codes, their numbers and names, and find a result by its number;
 //! - `Failures` and `Accounts` are what an answer holds, seen by clauses as the lists that they contain.
 #![tactic(auto)]
@@ -34,6 +35,6 @@ pub use limits::{
     SUBMITTERS_MAX,
 };
 pub use no_memory::NoMemory;
-pub use operation::{CREATE_ACCOUNTS, CREATE_TRANSFERS, LOOKUP_ACCOUNTS};
+pub use operation::{CREATE_ACCOUNTS, CREATE_TRANSFERS, LOOKUP_ACCOUNTS, Operation};
 pub use transfer::{Transfer, read_transfer, write_transfer};
 pub use transfer_code::TransferCode;
