@@ -30,6 +30,19 @@ def run(command, source=os.devnull):
         return Run(wall, used.ru_utime + used.ru_stime, output.read())
 
 
+# What installs the peers' compiler and crates, and valgrind.
+INSTALL = ("apt-get install --no-install-recommends cargo valgrind librust-indexmap-dev librust-memchr-dev librust-itoa-dev "
+           "librust-crossbeam-queue-dev librust-crossbeam-utils-dev")
+
+
+def done(command, installed_by=INSTALL, **options):
+    """Runs a command to its end. Where it is missing or fails, ends with what installs it."""
+    try:
+        return subprocess.run(command, check=True, **options)
+    except (FileNotFoundError, subprocess.CalledProcessError) as why:
+        raise SystemExit(f"{why}\nWhat it needs comes by: {installed_by}") from None
+
+
 def in_turn(commands, turns, source=os.devnull):
     """The runs of programs in turn, beginning with another one each time. All must print the same."""
     rounds = []
@@ -78,8 +91,6 @@ def instructions(command, source=os.devnull):
     """How many instructions a program of one thread takes (valgrind's callgrind)."""
     with tempfile.NamedTemporaryFile() as counts, open(source, "rb") as stdin:
         valgrind = ["valgrind", "--tool=callgrind", f"--callgrind-out-file={counts.name}"]
-        ended = subprocess.run(valgrind + command, stdin=stdin, capture_output=True)
-        if ended.returncode != 0:
-            raise SystemExit(f"{command} under valgrind ended with status {ended.returncode}")
+        done(valgrind + command, stdin=stdin, capture_output=True)
         text = open(counts.name).read()
     return int(re.search(r"^(?:summary|totals): (\d+)", text, re.MULTILINE).group(1))

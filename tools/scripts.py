@@ -71,7 +71,7 @@ class Script:
 
 
 def program_path():
-    """Returns the path of the program that ./tbpipe runs, which it builds first if it must. If it can't, it has said why."""
+    """Returns the path of the program that ./tbpipe runs. If it isn't built, ./tbpipe has said how to build it."""
     asked = subprocess.run([TOP / "tbpipe", "--which"], stdout=subprocess.PIPE, text=True)
     if asked.returncode != 0:
         sys.exit(asked.returncode)
