@@ -1,5 +1,4 @@
 pub mod Numbers
 pub mod Records
 pub mod Rising
-pub mod AccountCodes
-pub mod TransferCodes
+pub mod Codes

@@ -11,3 +11,4 @@ pub mod Failure
 pub mod Events
 pub mod Failures
 pub mod Input
+pub mod inside

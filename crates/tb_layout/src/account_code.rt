@@ -2,6 +2,8 @@
 
 ghost use Rattle.std.specs.Prelude.{◌≡◌};
 
+use crate::code::{Code, code_with, row_with, rows};
+
 /// The result of one event of create_accounts, named as TigerBeetle names it, but for
 /// `ClockExhausted`, which is this project's own.
 #[derive(Clone, Copy, Debug, PartialEq, Eq)]
@@ -32,7 +34,8 @@ pub enum AccountCode {
 }
 
 impl AccountCode {
-    ghost use Rattle.tb_layout.specs.AccountCode.{code_of, name_of, number_of};
+    ghost use Rattle.tb_layout.specs.AccountCode.{number_of};
+    ghost use Rattle.tb_layout.specs.inside.AccountCodes.{code_of, name_of};
 
     /// The number that a failure carries. 0 is no failure.
     pub fn number(self) -> u32
@@ -45,69 +48,54 @@ impl AccountCode {
     pub fn of_number(number: u32) -> Option<AccountCode>
         ensures { result ≡ code_of number }
     {
-        for code in CODES {
-            if code.number() == number {
-                return Some(code);
-            }
-        }
-        None
+        code_with(&ROWS, number)
     }
 
     /// TigerBeetle's name of the result.
     pub fn name(self) -> &'static str
         ensures { result.now ≡ name_of self }
     {
-        match self {
-            AccountCode::Ok => "ok",
-            AccountCode::LinkedEventFailed => "linked_event_failed",
-            AccountCode::LinkedEventChainOpen => "linked_event_chain_open",
-            AccountCode::TimestampMustBeZero => "timestamp_must_be_zero",
-            AccountCode::ReservedField => "reserved_field",
-            AccountCode::ReservedFlag => "reserved_flag",
-            AccountCode::IdMustNotBeZero => "id_must_not_be_zero",
-            AccountCode::IdMustNotBeIntMax => "id_must_not_be_int_max",
-            AccountCode::FlagsAreMutuallyExclusive => "flags_are_mutually_exclusive",
-            AccountCode::DebitsPendingMustBeZero => "debits_pending_must_be_zero",
-            AccountCode::DebitsPostedMustBeZero => "debits_posted_must_be_zero",
-            AccountCode::CreditsPendingMustBeZero => "credits_pending_must_be_zero",
-            AccountCode::CreditsPostedMustBeZero => "credits_posted_must_be_zero",
-            AccountCode::LedgerMustNotBeZero => "ledger_must_not_be_zero",
-            AccountCode::CodeMustNotBeZero => "code_must_not_be_zero",
-            AccountCode::ExistsWithDifferentFlags => "exists_with_different_flags",
-            AccountCode::ExistsWithDifferentUserData128 => "exists_with_different_user_data_128",
-            AccountCode::ExistsWithDifferentUserData64 => "exists_with_different_user_data_64",
-            AccountCode::ExistsWithDifferentUserData32 => "exists_with_different_user_data_32",
-            AccountCode::ExistsWithDifferentLedger => "exists_with_different_ledger",
-            AccountCode::ExistsWithDifferentCode => "exists_with_different_code",
-            AccountCode::Exists => "exists",
-            AccountCode::ClockExhausted => "clock_exhausted",
+        match row_with(&ROWS, self.number()) {
+            Some((_, name)) => name,
+            None => unreachable!(),
         }
     }
 }
 
-/// All results, by rising number.
-const CODES: [AccountCode; 23] = [
-    AccountCode::Ok,
-    AccountCode::LinkedEventFailed,
-    AccountCode::LinkedEventChainOpen,
-    AccountCode::TimestampMustBeZero,
-    AccountCode::ReservedField,
-    AccountCode::ReservedFlag,
-    AccountCode::IdMustNotBeZero,
-    AccountCode::IdMustNotBeIntMax,
-    AccountCode::FlagsAreMutuallyExclusive,
-    AccountCode::DebitsPendingMustBeZero,
-    AccountCode::DebitsPostedMustBeZero,
-    AccountCode::CreditsPendingMustBeZero,
-    AccountCode::CreditsPostedMustBeZero,
-    AccountCode::LedgerMustNotBeZero,
-    AccountCode::CodeMustNotBeZero,
-    AccountCode::ExistsWithDifferentFlags,
-    AccountCode::ExistsWithDifferentUserData128,
-    AccountCode::ExistsWithDifferentUserData64,
-    AccountCode::ExistsWithDifferentUserData32,
-    AccountCode::ExistsWithDifferentLedger,
-    AccountCode::ExistsWithDifferentCode,
-    AccountCode::Exists,
-    AccountCode::ClockExhausted,
-];
+impl Code for AccountCode {
+    ghost use Rattle.tb_layout.specs.AccountCode.{number_of as number_of_code};
+
+    ghost number_of = { number_of_code };
+
+    fn number(self) -> u32 {
+        AccountCode::number(self)
+    }
+}
+
+/// All results, by rising number, each with TigerBeetle's name.
+const ROWS: [(AccountCode, &str); 23] = rows! {
+    AccountCode;
+    Ok => "ok",
+    LinkedEventFailed => "linked_event_failed",
+    LinkedEventChainOpen => "linked_event_chain_open",
+    TimestampMustBeZero => "timestamp_must_be_zero",
+    ReservedField => "reserved_field",
+    ReservedFlag => "reserved_flag",
+    IdMustNotBeZero => "id_must_not_be_zero",
+    IdMustNotBeIntMax => "id_must_not_be_int_max",
+    FlagsAreMutuallyExclusive => "flags_are_mutually_exclusive",
+    DebitsPendingMustBeZero => "debits_pending_must_be_zero",
+    DebitsPostedMustBeZero => "debits_posted_must_be_zero",
+    CreditsPendingMustBeZero => "credits_pending_must_be_zero",
+    CreditsPostedMustBeZero => "credits_posted_must_be_zero",
+    LedgerMustNotBeZero => "ledger_must_not_be_zero",
+    CodeMustNotBeZero => "code_must_not_be_zero",
+    ExistsWithDifferentFlags => "exists_with_different_flags",
+    ExistsWithDifferentUserData128 => "exists_with_different_user_data_128",
+    ExistsWithDifferentUserData64 => "exists_with_different_user_data_64",
+    ExistsWithDifferentUserData32 => "exists_with_different_user_data_32",
+    ExistsWithDifferentLedger => "exists_with_different_ledger",
+    ExistsWithDifferentCode => "exists_with_different_code",
+    Exists => "exists",
+    ClockExhausted => "clock_exhausted",
+};

@@ -14,6 +14,7 @@ mod account;
 mod account_code;
 mod answer;
 mod chunk;
+mod code;
 mod failure;
 mod flags;
 mod id;

@@ -2,6 +2,8 @@
 
 ghost use Rattle.std.specs.Prelude.{◌≡◌};
 
+use crate::code::{Code, code_with, row_with, rows};
+
 /// The result of one event of create_transfers, named as TigerBeetle names it, but for
 /// `ClockExhausted`, which is this project's own. 18 is unused.
 #[derive(Clone, Copy, PartialEq, Eq, Debug)]
@@ -67,7 +69,8 @@ pub enum TransferCode {
 }
 
 impl TransferCode {
-    ghost use Rattle.tb_layout.specs.TransferCode.{code_of, name_of, number_of};
+    ghost use Rattle.tb_layout.specs.TransferCode.{number_of};
+    ghost use Rattle.tb_layout.specs.inside.TransferCodes.{code_of, name_of};
 
     /// The number that a failure carries. 0 is no failure.
     #[inline(always)]
@@ -81,147 +84,89 @@ impl TransferCode {
     pub fn of_number(number: u32) -> Option<TransferCode>
         ensures { result ≡ code_of number }
     {
-        for code in CODES {
-            if code.number() == number {
-                return Some(code);
-            }
-        }
-        None
+        code_with(&ROWS, number)
     }
 
     /// TigerBeetle's name of the result.
     pub fn name(self) -> &'static str
         ensures { result.now ≡ name_of self }
     {
-        match self {
-            TransferCode::Ok => "ok",
-            TransferCode::LinkedEventFailed => "linked_event_failed",
-            TransferCode::LinkedEventChainOpen => "linked_event_chain_open",
-            TransferCode::TimestampMustBeZero => "timestamp_must_be_zero",
-            TransferCode::ReservedFlag => "reserved_flag",
-            TransferCode::IdMustNotBeZero => "id_must_not_be_zero",
-            TransferCode::IdMustNotBeIntMax => "id_must_not_be_int_max",
-            TransferCode::FlagsAreMutuallyExclusive => "flags_are_mutually_exclusive",
-            TransferCode::DebitAccountIdMustNotBeZero => "debit_account_id_must_not_be_zero",
-            TransferCode::DebitAccountIdMustNotBeIntMax => "debit_account_id_must_not_be_int_max",
-            TransferCode::CreditAccountIdMustNotBeZero => "credit_account_id_must_not_be_zero",
-            TransferCode::CreditAccountIdMustNotBeIntMax => "credit_account_id_must_not_be_int_max",
-            TransferCode::AccountsMustBeDifferent => "accounts_must_be_different",
-            TransferCode::PendingIdMustBeZero => "pending_id_must_be_zero",
-            TransferCode::PendingIdMustNotBeZero => "pending_id_must_not_be_zero",
-            TransferCode::PendingIdMustNotBeIntMax => "pending_id_must_not_be_int_max",
-            TransferCode::PendingIdMustBeDifferent => "pending_id_must_be_different",
-            TransferCode::TimeoutReservedForPendingTransfer =>
-                "timeout_reserved_for_pending_transfer",
-            TransferCode::LedgerMustNotBeZero => "ledger_must_not_be_zero",
-            TransferCode::CodeMustNotBeZero => "code_must_not_be_zero",
-            TransferCode::DebitAccountNotFound => "debit_account_not_found",
-            TransferCode::CreditAccountNotFound => "credit_account_not_found",
-            TransferCode::AccountsMustHaveTheSameLedger => "accounts_must_have_the_same_ledger",
-            TransferCode::TransferMustHaveTheSameLedgerAsAccounts =>
-                "transfer_must_have_the_same_ledger_as_accounts",
-            TransferCode::PendingTransferNotFound => "pending_transfer_not_found",
-            TransferCode::PendingTransferNotPending => "pending_transfer_not_pending",
-            TransferCode::PendingTransferHasDifferentDebitAccountId =>
-                "pending_transfer_has_different_debit_account_id",
-            TransferCode::PendingTransferHasDifferentCreditAccountId =>
-                "pending_transfer_has_different_credit_account_id",
-            TransferCode::PendingTransferHasDifferentLedger =>
-                "pending_transfer_has_different_ledger",
-            TransferCode::PendingTransferHasDifferentCode => "pending_transfer_has_different_code",
-            TransferCode::ExceedsPendingTransferAmount => "exceeds_pending_transfer_amount",
-            TransferCode::PendingTransferHasDifferentAmount =>
-                "pending_transfer_has_different_amount",
-            TransferCode::PendingTransferAlreadyPosted => "pending_transfer_already_posted",
-            TransferCode::PendingTransferAlreadyVoided => "pending_transfer_already_voided",
-            TransferCode::PendingTransferExpired => "pending_transfer_expired",
-            TransferCode::ExistsWithDifferentFlags => "exists_with_different_flags",
-            TransferCode::ExistsWithDifferentDebitAccountId =>
-                "exists_with_different_debit_account_id",
-            TransferCode::ExistsWithDifferentCreditAccountId =>
-                "exists_with_different_credit_account_id",
-            TransferCode::ExistsWithDifferentAmount => "exists_with_different_amount",
-            TransferCode::ExistsWithDifferentPendingId => "exists_with_different_pending_id",
-            TransferCode::ExistsWithDifferentUserData128 => "exists_with_different_user_data_128",
-            TransferCode::ExistsWithDifferentUserData64 => "exists_with_different_user_data_64",
-            TransferCode::ExistsWithDifferentUserData32 => "exists_with_different_user_data_32",
-            TransferCode::ExistsWithDifferentTimeout => "exists_with_different_timeout",
-            TransferCode::ExistsWithDifferentCode => "exists_with_different_code",
-            TransferCode::Exists => "exists",
-            TransferCode::OverflowsDebitsPending => "overflows_debits_pending",
-            TransferCode::OverflowsCreditsPending => "overflows_credits_pending",
-            TransferCode::OverflowsDebitsPosted => "overflows_debits_posted",
-            TransferCode::OverflowsCreditsPosted => "overflows_credits_posted",
-            TransferCode::OverflowsDebits => "overflows_debits",
-            TransferCode::OverflowsCredits => "overflows_credits",
-            TransferCode::OverflowsTimeout => "overflows_timeout",
-            TransferCode::ExceedsCredits => "exceeds_credits",
-            TransferCode::ExceedsDebits => "exceeds_debits",
-            TransferCode::ExistsWithDifferentLedger => "exists_with_different_ledger",
-            TransferCode::IdAlreadyFailed => "id_already_failed",
-            TransferCode::ClockExhausted => "clock_exhausted",
+        match row_with(&ROWS, self.number()) {
+            Some((_, name)) => name,
+            None => unreachable!(),
         }
     }
 }
 
-/// All results, by rising number.
-const CODES: [TransferCode; 58] = [
-    TransferCode::Ok,
-    TransferCode::LinkedEventFailed,
-    TransferCode::LinkedEventChainOpen,
-    TransferCode::TimestampMustBeZero,
-    TransferCode::ReservedFlag,
-    TransferCode::IdMustNotBeZero,
-    TransferCode::IdMustNotBeIntMax,
-    TransferCode::FlagsAreMutuallyExclusive,
-    TransferCode::DebitAccountIdMustNotBeZero,
-    TransferCode::DebitAccountIdMustNotBeIntMax,
-    TransferCode::CreditAccountIdMustNotBeZero,
-    TransferCode::CreditAccountIdMustNotBeIntMax,
-    TransferCode::AccountsMustBeDifferent,
-    TransferCode::PendingIdMustBeZero,
-    TransferCode::PendingIdMustNotBeZero,
-    TransferCode::PendingIdMustNotBeIntMax,
-    TransferCode::PendingIdMustBeDifferent,
-    TransferCode::TimeoutReservedForPendingTransfer,
-    TransferCode::LedgerMustNotBeZero,
-    TransferCode::CodeMustNotBeZero,
-    TransferCode::DebitAccountNotFound,
-    TransferCode::CreditAccountNotFound,
-    TransferCode::AccountsMustHaveTheSameLedger,
-    TransferCode::TransferMustHaveTheSameLedgerAsAccounts,
-    TransferCode::PendingTransferNotFound,
-    TransferCode::PendingTransferNotPending,
-    TransferCode::PendingTransferHasDifferentDebitAccountId,
-    TransferCode::PendingTransferHasDifferentCreditAccountId,
-    TransferCode::PendingTransferHasDifferentLedger,
-    TransferCode::PendingTransferHasDifferentCode,
-    TransferCode::ExceedsPendingTransferAmount,
-    TransferCode::PendingTransferHasDifferentAmount,
-    TransferCode::PendingTransferAlreadyPosted,
-    TransferCode::PendingTransferAlreadyVoided,
-    TransferCode::PendingTransferExpired,
-    TransferCode::ExistsWithDifferentFlags,
-    TransferCode::ExistsWithDifferentDebitAccountId,
-    TransferCode::ExistsWithDifferentCreditAccountId,
-    TransferCode::ExistsWithDifferentAmount,
-    TransferCode::ExistsWithDifferentPendingId,
-    TransferCode::ExistsWithDifferentUserData128,
-    TransferCode::ExistsWithDifferentUserData64,
-    TransferCode::ExistsWithDifferentUserData32,
-    TransferCode::ExistsWithDifferentTimeout,
-    TransferCode::ExistsWithDifferentCode,
-    TransferCode::Exists,
-    TransferCode::OverflowsDebitsPending,
-    TransferCode::OverflowsCreditsPending,
-    TransferCode::OverflowsDebitsPosted,
-    TransferCode::OverflowsCreditsPosted,
-    TransferCode::OverflowsDebits,
-    TransferCode::OverflowsCredits,
-    TransferCode::OverflowsTimeout,
-    TransferCode::ExceedsCredits,
-    TransferCode::ExceedsDebits,
-    TransferCode::ExistsWithDifferentLedger,
-    TransferCode::IdAlreadyFailed,
-    TransferCode::ClockExhausted,
-];
+impl Code for TransferCode {
+    ghost use Rattle.tb_layout.specs.TransferCode.{number_of as number_of_code};
+
+    ghost number_of = { number_of_code };
+
+    fn number(self) -> u32 {
+        TransferCode::number(self)
+    }
+}
+
+/// All results, by rising number, each with TigerBeetle's name.
+const ROWS: [(TransferCode, &str); 58] = rows! {
+    TransferCode;
+    Ok => "ok",
+    LinkedEventFailed => "linked_event_failed",
+    LinkedEventChainOpen => "linked_event_chain_open",
+    TimestampMustBeZero => "timestamp_must_be_zero",
+    ReservedFlag => "reserved_flag",
+    IdMustNotBeZero => "id_must_not_be_zero",
+    IdMustNotBeIntMax => "id_must_not_be_int_max",
+    FlagsAreMutuallyExclusive => "flags_are_mutually_exclusive",
+    DebitAccountIdMustNotBeZero => "debit_account_id_must_not_be_zero",
+    DebitAccountIdMustNotBeIntMax => "debit_account_id_must_not_be_int_max",
+    CreditAccountIdMustNotBeZero => "credit_account_id_must_not_be_zero",
+    CreditAccountIdMustNotBeIntMax => "credit_account_id_must_not_be_int_max",
+    AccountsMustBeDifferent => "accounts_must_be_different",
+    PendingIdMustBeZero => "pending_id_must_be_zero",
+    PendingIdMustNotBeZero => "pending_id_must_not_be_zero",
+    PendingIdMustNotBeIntMax => "pending_id_must_not_be_int_max",
+    PendingIdMustBeDifferent => "pending_id_must_be_different",
+    TimeoutReservedForPendingTransfer => "timeout_reserved_for_pending_transfer",
+    LedgerMustNotBeZero => "ledger_must_not_be_zero",
+    CodeMustNotBeZero => "code_must_not_be_zero",
+    DebitAccountNotFound => "debit_account_not_found",
+    CreditAccountNotFound => "credit_account_not_found",
+    AccountsMustHaveTheSameLedger => "accounts_must_have_the_same_ledger",
+    TransferMustHaveTheSameLedgerAsAccounts => "transfer_must_have_the_same_ledger_as_accounts",
+    PendingTransferNotFound => "pending_transfer_not_found",
+    PendingTransferNotPending => "pending_transfer_not_pending",
+    PendingTransferHasDifferentDebitAccountId => "pending_transfer_has_different_debit_account_id",
+    PendingTransferHasDifferentCreditAccountId => "pending_transfer_has_different_credit_account_id",
+    PendingTransferHasDifferentLedger => "pending_transfer_has_different_ledger",
+    PendingTransferHasDifferentCode => "pending_transfer_has_different_code",
+    ExceedsPendingTransferAmount => "exceeds_pending_transfer_amount",
+    PendingTransferHasDifferentAmount => "pending_transfer_has_different_amount",
+    PendingTransferAlreadyPosted => "pending_transfer_already_posted",
+    PendingTransferAlreadyVoided => "pending_transfer_already_voided",
+    PendingTransferExpired => "pending_transfer_expired",
+    ExistsWithDifferentFlags => "exists_with_different_flags",
+    ExistsWithDifferentDebitAccountId => "exists_with_different_debit_account_id",
+    ExistsWithDifferentCreditAccountId => "exists_with_different_credit_account_id",
+    ExistsWithDifferentAmount => "exists_with_different_amount",
+    ExistsWithDifferentPendingId => "exists_with_different_pending_id",
+    ExistsWithDifferentUserData128 => "exists_with_different_user_data_128",
+    ExistsWithDifferentUserData64 => "exists_with_different_user_data_64",
+    ExistsWithDifferentUserData32 => "exists_with_different_user_data_32",
+    ExistsWithDifferentTimeout => "exists_with_different_timeout",
+    ExistsWithDifferentCode => "exists_with_different_code",
+    Exists => "exists",
+    OverflowsDebitsPending => "overflows_debits_pending",
+    OverflowsCreditsPending => "overflows_credits_pending",
+    OverflowsDebitsPosted => "overflows_debits_posted",
+    OverflowsCreditsPosted => "overflows_credits_posted",
+    OverflowsDebits => "overflows_debits",
+    OverflowsCredits => "overflows_credits",
+    OverflowsTimeout => "overflows_timeout",
+    ExceedsCredits => "exceeds_credits",
+    ExceedsDebits => "exceeds_debits",
+    ExistsWithDifferentLedger => "exists_with_different_ledger",
+    IdAlreadyFailed => "id_already_failed",
+    ClockExhausted => "clock_exhausted",
+};

@@ -43,17 +43,17 @@ failures_from-linked_more index count =
     ap (failures_from index) (sym (replicate_more count 1)) ∙ failures_from-append index (replicate count 1) (1 ∷ [])
     ∙ ap (λ n. failures_from index (replicate count 1) ++ failure (index + n) 1 ∷ []) (length-replicate count 1)
 
-pub failures_from-fault : (index place code count : ℕ) → code ≢ 0 →
-    failures_from index (replicate place 1 ++ code ∷ replicate count 1)
-    ≡ failures_from index (replicate place 1) ++ (failure (index + place) code
-    ∷ failures_from (index + place + 1) (replicate count 1))
-failures_from-fault index place code count fault =
-    failures_from-append index (replicate place 1) (code ∷ replicate count 1)
-    ∙ ap (λ n. failures_from index (replicate place 1) ++ failures_from (index + n) (code ∷ replicate count 1))
-    (length-replicate place 1)
-    ∙ ap (λ b. failures_from index (replicate place 1)
-    ++ (if b then failures_from (index + place + 1) (replicate count 1)
-    else failure (index + place) code ∷ failures_from (index + place + 1) (replicate count 1)))
+pub failures_from-fault : (index before code count : ℕ) → code ≢ 0 →
+    failures_from index (replicate before 1 ++ code ∷ replicate count 1)
+    ≡ failures_from index (replicate before 1) ++ (failure (index + before) code
+    ∷ failures_from (index + before + 1) (replicate count 1))
+failures_from-fault index before code count fault =
+    failures_from-append index (replicate before 1) (code ∷ replicate count 1)
+    ∙ ap (λ n. failures_from index (replicate before 1) ++ failures_from (index + n) (code ∷ replicate count 1))
+    (length-replicate before 1)
+    ∙ ap (λ b. failures_from index (replicate before 1)
+    ++ (if b then failures_from (index + before + 1) (replicate count 1)
+    else failure (index + before) code ∷ failures_from (index + before + 1) (replicate count 1)))
     (eqb-false code 0 fault)
 
 -- the last event of an open chain reports so

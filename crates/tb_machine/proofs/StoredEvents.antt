@@ -166,13 +166,13 @@ stands_between facts timestamp event ok plain =
     (sym (ap (λ b. number_of (if b then resolving_verdict facts timestamp event
     else moving_verdict facts timestamp event)) plain) ∙ (fine facts timestamp event ok).rest)
 
--- so that each has a place
+-- so that each has an index
 pub has_debit : (facts : Facts) (timestamp : ℕ) (event : Transfer)
     → number_of (new_transfer_verdict facts timestamp event) ≡ 0 → is_resolving event ≡ false →
-    (place : Option ℕ) → place ≡ None → IsIndexOf facts event.debit_account_id place → ⊥
+    (index : Option ℕ) → index ≡ None → IsIndexOf facts event.debit_account_id index → ⊥
 has_debit facts timestamp event ok plain None is none = let there =
     (stands_between facts timestamp event ok plain).debit_there in cc
-has_debit facts timestamp event ok plain (Some place) is at = cc
+has_debit facts timestamp event ok plain (Some index) is at = cc
 
 -- when it expires can be written down
 pub fits : (facts : Facts) (timestamp : ℕ) (event : Transfer) → timestamp ≤ clock_max

@@ -7,7 +7,7 @@ use Rattle.tb_machine.specs.declared.prefetch.Sides.{Sides}
 use Rattle.tb_machine.specs.declared.prefetch.Target.{Target}
 use Rattle.tb_machine.specs.declared.prefetch.Target.TheVariants.{Between, Named}
 
--- the places are those of the event's accounts
+-- the indices are those of the event's accounts
 pub record AreSides (facts : Facts) (event : Transfer) (sides : Sides) : Type 0 where
   pub debit : IsIndexOf facts event.debit_account_id sides.debit
   pub credit : IsIndexOf facts event.credit_account_id sides.credit

@@ -1,9 +1,38 @@
-//! Where chains end.
+//! Where chains start and end.
 
-ghost use Rattle.std.specs.Prelude.{◌≡◌, ◌<◌, ◌≤◌, length, map};
+ghost use Rattle.std.specs.Prelude.{◌≡◌, ◌+◌, ◌^◌, ◌<◌, ◌≤◌, length, map};
+ghost use Rattle.tb_layout.specs.Limits.{clock_max};
+ghost use Rattle.tb_machine.specs.Clock as spec;
 ghost use Rattle.tb_machine.specs.Examining.{first_chain_length};
 
+use crate::clock::clock_after;
 use crate::event::CreateEvent;
+
+/// Where a chain starts.
+#[derive(Clone, Copy)]
+pub struct ChainStart {
+    /// The clock before its first event.
+    pub clock: u64,
+
+    /// The index of its first event in the packet.
+    pub index: usize,
+}
+
+impl ChainStart {
+    /// The start of the next chain, if this one has `count` events.
+    pub fn next(self, count: usize) -> ChainStart
+        requires clock { self.clock ≤ clock_max }
+        requires fits { self.index + count < 2 ^ 64 }
+        ensures clock { result.clock ≡ spec.clock_after self.clock count }
+        ensures bound { result.clock ≤ clock_max }
+        ensures index { result.index ≡ self.index + count }
+    {
+        ChainStart {
+            clock: clock_after(self.clock, count),
+            index: self.index + count,
+        }
+    }
+}
 
 /// How many events the first chain has.
 pub fn first_chain_length<E: CreateEvent>(chunks: &[[u8; 128]]) -> usize

@@ -8,7 +8,7 @@ ghost use Rattle.tb_machine.specs.Chain.{verdict_at, facts_with, facts_with_all,
 ghost use Rattle.tb_machine.specs.Examining.{event_outcome, fault_as, first_chain_length};
 ghost use Rattle.tb_machine.specs.Packet.{events_outcome, failures_from};
 
-use crate::chain::first_chain_length;
+use crate::chain::{ChainStart, first_chain_length};
 use crate::clock::{clock_after, next_timestamp};
 use crate::event::CreateEvent;
 use crate::fault::ChainFault;
@@ -108,28 +108,27 @@ fn undo_chain<E: CreateEvent>(
 /// Takes an event that is a chain by itself: it succeeds, or it is reported with its own code and leaves what
 /// that does. There is nothing to take back.
 fn commit_event<E: CreateEvent>(
-    clock: u64,
+    start: ChainStart,
     tables: &mut Tables,
     chunk: &[u8; 128],
-    index: usize,
     out: &mut Vec<Failure>,
 ) -> Result<(), NoMemory>
-    requires clock { clock ≤ clock_max }
+    requires clock { start.clock ≤ clock_max }
     requires room { vec_len out.old < vec_capacity out.old }
-    requires fits { index < 2 ^ 32 }
+    requires fits { start.index < 2 ^ 32 }
     ensures extends { Extends tables.old tables.new }
-    ensures facts { let outcome = event_outcome E.operation clock tables.old.now (E.event_of chunk.now) in
+    ensures facts { let outcome = event_outcome E.operation start.clock tables.old.now (E.event_of chunk.now) in
         OnOk result (tables.new.now ≡ outcome.facts) }
-    ensures failures { let outcome = event_outcome E.operation clock tables.old.now (E.event_of chunk.now) in
-        OnOk result (out.new.items ≡ out.old.items ++ failures_from index outcome.results) }
+    ensures failures { let outcome = event_outcome E.operation start.clock tables.old.now (E.event_of chunk.now) in
+        OnOk result (out.new.items ≡ out.old.items ++ failures_from start.index outcome.results) }
     ensures len { vec_len out.new ≤ vec_len out.old + 1 }
     ensures capacity { vec_capacity out.new ≡ vec_capacity out.old }
 {
-    let code = examine_at(clock, tables, E::read(chunk))?;
+    let code = examine_at(start.clock, tables, E::read(chunk))?;
     if code != 0 {
         E::read(chunk).remember(tables, code)?;
         out.push_reserved(Failure {
-            index: index as u32,
+            index: start.index as u32,
             code,
         });
     }
@@ -137,33 +136,32 @@ fn commit_event<E: CreateEvent>(
 }
 
 /// Takes a chain whose last event isn't linked: each of its events succeeds, or each is reported, the first fault
-/// with its own code. `index` is that of its first event in the packet.
+/// with its own code.
 fn commit_closed_chain<E: CreateEvent>(
-    clock: u64,
+    start: ChainStart,
     tables: &mut Tables,
     chain: &[[u8; 128]],
-    index: usize,
     out: &mut Vec<Failure>,
 ) -> Result<(), NoMemory>
-    requires clock { clock ≤ clock_max }
+    requires clock { start.clock ≤ clock_max }
     requires room { vec_len out.old + length chain.now ≤ vec_capacity out.old }
-    requires fits { index + length chain.now < 2 ^ 32 }
+    requires fits { start.index + length chain.now < 2 ^ 32 }
     ensures extends { Extends tables.old tables.new }
-    ensures facts { let outcome = closed_outcome E.operation clock tables.old.now (map E.event_of chain.now)
-        (first_fault E.operation 0 clock tables.old.now (map E.event_of chain.now)) in
+    ensures facts { let outcome = closed_outcome E.operation start.clock tables.old.now (map E.event_of chain.now)
+        (first_fault E.operation 0 start.clock tables.old.now (map E.event_of chain.now)) in
         OnOk result (tables.new.now ≡ outcome.facts) }
-    ensures failures { let outcome = closed_outcome E.operation clock tables.old.now (map E.event_of chain.now)
-        (first_fault E.operation 0 clock tables.old.now (map E.event_of chain.now)) in
-        OnOk result (out.new.items ≡ out.old.items ++ failures_from index outcome.results) }
+    ensures failures { let outcome = closed_outcome E.operation start.clock tables.old.now (map E.event_of chain.now)
+        (first_fault E.operation 0 start.clock tables.old.now (map E.event_of chain.now)) in
+        OnOk result (out.new.items ≡ out.old.items ++ failures_from start.index outcome.results) }
     ensures len { vec_len out.new ≤ vec_len out.old + length chain.now }
     ensures capacity { vec_capacity out.new ≡ vec_capacity out.old }
 {
     let mark = tables.mark();
-    let fault = examine_all::<E>(clock, tables, chain)?;
+    let fault = examine_all::<E>(start.clock, tables, chain)?;
     if fault.is_some() {
         let fault = with_event::<E>(fault);
         undo_chain(tables, mark, fault)?;
-        report_failed(out, index, chain.len(), fault);
+        report_failed(out, start.index, chain.len(), fault);
     }
     Ok(())
 }
@@ -171,96 +169,93 @@ fn commit_closed_chain<E: CreateEvent>(
 /// Takes a chain whose last event is linked, without that one: all of it fails, and the last event, which is never
 /// examined, reports that the chain is open. The first fault among the others has its own code.
 fn commit_open_chain<E: CreateEvent>(
-    clock: u64,
+    start: ChainStart,
     tables: &mut Tables,
     front: &[[u8; 128]],
-    index: usize,
     out: &mut Vec<Failure>,
 ) -> Result<(), NoMemory>
-    requires clock { clock ≤ clock_max }
+    requires clock { start.clock ≤ clock_max }
     requires room { vec_len out.old + length front.now < vec_capacity out.old }
-    requires fits { index + length front.now + 1 < 2 ^ 32 }
+    requires fits { start.index + length front.now + 1 < 2 ^ 32 }
     ensures extends { Extends tables.old tables.new }
     ensures facts { let outcome = open_outcome E.operation tables.old.now (map E.event_of front.now)
-        (first_fault E.operation 0 clock tables.old.now (map E.event_of front.now)) in
+        (first_fault E.operation 0 start.clock tables.old.now (map E.event_of front.now)) in
         OnOk result (tables.new.now ≡ outcome.facts) }
     ensures failures { let outcome = open_outcome E.operation tables.old.now (map E.event_of front.now)
-        (first_fault E.operation 0 clock tables.old.now (map E.event_of front.now)) in
-        OnOk result (out.new.items ≡ out.old.items ++ failures_from index outcome.results) }
+        (first_fault E.operation 0 start.clock tables.old.now (map E.event_of front.now)) in
+        OnOk result (out.new.items ≡ out.old.items ++ failures_from start.index outcome.results) }
     ensures len { vec_len out.new ≤ vec_len out.old + length front.now + 1 }
     ensures capacity { vec_capacity out.new ≡ vec_capacity out.old }
 {
     let mark = tables.mark();
-    let fault = with_event::<E>(examine_all::<E>(clock, tables, front)?);
+    let fault = with_event::<E>(examine_all::<E>(start.clock, tables, front)?);
     undo_chain(tables, mark, fault)?;
-    report_failed(out, index, front.len(), fault);
+    report_failed(out, start.index, front.len(), fault);
     out.push_reserved(Failure {
-        index: (index + front.len()) as u32,
+        index: (start.index + front.len()) as u32,
         code: LINKED_EVENT_CHAIN_OPEN,
     });
     Ok(())
 }
 
-/// Takes one chain, whose first event has this index in its packet, and reports its events if it fails.
+/// Takes one chain, and reports its events if it fails.
 fn commit_chain<E: CreateEvent>(
-    clock: u64,
+    start: ChainStart,
     tables: &mut Tables,
     chain: &[[u8; 128]],
-    index: usize,
     out: &mut Vec<Failure>,
 ) -> Result<(), NoMemory>
     requires some { 0 < length chain.now }
-    requires clock { clock ≤ clock_max }
+    requires clock { start.clock ≤ clock_max }
     requires room { vec_len out.old + length chain.now ≤ vec_capacity out.old }
-    requires fits { index + length chain.now < 2 ^ 32 }
+    requires fits { start.index + length chain.now < 2 ^ 32 }
     ensures extends { Extends tables.old tables.new }
-    ensures facts { OnOk result (tables.new.now ≡ (chain_outcome E.operation clock tables.old.now
+    ensures facts { OnOk result (tables.new.now ≡ (chain_outcome E.operation start.clock tables.old.now
         (map E.event_of chain.now)).facts) }
     ensures failures { OnOk result (out.new.items
-        ≡ out.old.items ++ failures_from index (chain_outcome E.operation clock tables.old.now
+        ≡ out.old.items ++ failures_from start.index (chain_outcome E.operation start.clock tables.old.now
         (map E.event_of chain.now)).results) }
     ensures len { vec_len out.new ≤ vec_len out.old + length chain.now }
     ensures capacity { vec_capacity out.new ≡ vec_capacity out.old }
 {
     let last = chain.len() - 1;
     if E::is_chunk_linked(&chain[last]) {
-        commit_open_chain::<E>(clock, tables, &chain[..last], index, out)
+        commit_open_chain::<E>(start, tables, &chain[..last], out)
     } else {
-        commit_closed_chain::<E>(clock, tables, chain, index, out)
+        commit_closed_chain::<E>(start, tables, chain, out)
     }
 }
 
 /// Takes the first chain of some events, and returns its number of events. Most events are chains by themselves.
 #[inline(always)]
 fn commit_first<E: CreateEvent>(
-    clock: u64,
+    start: ChainStart,
     tables: &mut Tables,
     events: &[[u8; 128]],
-    index: usize,
     out: &mut Vec<Failure>,
 ) -> Result<usize, NoMemory>
     requires some { 0 < length events.now }
-    requires clock { clock ≤ clock_max }
+    requires clock { start.clock ≤ clock_max }
     requires room { vec_len out.old + length events.now ≤ vec_capacity out.old }
-    requires fits { index + length events.now < 2 ^ 32 }
+    requires fits { start.index + length events.now < 2 ^ 32 }
     ensures count { IfOk result (λ count. count
         ≡ first_chain_length E.operation.is_linked (map E.event_of events.now)) }
     ensures within { IfOk result (λ count. (0 < count) × (count ≤ length events.now)) }
     ensures extends { Extends tables.old tables.new }
-    ensures facts { IfOk result (λ count. tables.new.now ≡ (chain_outcome E.operation clock tables.old.now
+    ensures facts { IfOk result (λ count. tables.new.now ≡ (chain_outcome E.operation start.clock tables.old.now
         (map E.event_of (take count events.now))).facts) }
     ensures failures { IfOk result (λ count. out.new.items
-        ≡ out.old.items ++ failures_from index (chain_outcome E.operation clock tables.old.now
+        ≡ out.old.items ++ failures_from start.index (chain_outcome E.operation start.clock tables.old.now
         (map E.event_of (take count events.now))).results) }
     ensures len { IfOk result (λ count. vec_len out.new ≤ vec_len out.old + count) }
     ensures capacity { vec_capacity out.new ≡ vec_capacity out.old }
 {
     if !E::is_chunk_linked(&events[0]) {
-        commit_event::<E>(clock, tables, &events[0], index, out)?;
+        commit_event::<E>(start, tables, &events[0], out)?;
         return Ok(1);
     }
     let count = first_chain_length::<E>(events);
-    commit_chain::<E>(clock, tables, &events[..count], index, out)?;
+    commit_chain::<E>(start, tables, &events[..count], out)?;
     Ok(count)
 }
 
@@ -290,14 +285,14 @@ fn count_with_accounts<E: CreateEvent>(tables: &Tables, chunks: &[[u8; 128]]) ->
     chunks.len()
 }
 
-/// Looks up the ids of the events after the one at `start`, so that memory is asked for all of them at once: with one
+/// Looks up the ids of the events after the one at `index`, so that memory is asked for all of them at once: with one
 /// look-up at a time each would wait. If there are many accounts it looks up those too. Returns the index of the first
 /// event that wasn't looked up whole.
-fn look_ahead<E: CreateEvent>(tables: &Tables, chunks: &[[u8; 128]], start: usize) -> usize
-    requires { start < length chunks.now }
+fn look_ahead<E: CreateEvent>(tables: &Tables, chunks: &[[u8; 128]], index: usize) -> usize
+    requires { index < length chunks.now }
 {
-    let end = chunks.len().min(start.saturating_add(BLOCK));
-    let next = start + 1;
+    let end = chunks.len().min(index.saturating_add(BLOCK));
+    let next = index + 1;
     let block = &chunks[next..end];
     let new = count_new::<E>(tables, block);
     if tables.accounts() > CACHED_ACCOUNTS {
@@ -326,16 +321,14 @@ pub fn commit_chains<E: CreateEvent>(
         ≡ failures_from 0 (events_outcome E.operation clock tables.old.now (map E.event_of chunks.now)).results) }
     ensures capacity { vec_capacity out.new ≡ vec_capacity out.old }
 {
-    let mut clock = clock;
-    let mut start = 0;
+    let mut start = ChainStart { clock, index: 0 };
     let mut ahead = 0;
-    while start < chunks.len() {
-        if start >= ahead {
-            ahead = look_ahead::<E>(tables, chunks, start);
+    while start.index < chunks.len() {
+        if start.index >= ahead {
+            ahead = look_ahead::<E>(tables, chunks, start.index);
         }
-        let count = commit_first::<E>(clock, tables, &chunks[start..], start, out)?;
-        clock = clock_after(clock, count);
-        start += count;
+        let count = commit_first::<E>(start, tables, &chunks[start.index..], out)?;
+        start = start.next(count);
     }
     Ok(())
 }

@@ -259,8 +259,8 @@ fn store_resolved(
     let Some(transfer) = new_resolving(tables, pending, timestamp, event) else {
         return Ok(false);
     };
-    let Some(place) = pending else { unreachable!() };
-    tables.resolve_new_at(&transfer, place)
+    let Some(index) = pending else { unreachable!() };
+    tables.resolve_new_at(&transfer, index)
 }
 
 /// Stores a post or a void if its checks find nothing, and returns the number of its result.

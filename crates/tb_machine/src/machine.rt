@@ -184,11 +184,11 @@ impl Machine {
         self.tables.account(id)
     }
 
-    /// The account at a place in the order of making, counted from 0, with its balances.
-    pub fn account_at(&self, place: usize) -> Option<Account>
-        ensures { result ≡ slice_get (balanced_accounts self.now.facts) place }
+    /// The account at an index in the order of making, counted from 0, with its balances.
+    pub fn account_at(&self, index: usize) -> Option<Account>
+        ensures { result ≡ slice_get (balanced_accounts self.now.facts) index }
     {
-        self.tables.account_at(place)
+        self.tables.account_at(index)
     }
 
     /// How many accounts there are.

@@ -9,7 +9,7 @@ use crate::resolved::is_resolving;
 use tb_layout::{Account, Transfer};
 use tb_tables::Tables;
 
-/// The places of two accounts, as far as they are there.
+/// The indices of two accounts, if they are there.
 #[derive(Clone, Copy)]
 pub struct Sides {
     pub debit: Option<usize>,
@@ -22,7 +22,7 @@ pub enum Target {
     /// The accounts of a plain or pending transfer.
     Between(Sides),
 
-    /// The place of the transfer that a post or a void names, as far as it is there.
+    /// The index of the transfer that a post or a void names, if it is there.
     Named(Option<usize>),
 }
 
@@ -42,9 +42,9 @@ impl Target {
     }
 }
 
-/// The account at a place, with its balances.
-pub fn account_at(tables: &Tables, place: Option<usize>) -> Option<Account>
-    ensures { (id : ℕ) → IsIndexOf tables.now.now id place → result ≡ balanced_account tables.now.now id }
+/// The account at an index, with its balances.
+pub fn account_at(tables: &Tables, index: Option<usize>) -> Option<Account>
+    ensures { (id : ℕ) → IsIndexOf tables.now.now id index → result ≡ balanced_account tables.now.now id }
 {
-    tables.account_at(place?)
+    tables.account_at(index?)
 }

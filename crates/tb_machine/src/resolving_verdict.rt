@@ -1,6 +1,6 @@
 //! The checks of a post or a void, in their order.
 
-ghost use Rattle.std.specs.Prelude.{◌≡◌, ◌≢◌, Some, true, slice_get, IfOk, OnOk, IfErr, MatchOption};
+ghost use Rattle.std.specs.Prelude.{◌≡◌, ◌≢◌, Some, true, slice_get, IfOk, OnOk, IfErr, IfNone, MatchOption};
 ghost use Rattle.tb_layout.specs.declared.transfer_code.TransferCode.{TransferCode as Code};
 ghost use Rattle.tb_layout.specs.TransferCode.{number_of};
 ghost use Rattle.tb_layout.specs.Transfer.{is_pending};
@@ -24,12 +24,12 @@ fn is_due(clock: u64, transfer: &Transfer) -> bool
 
 /// What a pending transfer's status leaves of a post or a void: only one that is pending still, and not due, may be
 /// resolved. One that is due expired, also where no pulse came since.
-fn against_status(tables: &Tables, place: usize, pending: &Transfer, due: bool) -> TransferCode
-    requires there { slice_get tables.now.now.transfers place ≡ Some pending.now }
+fn against_status(tables: &Tables, index: usize, pending: &Transfer, due: bool) -> TransferCode
+    requires there { slice_get tables.now.now.transfers index ≡ Some pending.now }
     requires pending { is_pending pending.now ≡ true }
     ensures { result ≡ spec.against_status (status_of tables.now.now pending.now.id) due }
 {
-    match tables.status_at(place) {
+    match tables.status_at(index) {
         Some(Status::Posted) => TransferCode::PendingTransferAlreadyPosted,
         Some(Status::Voided) => TransferCode::PendingTransferAlreadyVoided,
         Some(Status::Expired) => TransferCode::PendingTransferExpired,
@@ -43,39 +43,37 @@ fn against_status(tables: &Tables, place: usize, pending: &Transfer, due: bool) 
     }
 }
 
-/// The first check that a post or a void, with its fields resolved, fails against the transfer that it names, or Ok.
-fn against_pending(
-    tables: &Tables,
-    place: usize,
-    timestamp: u64,
-    pending: &Transfer,
-    event: &Transfer,
-) -> TransferCode
-    requires { slice_get tables.now.now.transfers place ≡ Some pending.now }
-    ensures { result ≡ spec.against_pending tables.now.now timestamp pending.now event.now }
+/// The first check that a post or a void, with its fields resolved, fails against the fields of the transfer that it
+/// names, if it fails one.
+fn pending_fault(pending: &Transfer, event: &Transfer) -> Option<TransferCode>
+    ensures rest { MatchOption result
+        ((rest : Code) → first_row (spec.pending_checks pending.now event.now) rest ≡ rest)
+        (λ code. (rest : Code) → first_row (spec.pending_checks pending.now event.now) rest ≡ code) }
+    ensures not_ok { MatchOption result Unit (λ code. number_of code ≢ 0) }
+    ensures pending { IfNone result (is_pending pending.now ≡ true) }
 {
     if !pending.is_pending() {
-        return TransferCode::PendingTransferNotPending;
+        return Some(TransferCode::PendingTransferNotPending);
     }
     if event.debit_account_id != pending.debit_account_id {
-        return TransferCode::PendingTransferHasDifferentDebitAccountId;
+        return Some(TransferCode::PendingTransferHasDifferentDebitAccountId);
     }
     if event.credit_account_id != pending.credit_account_id {
-        return TransferCode::PendingTransferHasDifferentCreditAccountId;
+        return Some(TransferCode::PendingTransferHasDifferentCreditAccountId);
     }
     if event.ledger != pending.ledger {
-        return TransferCode::PendingTransferHasDifferentLedger;
+        return Some(TransferCode::PendingTransferHasDifferentLedger);
     }
     if event.code != pending.code {
-        return TransferCode::PendingTransferHasDifferentCode;
+        return Some(TransferCode::PendingTransferHasDifferentCode);
     }
     if event.amount > pending.amount {
-        return TransferCode::ExceedsPendingTransferAmount;
+        return Some(TransferCode::ExceedsPendingTransferAmount);
     }
     if event.is_void() && event.amount < pending.amount {
-        return TransferCode::PendingTransferHasDifferentAmount;
+        return Some(TransferCode::PendingTransferHasDifferentAmount);
     }
-    against_status(tables, place, pending, is_due(timestamp, pending))
+    None
 }
 
 /// The first check that a post or a void fails before what it names is looked at, if it fails one.
@@ -118,17 +116,20 @@ pub fn resolve(
     if let Some(code) = naming_fault(event) {
         return Err(code);
     }
-    let Some(place) = pending else {
+    let Some(index) = pending else {
         return Err(TransferCode::PendingTransferNotFound);
     };
-    let Some(named) = tables.transfer_at(place) else {
+    let Some(named) = tables.transfer_at(index) else {
         return Err(TransferCode::PendingTransferNotFound);
     };
     let transfer = Transfer {
         timestamp,
         ..resolved(&named, event)
     };
-    let code = against_pending(tables, place, timestamp, &named, &transfer);
+    if let Some(code) = pending_fault(&named, &transfer) {
+        return Err(code);
+    }
+    let code = against_status(tables, index, &named, is_due(timestamp, &named));
     if code.number() == 0 {
         Ok(transfer)
     } else {

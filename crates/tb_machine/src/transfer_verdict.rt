@@ -56,14 +56,14 @@ fn compare_with_stored(stored: &Transfer, event: &Transfer) -> TransferCode
     TransferCode::Exists
 }
 
-/// How an event differs from the transfer at a place, which has its id, or that it doesn't.
+/// How an event differs from the transfer at an index, which has its id, or that it doesn't.
 #[inline(never)]
-fn compare_with_stored_at(tables: &Tables, place: usize, event: &Transfer) -> TransferCode
-    requires { IsIndexOfTransfer tables.now.now event.now.id (Some place) }
+fn compare_with_stored_at(tables: &Tables, index: usize, event: &Transfer) -> TransferCode
+    requires { IsIndexOfTransfer tables.now.now event.now.id (Some index) }
     ensures { (timestamp : ℕ) → result ≡ spec.against_id tables.now.now timestamp
         (transfer_with tables.now.now event.now.id) event.now }
 {
-    let Some(stored) = tables.transfer_at(place) else {
+    let Some(stored) = tables.transfer_at(index) else {
         unreachable!()
     };
     compare_with_stored(&stored, &resolved_by(tables, stored.pending_id, event))
@@ -139,30 +139,6 @@ fn check_new_transfer(
     }
 }
 
-/// The first check that an event fails, or Ok, if the transfer with its id has this index, or there is none.
-#[inline(always)]
-fn verdict_given(
-    tables: &Tables,
-    target: Target,
-    timestamp: u64,
-    event: &Transfer,
-    found: Option<usize>,
-) -> TransferCode
-    requires target { IsTarget tables.now.now event.now target }
-    requires found { (place : ℕ) → found ≡ Some place → IsIndexOfTransfer tables.now.now event.now.id (Some place) }
-    ensures new { found ≡ None → result ≡ spec.new_transfer_verdict tables.now.now timestamp event.now }
-    ensures any { IsIndexOfTransfer tables.now.now event.now.id found
-        → result ≡ spec.transfer_verdict tables.now.now timestamp event.now }
-{
-    if let Some(code) = event_fault(event) {
-        return code;
-    }
-    match found {
-        Some(place) => compare_with_stored_at(tables, place, event),
-        None => check_new_transfer(tables, target, timestamp, event),
-    }
-}
-
 /// The first check that the event fails if no transfer has its id, or Ok.
 #[inline(always)]
 pub fn new_transfer_verdict(
@@ -174,7 +150,10 @@ pub fn new_transfer_verdict(
     requires { IsTarget tables.now.now event.now target }
     ensures { result ≡ spec.new_transfer_verdict tables.now.now timestamp event.now }
 {
-    verdict_given(tables, target, timestamp, event, None)
+    if let Some(code) = event_fault(event) {
+        return code;
+    }
+    check_new_transfer(tables, target, timestamp, event)
 }
 
 /// A post or a void as it is stored, where its checks find nothing if no transfer has its id.
@@ -207,6 +186,11 @@ pub fn transfer_verdict(
     requires { IsTarget tables.now.now event.now target }
     ensures { result ≡ spec.transfer_verdict tables.now.now timestamp event.now }
 {
-    let found = tables.transfer_index(event.id);
-    verdict_given(tables, target, timestamp, event, found)
+    if let Some(code) = event_fault(event) {
+        return code;
+    }
+    match tables.transfer_index(event.id) {
+        Some(index) => compare_with_stored_at(tables, index, event),
+        None => check_new_transfer(tables, target, timestamp, event),
+    }
 }

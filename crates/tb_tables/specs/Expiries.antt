@@ -19,4 +19,4 @@ is_in_expiries expiries = has_pair expiries.keys
 
 -- whether two pairs are the same
 abbrev pub same_pair : ℕ → ℕ → ℕ → ℕ → Bool
-same_pair moment index other_moment other_place = (moment == other_moment) && (index == other_place)
+same_pair moment index other_moment other_index = (moment == other_moment) && (index == other_index)

@@ -66,28 +66,8 @@ pub fn remove_expiry(expiries: &mut Expiries, transfer: &Transfer, index: usize)
     }
 }
 
-/// Moves the amount of a post, releases what was reserved, and sets the status of the transfer that it names, once
-/// the post or void is stored.
-fn resolve_pending(
-    accounts: &mut ById<Account>,
-    transfers: &mut Transfers,
-    indices: Indices,
-    pending: usize,
-    transfer: Transfer,
-)
-    requires names { indices.pending ≡ Some pending }
-    requires before { (step : Step transfer indices) × IsBefore step accounts.old.entries transfers.old }
-    ensures { (step : Step transfer indices) → IsBefore step accounts.old.entries transfers.old
-        → IsAfter step accounts.new.entries transfers.new }
-{
-    let reserved = transfers
-        .set_status(pending, resolved_status(transfer.is_post()))
-        .amount;
-    subtract_amount(accounts, indices, Phase::Pending, reserved);
-    post_if(accounts, indices, transfer.is_post(), transfer.amount);
-}
-
-/// Adds a stored transfer's amounts to its accounts, and resolves what it names.
+/// Adds a stored transfer's amounts to its accounts. A post or a void releases what was reserved, and sets the status of
+/// the transfer that it names.
 pub fn apply(
     accounts: &mut ById<Account>,
     transfers: &mut Transfers,
@@ -100,29 +80,17 @@ pub fn apply(
 {
     match indices.pending {
         None => add_amount(accounts, indices, phase_of(&transfer), transfer.amount),
-        Some(pending) => resolve_pending(accounts, transfers, indices, pending, transfer),
+        Some(pending) => {
+            let reserved = transfers
+                .set_status(pending, resolved_status(transfer.is_post()))
+                .amount;
+            subtract_amount(accounts, indices, Phase::Pending, reserved);
+            post_if(accounts, indices, transfer.is_post(), transfer.amount);
+        }
     }
 }
 
-/// Takes back what a post or a void changed, once it is stored no more.
-fn unresolve_pending(
-    accounts: &mut ById<Account>,
-    transfers: &mut Transfers,
-    indices: Indices,
-    pending: usize,
-    transfer: Transfer,
-)
-    requires names { indices.pending ≡ Some pending }
-    requires after { (step : Step transfer indices) × IsAfter step accounts.old.entries transfers.old }
-    ensures { (step : Step transfer indices) → IsAfter step accounts.old.entries transfers.old
-        → IsBefore step accounts.new.entries transfers.new }
-{
-    let reserved = transfers.set_status(pending, Status::Pending).amount;
-    unpost_if(accounts, indices, transfer.is_post(), transfer.amount);
-    add_amount(accounts, indices, Phase::Pending, reserved);
-}
-
-/// Takes a transfer's amounts out of its accounts, and resolves what it names no more, once it is stored no more.
+/// Takes back what `apply` changed, once the transfer is stored no more.
 fn unapply(
     accounts: &mut ById<Account>,
     transfers: &mut Transfers,
@@ -135,7 +103,11 @@ fn unapply(
 {
     match indices.pending {
         None => subtract_amount(accounts, indices, phase_of(&transfer), transfer.amount),
-        Some(pending) => unresolve_pending(accounts, transfers, indices, pending, transfer),
+        Some(pending) => {
+            let reserved = transfers.set_status(pending, Status::Pending).amount;
+            unpost_if(accounts, indices, transfer.is_post(), transfer.amount);
+            add_amount(accounts, indices, Phase::Pending, reserved);
+        }
     }
 }
 

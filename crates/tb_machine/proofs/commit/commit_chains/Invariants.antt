@@ -7,15 +7,15 @@ use Rattle.tb_machine.proofs.commit.commit_chains.Given as goal
 
 abbrev pub invariant-loop-start : goal.invariant-loop-start
 invariant-loop-start g l = record {
-  within : l.start ≤ length l.chunks;
-  clock : l.clock ≤ clock_max;
+  within : l.start.index ≤ length l.chunks;
+  clock : l.start.clock ≤ clock_max;
   extends : Extends l.fn.tables l.tables;
-  len : vec_len l.out ≤ l.start;
+  len : vec_len l.out ≤ l.start.index;
   capacity : vec_capacity l.out ≡ vec_capacity l.fn.out;
   left : IsLeft g.E.CreateEvent.operation l.fn.clock l.fn.tables.now
-      (map g.E.CreateEvent.event_of l.chunks) l.clock l.tables.now l.start
-      (map g.E.CreateEvent.event_of (drop l.start l.chunks)) l.out.items;
+      (map g.E.CreateEvent.event_of l.chunks) l.start.clock l.tables.now l.start.index
+      (map g.E.CreateEvent.event_of (drop l.start.index l.chunks)) l.out.items;
 }
 
 abbrev pub decreases-loop-start : goal.decreases-loop-start
-decreases-loop-start g l = length l.chunks - l.start
+decreases-loop-start g l = length l.chunks - l.start.index

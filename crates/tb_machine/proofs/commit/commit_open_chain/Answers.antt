@@ -7,15 +7,15 @@ use Rattle.tb_machine.proofs.commit.commit_open_chain.Goals as goal
 pub report_failed-requires-clause-below : goal.report_failed-requires-clause-below
 report_failed-requires-clause-below g c =
     rw (c.with_event-fault.ensures, c.in_ok-examine_all.ensures.fault)
-    (fault-below g.E.CreateEvent.operation g.E.CreateEvent.event_of c.args.clock c.args.tables.now.now c.args.front.now)
+    (fault-below g.E.CreateEvent.operation g.E.CreateEvent.event_of c.args.start.clock c.args.tables.now.now c.args.front.now)
 
 pub returns-clause-failures : goal.returns-clause-failures
 returns-clause-failures g c =
-    let below = fault-below g.E.CreateEvent.operation g.E.CreateEvent.event_of c.args.clock
+    let below = fault-below g.E.CreateEvent.operation g.E.CreateEvent.event_of c.args.start.clock
     c.args.tables.now.now c.args.front.now in
     rw (
       length-map c.args.front.now g.E.CreateEvent.event_of,
-      failures_from-open c.args.index _ _ below,
+      failures_from-open c.args.start.index _ _ below,
       c.push_reserved.ensures.items,
       c.report_failed.ensures.items,
       c.with_event-fault.ensures,

@@ -1,0 +1,43 @@
+//! Results of events, found by their numbers.
+
+ghost use Rattle.std.specs.Prelude.{◌≡◌, ℕ, map};
+ghost use Rattle.std.specs.Option.{option_map};
+ghost use Rattle.tb_layout.specs.inside.Codes.{first_with, code_in, read_row};
+
+/// A result of an event.
+pub trait Code: Copy {
+    ghost number_of: { Self → ℕ };
+
+    /// The number that a failure carries.
+    fn number(self) -> u32
+        ensures { result ≡ number_of self };
+}
+
+/// The first of some results whose number this is, with its name.
+pub fn row_with<C: Code>(rows: &[(C, &'static str)], number: u32) -> Option<(C, &'static str)>
+    ensures { option_map read_row result ≡ first_with C.number_of number (map read_row rows.now) }
+{
+    for row in rows {
+        if row.0.number() == number {
+            return Some((row.0, row.1));
+        }
+    }
+    None
+}
+
+/// The first of some results whose number this is.
+pub fn code_with<C: Code>(rows: &[(C, &'static str)], number: u32) -> Option<C>
+    ensures { result ≡ code_in (first_with C.number_of number (map read_row rows.now)) }
+{
+    let (code, _) = row_with(rows, number)?;
+    Some(code)
+}
+
+/// The results of an enum, each with its name.
+macro_rules! rows {
+    ($results:ident; $($result:ident => $name:literal,)*) => {
+        [$(($results::$result, $name)),*]
+    };
+}
+
+pub(crate) use rows;
