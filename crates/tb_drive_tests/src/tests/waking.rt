@@ -62,7 +62,13 @@ impl Driver for Sender {
         packet_of(alloc, CREATE_ACCOUNTS, 0, 0).map_or(Action::End, Action::Submit)
     }
 
-    fn submitted(&mut self, _told: Result<u64, Refusal>) {}
+    /// A packet that is refused is the last one, so that a test fails and doesn't wait for its reply.
+    fn submitted(&mut self, told: Result<u64, Refusal>) {
+        if told.is_err() {
+            self.sent = self.sent.saturating_sub(1);
+            self.packets = self.sent;
+        }
+    }
 
     fn receive(&mut self, _reply: Reply) {
         self.replies = self.replies.saturating_add(1);
