@@ -84,11 +84,6 @@ fn is_taken(rt: &impl Wait, intake: &mut Intake, sender: u32) -> bool {
 }
 
 #[test]
-fn a_thousand_rounds(rt: HostRuntime) {
-    rounds(&rt, 1000);
-}
-
-#[test]
 fn a_hundred_thousand_rounds(rt: HostRuntime) {
     rounds(&rt, 100_000);
 }
