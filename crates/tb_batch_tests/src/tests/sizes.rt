@@ -1,17 +1,16 @@
-//! Batches of the largest sizes. Want of memory may be answered for each packet, as far as clauses go; with ample memory
-//! it never is.
+//! Batches of the largest sizes. The clauses let `offer` refuse each packet because memory ran out.
 
 use super::job_of;
 use std::alloc::Global;
 use std::process::Abort;
 use tb_batch::{Batch, Batcher, Offered};
 
-/// A batcher of the largest limit.
+/// Returns a batcher with the largest limit.
 fn large_batcher(rt: &(impl Abort + Alloc<A = Global>)) -> Batcher {
     Batcher::new(rt.alloc(), 8190).ok().expect(rt, "a batcher")
 }
 
-/// What a batcher does with a packet: 'J' if it joins it, 'S' if it seals what it held before.
+/// Returns 'J' if the packet joined the group held, and 'S' if it sealed that group.
 fn letter(offered: &Offered) -> u8 {
     match offered {
         Offered::Joined => b'J',
@@ -20,7 +19,7 @@ fn letter(offered: &Offered) -> u8 {
     }
 }
 
-/// Offers packets of an operation, each of so many events, and asserts what is done with each.
+/// Offers packets of an operation, each with its number of events and the expected letter.
 fn offer_all(
     rt: &(impl Abort + Alloc<A = Global>),
     batcher: &mut Batcher,
@@ -35,13 +34,13 @@ fn offer_all(
     }
 }
 
-/// A batch's packets, its bytes, and the number and events of its last packet.
+/// Returns the number of packets, the number of bytes, and the last packet's number and events.
 fn size_of(batch: &Batch) -> (usize, usize, Option<(u64, u32)>) {
     let last = batch.stubs().last().map(|stub| (stub.number, stub.count));
     (batch.jobs().len(), batch.body().len(), last)
 }
 
-/// Offers packets to a new batcher, and asserts the batch that it holds then.
+/// Offers packets to a new batcher, and asserts the size of its group.
 fn assert_held(
     rt: &(impl Abort + Alloc<A = Global>),
     operation: u8,
@@ -57,7 +56,6 @@ fn assert_held(
 
 #[test]
 fn many_packets_joined(rt: HostRuntime) {
-    // 17 packets, and 8,190 of an event each: the next one begins a batch.
     assert_held(&rt, 129, &[(1, b'J'); 17], (17, 2176, Some((16, 1))));
     assert_held(
         &rt,
@@ -77,7 +75,7 @@ fn joined_up_to_the_limit(rt: HostRuntime) {
     assert_held(&rt, 129, &many, (1, 1_024_000, Some((2, 8000))));
 }
 
-/// Each lookup is a batch of its own, with room for as many accounts as it has ids.
+/// A lookup has capacity for an account for each id.
 #[test]
 fn lookups_of_each_size(rt: HostRuntime) {
     for count in [0, 1, 2, 3, 8190] {

@@ -11,8 +11,8 @@ use tb_pipe::open;
 use tb_work::{Refusal, Reply};
 
 /// Sends packets without events, at most `credit` ahead of the replies, and waits for all replies. Before each packet it
-/// yields a number of times below `longest`, given by a fixed sequence, so that the pipeline is idle after some packets
-/// and busy after others.
+/// yields a number of times below `longest`, given by a fixed sequence. So the pipeline is idle after some packets and
+/// busy after others.
 #[derive(Drop)]
 struct Sender {
     packets: u32,
@@ -62,7 +62,7 @@ impl Driver for Sender {
         packet_of(alloc, CREATE_ACCOUNTS, 0, 0).map_or(Action::End, Action::Submit)
     }
 
-    /// A packet that is refused is the last one, so that a test fails and doesn't wait for its reply.
+    /// Ends after a refused packet, so that a test fails and doesn't wait for a reply to it.
     fn submitted(&mut self, told: Result<u64, Refusal>) {
         if told.is_err() {
             self.sent = self.sent.saturating_sub(1);
@@ -127,7 +127,6 @@ fn sixteen_senders_at_random_gaps(rt: HostRuntime) -> Result<(), Fail> {
     Ok(())
 }
 
-/// Two senders, each four packets ahead of its replies.
 #[test]
 fn thirty_thousand_packets_of_each_of_two(rt: HostRuntime) -> Result<(), Fail> {
     let replies = replies_of(&rt, rt.alloc(), 30_000, 0, 4, &[1, 2])?;

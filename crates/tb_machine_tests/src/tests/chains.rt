@@ -61,14 +61,14 @@ fn empty_bodies(rt: HostRuntime) {
     drop(machine);
 }
 
-/// A chain in a packet: how many single events there are before it, and how many events it has.
+/// A chain at the end of a packet, behind a number of single events.
 #[derive(Clone, Copy)]
 struct Chain {
     before: u32,
     length: u32,
 }
 
-/// Lengths from 2 to 8,189 events, at rising indices and at the end of a full packet.
+/// Numbers of single events, each with the length of the chain.
 const CHAINS: [(u32, u32); 8] = [
     (0, 2),
     (1, 2),
@@ -80,7 +80,7 @@ const CHAINS: [(u32, u32); 8] = [
     (1, 8189),
 ];
 
-/// The event with a number, counted from 1, in a packet whose last event may have id 0 and so fail.
+/// Returns the event with a number, counted from 1. The last event has id 0 if it is to fail.
 fn event(operation: u8, chain: Chain, number: u32, fails: bool) -> [u8; 128] {
     let is_last = number == chain.before.saturating_add(chain.length);
     let flags = if number > chain.before && !is_last {
@@ -100,7 +100,7 @@ fn event(operation: u8, chain: Chain, number: u32, fails: bool) -> [u8; 128] {
     }
 }
 
-/// A packet of single events and a chain after them.
+/// Returns the body of a packet with a chain.
 fn packet_of(
     rt: &(impl Abort + Alloc<A = Global>),
     operation: u8,
@@ -115,7 +115,7 @@ fn packet_of(
     body
 }
 
-/// Whether the failures are those of a chain whose last event fails by itself with a code.
+/// Returns whether the last event failed with the given code, and all others of the chain with `linked_event_failed`.
 fn are_of_chain(failures: &[Failure], chain: Chain, code: u32) -> bool {
     let mut index = chain.before;
     for failure in failures {
@@ -150,7 +150,7 @@ fn assert_failures(
     );
 }
 
-/// Commits a packet whose chain fails, and then one whose chain succeeds, each to a new machine with accounts 1 and 2.
+/// Commits a packet to a new machine with accounts 1 and 2, and asserts how many events were made.
 fn assert_chain(rt: &(impl Abort + Alloc<A = Global>), operation: u8, chain: Chain, fails: bool) {
     let mut machine = Machine::new(rt.alloc(), 0);
     make_accounts(rt, &mut machine, &[account(1, 0), account(2, 0)]);
@@ -166,7 +166,7 @@ fn assert_chain(rt: &(impl Abort + Alloc<A = Global>), operation: u8, chain: Cha
     drop(machine);
 }
 
-/// How many events of an operation were made after accounts 1 and 2.
+/// Returns how many events of an operation were made after accounts 1 and 2.
 fn made_by(machine: &Machine, operation: u8) -> u128 {
     if operation == CREATE_ACCOUNTS {
         return (machine.accounts() as u128).saturating_sub(2);

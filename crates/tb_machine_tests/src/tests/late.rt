@@ -1,4 +1,4 @@
-//! What is late: resolutions of old transfers, the longest timeout, and events near the end of the clock.
+//! Resolutions of old transfers, the longest timeout, events near the end of the clock, and limits of balances.
 
 use super::{
     MOST, account, accounts_body, commits, is_packet, make_accounts, resolving, transfer,
@@ -20,18 +20,17 @@ enum Kind {
     Resolution,
 }
 
-/// How many there are of each, 9,000 in all: all pending ones but ten are resolved.
+/// How many transfers of each kind there are, 9,000 in all. Ten pending ones are not resolved.
 const PENDING: u32 = 1110;
 
 const PLAIN: u32 = 6790;
 
 const RESOLVED: u32 = 1100;
 
-/// Each resolution up to this one is a post of all, and each behind it a void.
+/// How many of the resolutions are posts of the whole amount. The others are voids.
 const POSTED: u32 = 550;
 
-/// The transfer of a kind with a number: a pending one of 3 with the longest timeout, a plain one of 1, or the
-/// resolution of the pending one with that number.
+/// Returns the transfer of a kind with a number. A resolution names the pending transfer with its number.
 fn event(kind: Kind, number: u32) -> Transfer {
     let id = u128::from(number);
     match kind {
@@ -45,7 +44,7 @@ fn event(kind: Kind, number: u32) -> Transfer {
     }
 }
 
-/// Commits a packet of so many transfers of a kind. None fails.
+/// Commits a packet of the first `count` transfers of a kind, none of which fails.
 fn make_all(rt: &(impl Abort + Alloc<A = Global>), machine: &mut Machine, kind: Kind, count: u32) {
     let mut body = Vec::new(rt.alloc());
     for number in 1..=count {
@@ -55,7 +54,7 @@ fn make_all(rt: &(impl Abort + Alloc<A = Global>), machine: &mut Machine, kind: 
     assert!(rt; commits(rt, machine, CREATE_TRANSFERS, &body));
 }
 
-/// How many of the pending transfers have a status.
+/// Returns how many of the pending transfers have a status.
 fn count_of(machine: &Machine, status: Status) -> u32 {
     let mut count = 0u32;
     for number in 1..=PENDING {
@@ -66,7 +65,7 @@ fn count_of(machine: &Machine, status: Status) -> u32 {
     count
 }
 
-/// The pending and the posted debits of account 1.
+/// Returns the pending and the posted debits of account 1.
 fn debits(machine: &Machine) -> Option<(u128, u128)> {
     let account = machine.account(1)?;
     Some((account.debits_pending, account.debits_posted))
@@ -81,7 +80,7 @@ fn make_9000(rt: &(impl Abort + Alloc<A = Global>), machine: &mut Machine) {
     make_all(rt, machine, Kind::Resolution, RESOLVED);
 }
 
-/// Asserts what became of the pending transfers: 550 were posted and 550 voided, and of ten so many expired.
+/// Asserts the statuses of the pending transfers, of which `expired` expired, and the debits.
 fn assert_statuses(rt: &impl Abort, machine: &Machine, expired: u32) {
     assert!(rt; count_of(machine, Status::Posted) == POSTED);
     assert!(rt; count_of(machine, Status::Voided) == RESOLVED - POSTED);
@@ -91,10 +90,10 @@ fn assert_statuses(rt: &impl Abort, machine: &Machine, expired: u32) {
     assert!(rt; debits(machine) == Some((3 * left, 8440)));
 }
 
-/// When a transfer of timestamp 0 with the longest timeout would expire.
+/// The longest timeout in nanoseconds.
 const LONGEST: u64 = 4_294_967_295_000_000_000;
 
-/// The pending transfers have the timestamps from 3 on, so the ten that are left have those from 1,103 to 1,112.
+/// The ten transfers that nothing resolves have the timestamps 1,103 to 1,112.
 #[test]
 fn resolved_late(rt: HostRuntime) {
     let mut machine = Machine::new(rt.alloc(), 0);
@@ -129,10 +128,10 @@ fn assert_failures(
     }
 }
 
-/// Three accounts, and the failures of those for which there is no timestamp.
+/// The failures of three events for which there is no timestamp.
 const EXHAUSTED: [(u32, u32); 3] = [(0, 201), (1, 201), (2, 201)];
 
-/// Commits three accounts to a machine whose clock is so far from its end.
+/// Commits three accounts if there are timestamps for `left` of them.
 fn assert_accounts(rt: &(impl Abort + Alloc<A = Global>), left: u64) {
     assert!(rt; left <= 3);
     let mut machine = Machine::new(rt.alloc(), CLOCK_MAX - left);
@@ -144,7 +143,7 @@ fn assert_accounts(rt: &(impl Abort + Alloc<A = Global>), left: u64) {
     drop(machine);
 }
 
-/// Commits two accounts, and then three transfers for so many of which there is a timestamp.
+/// Commits three transfers if there are timestamps for `left` of them.
 fn assert_transfers(rt: &(impl Abort + Alloc<A = Global>), left: u64) {
     assert!(rt; left <= 3);
     let mut machine = Machine::new(rt.alloc(), CLOCK_MAX - 2 - left);

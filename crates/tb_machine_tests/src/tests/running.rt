@@ -21,7 +21,7 @@ struct Rule {
     unit: u128,
 }
 
-/// Ids from 1 on and amounts from 1 on.
+/// Returns the rule of ids and amounts from 1 on.
 fn small(ids: u32) -> Rule {
     Rule {
         ids,
@@ -30,7 +30,7 @@ fn small(ids: u32) -> Rule {
     }
 }
 
-/// Ids up to 2^128 - 2, and amounts whose sums come near 2^128.
+/// Returns the rule of ids up to 2^128 - 2, and of amounts whose sums are near 2^128.
 fn large(ids: u32) -> Rule {
     Rule {
         ids,
@@ -40,12 +40,12 @@ fn large(ids: u32) -> Rule {
 }
 
 impl Rule {
-    /// The id of a number, counted from 1.
+    /// Returns the id of a number, counted from 1.
     fn id(self, number: u64) -> u128 {
         self.above.saturating_add(u128::from(number))
     }
 
-    /// One of the ids, which a counter leads to.
+    /// Returns the id that a counter leads to.
     fn id_at(self, counter: u64) -> u128 {
         let number = counter.checked_rem(u64::from(self.ids)).unwrap_or(0);
         self.id(number.saturating_add(1))

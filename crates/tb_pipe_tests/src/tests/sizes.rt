@@ -18,7 +18,7 @@ use tb_pipe::{Open, Report};
 use tb_submit::Ended;
 use tb_work::{Answer, Bytes, Outcome, Packet};
 
-/// A pipeline of one submitter under a limit, with so many places in the queue and for replies.
+/// Returns a pipeline of one submitter, with `places` as the queue's capacity and the credit.
 fn open_under(rt: &impl Abort, alloc: Global, limit: u32, places: u32) -> Lone
     ensures { AreTogether result.pipeline (result.submitter ∷ []) result.control }
 {
@@ -28,7 +28,7 @@ fn open_under(rt: &impl Abort, alloc: Global, limit: u32, places: u32) -> Lone
     }
 }
 
-/// A number that a place leads to, for each place from 0 on.
+/// Returns rising numbers.
 fn numbers<const N: usize>(first: u8) -> [u8; N] {
     let mut numbers = [first; N];
     for k in 0..N {
@@ -37,7 +37,7 @@ fn numbers<const N: usize>(first: u8) -> [u8; N] {
     numbers
 }
 
-/// Asserts that the replies to the only submitter are those of the places from a first one on.
+/// Asserts that the replies are committed at the places from `first` to `count - 1`.
 fn assert_places(rt: &impl Abort, ended: &mut Ended, first: u64, count: u64) {
     for place in first..count {
         assert_eq!(rt; next_told(ended), Some(Told::Committed(place)));
@@ -45,7 +45,7 @@ fn assert_places(rt: &impl Abort, ended: &mut Ended, first: u64, count: u64) {
     assert_eq!(rt; next_told(ended), None);
 }
 
-/// Asserts that a report has one submitter, whose packets were all committed, in order.
+/// Asserts the clock, and that the submitter's packets have the first `count` places in order.
 fn assert_all(rt: &impl Abort, report: Report, wanted_clock: u64, count: u64) {
     let mut report = report;
     assert_eq!(rt; clock(&report), wanted_clock);
@@ -54,7 +54,7 @@ fn assert_all(rt: &impl Abort, report: Report, wanted_clock: u64, count: u64) {
     drop(report);
 }
 
-/// What is queued before the pipeline is served is one batch, under a limit that has room for it.
+/// All packets are queued before the pipeline is served.
 #[test]
 fn a_hundred_packets_in_one_batch(rt: HostRuntime) {
     let lone = open_under(&rt, rt.alloc(), 8190, 256);
@@ -64,7 +64,7 @@ fn a_hundred_packets_in_one_batch(rt: HostRuntime) {
     assert_all(&rt, report, 100, 100);
 }
 
-/// Packets without events, of accounts and of transfers in turn.
+/// Returns packets without events, by turns of accounts and of transfers.
 fn three_hundred() -> [Step; 300] {
     let mut steps = [Step::Packet(CREATE_ACCOUNTS, 0); 300];
     for k in 0..300usize {
@@ -97,7 +97,7 @@ fn three_hundred_batches(rt: HostRuntime) {
     assert_all(&rt, report, 0, 300);
 }
 
-/// A packet of 8,190 accounts of zeros, with the greatest user word.
+/// Returns a packet of 8,190 accounts of zeros, with the greatest user word.
 fn full_packet(rt: &impl Abort, alloc: Global) -> Packet {
     let bytes = Vec::from_elem(alloc, 0u8, 1_048_320).expect(rt, "memory");
     Packet {
@@ -107,7 +107,7 @@ fn full_packet(rt: &impl Abort, alloc: Global) -> Packet {
     }
 }
 
-/// Queues a full packet, and two small ones behind it.
+/// Queues a full packet and two small ones.
 fn run_full<R: Threads + Wait + Sync + Abort>(rt: &R, alloc: Global) -> Report {
     let mut lone = open_under(rt, alloc, 8190, 16);
     let packet = full_packet(rt, alloc);
@@ -116,7 +116,7 @@ fn run_full<R: Threads + Wait + Sync + Abort>(rt: &R, alloc: Global) -> Report {
     finish_lone(rt, alloc, lone, false, &[1, 2], &Open)
 }
 
-/// Whether these are failures of all 8,190 events, each for an id that is 0.
+/// Returns whether each of 8,190 events failed because its id is 0.
 fn are_full(failures: &[Failure]) -> bool {
     let mut index = 0u32;
     for failure in failures {

@@ -48,10 +48,10 @@ fn submit_refused_memory(rt: HostRuntime) {
     }
 }
 
-/// How often a packet is tried that the credit refuses.
+/// How often a packet is submitted after the credit was used up.
 const TRIES: u32 = 200;
 
-/// Tries a packet again and again, for which the credit is used up: it comes back as it was, and takes no memory.
+/// Submits a packet again and again after the credit was used up. It is returned unchanged each time.
 fn try_again(rt: &(impl Abort + Wait), alloc: Global, submitter: &mut Submitter, packet: Packet) {
     let mut packet = packet;
     for _ in 0..TRIES {
@@ -68,7 +68,7 @@ fn try_again(rt: &(impl Abort + Wait), alloc: Global, submitter: &mut Submitter,
     drop(packet);
 }
 
-/// `tools/refuse-each-growth` sees that no try takes memory: there are fewer allocations than tries.
+/// `tools/refuse-each-growth` checks that these calls allocate nothing.
 #[test]
 fn credit_used_up_refused_memory(rt: HostRuntime) {
     let Ok(mut ends) = open_queue(rt.alloc(), 4, 4, 1, 1) else {

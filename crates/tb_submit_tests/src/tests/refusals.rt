@@ -65,7 +65,7 @@ fn refusals_in_order(rt: HostRuntime) {
     submit_to_new(&rt, 1, 1, packets.as_slice());
 }
 
-/// Packets of as many events or ids as the limit, and of one more.
+/// Submits packets of `limit` events or ids, and of one more.
 fn submit_at(rt: &(impl Abort + Wait + Alloc<A = Global>), limit: u32) {
     let (mut submitter, ends) = queue_of(rt, limit, 4, 4);
     let count = limit as usize;

@@ -38,7 +38,7 @@ fn rounds(rt: &(impl Abort + Wait + Alloc<A = Global>), count: u64) {
     finish(rt, submitter, ends, count);
 }
 
-/// So many pulses pass the one place of the queue, each taken before the next is queued.
+/// Queues pulses one after the other, and takes each before the next is queued.
 fn pulses(rt: &(impl Abort + Wait), control: &mut Control, intake: &mut Intake, count: u64) {
     for moment in 0..count {
         assert_eq!(rt; pulse(rt, control, moment), Ok(()));
@@ -47,7 +47,7 @@ fn pulses(rt: &(impl Abort + Wait), control: &mut Control, intake: &mut Intake, 
     }
 }
 
-/// As many pulses as there were packets, and then both ends.
+/// Queues as many pulses as there were packets, and then both ends.
 fn finish(rt: &(impl Abort + Wait), submitter: Submitter, ends: Ends, count: u64) {
     let Ends {
         submitters,
@@ -68,7 +68,7 @@ fn finish(rt: &(impl Abort + Wait), submitter: Submitter, ends: Ends, count: u64
     drop(outlets);
 }
 
-/// Whether the front of the queue is the End of submitter 0, or the control's Close.
+/// Takes the front of the queue, and returns whether it is the End of submitter 0, or the control's Close.
 fn is_taken(rt: &impl Wait, intake: &mut Intake, sender: u32) -> bool {
     match intake.take(rt) {
         Some(ticket) => {

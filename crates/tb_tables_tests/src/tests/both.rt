@@ -33,7 +33,7 @@ struct Rule {
     unit: u128,
 }
 
-/// Ids from 1 on and amounts from 1 on.
+/// Returns the rule of ids and amounts from 1 on.
 fn small(ids: u32) -> Rule {
     Rule {
         ids,
@@ -42,7 +42,7 @@ fn small(ids: u32) -> Rule {
     }
 }
 
-/// Ids up to 2^128 - 1, and amounts whose sums come near 2^128.
+/// Returns the rule of ids up to 2^128 - 1, and of amounts whose sums are near 2^128.
 fn large(ids: u32) -> Rule {
     Rule {
         ids,
@@ -52,12 +52,12 @@ fn large(ids: u32) -> Rule {
 }
 
 impl Rule {
-    /// The id of a number, counted from 1.
+    /// Returns the id of a number, counted from 1.
     fn id(self, number: u64) -> u128 {
         self.above.saturating_add(u128::from(number))
     }
 
-    /// One of the ids, which a counter leads to.
+    /// Returns the id that a counter leads to.
     fn id_at(self, counter: u64) -> u128 {
         let number = counter.checked_rem(u64::from(self.ids)).unwrap_or(0);
         self.id(number.saturating_add(1))
@@ -320,7 +320,7 @@ fn four_hundred_events(rt: HostRuntime) -> Result<(), Fail> {
     run(&mut maps, &mut lists, small(8), 1)
 }
 
-/// Whether a transfer has each of the statuses.
+/// Returns whether each status is that of some transfer.
 fn have_all(maps: &Tables, rule: Rule) -> bool {
     let statuses = [
         Status::Pending,
