@@ -8,6 +8,7 @@ use tb_work::{Bytes, Job, Packet};
 mod calls;
 mod examples;
 mod memory;
+mod sizes;
 
 /// A packet of events that are all zeros but for their flags; a lookup has as many ids.
 fn packet_of(rt: &(impl Abort + Alloc<A = Global>), operation: u8, flags: &[u8]) -> Packet {

@@ -14,6 +14,7 @@ use tb_machine::Machine;
 mod calls;
 mod chains;
 mod full;
+mod late;
 mod memory;
 mod running;
 

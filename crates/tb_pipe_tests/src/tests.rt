@@ -23,6 +23,7 @@ mod memory;
 mod openings;
 mod queued;
 mod reply;
+mod sizes;
 
 const CREATE_ACCOUNTS: u8 = 129;
 
@@ -71,13 +72,19 @@ fn told_by(reply: Reply) -> Told {
     told
 }
 
-/// A pipeline whose clock starts at 0, opened under limit 4.
-fn opened(alloc: Global, capacity: u32, credit: u32, submitters: u32) -> Result<Opened, Refusal>
+/// A pipeline whose clock starts at 0.
+fn opened(
+    alloc: Global,
+    limit: u32,
+    capacity: u32,
+    credit: u32,
+    submitters: u32,
+) -> Result<Opened, Refusal>
     ensures together { IfOk result (λ opened. AreTogether opened.pipeline opened.submitters.items opened.control) }
-    ensures as_asked { IfOk result (λ opened. IsOpenedAs 0 4 submitters opened.pipeline) }
+    ensures as_asked { IfOk result (λ opened. IsOpenedAs 0 limit submitters opened.pipeline) }
     ensures number { IfOk result (λ opened. length opened.pipeline.submitters ≡ submitters) }
 {
-    open(alloc, 0, 4, capacity, credit, submitters)
+    open(alloc, 0, limit, capacity, credit, submitters)
 }
 
 /// A pipeline with its one submitter and its control.
@@ -109,23 +116,23 @@ fn lone_of(opened: Opened) -> Lone
     }
 }
 
-/// A pipeline of one submitter, with clock 0 and limit 4, or why it isn't opened.
-fn opened_lone(alloc: Global, capacity: u32, credit: u32) -> Result<Lone, Refusal>
+/// A pipeline of one submitter, with clock 0, or why it isn't opened.
+fn opened_lone(alloc: Global, limit: u32, capacity: u32, credit: u32) -> Result<Lone, Refusal>
     ensures together { IfOk result (λ lone. AreTogether lone.pipeline (lone.submitter ∷ []) lone.control) }
-    ensures as_asked { IfOk result (λ lone. IsOpenedAs 0 4 1 lone.pipeline) }
+    ensures as_asked { IfOk result (λ lone. IsOpenedAs 0 limit 1 lone.pipeline) }
 {
-    match opened(alloc, capacity, credit, 1) {
+    match opened(alloc, limit, capacity, credit, 1) {
         Ok(opened) => Ok(lone_of(opened)),
         Err(refusal) => Err(refusal),
     }
 }
 
-/// The same with ample memory.
+/// The same with limit 4 and ample memory.
 fn open_lone(rt: &impl Abort, alloc: Global, capacity: u32, credit: u32) -> Lone
     ensures together { AreTogether result.pipeline (result.submitter ∷ []) result.control }
     ensures as_asked { IsOpenedAs 0 4 1 result.pipeline }
 {
-    match opened_lone(alloc, capacity, credit) {
+    match opened_lone(alloc, 4, capacity, credit) {
         Ok(lone) => lone,
         Err(_) => panic!(rt; "it isn't opened"),
     }

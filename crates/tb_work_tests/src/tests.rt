@@ -9,6 +9,7 @@ mod admission;
 mod calls;
 mod memory;
 mod packets;
+mod sizes;
 
 /// An account's event with this id and these flags, and all else as in an account that is created.
 fn account(id: u128, flags: u16) -> Account {

@@ -74,6 +74,62 @@ fn assert_taken(
     assert_handed(rt, parcels.as_slice(), wanted);
 }
 
+/// What submitters queue, 16 of them, and what a front with the largest limit yields: the sender, the operation, how many
+/// events or ids the packet has, and how many packets there are in the batch that it seals, or 0 where it joins.
+const SIZES: [(u32, u8, u32, usize); 22] = [
+    (0, 129, 1, 0),
+    (15, 129, 8189, 0),
+    // The group has 8,190 events.
+    (7, 129, 0, 0),
+    (3, 129, 1, 3),
+    (4, 130, 5, 1),
+    (5, 130, 8185, 0),
+    (6, 130, 1, 2),
+    (7, 130, 8190, 1),
+    (8, 131, 1, 1),
+    (9, 131, 1, 1),
+    (10, 131, 8190, 1),
+    (11, 131, 0, 1),
+    (12, 129, 8190, 1),
+    (13, 129, 8190, 1),
+    (14, 130, 1000, 1),
+    (1, 130, 1025, 0),
+    (2, 130, 2049, 0),
+    (15, 130, 4096, 0),
+    (0, 130, 20, 0),
+    (0, 130, 1, 5),
+    (9, 129, 64, 1),
+    (9, 131, 64, 1),
+];
+
+/// Lets a front of 16 submitters take the packets, and asserts what it yields.
+fn assert_sizes(rt: &(impl Abort + Alloc<A = Global>), front: &mut Front)
+    requires { front.old.submitters ≡ 16 }
+{
+    for (sender, operation, count, sealed) in &SIZES {
+        assert!(rt; *sender <= 16);
+        let packet = Made::Zeros {
+            number: 0,
+            operation: *operation,
+            count: *count,
+        };
+        let batch = [Handed::Batch(*sealed)];
+        let wanted = if *sealed == 0 {
+            &batch[..0]
+        } else {
+            &batch[..]
+        };
+        assert_taken(rt, front, *sender, packet, wanted);
+    }
+}
+
+#[test]
+fn packets_of_all_sizes(rt: HostRuntime) {
+    let mut front = Front::new(rt.alloc(), 8190, 16).expect(&rt, "memory");
+    assert_sizes(&rt, &mut front);
+    drop(front);
+}
+
 /// Why a front isn't opened.
 fn refusal(alloc: Global, limit: u32, submitters: u32) -> Option<Refusal> {
     Front::new(alloc, limit, submitters).err()

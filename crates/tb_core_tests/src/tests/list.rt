@@ -171,3 +171,66 @@ fn largest_packets(rt: HostRuntime) {
     assert_largest(&rt, &listed);
     drop(listed);
 }
+
+/// How many empty packets there are, which are one batch.
+const EMPTY: u64 = 1000;
+
+/// How many lookups there are behind them, each with a pulse behind it: twice as many entries of the journal.
+const PULSES: u64 = 150;
+
+/// The list, and what becomes of it.
+#[derive(Drop)]
+struct Long {
+    list: Vec<Made>,
+    told: Vec<Told>,
+    noted: Vec<Noted>,
+}
+
+/// The empty packets.
+fn add_empty(rt: &impl Abort, long: &mut Long) {
+    for number in 0..EMPTY {
+        let packet = Made::Zeros {
+            number,
+            operation: 129,
+            count: 0,
+        };
+        long.list.push(packet).expect(rt, "memory");
+        long.told.push(Told::Committed(number)).expect(rt, "memory");
+    }
+    long.noted
+        .push(Noted::Batch(EMPTY as usize))
+        .expect(rt, "memory");
+}
+
+/// The lookups and pulses.
+fn add_pulsed(rt: &impl Abort, long: &mut Long) {
+    for number in 0..PULSES {
+        let packet = Made::Zeros {
+            number: EMPTY + number,
+            operation: 131,
+            count: 1,
+        };
+        let told = Told::Committed(EMPTY + 2 * number);
+        long.list.push(packet).expect(rt, "memory");
+        long.list.push(Made::Pulse(number)).expect(rt, "memory");
+        long.told.push(told).expect(rt, "memory");
+        long.noted.push(Noted::Batch(1)).expect(rt, "memory");
+        long.noted.push(Noted::Pulse(number)).expect(rt, "memory");
+    }
+}
+
+/// A thousand packets without events in one batch, and a hundred and fifty lookups and pulses behind them.
+#[test]
+fn a_thousand_replies_and_many_entries(rt: HostRuntime) {
+    let mut long = Long {
+        list: Vec::new(rt.alloc()),
+        told: Vec::new(rt.alloc()),
+        noted: Vec::new(rt.alloc()),
+    };
+    add_empty(&rt, &mut long);
+    add_pulsed(&rt, &mut long);
+    let items = items_of(&rt, &long.list);
+    let listed = run_list(rt.alloc(), 0, 4, items).expect(&rt, "memory");
+    assert_listed(&rt, &listed, &long.told, &long.noted, PULSES - 1);
+    drop(listed);
+}

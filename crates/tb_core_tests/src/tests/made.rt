@@ -12,7 +12,16 @@ use tb_work::{Bytes, Item, Job, Moment, Packet, Refusal};
 #[derive(Clone, Copy)]
 pub(super) enum Made {
     /// A packet with its number, which creates the account with an id.
-    Packet { number: u64, id: u128 },
+    Packet {
+        number: u64,
+        id: u128,
+    },
+    /// A packet with its number, its operation, and so many events or ids, which are all zeros.
+    Zeros {
+        number: u64,
+        operation: u8,
+        count: u32,
+    },
     Pulse(u64),
     End,
     Close,
@@ -123,12 +132,36 @@ pub(super) fn looking_up(
     job(rt.alloc(), submitter, number, LOOKUP_ACCOUNTS, bytes).expect(rt, "the packet is admitted")
 }
 
+/// A packet of so many events or ids, all zeros.
+fn zeros(
+    alloc: Global,
+    submitter: u32,
+    number: u64,
+    operation: u8,
+    count: u32,
+) -> Result<Job, Refusal> {
+    let size = if operation == LOOKUP_ACCOUNTS {
+        16
+    } else {
+        128
+    };
+    match Vec::from_elem(alloc, 0u8, size * (count as usize)) {
+        Ok(bytes) => job(alloc, submitter, number, operation, bytes),
+        Err(_) => Err(Refusal::NoMemory),
+    }
+}
+
 /// What a sender queues.
 pub(super) fn item(alloc: Global, sender: u32, made: Made) -> Result<Item, Refusal> {
     Ok(match made {
         Made::Packet { number, id } => {
             Item::Packet(creating(alloc, sender, number, &[account(id)])?)
         }
+        Made::Zeros {
+            number,
+            operation,
+            count,
+        } => Item::Packet(zeros(alloc, sender, number, operation, count)?),
         Made::Pulse(moment) => Item::Pulse(Moment::new(moment.min(MOMENT_MAX))),
         Made::End => Item::End,
         Made::Close => Item::Close,

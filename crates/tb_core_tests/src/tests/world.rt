@@ -5,7 +5,7 @@ use super::told::{Noted, Told, assert_noted, assert_told};
 use std::alloc::Global;
 use std::process::Abort;
 use tb_work::{Refusal, Ticket};
-use tb_world::{Event, World};
+use tb_world::{Event, World, run_world};
 
 mod answers;
 mod examples;
@@ -71,8 +71,18 @@ fn assert_world(rt: &impl Abort, world: &World, told: &[Told], noted: &[Noted], 
     assert!(rt; world.ledger().machine().clock() == clock);
 }
 
+/// The events of steps.
+fn events_of(rt: &(impl Abort + Alloc<A = Global>), steps: &[(Step, bool)]) -> Vec<Event> {
+    let mut events = Vec::new(rt.alloc());
+    for (step, _) in steps {
+        let event = event(rt.alloc(), *step).expect(rt, "memory");
+        events.push(event).ok().expect(rt, "memory");
+    }
+    events
+}
+
 /// Takes steps in a World of submitters 0 and 1 and the control, 2, with batches of at most 4 events. Asserts what it
-/// returns to each and the state at the end.
+/// returns to each and the state at the end, and that the same events as a list come to this state.
 fn assert_steps(
     rt: &(impl Abort + Alloc<A = Global>),
     steps: &[(Step, bool)],
@@ -84,4 +94,8 @@ fn assert_steps(
     play(rt, &mut world, steps);
     assert_world(rt, &world, told, noted, clock);
     drop(world);
+    let events = events_of(rt, steps);
+    let listed = run_world(rt.alloc(), 0, 4, 2, events).expect(rt, "memory");
+    assert_world(rt, &listed, told, noted, clock);
+    drop(listed);
 }

@@ -10,22 +10,25 @@ use tb_drive::{Action, ControlPlan, Driver, Finished, PlanDriver, drive_all};
 use tb_pipe::open;
 use tb_work::{Refusal, Reply};
 
-/// Sends packets without events, one after the other, and waits for each reply. Before each it yields a number of times
-/// below `longest`, given by a fixed sequence, so that the pipeline is idle after some packets and busy after others.
+/// Sends packets without events, at most `credit` ahead of the replies, and waits for all replies. Before each packet it
+/// yields a number of times below `longest`, given by a fixed sequence. So the pipeline is idle after some packets and
+/// busy after others.
 #[derive(Drop)]
 struct Sender {
     packets: u32,
     longest: u32,
+    credit: u32,
     number: u32,
     sent: u32,
     replies: u32,
 }
 
 impl Sender {
-    fn new(packets: u32, longest: u32, seed: u32) -> Sender {
+    fn new(packets: u32, longest: u32, credit: u32, seed: u32) -> Sender {
         Sender {
             packets,
             longest,
+            credit,
             number: seed,
             sent: 0,
             replies: 0,
@@ -44,10 +47,12 @@ impl Sender {
 
 impl Driver for Sender {
     fn next<R: Wait>(&mut self, _rt: &R, alloc: Global) -> Action {
-        if self.replies < self.sent {
+        let unread = self.sent.saturating_sub(self.replies);
+        let is_last = self.sent == self.packets;
+        if unread >= self.credit || is_last && unread > 0 {
             return Action::Receive;
         }
-        if self.sent == self.packets {
+        if is_last {
             return Action::End;
         }
         for _ in 0..self.gap() {
@@ -57,7 +62,13 @@ impl Driver for Sender {
         packet_of(alloc, CREATE_ACCOUNTS, 0, 0).map_or(Action::End, Action::Submit)
     }
 
-    fn submitted(&mut self, _told: Result<u64, Refusal>) {}
+    /// Ends after a refused packet, so that a test fails and doesn't wait for a reply to it.
+    fn submitted(&mut self, told: Result<u64, Refusal>) {
+        if told.is_err() {
+            self.sent = self.sent.saturating_sub(1);
+            self.packets = self.sent;
+        }
+    }
 
     fn receive(&mut self, _reply: Reply) {
         self.replies = self.replies.saturating_add(1);
@@ -79,13 +90,14 @@ fn replies_of<R: Threads + Wait + Sync>(
     alloc: Global,
     packets: u32,
     longest: u32,
+    credit: u32,
     seeds: &[u32],
 ) -> Result<Vec<u32>, Fail> {
     let mut drivers = Vec::new(alloc);
     for &seed in seeds {
-        drivers.push(Sender::new(packets, longest, seed))?;
+        drivers.push(Sender::new(packets, longest, credit, seed))?;
     }
-    let opened = open(alloc, 0, 4, 8, 1, u32::try_from(drivers.len())?)?;
+    let opened = open(alloc, 0, 4, 8, credit, u32::try_from(drivers.len())?)?;
     match drive_all(
         rt,
         alloc,
@@ -101,7 +113,7 @@ fn replies_of<R: Threads + Wait + Sync>(
 /// All threads sleep before most of the packets.
 #[test]
 fn ten_thousand_packets_after_idling(rt: HostRuntime) -> Result<(), Fail> {
-    let replies = replies_of(&rt, rt.alloc(), 10_000, 100, &[1])?;
+    let replies = replies_of(&rt, rt.alloc(), 10_000, 100, 1, &[1])?;
     assert_eq!(rt; replies.as_slice(), [10_000].as_slice());
     Ok(())
 }
@@ -110,7 +122,14 @@ fn ten_thousand_packets_after_idling(rt: HostRuntime) -> Result<(), Fail> {
 #[test]
 fn sixteen_senders_at_random_gaps(rt: HostRuntime) -> Result<(), Fail> {
     let seeds = [1, 2, 3, 4, 5, 6, 7, 8, 9, 10, 11, 12, 13, 14, 15, 16];
-    let replies = replies_of(&rt, rt.alloc(), 1000, 30, &seeds)?;
+    let replies = replies_of(&rt, rt.alloc(), 1000, 30, 1, &seeds)?;
     assert_eq!(rt; replies.as_slice(), [1000; 16].as_slice());
+    Ok(())
+}
+
+#[test]
+fn thirty_thousand_packets_of_each_of_two(rt: HostRuntime) -> Result<(), Fail> {
+    let replies = replies_of(&rt, rt.alloc(), 30_000, 0, 4, &[1, 2])?;
+    assert_eq!(rt; replies.as_slice(), [30_000; 2].as_slice());
     Ok(())
 }

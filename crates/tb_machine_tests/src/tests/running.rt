@@ -1,7 +1,7 @@
 //! 400 events, made by a rule from a counter, against plain lists: the transfers in order of making, with whether each
 //! expired, and balances as sums.
 
-use super::{account, accounts_body, commits, is_packet, make_accounts, transfer};
+use super::{MOST, account, accounts_body, commits, is_packet, make_accounts, transfer};
 use std::alloc::{AllocError, Global};
 use std::process::Abort;
 use tb_layout::{
@@ -10,8 +10,54 @@ use tb_layout::{
 use tb_machine::Machine;
 use tb_tables::Status;
 
-fn four_accounts() -> [Account; 4] {
-    [account(1, 0), account(2, 0), account(3, 0), account(4, 0)]
+/// What the ids and the amounts of a run are made of.
+#[derive(Clone, Copy)]
+struct Rule {
+    /// How many ids the transfers have.
+    ids: u32,
+    /// The number before the first id.
+    above: u128,
+    /// What each amount is a multiple of.
+    unit: u128,
+}
+
+/// Returns the rule of ids and amounts from 1 on.
+fn small(ids: u32) -> Rule {
+    Rule {
+        ids,
+        above: 0,
+        unit: 1,
+    }
+}
+
+/// Returns the rule of ids up to 2^128 - 2, and of amounts whose sums are near 2^128.
+fn large(ids: u32) -> Rule {
+    Rule {
+        ids,
+        above: MOST - 1 - u128::from(ids),
+        unit: 1 << 112,
+    }
+}
+
+impl Rule {
+    /// Returns the id of a number, counted from 1.
+    fn id(self, number: u64) -> u128 {
+        self.above.saturating_add(u128::from(number))
+    }
+
+    /// Returns the id that a counter leads to.
+    fn id_at(self, counter: u64) -> u128 {
+        let number = counter.checked_rem(u64::from(self.ids)).unwrap_or(0);
+        self.id(number.saturating_add(1))
+    }
+
+    fn amount(self, number: u64) -> u128 {
+        self.unit.saturating_mul(u128::from(number))
+    }
+
+    fn accounts(self) -> [Account; 4] {
+        [1, 2, 3, 4].map(|number| account(self.id(number), 0))
+    }
 }
 
 /// One of `many` numbers, counted from 0, that a counter and a purpose lead to.
@@ -40,24 +86,23 @@ fn flags(counter: u64) -> u16 {
     u16::try_from(chosen).unwrap_or(0)
 }
 
-/// An id from 1 to `ids`.
-fn id_at(counter: u64, ids: u64) -> u128 {
-    u128::from(counter.checked_rem(ids).unwrap_or(0).saturating_add(1))
-}
-
 /// The event that a counter leads to; a post or a void names one of the last ids.
-fn event(counter: u64, ids: u64) -> Transfer {
-    let id = id_at(counter, ids);
-    let debit = u128::from(pick(counter, 6, 4).saturating_add(1));
-    let credit = u128::from(pick(counter, 7, 5).saturating_add(1));
-    let amount = u128::from(pick(counter, 8, 100).saturating_add(1));
-    let plain = transfer(id, debit, credit, amount, flags(counter));
+fn event(counter: u64, rule: Rule) -> Transfer {
+    let id = rule.id_at(counter);
+    let debit = rule.id(pick(counter, 6, 4).saturating_add(1));
+    let credit = rule.id(pick(counter, 7, 5).saturating_add(1));
+    let amount = pick(counter, 8, 100).saturating_add(1);
+    let plain = transfer(id, debit, credit, rule.amount(amount), flags(counter));
     if plain.is_post() || plain.is_void() {
         return Transfer {
             debit_account_id: 0,
             credit_account_id: 0,
-            pending_id: id_at(counter.saturating_sub(pick(counter, 9, 16)), ids),
-            amount: if plain.is_void() { 0 } else { amount / 4 },
+            pending_id: rule.id_at(counter.saturating_sub(pick(counter, 9, 16))),
+            amount: if plain.is_void() {
+                0
+            } else {
+                rule.amount(amount / 4)
+            },
             ledger: 0,
             code: 0,
             ..plain
@@ -142,9 +187,9 @@ fn with_balances(account: Account, all: &[Made]) -> Account {
 }
 
 /// Notes what was made since, by rising id.
-fn note_new(all: &mut Vec<Made>, machine: &Machine, ids: u32) -> Result<(), AllocError> {
-    for id in 1..=ids {
-        let id = u128::from(id);
+fn note_new(all: &mut Vec<Made>, machine: &Machine, rule: Rule) -> Result<(), AllocError> {
+    for number in 1..=u64::from(rule.ids) {
+        let id = rule.id(number);
         let known = all.iter().any(|one| one.transfer.id == id);
         if let (false, Some(made)) = (known, machine.transfer(id)) {
             all.push(Made {
@@ -157,13 +202,14 @@ fn note_new(all: &mut Vec<Made>, machine: &Machine, ids: u32) -> Result<(), Allo
 }
 
 /// Whether all balances and statuses are those of all transfers.
-fn agrees(machine: &Machine, all: &[Made]) -> bool {
-    for id in 1..=4_u32 {
+fn agrees(machine: &Machine, all: &[Made], rule: Rule) -> bool {
+    for timestamp in 1..=4_u64 {
+        let id = rule.id(timestamp);
         let made = Account {
-            timestamp: u64::from(id),
-            ..account(u128::from(id), 0)
+            timestamp,
+            ..account(id, 0)
         };
-        if machine.account(u128::from(id)) != Some(with_balances(made, all)) {
+        if machine.account(id) != Some(with_balances(made, all)) {
             return false;
         }
     }
@@ -205,11 +251,11 @@ fn packet(
     rt: &impl Alloc<A = Global>,
     first: u64,
     events: u64,
-    ids: u64,
+    rule: Rule,
 ) -> Result<Vec<u8>, AllocError> {
     let mut body = Vec::new(rt.alloc());
     for place in 0..events {
-        let event = event(first.saturating_add(place), ids);
+        let event = event(first.saturating_add(place), rule);
         body.extend_from_slice(&write_transfer(&event))?;
     }
     Ok(body)
@@ -221,9 +267,9 @@ fn commit_packet(
     machine: &mut Machine,
     first: u64,
     events: u64,
-    ids: u32,
+    rule: Rule,
 ) {
-    let body = packet(rt, first, events, u64::from(ids)).expect(rt, "memory");
+    let body = packet(rt, first, events, rule).expect(rt, "memory");
     assert!(rt; commits_any(rt, machine, &body));
 }
 
@@ -232,20 +278,20 @@ fn run(
     rt: &(impl Abort + Alloc<A = Global>),
     machine: &mut Machine,
     all: &mut Vec<Made>,
-    ids: u32,
+    rule: Rule,
 ) {
-    make_accounts(rt, machine, &four_accounts());
+    make_accounts(rt, machine, &rule.accounts());
     let mut first: u64 = 0;
     for number in 0..115_u64 {
         let events = number % 6 + 1;
-        commit_packet(rt, machine, first, events, ids);
+        commit_packet(rt, machine, first, events, rule);
         first = first.saturating_add(events);
-        note_new(all, machine, ids).expect(rt, "memory");
+        note_new(all, machine, rule).expect(rt, "memory");
         if number % 10 == 9 {
             machine.pulse((number / 10 + 1) * NANOSECONDS_PER_SECOND);
             expire(all, machine.clock());
         }
-        assert!(rt; agrees(machine, all), "behind packet {number}");
+        assert!(rt; agrees(machine, all, rule), "behind packet {number}");
     }
 }
 
@@ -263,18 +309,28 @@ fn some_has(all: &[Made], status: Status) -> bool {
 fn four_hundred_events(rt: HostRuntime) {
     let mut machine = Machine::new(rt.alloc(), 0);
     let mut all = Vec::new(rt.alloc());
-    run(&rt, &mut machine, &mut all, 8);
+    run(&rt, &mut machine, &mut all, small(8));
     drop(machine);
+}
+
+/// Runs 400 events of as many ids, and asserts that some transfer has each status.
+fn run_of_each_status(rt: &(impl Abort + Alloc<A = Global>), rule: Rule) {
+    let mut machine = Machine::new(rt.alloc(), 0);
+    let mut all = Vec::new(rt.alloc());
+    run(rt, &mut machine, &mut all, rule);
+    drop(machine);
+    assert!(rt; some_has(&all, Status::Pending) && some_has(&all, Status::Posted));
+    assert!(rt; some_has(&all, Status::Voided) && some_has(&all, Status::Expired));
 }
 
 #[test]
 fn four_hundred_events_of_as_many_ids(rt: HostRuntime) {
-    let mut machine = Machine::new(rt.alloc(), 0);
-    let mut all = Vec::new(rt.alloc());
-    run(&rt, &mut machine, &mut all, 400);
-    drop(machine);
-    assert!(rt; some_has(&all, Status::Pending) && some_has(&all, Status::Posted));
-    assert!(rt; some_has(&all, Status::Voided) && some_has(&all, Status::Expired));
+    run_of_each_status(&rt, small(400));
+}
+
+#[test]
+fn four_hundred_events_near_2_128(rt: HostRuntime) {
+    run_of_each_status(&rt, large(400));
 }
 
 /// Packets in order, as far as memory lasts; one that is refused leaves what the lists say.
@@ -285,19 +341,19 @@ fn run_refused(
 ) -> Result<(), AllocError> {
     let mut first: u64 = 0;
     for number in 0..6_u64 {
-        let body = packet(rt, first, number + 1, 400)?;
+        let body = packet(rt, first, number + 1, small(400))?;
         first = first.saturating_add(number + 1);
         if !commits_any(rt, machine, &body) {
             return Ok(());
         }
-        note_new(all, machine, 400)?;
+        note_new(all, machine, small(400))?;
     }
     Ok(())
 }
 
 /// Whether the four accounts are made, as they are unless memory runs out.
 fn makes_accounts(rt: &impl Alloc<A = Global>, machine: &mut Machine) -> bool {
-    match accounts_body(rt, &four_accounts()) {
+    match accounts_body(rt, &small(400).accounts()) {
         Ok(accounts) => commits(rt, machine, CREATE_ACCOUNTS, &accounts),
         Err(_) => false,
     }
@@ -309,7 +365,7 @@ fn plain_lists_refused_memory(rt: HostRuntime) {
     let mut machine = Machine::new(rt.alloc(), 0);
     let mut all = Vec::new(rt.alloc());
     if makes_accounts(&rt, &mut machine) && run_refused(&rt, &mut machine, &mut all).is_ok() {
-        assert!(rt; agrees(&machine, &all));
+        assert!(rt; agrees(&machine, &all, small(400)));
     }
     drop(machine);
 }

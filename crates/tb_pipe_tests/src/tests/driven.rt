@@ -404,7 +404,7 @@ fn opened_driving<R: Wait + Abort>(
         pipeline,
         mut submitters,
         control,
-    } = opened(alloc, capacity, credit, submitters).expect(rt, "it is opened");
+    } = opened(alloc, 4, capacity, credit, submitters).expect(rt, "it is opened");
     let last = submitters.pop().expect(rt, "there is a submitter");
     Driving {
         pipeline,

@@ -31,12 +31,12 @@ fn packet_again(alloc: Global, id: u8) -> Result<Packet, AllocError> {
 fn open_again(rt: &impl Abort, alloc: Global, told: &mut bool) -> Result<Lone, Refusal>
     ensures { IfOk result (λ lone. AreTogether lone.pipeline (lone.submitter ∷ []) lone.control) }
 {
-    match opened_lone(alloc, 64, 64) {
+    match opened_lone(alloc, 4, 64, 64) {
         Ok(lone) => Ok(lone),
         Err(refusal) => {
             assert_eq!(rt; refusal, Refusal::NoMemory);
             *told = true;
-            opened_lone(alloc, 64, 64)
+            opened_lone(alloc, 4, 64, 64)
         }
     }
 }

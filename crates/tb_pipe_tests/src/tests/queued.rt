@@ -26,7 +26,7 @@ pub(super) enum Step {
 }
 
 /// Queues packets by the submitter and pulses by the control, step by step.
-fn queue_steps<R: Wait + Abort>(
+pub(super) fn queue_steps<R: Wait + Abort>(
     rt: &R,
     alloc: Global,
     submitter: &mut Submitter,
@@ -207,7 +207,7 @@ fn finish_each<R: Threads + Wait + Sync + Abort>(rt: &R, alloc: Global, opened: 
 fn one_of_each<R: Threads + Wait + Sync + Abort>(rt: &R, alloc: Global) -> Report
     ensures { IsRun 0 4 16 result.ledger result.ends.items }
 {
-    match opened(alloc, 64, 64, 16) {
+    match opened(alloc, 4, 64, 64, 16) {
         Ok(opened) => finish_each(rt, alloc, opened),
         Err(_) => panic!(rt; "it isn't opened"),
     }

@@ -47,3 +47,40 @@ fn submit_refused_memory(rt: HostRuntime) {
         Err(refusal) => assert_eq!(rt; refusal, Refusal::NoMemory),
     }
 }
+
+/// How often a packet is submitted after the credit was used up.
+const TRIES: u32 = 200;
+
+/// Submits a packet again and again after the credit was used up. It is returned unchanged each time.
+fn try_again(rt: &(impl Abort + Wait), alloc: Global, submitter: &mut Submitter, packet: Packet) {
+    let mut packet = packet;
+    for _ in 0..TRIES {
+        assert!(rt; submitter.queued() < 1 << 56);
+        match submitter.submit(rt, alloc, packet) {
+            Ok(_) => panic!(rt; "the credit is used up"),
+            Err((back, refusal)) => {
+                assert_eq!(rt; refusal, Refusal::InFlight);
+                packet = back;
+            }
+        }
+    }
+    assert!(rt; look_of(&packet) == made_look(129, 512));
+    drop(packet);
+}
+
+/// `tools/refuse-each-growth` checks that these calls allocate nothing.
+#[test]
+fn credit_used_up_refused_memory(rt: HostRuntime) {
+    let Ok(mut ends) = open_queue(rt.alloc(), 4, 4, 1, 1) else {
+        return;
+    };
+    assert!(rt; ends.submitters.len() == 1);
+    let submitter = &mut ends.submitters[0];
+    if let (Ok(first), Ok(second)) = (packet(rt.alloc()), packet(rt.alloc())) {
+        assert!(rt; submitter.queued() == 0);
+        if submitter.submit(&rt, rt.alloc(), first).is_ok() {
+            try_again(&rt, rt.alloc(), submitter, second);
+        }
+    }
+    drop(ends);
+}

@@ -6,7 +6,7 @@ use tb_submit::open_queue;
 use tb_work::{Job, Refusal, Reply};
 
 /// Limit, capacity, credit and submitters, and why such a queue is refused.
-const OPENINGS: [((u32, u32, u32, u32), Option<Refusal>); 18] = [
+const OPENINGS: [((u32, u32, u32, u32), Option<Refusal>); 19] = [
     ((0, 0, 4, 3), Some(Refusal::BadLimit)),
     ((8191, 4, 4, 3), Some(Refusal::BadLimit)),
     ((4, 0, 4, 3), Some(Refusal::BadCapacity)),
@@ -18,6 +18,7 @@ const OPENINGS: [((u32, u32, u32, u32), Option<Refusal>); 18] = [
     ((4, 4, 65_537, 3), Some(Refusal::BadCapacity)),
     ((1, 1, 1, 1), None),
     ((8190, 65_536, 1, 16), None),
+    ((8190, 65_536, 65_536, 16), None),
     ((1, 1, 65_536, 1), None),
     ((0, 4, 4, 17), Some(Refusal::BadLimit)),
     ((8191, 4, 0, 3), Some(Refusal::BadLimit)),
@@ -37,9 +38,12 @@ fn bad_openings(rt: HostRuntime) {
 
 #[test]
 fn as_many_ends_as_submitters(rt: HostRuntime) {
-    let ends = open_queue(rt.alloc(), 4, 4, 4, 16).expect(&rt, "a queue");
-    assert_eq!(rt; (ends.submitters.len(), ends.outlets.len()), (16, 16));
-    drop(ends);
+    for submitters in 1..=16u32 {
+        let ends = open_queue(rt.alloc(), 4, 4, 4, submitters).expect(&rt, "a queue");
+        let count = submitters as usize;
+        assert_eq!(rt; (ends.submitters.len(), ends.outlets.len()), (count, count));
+        drop(ends);
+    }
 }
 
 /// Gives a reply to a packet that was not queued; whether it is taken.

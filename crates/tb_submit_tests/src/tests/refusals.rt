@@ -65,6 +65,28 @@ fn refusals_in_order(rt: HostRuntime) {
     submit_to_new(&rt, 1, 1, packets.as_slice());
 }
 
+/// Submits packets of `limit` events or ids, and of one more.
+fn submit_at(rt: &(impl Abort + Wait + Alloc<A = Global>), limit: u32) {
+    let (mut submitter, ends) = queue_of(rt, limit, 4, 4);
+    let count = limit as usize;
+    for (place, (operation, size)) in [(129, 128), (130, 128), (131, 16)].iter().enumerate() {
+        let packets = [
+            (*operation, size * (count + 1), Err(Refusal::TooMuchData)),
+            (*operation, size * count, Ok(place as u64)),
+        ];
+        submit_all(rt, &mut submitter, packets.as_slice());
+    }
+    drop(submitter);
+    drop(ends);
+}
+
+#[test]
+fn as_many_events_as_the_limit(rt: HostRuntime) {
+    for limit in [1, 2, 3, 4, 5, 7, 1000, 8189, 8190] {
+        submit_at(&rt, limit);
+    }
+}
+
 /// Submits a packet of each kind of fault, and one without, after a reply with a shutdown.
 fn submit_behind(
     rt: &(impl Abort + Wait + Alloc<A = Global>),

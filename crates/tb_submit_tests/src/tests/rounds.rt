@@ -1,9 +1,9 @@
-use super::{Says, answer, packet_of, queue_of};
+use super::{Says, answer, packet_of, pulse, queue_of};
 use std::alloc::Global;
 use std::process::Abort;
 use std::sync::Wait;
-use tb_submit::{Ends, Submitter};
-use tb_work::{Packet, Reply};
+use tb_submit::{Control, Ends, Intake, Submitter};
+use tb_work::{Item, Packet, Reply};
 
 /// A packet passes the queue and comes back with its reply; its number, and the packet.
 fn round(
@@ -28,22 +28,62 @@ fn round(
 /// Credit and slots are free again with each reply: one packet goes round this number of times.
 fn rounds(rt: &(impl Abort + Wait + Alloc<A = Global>), count: u64) {
     let (mut submitter, mut ends) = queue_of(rt, 4, 1, 1);
-    let mut packet = packet_of(rt, 129, 128);
+    let mut packet = packet_of(rt, 129, 512);
     for place in 0..count {
         let (number, back) = round(rt, &mut submitter, &mut ends, packet);
         assert_eq!(rt; number, place);
         packet = back;
     }
-    drop(submitter);
-    drop(ends);
+    drop(packet);
+    finish(rt, submitter, ends, count);
+}
+
+/// Queues pulses one after the other, and takes each before the next is queued.
+fn pulses(rt: &(impl Abort + Wait), control: &mut Control, intake: &mut Intake, count: u64) {
+    for moment in 0..count {
+        assert_eq!(rt; pulse(rt, control, moment), Ok(()));
+        let ticket = intake.take(rt).expect(rt, "a ticket");
+        assert!(rt; matches!(&ticket.item, Item::Pulse(taken) if taken.get() == moment));
+    }
+}
+
+/// Queues as many pulses as there were packets, and then both ends.
+fn finish(rt: &(impl Abort + Wait), submitter: Submitter, ends: Ends, count: u64) {
+    let Ends {
+        submitters,
+        mut control,
+        mut intake,
+        outlets,
+    } = ends;
+    pulses(rt, &mut control, &mut intake, count);
+    let ended = submitter.end(rt).ok().expect(rt, "a place for the end");
+    assert!(rt; is_taken(rt, &mut intake, 0));
+    let closed = control.shut(rt).ok().expect(rt, "a place for the Close");
+    assert!(rt; is_taken(rt, &mut intake, 1));
+    assert!(rt; intake.take(rt).is_none());
+    drop(ended);
+    drop(closed);
+    drop(submitters);
+    drop(intake);
+    drop(outlets);
+}
+
+/// Takes the front of the queue, and returns whether it is the End of submitter 0, or the control's Close.
+fn is_taken(rt: &impl Wait, intake: &mut Intake, sender: u32) -> bool {
+    match intake.take(rt) {
+        Some(ticket) => {
+            let is_last = match &ticket.item {
+                Item::End => sender == 0,
+                Item::Close => sender == 1,
+                _ => false,
+            };
+            is_last && ticket.sender == sender
+        }
+        None => false,
+    }
 }
 
 #[test]
-fn a_thousand_rounds(rt: HostRuntime) {
-    rounds(&rt, 1000);
-}
-
-#[test]
-fn two_thousand_rounds(rt: HostRuntime) {
-    rounds(&rt, 2000);
+fn a_hundred_thousand_rounds(rt: HostRuntime) {
+    rounds(&rt, 100_000);
 }

@@ -9,6 +9,7 @@ ghost use Rattle.tb_tables.specs.Status.{expires_at};
 
 use super::plain::PlainTables;
 use super::{account, transfer};
+use std::alloc::Global;
 use std::test::Fail;
 use tb_layout::{Account, NANOSECONDS_PER_SECOND, NoMemory, Transfer};
 use tb_tables::{Status, Tables};
@@ -21,9 +22,46 @@ fn pick(counter: u64, purpose: u64, many: u64) -> u64 {
         .unwrap_or(0)
 }
 
-/// An id from 1 to `ids`.
-fn id_at(counter: u64, ids: u64) -> u128 {
-    u128::from(counter.checked_rem(ids).unwrap_or(0).saturating_add(1))
+/// What the ids and the amounts of a run are made of.
+#[derive(Clone, Copy)]
+struct Rule {
+    /// How many ids the transfers have.
+    ids: u32,
+    /// The number before the first id.
+    above: u128,
+    /// What each amount is a multiple of.
+    unit: u128,
+}
+
+/// Returns the rule of ids and amounts from 1 on.
+fn small(ids: u32) -> Rule {
+    Rule {
+        ids,
+        above: 0,
+        unit: 1,
+    }
+}
+
+/// Returns the rule of ids up to 2^128 - 1, and of amounts whose sums are near 2^128.
+fn large(ids: u32) -> Rule {
+    Rule {
+        ids,
+        above: u128::MAX.saturating_sub(u128::from(ids)),
+        unit: 1 << 112,
+    }
+}
+
+impl Rule {
+    /// Returns the id of a number, counted from 1.
+    fn id(self, number: u64) -> u128 {
+        self.above.saturating_add(u128::from(number))
+    }
+
+    /// Returns the id that a counter leads to.
+    fn id_at(self, counter: u64) -> u128 {
+        let number = counter.checked_rem(u64::from(self.ids)).unwrap_or(0);
+        self.id(number.saturating_add(1))
+    }
 }
 
 /// The clock at an event, in nanoseconds: a second passes with each forty.
@@ -34,19 +72,19 @@ fn clock_at(counter: u64) -> u64 {
 }
 
 /// A plain or pending transfer between two of the accounts 1 to 4, or to account 5, which isn't there.
-fn moving(counter: u64, ids: u64, flags: u16) -> Transfer {
-    let amount = u128::from(pick(counter, 8, 100).saturating_add(1));
+fn moving(counter: u64, rule: Rule, flags: u16) -> Transfer {
+    let amount = u128::from(pick(counter, 8, 100).saturating_add(1)).saturating_mul(rule.unit);
     Transfer {
-        debit_account_id: u128::from(pick(counter, 6, 4).saturating_add(1)),
-        credit_account_id: u128::from(pick(counter, 7, 5).saturating_add(1)),
+        debit_account_id: rule.id(pick(counter, 6, 4).saturating_add(1)),
+        credit_account_id: rule.id(pick(counter, 7, 5).saturating_add(1)),
         timeout: u32::try_from(pick(counter, 10, 3)).unwrap_or(0),
         timestamp: clock_at(counter),
-        ..transfer(id_at(counter, ids), amount, 0, flags)
+        ..transfer(rule.id_at(counter), amount, 0, flags)
     }
 }
 
 /// A post of half of what a transfer reserves, or a void of all.
-fn resolving(counter: u64, ids: u64, pending: &Transfer, flags: u16) -> Transfer {
+fn resolving(counter: u64, rule: Rule, pending: &Transfer, flags: u16) -> Transfer {
     let amount = if flags == 4 {
         pending.amount / 2
     } else {
@@ -56,18 +94,18 @@ fn resolving(counter: u64, ids: u64, pending: &Transfer, flags: u16) -> Transfer
         debit_account_id: pending.debit_account_id,
         credit_account_id: pending.credit_account_id,
         timestamp: clock_at(counter),
-        ..transfer(id_at(counter, ids), amount, pending.id, flags)
+        ..transfer(rule.id_at(counter), amount, pending.id, flags)
     }
 }
 
 /// The transfer that a counter leads to; a post or a void names one of the last ids, where that has a transfer.
-fn event(counter: u64, ids: u64, maps: &Tables) -> Transfer {
-    let named = id_at(counter.saturating_sub(pick(counter, 9, 16)), ids);
+fn event(counter: u64, rule: Rule, maps: &Tables) -> Transfer {
+    let named = rule.id_at(counter.saturating_sub(pick(counter, 9, 16)));
     match (pick(counter, 2, 4), maps.transfer(named)) {
-        (0, Some(pending)) => resolving(counter, ids, &pending, 4),
-        (1, Some(pending)) => resolving(counter, ids, &pending, 8),
-        (2, _) => moving(counter, ids, 0),
-        _ => moving(counter, ids, 2),
+        (0, Some(pending)) => resolving(counter, rule, &pending, 4),
+        (1, Some(pending)) => resolving(counter, rule, &pending, 8),
+        (2, _) => moving(counter, rule, 0),
+        _ => moving(counter, rule, 2),
     }
 }
 
@@ -181,12 +219,17 @@ fn store(maps: &mut Tables, lists: &mut PlainTables, transfer: Transfer) -> Resu
 }
 
 /// Takes an event, and now and then takes it back.
-fn take(maps: &mut Tables, lists: &mut PlainTables, counter: u64, ids: u64) -> Result<(), NoMemory>
+fn take(
+    maps: &mut Tables,
+    lists: &mut PlainTables,
+    counter: u64,
+    rule: Rule,
+) -> Result<(), NoMemory>
     requires { maps.old ≡ lists.old }
     ensures { OnOk result (maps.new ≡ lists.new) }
 {
     let mark = maps.mark();
-    let transfer = event(counter, ids, maps);
+    let transfer = event(counter, rule, maps);
     store(maps, lists, transfer)?;
     if pick(counter, 11, 8) == 0 {
         maps.undo_to(mark);
@@ -206,10 +249,10 @@ fn pulse(maps: &mut Tables, lists: &mut PlainTables, clock: u64)
     lists.expire_due(clock);
 }
 
-/// Whether each look-up of an id agrees, and that of the index one below.
-fn agree_on(maps: &Tables, lists: &PlainTables, id: u32) -> bool {
-    let index = id.saturating_sub(1) as usize;
-    let id = u128::from(id);
+/// Whether each look-up of the id of a number agrees, and that of the index one below.
+fn agree_on(maps: &Tables, lists: &PlainTables, rule: Rule, number: u32) -> bool {
+    let index = number.saturating_sub(1) as usize;
+    let id = rule.id(u64::from(number));
     maps.account(id) == lists.account(id)
         && maps.account_at(index) == lists.account_at(index)
         && maps.transfer(id) == lists.transfer(id)
@@ -218,9 +261,9 @@ fn agree_on(maps: &Tables, lists: &PlainTables, id: u32) -> bool {
 }
 
 /// Whether all look-ups agree.
-fn agree(maps: &Tables, lists: &PlainTables, ids: u32) -> bool {
-    for id in 0..=ids {
-        if !agree_on(maps, lists, id) {
+fn agree(maps: &Tables, lists: &PlainTables, rule: Rule) -> bool {
+    for number in 0..=rule.ids {
+        if !agree_on(maps, lists, rule, number) {
             return false;
         }
     }
@@ -228,27 +271,32 @@ fn agree(maps: &Tables, lists: &PlainTables, ids: u32) -> bool {
 }
 
 /// Makes accounts 1 to 4, then takes the events.
-fn run(maps: &mut Tables, lists: &mut PlainTables, ids: u32, apart: u64) -> Result<(), Fail>
+fn run(maps: &mut Tables, lists: &mut PlainTables, rule: Rule, apart: u64) -> Result<(), Fail>
     requires same { maps.old ≡ lists.old }
     requires some { 0 < apart }
 {
-    for id in [1_u128, 2, 3, 4] {
-        add(maps, lists, account(id))?;
+    for number in [1_u64, 2, 3, 4] {
+        add(maps, lists, account(rule.id(number)))?;
     }
-    take_events(maps, lists, ids, apart)
+    take_events(maps, lists, rule, apart)
 }
 
 /// Takes the events, with a pulse after each fortieth. All look-ups are compared after every `apart` events.
-fn take_events(maps: &mut Tables, lists: &mut PlainTables, ids: u32, apart: u64) -> Result<(), Fail>
+fn take_events(
+    maps: &mut Tables,
+    lists: &mut PlainTables,
+    rule: Rule,
+    apart: u64,
+) -> Result<(), Fail>
     requires same { maps.old ≡ lists.old }
     requires some { 0 < apart }
 {
     for counter in 0..400_u64 {
-        take(maps, lists, counter, u64::from(ids))?;
+        take(maps, lists, counter, rule)?;
         if counter % 40 == 39 {
             pulse(maps, lists, clock_at(counter));
         }
-        if counter % apart == 0 && !agree(maps, lists, ids) {
+        if counter % apart == 0 && !agree(maps, lists, rule) {
             return Err("a look-up in the maps answers otherwise than one in the lists")?;
         }
     }
@@ -256,9 +304,9 @@ fn take_events(maps: &mut Tables, lists: &mut PlainTables, ids: u32, apart: u64)
 }
 
 /// Whether a transfer with one of the ids has this status.
-fn some_has(maps: &Tables, ids: u32, status: Status) -> bool {
-    for id in 1..=ids {
-        if maps.status(u128::from(id)) == Some(status) {
+fn some_has(maps: &Tables, rule: Rule, status: Status) -> bool {
+    for number in 1..=rule.ids {
+        if maps.status(rule.id(u64::from(number))) == Some(status) {
             return true;
         }
     }
@@ -269,15 +317,42 @@ fn some_has(maps: &Tables, ids: u32, status: Status) -> bool {
 fn four_hundred_events(rt: HostRuntime) -> Result<(), Fail> {
     let mut maps = Tables::new(rt.alloc());
     let mut lists = PlainTables::new(rt.alloc());
-    run(&mut maps, &mut lists, 8, 1)
+    run(&mut maps, &mut lists, small(8), 1)
+}
+
+/// Returns whether each status is that of some transfer.
+fn have_all(maps: &Tables, rule: Rule) -> bool {
+    let statuses = [
+        Status::Pending,
+        Status::Posted,
+        Status::Voided,
+        Status::Expired,
+    ];
+    for status in statuses {
+        if !some_has(maps, rule, status) {
+            return false;
+        }
+    }
+    true
+}
+
+/// Runs 400 events of as many ids, after which some transfer has each status.
+fn run_of_each_status(alloc: Global, rule: Rule) -> Result<(), Fail> {
+    let mut maps = Tables::new(alloc);
+    let mut lists = PlainTables::new(alloc);
+    run(&mut maps, &mut lists, rule, 19)?;
+    if !have_all(&maps, rule) {
+        return Err("no transfer has one of the statuses")?;
+    }
+    Ok(())
 }
 
 #[test]
 fn four_hundred_events_of_as_many_ids(rt: HostRuntime) -> Result<(), Fail> {
-    let mut maps = Tables::new(rt.alloc());
-    let mut lists = PlainTables::new(rt.alloc());
-    run(&mut maps, &mut lists, 400, 19)?;
-    assert!(rt; some_has(&maps, 400, Status::Pending) && some_has(&maps, 400, Status::Posted));
-    assert!(rt; some_has(&maps, 400, Status::Voided) && some_has(&maps, 400, Status::Expired));
-    Ok(())
+    run_of_each_status(rt.alloc(), small(400))
+}
+
+#[test]
+fn four_hundred_events_near_2_128(rt: HostRuntime) -> Result<(), Fail> {
+    run_of_each_status(rt.alloc(), large(400))
 }

@@ -1,12 +1,12 @@
 //! Worked examples, step by step.
 
-use super::{Step, assert_steps, assert_world, event};
+use super::{Step, assert_steps};
 use crate::tests::made::Made;
 use crate::tests::told::{Noted, Told};
 use std::alloc::Global;
 use std::process::Abort;
 use tb_work::Refusal;
-use tb_world::{Event, World, run_world};
+use tb_world::World;
 
 const FIRST: Step = Step::Push(0, Made::Packet { number: 0, id: 1 });
 
@@ -157,23 +157,6 @@ const WITH_CLOSE_TOLD: [Told; 2] = [Told::Committed(0), Told::Shutdown];
 fn world_with_close(rt: HostRuntime) {
     let noted = [Noted::Batch(1)];
     assert_steps(&rt, &WITH_CLOSE, &WITH_CLOSE_TOLD, &noted, 1);
-}
-
-fn events_with_close(rt: &(impl Abort + Alloc<A = Global>)) -> Vec<Event> {
-    let mut events = Vec::new(rt.alloc());
-    for (step, _) in &WITH_CLOSE {
-        let event = event(rt.alloc(), *step).expect(rt, "memory");
-        events.push(event).ok().expect(rt, "memory");
-    }
-    events
-}
-
-#[test]
-fn world_with_close_by_a_list(rt: HostRuntime) {
-    let events = events_with_close(&rt);
-    let world = run_world(rt.alloc(), 0, 4, 2, events).expect(&rt, "memory");
-    assert_world(&rt, &world, &WITH_CLOSE_TOLD, &[Noted::Batch(1)], 1);
-    drop(world);
 }
 
 /// Why a World isn't opened.

@@ -1,4 +1,4 @@
-//! A thousand lists of two hundred events, made by a fixed rule, and what plain code says of them.
+//! Lists of two hundred events, made by a fixed rule, and what plain code says of them.
 
 use super::{Step, answer};
 use crate::tests::made::Made;
@@ -6,6 +6,7 @@ use crate::tests::told::{Told, told_by};
 use std::alloc::Global;
 use std::process::Abort;
 use tb_core::Entry;
+use tb_layout::{CLOCK_MAX, CREATE_TRANSFERS, LOOKUP_ACCOUNTS, MOMENT_MAX};
 use tb_work::{Reply, Stub};
 use tb_world::World;
 
@@ -18,15 +19,28 @@ enum Pushed {
     End(u32),
 }
 
-/// What plain code knows of a list: what was pushed, and whether an allocation failed.
+/// How a World is opened.
+#[derive(Clone, Copy)]
+struct Setting {
+    clock: u64,
+    limit: u32,
+    submitters: u32,
+}
+
+/// What plain code knows of a list: how the World was opened, what was pushed, and whether an allocation failed.
 #[derive(Drop)]
 struct Known {
+    setting: Setting,
     pushed: Vec<Pushed>,
     refused: bool,
 }
 
-/// The control of two submitters.
-const CONTROL: u32 = 2;
+impl Known {
+    /// The number of the control, which comes after those of the submitters.
+    fn control(&self) -> u32 {
+        self.setting.submitters
+    }
+}
 
 /// The next number of the rule, from 0 up to a bound.
 fn next_number(seed: &mut u64, bound: u64) -> u64 {
@@ -48,38 +62,65 @@ fn packets_of(pushed: &[Pushed], submitter: u32) -> u64 {
 }
 
 /// Whether a sender ended.
-fn has_ended(pushed: &[Pushed], sender: u32) -> bool {
-    let close = sender == CONTROL && pushed.contains(&Pushed::Close);
-    close || pushed.contains(&Pushed::End(sender))
+fn has_ended(known: &Known, sender: u32) -> bool {
+    let close = sender == known.control() && known.pushed.contains(&Pushed::Close);
+    close || known.pushed.contains(&Pushed::End(sender))
 }
 
-/// What the rule pushes: mostly a packet, by submitter 0 or 1.
-fn next_push(seed: &mut u64, pushed: &[Pushed]) -> (u32, Pushed) {
+/// What the rule pushes: mostly a packet, by one of the submitters.
+fn next_push(seed: &mut u64, known: &Known) -> (u32, Pushed) {
     let kind = next_number(seed, 61);
-    let submitter = if kind % 2 == 0 { 0 } else { 1 };
+    let submitter = next_number(seed, u64::from(known.setting.submitters)) as u32;
     match kind {
         0..50 => {
-            let number = packets_of(pushed, submitter);
+            let number = packets_of(&known.pushed, submitter);
             let packet = Pushed::Packet {
                 sender: submitter,
                 number,
             };
             (submitter, packet)
         }
-        50..57 => (CONTROL, Pushed::Pulse(kind)),
-        57 => (CONTROL, Pushed::Close),
-        58 => (CONTROL, Pushed::End(CONTROL)),
+        50..57 => (
+            known.control(),
+            Pushed::Pulse(MOMENT_MAX >> next_number(seed, 64)),
+        ),
+        57 => (known.control(), Pushed::Close),
+        58 => (known.control(), Pushed::End(known.control())),
         _ => (submitter, Pushed::End(submitter)),
     }
 }
 
-/// The item of what is pushed; each packet creates an account of its own.
-fn made(pushed: Pushed) -> Made {
+/// The packet of a submitter with a number. Two of three create an account of their own; the others are of transfers or
+/// lookups, now and then as large as the limit allows.
+fn packet(limit: u32, sender: u32, number: u64) -> Made {
+    let kind = number.wrapping_add(u64::from(sender));
+    let operation = match kind % 6 {
+        2 => CREATE_TRANSFERS,
+        5 => LOOKUP_ACCOUNTS,
+        _ => {
+            return Made::Packet {
+                number,
+                id: u128::from(number) * 17 + u128::from(sender) + 1,
+            };
+        }
+    };
+    let count = match kind % 4 {
+        0 => 0,
+        1 => 1,
+        2 => 3,
+        _ => limit,
+    };
+    Made::Zeros {
+        number,
+        operation,
+        count: count.min(limit),
+    }
+}
+
+/// The item of what is pushed.
+fn made(limit: u32, pushed: Pushed) -> Made {
     match pushed {
-        Pushed::Packet { sender, number } => Made::Packet {
-            number,
-            id: u128::from(number) * 2 + u128::from(sender) + 1,
-        },
+        Pushed::Packet { sender, number } => packet(limit, sender, number),
         Pushed::Pulse(moment) => Made::Pulse(moment),
         Pushed::Close => Made::Close,
         Pushed::End(_) => Made::End,
@@ -87,7 +128,7 @@ fn made(pushed: Pushed) -> Made {
 }
 
 /// A step of a stage; now and then its allocation fails.
-fn next_stage(seed: &mut u64) -> Step {
+fn next_stage(seed: &mut u64, submitters: u32) -> Step {
     let kind = next_number(seed, 20);
     let refused = next_number(seed, 100) == 0;
     match kind {
@@ -99,8 +140,7 @@ fn next_stage(seed: &mut u64) -> Step {
         10..13 => Step::OutcomePush,
         13..15 => Step::OutcomePop,
         15..18 => Step::ReplyPush,
-        18 => Step::ReplyPop(0),
-        _ => Step::ReplyPop(1),
+        _ => Step::ReplyPop(next_number(seed, u64::from(submitters)) as u32),
     }
 }
 
@@ -111,9 +151,10 @@ fn push(
     known: &mut Known,
     seed: &mut u64,
 ) {
-    let (sender, pushed) = next_push(seed, &known.pushed);
-    let moves = answer(rt, world, Step::Push(sender, made(pushed)));
-    let wanted = !has_ended(&known.pushed, sender);
+    let (sender, pushed) = next_push(seed, known);
+    let item = made(known.setting.limit, pushed);
+    let moves = answer(rt, world, Step::Push(sender, item));
+    let wanted = !has_ended(known, sender);
     assert!(rt; moves == wanted, "the answer to a push of sender {sender}");
     if moves {
         known.pushed.push(pushed).expect(rt, "memory");
@@ -130,7 +171,7 @@ fn step(
     if next_number(seed, 26) < 6 {
         push(rt, world, known, seed);
     } else {
-        let stage = next_stage(seed);
+        let stage = next_stage(seed, known.setting.submitters);
         let moves = answer(rt, world, stage);
         known.refused |= moves && matches!(stage, Step::PopRefused | Step::BatchPopRefused);
     }
@@ -203,42 +244,44 @@ fn assert_due(rt: &impl Abort, replies: &[Reply], sender: u32, ahead: &[Pushed],
 
 /// Asserts that the journal is a prefix of what is ahead, and that each submitter received a prefix of what is
 /// due to it. Gives how many packets and pulses are ahead and aren't committed.
-fn assert_lawful(rt: &(impl Abort + Alloc<A = Global>), world: &World, pushed: &[Pushed]) -> usize {
-    let ahead = ahead(rt, pushed);
+fn assert_lawful(rt: &(impl Abort + Alloc<A = Global>), world: &World, known: &Known) -> usize {
+    let ahead = ahead(rt, &known.pushed);
     let committed = committed(rt, world.ledger().journal());
     // The journal is the first of what is ahead.
     let first = ahead.get(..committed.len());
     assert!(rt; first == Some(committed.as_slice()));
-    assert_due(rt, world.received(0), 0, &ahead, committed.len());
-    assert_due(rt, world.received(1), 1, &ahead, committed.len());
+    for sender in 0..known.setting.submitters {
+        assert_due(rt, world.received(sender), sender, &ahead, committed.len());
+    }
     ahead.len().saturating_sub(committed.len())
 }
 
-/// Each stage once, with nothing refused.
-const ROUND: [Step; 8] = [
+/// Each stage once, with nothing refused, but for the replies that submitters take.
+const ROUND: [Step; 6] = [
     Step::Pop,
     Step::BatchPush,
     Step::BatchPop,
     Step::OutcomePush,
     Step::OutcomePop,
     Step::ReplyPush,
-    Step::ReplyPop(0),
-    Step::ReplyPop(1),
 ];
 
-/// Whether one of the stages moved.
-fn round(rt: &(impl Abort + Alloc<A = Global>), world: &mut World) -> bool {
+/// Whether one of the stages moved, or a submitter took a reply.
+fn round(rt: &(impl Abort + Alloc<A = Global>), world: &mut World, submitters: u32) -> bool {
     let mut moved = false;
     for step in &ROUND {
         moved |= answer(rt, world, *step);
+    }
+    for sender in 0..submitters {
+        moved |= answer(rt, world, Step::ReplyPop(sender));
     }
     moved
 }
 
 /// Rounds until nothing moves; no list needs more than its events and a few.
-fn settle(rt: &(impl Abort + Alloc<A = Global>), world: &mut World) {
+fn settle(rt: &(impl Abort + Alloc<A = Global>), world: &mut World, submitters: u32) {
     for _ in 0..1000 {
-        if !round(rt, world) {
+        if !round(rt, world, submitters) {
             return;
         }
     }
@@ -247,10 +290,10 @@ fn settle(rt: &(impl Abort + Alloc<A = Global>), world: &mut World) {
 
 /// Asserts that at rest each packet has its reply, and all that is ahead was committed where nothing was refused.
 fn assert_whole(rt: &(impl Abort + Alloc<A = Global>), world: &World, known: &Known) {
-    let left = assert_lawful(rt, world, &known.pushed);
+    let left = assert_lawful(rt, world, known);
     // If no allocation failed, all that is ahead was committed.
     assert!(rt; known.refused || left == 0);
-    for sender in 0..2 {
+    for sender in 0..known.setting.submitters {
         let replies = world.received(sender).len() as u64;
         let due = packets_of(&known.pushed, sender);
         assert!(rt; replies == due, "how many replies {sender} received");
@@ -268,14 +311,22 @@ fn play_list(
     for _ in 0..200 {
         step(rt, world, known, &mut seed);
     }
-    assert_lawful(rt, world, &known.pushed);
-    settle(rt, world);
+    assert_lawful(rt, world, known);
+    settle(rt, world, known.setting.submitters);
     assert_whole(rt, world, known);
 }
 
-fn one_list(rt: &(impl Abort + Alloc<A = Global>), seed: u64) {
-    let mut world = World::new(rt.alloc(), 0, 3, 2).expect(rt, "memory");
+fn one_list(rt: &(impl Abort + Alloc<A = Global>), setting: Setting, seed: u64) {
+    let Setting {
+        clock,
+        limit,
+        submitters,
+    } = setting;
+    let mut world = World::new(rt.alloc(), clock.min(CLOCK_MAX), limit, submitters).expect(
+        rt, "memory",
+    );
     let mut known = Known {
+        setting,
         pushed: Vec::new(rt.alloc()),
         refused: false,
     };
@@ -285,7 +336,38 @@ fn one_list(rt: &(impl Abort + Alloc<A = Global>), seed: u64) {
 
 #[test]
 fn a_thousand_lists(rt: HostRuntime) {
+    let setting = Setting {
+        clock: 0,
+        limit: 3,
+        submitters: 2,
+    };
     for seed in 0..1000 {
-        one_list(&rt, seed);
+        one_list(&rt, setting, seed);
+    }
+}
+
+/// Clocks, the last two at the end, and limits.
+const OPENINGS: [(u64, u32); 5] = [
+    (0, 1),
+    (7, 8190),
+    (MOMENT_MAX, 2),
+    (CLOCK_MAX - 20, 12),
+    (CLOCK_MAX, 100),
+];
+
+/// Each opening for 1 to 16 submitters.
+#[test]
+fn lists_of_each_opening(rt: HostRuntime) {
+    for submitters in 1..=16 {
+        for (clock, limit) in OPENINGS {
+            let setting = Setting {
+                clock,
+                limit,
+                submitters,
+            };
+            for seed in 0..3 {
+                one_list(&rt, setting, seed * 1000 + u64::from(submitters));
+            }
+        }
     }
 }

@@ -2,9 +2,10 @@
 
 use super::{Step, event};
 use crate::tests::made::{Made, account, creating, transfer, transferring};
-use crate::tests::told::{Noted, Told, assert_failures, assert_noted, assert_told};
+use crate::tests::told::{Noted, Told, assert_failures, assert_noted, assert_told, told_by};
 use std::alloc::Global;
 use std::process::Abort;
+use std::slice;
 use tb_layout::{Account, Failure, Transfer};
 use tb_work::{Item, Job, Refusal, Ticket};
 use tb_world::{Event, World, run_world};
@@ -277,5 +278,84 @@ fn sixteen_submitters(rt: HostRuntime) {
     let events = sixteen_events(&rt);
     let world = run_world(rt.alloc(), 0, 4, 16, events).expect(&rt, "memory");
     assert_sixteen(&rt, &world);
+    drop(world);
+}
+
+/// How many packets without events there are, which are one batch.
+const EMPTY: u64 = 1000;
+
+/// How many pulses there are behind them.
+const PULSES: u64 = 120;
+
+/// Adds an event again and again.
+fn add_times(
+    rt: &(impl Abort + Alloc<A = Global>),
+    events: &mut Vec<Event>,
+    step: Step,
+    times: u64,
+) {
+    for _ in 0..times {
+        add_all(rt.alloc(), events, &[step]).expect(rt, "memory");
+    }
+}
+
+/// The packets, and what becomes of them.
+fn many_replies(rt: &(impl Abort + Alloc<A = Global>), events: &mut Vec<Event>) {
+    for number in 0..EMPTY {
+        let packet = Made::Zeros {
+            number,
+            operation: 130,
+            count: 0,
+        };
+        add_times(rt, events, Step::Push(0, packet), 1);
+    }
+    add_times(rt, events, Step::Pop, EMPTY);
+    let through = [
+        Step::BatchPush,
+        Step::BatchPop,
+        Step::OutcomePush,
+        Step::OutcomePop,
+    ];
+    add_all(rt.alloc(), events, &through).expect(rt, "memory");
+    add_times(rt, events, Step::ReplyPush, EMPTY);
+    add_times(rt, events, Step::ReplyPop(0), EMPTY);
+}
+
+/// The pulses, each committed before the next is pushed.
+fn many_pulses(rt: &(impl Abort + Alloc<A = Global>), events: &mut Vec<Event>) {
+    for moment in 0..PULSES {
+        let through = [
+            Step::Push(1, Made::Pulse(moment)),
+            Step::Pop,
+            Step::BatchPush,
+            Step::BatchPop,
+        ];
+        add_all(rt.alloc(), events, &through).expect(rt, "memory");
+    }
+}
+
+/// Asserts a reply to each packet, and an entry for each pulse behind their one.
+fn assert_many(rt: &impl Abort, world: &World) {
+    let replies = world.received(0);
+    assert!(rt; replies.len() as u64 == EMPTY);
+    for (place, reply) in replies.iter().enumerate() {
+        assert!(rt; told_by(reply) == Told::Committed(place as u64));
+    }
+    let journal = world.ledger().journal();
+    assert!(rt; journal.len() as u64 == PULSES + 1);
+    assert_noted(rt, &journal[..1], &[Noted::Batch(EMPTY as usize)]);
+    for (moment, entry) in journal[1..].iter().enumerate() {
+        assert_noted(rt, slice::from_ref(entry), &[Noted::Pulse(moment as u64)]);
+    }
+    assert!(rt; world.ledger().machine().clock() == PULSES - 1);
+}
+
+#[test]
+fn a_thousand_replies_and_many_pulses(rt: HostRuntime) {
+    let mut events = Vec::new(rt.alloc());
+    many_replies(&rt, &mut events);
+    many_pulses(&rt, &mut events);
+    let world = run_world(rt.alloc(), 0, 4, 1, events).expect(&rt, "memory");
+    assert_many(&rt, &world);
     drop(world);
 }
