@@ -1,10 +1,12 @@
 -- What drivers have seen, list by list.
-use Rattle.std.proofs.Common.{◌≡◌, ◌∙◌, ◌<◌, ℕ, zero, suc, List, [], ◌∷◌, ◌++◌, Some, length, slice_get, get_or, ap, sym, subst, arith, append_assoc, append-nil}
+use Rattle.std.proofs.Common.{◌≡◌, ◌∙◌, ◌<◌, ◌+◌, ℕ, refl, zero, suc, List, [], ◌∷◌, ◌++◌, Some, length, slice_get, get_or, ap, sym, subst, arith, append_assoc, append-nil}
 use Rattle.std.specs.Prelude.{slice_index_or}
 use Rattle.std.proofs.lemmas.Option.{slice_get_within, slice_get-get_or, get_or_from_slice_get}
 use Rattle.tb_submit.specs.Ends.{EndedState, SenderState, SubmitterState, queued_by}
 use Rattle.tb_work.specs.Packet.{Numbered, ReplyValue}
+use Rattle.tb_submit.specs.Lists.{ArePackets}
 use Rattle.tb_work.specs.declared.item.Item.{Item}
+use Rattle.tb_work.specs.declared.item.Item.TheVariants as item
 use Rattle.tb_drive.specs.Seen.{AreFronts, HaveSeen, HaveSeenEnds, HasSeen, HasSeenEnd, IsFront, jobs_in}
 
 -- what a submitter queued is in its end
@@ -65,6 +67,18 @@ module _ {D : Type 0} (has_seen : D → ℕ → List Numbered → List ReplyValu
       subst (λ items. has_seen driver limit (jobs_in items) ended.read)
       (sym (queued_by_end ends control k before before_is))
       (subst (λ r. has_seen driver limit (jobs_in before.queued) r) read seen)
+
+-- ---- packets
+
+-- what a submitter queues before its end are packets, so none is lost among them
+pub all_jobs : (limit sender number : ℕ) (items : List Item) → ArePackets limit sender number items
+    → length (jobs_in items) ≡ length items
+all_jobs limit sender number [] are = refl
+all_jobs limit sender number (item.Packet job ∷ items) are =
+    ap suc (all_jobs limit sender (number + 1) items are.3)
+all_jobs limit sender number (item.Pulse moment ∷ items) are = absurd are
+all_jobs limit sender number (item.End ∷ items) are = absurd are
+all_jobs limit sender number (item.Close ∷ items) are = absurd are
 
 -- ---- front parts
 

@@ -1,6 +1,6 @@
 //! What an application says of a submitter.
 
-ghost use Rattle.std.specs.Prelude.{◌≡◌, ℕ, List, [], ◌∷◌, ◌++◌, None, Ok, Err, ⊤};
+ghost use Rattle.std.specs.Prelude.{◌≡◌, ◌<◌, ℕ, List, [], ◌∷◌, ◌++◌, length, None, Ok, Err, ⊤};
 ghost use Rattle.tb_work.specs.Packet.{Numbered, ReplyValue};
 ghost use Rattle.tb_work.specs.declared.packet.Packet as packets;
 ghost use Rattle.tb_work.specs.declared.refusal.Refusal.{Refusal as RefusalValue};
@@ -65,14 +65,15 @@ pub trait Driver: Drop {
             → IsFinalRefusal limit read packet refusal → has_seen self.new limit queued read }
         ensures share { share self.new ≡ share self.old };
 
-    /// Takes the next reply.
+    /// Takes the next reply. There is one only while fewer replies were read than packets were queued: a relation may so
+    /// have that replies are no more than packets.
     fn receive(&mut self, reply: Reply)
-        ensures seen { (limit : ℕ) (queued : List Numbered) (read : List ReplyValue) → has_seen self.old limit queued read
-            → has_seen self.new limit queued (read ++ reply ∷ []) }
+        ensures seen { (limit : ℕ) (queued : List Numbered) (read : List ReplyValue) → length read < length queued
+            → has_seen self.old limit queued read → has_seen self.new limit queued (read ++ reply ∷ []) }
         ensures asked { (packet : packets.Packet) (limit : ℕ) (queued : List Numbered) (read : List ReplyValue)
-            → has_asked self.old packet limit queued read
+            → length read < length queued → has_asked self.old packet limit queued read
             → has_asked self.new packet limit queued (read ++ reply ∷ []) }
-        ensures ended { (limit : ℕ) (queued : List Numbered) (read : List ReplyValue) → has_ended self.old limit queued read
-            → has_ended self.new limit queued (read ++ reply ∷ []) }
+        ensures ended { (limit : ℕ) (queued : List Numbered) (read : List ReplyValue) → length read < length queued
+            → has_ended self.old limit queued read → has_ended self.new limit queued (read ++ reply ∷ []) }
         ensures share { share self.new ≡ share self.old };
 }

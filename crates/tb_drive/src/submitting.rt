@@ -109,7 +109,7 @@ pub(crate) fn submit_once<R: Wait>(
     submitter.submit(rt, alloc, packet)
 }
 
-/// Hands the next reply to the driver. Answers whether there was one.
+/// Hands the next reply to the driver. Answers whether there was one; with no packet in flight there is none.
 fn read<D: Driver>(submitter: &mut Submitter, driver: &mut D) -> bool
     ensures own { origin_of submitter.new ≡ origin_of submitter.old }
     ensures front { submitter.new.queued ≡ submitter.old.queued }
@@ -119,6 +119,9 @@ fn read<D: Driver>(submitter: &mut Submitter, driver: &mut D) -> bool
         → HasAsked D.has_asked driver.new packet submitter.new }
     ensures share { D.share driver.new ≡ D.share driver.old }
 {
+    if submitter.in_flight() == 0 {
+        return false;
+    }
     match submitter.reply() {
         Some(reply) => {
             driver.receive(reply);

@@ -4,6 +4,7 @@ ghost use Rattle.std.specs.Prelude.{◌≡◌, ◌<◌, ◌≤◌, [], ◌∷◌
 ghost use Rattle.tb_layout.specs.Limits.{batch_max, capacity_max, queued_max};
 ghost use Rattle.tb_rings.specs.Ends.{inlet_ring, taken, lies};
 ghost use Rattle.tb_submit.specs.Ends.{ended_with, with_item, new_submitter};
+ghost use Rattle.tb_submit.specs.Lists.{ArePackets};
 ghost use Rattle.tb_submit.specs.Refusals as spec;
 ghost use Rattle.tb_submit.specs.Refusals.{IsSubmitRefusal, in_flight, submit_refusal};
 ghost use Rattle.tb_work.specs.Job.{numbered_packet};
@@ -87,9 +88,10 @@ impl Submitter {
         self.queued
     }
 
-    /// How many packets are queued and their replies not read, at most the credit.
+    /// How many packets are queued and their replies not read, at most the credit. Only packets are queued by it.
     pub fn in_flight(&self) -> u32
         ensures value { result ≡ in_flight self.now }
+        ensures packets { ArePackets self.now.origin.seat.limit self.now.origin.seat.number 0 self.now.queued }
         ensures bound { result ≤ self.now.credit }
     {
         self.queued.saturating_sub(self.read) as u32

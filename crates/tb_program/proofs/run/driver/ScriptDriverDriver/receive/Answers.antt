@@ -8,7 +8,7 @@ use Rattle.tb_program.proofs.HandedPackets.{handed_longer}
 use Rattle.tb_program.proofs.run.driver.ScriptDriverDriver.receive.Goals as goal
 
 pub returns-clause-seen : goal.returns-clause-seen
-returns-clause-seen c = λ limit queued read seen complete.
+returns-clause-seen c = λ limit queued read fewer seen complete.
     let driver = c.args.self.now in
     let kept = c.keep.ensures.replies complete in
     let before = seen kept.0 in
@@ -21,7 +21,7 @@ returns-clause-seen c = λ limit queued read seen complete.
     )
 
 pub returns-clause-asked : goal.returns-clause-asked
-returns-clause-asked c = λ packet limit queued read asked complete.
+returns-clause-asked c = λ packet limit queued read fewer asked complete.
     let driver = c.args.self.now in
     let kept = c.keep.ensures.replies complete in
     let before = asked kept.0 in
