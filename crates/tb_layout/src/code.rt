@@ -1,8 +1,8 @@
 //! Results of events, found by their numbers.
 
-ghost use Rattle.std.specs.Prelude.{◌≡◌, ℕ, map};
+ghost use Rattle.std.specs.Prelude.{◌≡◌, ℕ, map, is_some, true};
 ghost use Rattle.std.specs.Option.{option_map};
-ghost use Rattle.tb_layout.specs.inside.Codes.{first_with, code_in, read_row};
+ghost use Rattle.tb_layout.specs.inside.Codes.{first_with, code_in, name_in, read_row};
 
 /// A result of an event.
 pub trait Code: Copy {
@@ -31,6 +31,17 @@ pub fn code_with<C: Code>(rows: &[(C, &'static str)], number: u32) -> Option<C>
 {
     let (code, _) = row_with(rows, number)?;
     Some(code)
+}
+
+/// The name of a result that has a row.
+pub fn name_with<C: Code>(rows: &[(C, &'static str)], code: C) -> &'static str
+    requires { is_some (first_with C.number_of (C.number_of code) (map read_row rows.now)) ≡ true }
+    ensures { result.now ≡ name_in (first_with C.number_of (C.number_of code) (map read_row rows.now)) }
+{
+    match row_with(rows, code.number()) {
+        Some((_, name)) => name,
+        None => unreachable!(),
+    }
 }
 
 /// The results of an enum, each with its name.

@@ -2,7 +2,7 @@
 
 ghost use Rattle.std.specs.Prelude.{◌≡◌};
 
-use crate::code::{Code, code_with, row_with, rows};
+use crate::code::{Code, code_with, name_with, rows};
 
 /// The result of one event of create_transfers, named as TigerBeetle names it, but for
 /// `ClockExhausted`, which is this project's own. 18 is unused.
@@ -91,10 +91,7 @@ impl TransferCode {
     pub fn name(self) -> &'static str
         ensures { result.now ≡ name_of self }
     {
-        match row_with(&ROWS, self.number()) {
-            Some((_, name)) => name,
-            None => unreachable!(),
-        }
+        name_with(&ROWS, self)
     }
 }
 
