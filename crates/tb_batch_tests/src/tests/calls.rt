@@ -92,3 +92,30 @@ fn room_shrinks_after_a_large_batch(rt: HostRuntime) {
     room_of_body(&rt, &mut batcher, 1);
     assert!(rt; room_of_body(&rt, &mut batcher, 1) <= 1024);
 }
+
+/// Offers a packet that seals the group held, and returns the capacity of that group's body in bytes.
+fn room_of_sealed(
+    rt: &(impl Abort + Alloc<A = Global>),
+    batcher: &mut Batcher,
+    operation: u8,
+    events: usize,
+) -> usize {
+    let flags = Vec::from_elem(rt.alloc(), 0u8, events).expect(rt, "memory");
+    match batcher.offer(job_of(rt, 0, operation, flags.as_slice())) {
+        Offered::Sealed(batch) => batch.into_parts().body.capacity(),
+        _ => 0,
+    }
+}
+
+/// The same of batches that the next packet seals.
+#[test]
+fn room_shrinks_after_a_large_batch_that_a_packet_seals(rt: HostRuntime) {
+    let made = Batcher::new(rt.alloc(), 8190).ok();
+    let mut batcher = made.expect(&rt, "a batcher");
+    join(&rt, &mut batcher, 129, &[0]);
+    room_of_sealed(&rt, &mut batcher, 130, 8190);
+    assert!(rt; room_of_sealed(&rt, &mut batcher, 129, 1) >= 1_048_320);
+    room_of_sealed(&rt, &mut batcher, 130, 1);
+    let room = room_of_sealed(&rt, &mut batcher, 129, 1);
+    assert!(rt; room >= 128 && room <= 1024);
+}

@@ -74,8 +74,8 @@ fn assert_taken(
     assert_handed(rt, parcels.as_slice(), wanted);
 }
 
-/// What submitters queue, 16 of them, and what a front with the largest limit yields: the sender, the operation, how many
-/// events or ids the packet has, and how many packets there are in the batch that it seals, or 0 where it joins.
+/// Packets for a front of 16 submitters with the largest limit: sender, operation and number of events. The last number
+/// is how many packets the sealed batch has, or 0 if the packet joins the group held.
 const SIZES: [(u32, u8, u32, usize); 22] = [
     (0, 129, 1, 0),
     (15, 129, 8189, 0),

@@ -172,13 +172,13 @@ fn largest_packets(rt: HostRuntime) {
     drop(listed);
 }
 
-/// How many empty packets there are, which are one batch.
+/// How many packets have no events. They are one batch.
 const EMPTY: u64 = 1000;
 
-/// How many lookups there are behind them, each with a pulse behind it: twice as many entries of the journal.
+/// How many lookups there are, each followed by a pulse.
 const PULSES: u64 = 150;
 
-/// The list, and what becomes of it.
+/// A list, with its replies and its journal.
 #[derive(Drop)]
 struct Long {
     list: Vec<Made>,
@@ -186,7 +186,7 @@ struct Long {
     noted: Vec<Noted>,
 }
 
-/// The empty packets.
+/// Adds the packets without events.
 fn add_empty(rt: &impl Abort, long: &mut Long) {
     for number in 0..EMPTY {
         let packet = Made::Zeros {
@@ -202,7 +202,7 @@ fn add_empty(rt: &impl Abort, long: &mut Long) {
         .expect(rt, "memory");
 }
 
-/// The lookups and pulses.
+/// Adds the lookups and pulses.
 fn add_pulsed(rt: &impl Abort, long: &mut Long) {
     for number in 0..PULSES {
         let packet = Made::Zeros {
@@ -219,7 +219,6 @@ fn add_pulsed(rt: &impl Abort, long: &mut Long) {
     }
 }
 
-/// A thousand packets without events in one batch, and a hundred and fifty lookups and pulses behind them.
 #[test]
 fn a_thousand_replies_and_many_entries(rt: HostRuntime) {
     let mut long = Long {

@@ -16,7 +16,7 @@ pub(super) enum Made {
         number: u64,
         id: u128,
     },
-    /// A packet with its number, its operation, and so many events or ids, which are all zeros.
+    /// A packet with its number and its operation, whose `count` events or ids are zeros.
     Zeros {
         number: u64,
         operation: u8,
@@ -132,7 +132,7 @@ pub(super) fn looking_up(
     job(rt.alloc(), submitter, number, LOOKUP_ACCOUNTS, bytes).expect(rt, "the packet is admitted")
 }
 
-/// A packet of so many events or ids, all zeros.
+/// Returns the job of a packet of zeros.
 fn zeros(
     alloc: Global,
     submitter: u32,

@@ -71,7 +71,7 @@ fn assert_world(rt: &impl Abort, world: &World, told: &[Told], noted: &[Noted], 
     assert!(rt; world.ledger().machine().clock() == clock);
 }
 
-/// The events of steps.
+/// Returns the events of steps.
 fn events_of(rt: &(impl Abort + Alloc<A = Global>), steps: &[(Step, bool)]) -> Vec<Event> {
     let mut events = Vec::new(rt.alloc());
     for (step, _) in steps {

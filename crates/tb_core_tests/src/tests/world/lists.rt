@@ -36,7 +36,7 @@ struct Known {
 }
 
 impl Known {
-    /// The number of the control, which comes after those of the submitters.
+    /// Returns the number of the control, which follows those of the submitters.
     fn control(&self) -> u32 {
         self.setting.submitters
     }
@@ -90,8 +90,8 @@ fn next_push(seed: &mut u64, known: &Known) -> (u32, Pushed) {
     }
 }
 
-/// The packet of a submitter with a number. Two of three create an account of their own; the others are of transfers or
-/// lookups, now and then as large as the limit allows.
+/// Returns the packet of a submitter with a number. Two of three create an account of their own. The others are transfers
+/// or lookups, some of them as large as the limit allows.
 fn packet(limit: u32, sender: u32, number: u64) -> Made {
     let kind = number.wrapping_add(u64::from(sender));
     let operation = match kind % 6 {
@@ -256,7 +256,7 @@ fn assert_lawful(rt: &(impl Abort + Alloc<A = Global>), world: &World, known: &K
     ahead.len().saturating_sub(committed.len())
 }
 
-/// Each stage once, with nothing refused, but for the replies that submitters take.
+/// Each stage once, with nothing refused.
 const ROUND: [Step; 6] = [
     Step::Pop,
     Step::BatchPush,
@@ -346,7 +346,7 @@ fn a_thousand_lists(rt: HostRuntime) {
     }
 }
 
-/// Clocks, the last two at the end, and limits.
+/// Clocks and limits.
 const OPENINGS: [(u64, u32); 5] = [
     (0, 1),
     (7, 8190),

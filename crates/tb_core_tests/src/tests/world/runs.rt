@@ -281,13 +281,13 @@ fn sixteen_submitters(rt: HostRuntime) {
     drop(world);
 }
 
-/// How many packets without events there are, which are one batch.
+/// How many packets have no events. They are one batch.
 const EMPTY: u64 = 1000;
 
-/// How many pulses there are behind them.
+/// How many pulses follow.
 const PULSES: u64 = 120;
 
-/// Adds an event again and again.
+/// Adds an event a number of times.
 fn add_times(
     rt: &(impl Abort + Alloc<A = Global>),
     events: &mut Vec<Event>,
@@ -299,7 +299,7 @@ fn add_times(
     }
 }
 
-/// The packets, and what becomes of them.
+/// Adds the packets, their commit and their replies.
 fn many_replies(rt: &(impl Abort + Alloc<A = Global>), events: &mut Vec<Event>) {
     for number in 0..EMPTY {
         let packet = Made::Zeros {
@@ -321,7 +321,7 @@ fn many_replies(rt: &(impl Abort + Alloc<A = Global>), events: &mut Vec<Event>) 
     add_times(rt, events, Step::ReplyPop(0), EMPTY);
 }
 
-/// The pulses, each committed before the next is pushed.
+/// Adds the pulses, each committed before the next is pushed.
 fn many_pulses(rt: &(impl Abort + Alloc<A = Global>), events: &mut Vec<Event>) {
     for moment in 0..PULSES {
         let through = [
@@ -334,7 +334,7 @@ fn many_pulses(rt: &(impl Abort + Alloc<A = Global>), events: &mut Vec<Event>) {
     }
 }
 
-/// Asserts a reply to each packet, and an entry for each pulse behind their one.
+/// Asserts a reply to each packet, and an entry for their batch and for each pulse.
 fn assert_many(rt: &impl Abort, world: &World) {
     let replies = world.received(0);
     assert!(rt; replies.len() as u64 == EMPTY);
