@@ -1,3 +1,4 @@
 -- What proofs need and the claim doesn't mention.
 pub mod Decision
 pub mod BatchAnswer
+pub mod Past

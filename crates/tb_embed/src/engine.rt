@@ -20,17 +20,18 @@ use crate::unread::Unread;
 use arrayvec::ArrayVec;
 use std::alloc::Global;
 use std::marker::Model;
-use tb_core::{Front, Ledger, Parcel, Seed};
+use tb_core::{Committer, Front, Parcel, Seed};
 use tb_layout::{Account, MOMENT_MAX};
 use tb_work::{Item, Job, Moment, Packet, Refusal, Reply, Ticket};
 
-/// A ledger with its front and cutter, driven by its caller one call at a time.
+/// A ledger with its front and cutter, driven by its caller one call at a time. It keeps no journal: its memory grows by the
+/// accounts and transfers that are stored, and by the replies that aren't read.
 pub struct Engine {
     limit: u32,
     submitters: u32,
     shut: bool,
     front: Front,
-    ledger: Ledger,
+    committer: Committer,
     unread: Unread,
     numbers: [u64; 16],
 }
@@ -43,12 +44,12 @@ impl Drop for Engine {
             submitters: _,
             shut: _,
             front,
-            ledger,
+            committer,
             unread,
             numbers: _,
         } = self;
         drop(front);
-        drop(ledger);
+        drop(committer);
         drop(unread);
     }
 }
@@ -60,7 +61,7 @@ impl Model for Engine {
 
     ghost view = { λ engine. record {
       front = engine.front;
-      ledger = engine.ledger;
+      ledger = engine.committer;
       unread = engine.unread.replies;
       numbers = engine.numbers;
       shut = engine.shut;
@@ -70,16 +71,16 @@ impl Model for Engine {
 }
 
 /// Applies parcels in order, for whose outcomes there is capacity.
-fn apply_all(ledger: &mut Ledger, unread: &mut Unread, parcels: &mut ArrayVec<Parcel, 2>)
+fn apply_all(committer: &mut Committer, unread: &mut Unread, parcels: &mut ArrayVec<Parcel, 2>)
     requires room { length parcels.old.items ≤ unread.old.room }
     ensures commits { (clock : ℕ) (sent : List Decision) (read : List ReplyValue)
-        → Commits clock sent ledger.old (read ++ unread.old.replies)
-        → Commits clock (sent ++ all_decisions_in parcels.old.items) ledger.new (read ++ unread.new.replies) }
-    ensures joined { (limit : ℕ) → AreJoinedParcels limit parcels.old.items → AreJoined limit ledger.old.groups
-        → AreJoined limit ledger.new.groups }
+        → Commits clock sent committer.old (read ++ unread.old.replies)
+        → Commits clock (sent ++ all_decisions_in parcels.old.items) committer.new (read ++ unread.new.replies) }
+    ensures joined { (limit : ℕ) → AreJoinedParcels limit parcels.old.items → AreJoined limit committer.old.groups
+        → AreJoined limit committer.new.groups }
 {
     while let Some(parcel) = parcels.pop_at(0) {
-        unread.push(ledger.apply(parcel));
+        unread.push(committer.apply(parcel));
     }
 }
 
@@ -123,7 +124,7 @@ impl Engine {
             submitters,
             shut: false,
             front,
-            ledger: Ledger::with_seed(alloc, clock, seed),
+            committer: Committer::with_seed(alloc, clock, seed),
             unread: Unread::new(alloc),
             numbers: [0; 16],
         })
@@ -139,13 +140,13 @@ impl Engine {
         ensures same { self.new ≡ self.old }
         ensures err { IfErr result (λ refusal. refusal ≡ NoMemoryRefusal) }
     {
-        if self.ledger.reserve(accounts, transfers).is_err() {
+        if self.committer.reserve(accounts, transfers).is_err() {
             return Err(Refusal::NoMemory);
         }
         Ok(())
     }
 
-    /// Passes a ticket through the front and the ledger. If there is no memory for its outcomes, it is returned and
+    /// Passes a ticket through the front and the committer. If there is no memory for its outcomes, it is returned and
     /// nothing has changed.
     fn take(&mut self, ticket: Ticket) -> Result<(), Ticket>
         requires { ticket.sender ≤ self.old.front.submitters }
@@ -164,11 +165,11 @@ impl Engine {
         self.front.take_into(&mut parcels, ticket);
         let count = parcels.len();
         prove!(count <= 2);
-        apply_all(&mut self.ledger, &mut self.unread, &mut parcels);
+        apply_all(&mut self.committer, &mut self.unread, &mut parcels);
         Ok(())
     }
 
-    /// Passes an item of the control through the front and the ledger.
+    /// Passes an item of the control through the front and the committer.
     fn take_control(&mut self, item: Item) -> Result<(), Refusal>
         ensures taken { OnOk result ((clock : ℕ) (items : List ItemValue) (read : List ReplyValue)
             → HasTaken clock items (read ++ self.old.unread) self.old.front self.old.ledger
@@ -304,7 +305,7 @@ impl Engine {
             return Err(Refusal::NoMemory);
         }
         if let Some(batch) = self.front.idle() {
-            self.unread.push(self.ledger.apply(Parcel::Batch(batch)));
+            self.unread.push(self.committer.apply(Parcel::Batch(batch)));
         }
         Ok(())
     }
@@ -329,13 +330,13 @@ impl Engine {
     pub fn lookup_account(&self, id: u128) -> Option<Account>
         ensures { result ≡ balanced_account (state_of self.now).facts id }
     {
-        self.ledger.machine().account(id)
+        self.committer.machine().account(id)
     }
 
     /// Returns the clock in nanoseconds.
     pub fn clock(&self) -> u64
         ensures { result ≡ (state_of self.now).clock }
     {
-        self.ledger.machine().clock()
+        self.committer.machine().clock()
     }
 }
