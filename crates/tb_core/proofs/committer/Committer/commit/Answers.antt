@@ -1,5 +1,4 @@
-use Rattle.std.proofs.Common.{◌∙◌, ap, sym, subst, false, map, length, ◌++◌, ◌∷◌, []}
-use Rattle.tb_work.specs.Packet.{input_of}
+use Rattle.std.proofs.Common.{◌∙◌, ap, sym, subst, false, length, ◌++◌, ◌∷◌, []}
 use Rattle.tb_core.specs.declared.parcel.Parcel.TheVariants as parcel
 use Rattle.tb_core.specs.inside.BatchAnswer.{AreAnswered}
 use Rattle.tb_core.specs.Journal.{LedgerState, inputs}
