@@ -17,7 +17,7 @@ pub(crate) struct Past {
 
 impl Model for Past {
     ghost use Rattle.std.specs.Prelude.{List, length};
-    ghost use Rattle.tb_layout.specs.Input.{Input};
+    ghost use Rattle.tb_layout.specs.Events.{Input};
     ghost use Rattle.tb_core.specs.inside.Past.{groups_of};
 
     ghost Value = { List (List Input) };

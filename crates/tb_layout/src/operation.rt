@@ -20,7 +20,7 @@ pub enum Operation {
 }
 
 impl Operation {
-    ghost use Rattle.tb_layout.specs.OperationNames.{name_of, number_of, operation_of};
+    ghost use Rattle.tb_layout.specs.inside.Operations.{name_of, number_of, operation_of};
 
     /// The number that a packet carries.
     pub fn number(self) -> u8

@@ -1,7 +1,7 @@
 -- The groups that were committed, as ghosts.
 use Rattle.std.specs.Prelude.{List, [], ◌++◌, ◌∷◌, Option, Some, None}
 use Rattle.std.specs.declared.snapshot.Snapshot.{Snapshot}
-use Rattle.tb_layout.specs.Input.{Input}
+use Rattle.tb_layout.specs.Events.{Input}
 use Rattle.tb_core.specs.declared.journal.Entry.{Entry}
 use Rattle.tb_core.specs.Ledger.{group_of}
 

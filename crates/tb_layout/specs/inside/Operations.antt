@@ -1,6 +1,7 @@
 -- The operations by their numbers and names.
 use Rattle.std.specs.Prelude.{ℕ, ◌==◌, List, Option, Some, None, codes, if◌then◌else◌}
-use Rattle.tb_layout.specs.Operation.{create_accounts, create_transfers, lookup_accounts}
+use Rattle.tb_layout.specs.Events.{create_accounts, create_transfers}
+use Rattle.tb_layout.specs.inside.Events.{lookup_accounts}
 use Rattle.tb_layout.specs.declared.operation.Operation.{Operation}
 use Rattle.tb_layout.specs.declared.operation.Operation.TheVariants.{CreateAccounts, CreateTransfers, LookupAccounts}
 
