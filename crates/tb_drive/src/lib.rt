@@ -14,6 +14,8 @@
 //! Each thread ends its sender, whatever its driver does, since `serve` waits for each end. `drive_all` settles with
 //! the pipeline's own ends, so that what `settle` says of the report it says itself. The crate `example_two_tellers` is such an
 //! application.
+//!
+//! `crates/example_two_tellers` is an example that the gate compiles.
 #![tactic(auto)]
 
 mod control_driver;

@@ -3,6 +3,8 @@
 //! Callers see a machine as a clock and the facts of a ledger. A packet's events are cut into chains, and each chain
 //! succeeds or fails whole; a pulse lets pending transfers expire; a lookup changes nothing. The only refusal is
 //! NoMemory, after which the machine is as before.
+//!
+//! `each_call` in tb_machine_tests is an example that the gate compiles.
 #![tactic(auto)]
 
 mod account_verdict;

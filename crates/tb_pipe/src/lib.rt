@@ -14,6 +14,8 @@
 //! ```
 //!
 //! A `Gate` holds batches back: the committer gets a batch only after the gate said yes to its number (`through`).
+//!
+//! `crates/example_own_threads` is an example that the gate compiles.
 #![tactic(auto)]
 
 mod batching;

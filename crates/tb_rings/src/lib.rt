@@ -5,6 +5,8 @@
 //! return it. A value is returned to its giver only if no slot was seen to be free (`none_free`, `room`).
 //!
 //! A thread that finds nothing to take waits with the ring's `Sleeper`, which each `give` wakes. No clause speaks of waiting.
+//!
+//! `ring_of_two` in tb_rings_tests is an example that the gate compiles.
 #![tactic(auto)]
 
 mod waiting;

@@ -15,6 +15,8 @@
 //! - `storing`, `timeouts`: all that one transfer changes, over facts that the maps contain (`AreContained`);
 //! - `maps`: the maps and the set together, seen as facts, whose invariant is `AreConsistent`;
 //! - `tables`: the undo list on top, whose invariant is `AreUndoable`.
+//!
+//! `each_other_call` in tb_tables_tests is an example that the gate compiles.
 #![tactic(auto)]
 
 mod amounts;

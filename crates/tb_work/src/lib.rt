@@ -8,6 +8,8 @@
 //! - `Moment`, `Item`, `Ticket`, `Stub`, `Outcome` and `Refusal` are what queue, rings and journal carry.
 //!
 //! The types keep what they promise: a job's packet is admitted, failures rise and are below the packet's count, a moment is in range.
+//!
+//! `a_packet_of_two_accounts` and `a_job_and_its_packet` in tb_work_tests are examples that the gate compiles.
 #![tactic(auto)]
 
 mod admission;

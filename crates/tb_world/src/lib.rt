@@ -3,6 +3,8 @@
 //! A list of pushes and pops says in which order the stages of a pipeline move, and `run_world` executes it. Whatever
 //! the list, what was committed is a prefix of what was pushed ahead of the Close, and what each submitter received is a
 //! prefix of what is due to it (`HasRun`, `specs/EveryOrder.antt`).
+//!
+//! `world_one_packet` in tb_core_tests is an example that the gate compiles.
 #![tactic(auto)]
 
 mod event;
