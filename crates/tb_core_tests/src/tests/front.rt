@@ -102,7 +102,25 @@ const SIZES: [(u32, u8, u32, usize); 22] = [
     (9, 131, 64, 1),
 ];
 
-/// Lets a front of 16 submitters take the packets, and asserts what it yields.
+/// Lets the front take a packet of a submitter, and asserts the sealed batch, if there is one.
+fn assert_size(
+    rt: &(impl Abort + Alloc<A = Global>),
+    front: &mut Front,
+    sender: u32,
+    packet: Made,
+    sealed: usize,
+)
+    requires { sender ≤ front.old.submitters }
+    ensures { front.new.submitters ≡ front.old.submitters }
+{
+    if sealed == 0 {
+        assert_taken(rt, front, sender, packet, &[]);
+    } else {
+        assert_taken(rt, front, sender, packet, &[Handed::Batch(sealed)]);
+    }
+}
+
+/// Lets a front of 16 submitters take the packets.
 fn assert_sizes(rt: &(impl Abort + Alloc<A = Global>), front: &mut Front)
     requires { front.old.submitters ≡ 16 }
 {
@@ -113,13 +131,7 @@ fn assert_sizes(rt: &(impl Abort + Alloc<A = Global>), front: &mut Front)
             operation: *operation,
             count: *count,
         };
-        let batch = [Handed::Batch(*sealed)];
-        let wanted = if *sealed == 0 {
-            &batch[..0]
-        } else {
-            &batch[..]
-        };
-        assert_taken(rt, front, *sender, packet, wanted);
+        assert_size(rt, front, *sender, packet, *sealed);
     }
 }
 

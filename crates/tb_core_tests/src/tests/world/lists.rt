@@ -50,6 +50,11 @@ fn next_number(seed: &mut u64, bound: u64) -> u64 {
     (*seed >> 33).checked_rem(bound).unwrap_or(0)
 }
 
+/// One of the submitters.
+fn next_submitter(seed: &mut u64, submitters: u32) -> u32 {
+    u32::try_from(next_number(seed, u64::from(submitters))).unwrap_or(0)
+}
+
 /// How many packets a submitter pushed.
 fn packets_of(pushed: &[Pushed], submitter: u32) -> u64 {
     let mut count = 0u64;
@@ -70,7 +75,7 @@ fn has_ended(known: &Known, sender: u32) -> bool {
 /// What the rule pushes: mostly a packet, by one of the submitters.
 fn next_push(seed: &mut u64, known: &Known) -> (u32, Pushed) {
     let kind = next_number(seed, 61);
-    let submitter = next_number(seed, u64::from(known.setting.submitters)) as u32;
+    let submitter = next_submitter(seed, known.setting.submitters);
     match kind {
         0..50 => {
             let number = packets_of(&known.pushed, submitter);
@@ -80,9 +85,10 @@ fn next_push(seed: &mut u64, known: &Known) -> (u32, Pushed) {
             };
             (submitter, packet)
         }
-        50..57 => (
+        50..54 => (known.control(), Pushed::Pulse(kind)),
+        54..57 => (
             known.control(),
-            Pushed::Pulse(MOMENT_MAX >> next_number(seed, 64)),
+            Pushed::Pulse(MOMENT_MAX / next_number(seed, 1000).max(1)),
         ),
         57 => (known.control(), Pushed::Close),
         58 => (known.control(), Pushed::End(known.control())),
@@ -140,7 +146,7 @@ fn next_stage(seed: &mut u64, submitters: u32) -> Step {
         10..13 => Step::OutcomePush,
         13..15 => Step::OutcomePop,
         15..18 => Step::ReplyPush,
-        _ => Step::ReplyPop(next_number(seed, u64::from(submitters)) as u32),
+        _ => Step::ReplyPop(next_submitter(seed, submitters)),
     }
 }
 
