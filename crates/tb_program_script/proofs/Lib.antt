@@ -1,8 +1,10 @@
 pub mod Tables
 pub mod Texts
+pub mod FirstLines
 pub mod Numbers
 pub mod Scripts
 pub mod Lines
 pub mod Named
+pub mod UsualLines
 pub mod Spelling
 pub mod Fields

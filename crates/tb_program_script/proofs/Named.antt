@@ -1,5 +1,5 @@
 -- The field that a word names, and its number.
-use Rattle.std.proofs.Common.{rules, ◌≡◌, ℕ, ◌+◌, ◌<◌, ◌≤◌, true, false, List, [], ◌∷◌, ◌++◌, length, take, drop, refl, sym, ap, ◌∙◌, arith, ◌-◌, suc, Bor, Some, None, Option, Ok, Err, Result, length-append, append_assoc, take-append-drop, lt-ltb, le-ltb, inl, inr}
+use Rattle.std.proofs.Common.{rules, ◌≡◌, ℕ, ◌+◌, ◌<◌, ◌≤◌, true, false, List, [], ◌∷◌, ◌++◌, length, take, drop, refl, sym, ap, ◌∙◌, arith, ◌-◌, suc, Bor, Bool, cond, subst, Some, None, Option, Ok, Err, Result, length-append, append_assoc, take-append-drop, lt-ltb, le-ltb, inl, inr}
 use Rattle.std.specs.Prelude.{◌==◌, All, map, slice_index_or, not, bytes_eq, get_or}
 use Rattle.std.specs.List.{list_all, position_or_len, before_first, after_first as rest_after}
 use Rattle.std.proofs.lemmas.Bool.{and_parts, cases_lt, false_from_ne_true}
@@ -14,7 +14,8 @@ use Rattle.tb_program_script.specs.declared.event.Field.{Field}
 use Rattle.tb_program_script.specs.declared.fault.Fault.{Fault}
 use Rattle.tb_program_script.specs.declared.event.Draft.{Draft}
 use Rattle.tb_program_script.specs.declared.event.Layout.{Layout}
-use Rattle.tb_program_script.specs.Event.{IsBare, after_word, after_words, field_and_number, field_of, fields_of, found, greatest, named, new_field, sides_of, with_number}
+use Rattle.tb_program_script.specs.declared.event.Layout.TheVariants.{Account, Transfer}
+use Rattle.tb_program_script.specs.Event.{AreRowsOf, IsBare, Lies, after_word, after_words, field_and_number, field_of, fields_of, found, greatest, named, new_field, sides_of, with_number}
 use Rattle.tb_program_script.specs.Number.{number_within}
 use Rattle.tb_program_script.specs.Steps.{◌>>=◌, look_up}
 use Rattle.tb_program_script.specs.Text.{words_of, first_word, after_first_word}
@@ -73,7 +74,7 @@ not_first line name differs number e = differs (number ++ after_first_word line)
     ∙ ap (λ front. front ++ after_first_word line) e
     ∙ append_assoc name (61 ∷ number) (after_first_word line))
 
-parts_of : (word : List ℕ) → position_or_len (λ byte. byte == 61) word < length word →
+pub parts_of : (word : List ℕ) → position_or_len (λ byte. byte == 61) word < length word →
     word ≡ before_first (λ byte. byte == 61) word ++ (61 ∷ rest_after (λ byte. byte == 61) word)
 parts_of word h =
     let at = split_at_first (λ byte. byte == 61) word 0 h in
@@ -101,29 +102,29 @@ found_nowhere word = elim (cases_lt (position_or_len (λ byte. byte == 61) word)
   | inr above ↦ rw (le-ltb (position_or_len (λ byte. byte == 61) word) (length word) above) refl
 ]
 
--- a word that begins with a name and `=`
-pub record BeginsWith (word name : List ℕ) : Type 0 where
-  pub long : length name < length word
-  pub sign : get_or word (length name) 0 ≡ 61
-  pub front : take (length name) word ≡ name
+-- a text that begins with a word and a byte that ends it
+pub record BeginsWith (text word : List ℕ) (end : ℕ) : Type 0 where
+  pub long : length word < length text
+  pub sign : get_or text (length word) 0 ≡ end
+  pub front : take (length word) text ≡ word
 
-pub begins_with : (word name number : List ℕ) → word ≡ name ++ 61 ∷ number → BeginsWith word name
-begins_with word name number e = record {
-  long = rw e (omega (arith, length-append name (61 ∷ number)));
-  sign = rw e (get_or-append_seam name 61 number 0);
-  front = rw e (take-append_seam name (61 ∷ number));
+pub begins_with : (text word others : List ℕ) (end : ℕ) → text ≡ word ++ end ∷ others → BeginsWith text word end
+begins_with text word others end e = record {
+  long = rw e (omega (arith, length-append word (end ∷ others)));
+  sign = rw e (get_or-append_seam word end others 0);
+  front = rw e (take-append_seam word (end ∷ others));
 }
 
-pub after_sign : (word name : List ℕ) → BeginsWith word name
-    → word ≡ name ++ 61 ∷ take (length word - (length name + 1)) (drop (length name + 1) word)
-after_sign word name h =
-    let rest : take (length word - (length name + 1)) (drop (length name + 1) word)
-    ≡ drop (length name + 1) word = grind (arith, common_steps) in
-    let one : suc (length name) ≡ length name + 1 = omega arith in
-    rw rest (split_at word (length name) 0 h.long
-    ∙ ap (λ front. front ++ get_or word (length name) 0 ∷ drop (suc (length name)) word) h.front
-    ∙ ap (λ byte. name ++ byte ∷ drop (suc (length name)) word) h.sign
-    ∙ ap (λ (count : ℕ). name ++ 61 ∷ drop count word) one)
+pub after_sign : (text word : List ℕ) (end : ℕ) → BeginsWith text word end
+    → text ≡ word ++ end ∷ take (length text - (length word + 1)) (drop (length word + 1) text)
+after_sign text word end h =
+    let rest : take (length text - (length word + 1)) (drop (length word + 1) text)
+    ≡ drop (length word + 1) text = grind (arith, common_steps) in
+    let one : suc (length word) ≡ length word + 1 = omega arith in
+    rw rest (split_at text (length word) 0 h.long
+    ∙ ap (λ front. front ++ get_or text (length word) 0 ∷ drop (suc (length word)) text) h.front
+    ∙ ap (λ byte. word ++ byte ∷ drop (suc (length word)) text) h.sign
+    ∙ ap (λ (count : ℕ). word ++ end ∷ drop count text) one)
 
 abbrev row_of : Bor (List ℕ) × Field → List ℕ × Field
 row_of row = (row.0.now, row.1)
@@ -212,15 +213,23 @@ told_by_parts table rows (Err fault) both own h = h
 told_by_parts table rows (Ok sides) both own h =
     told_by_row table rows sides.0 sides.1 (look_up sides.0 rows) both refl own h
 
--- the field that a word names in the rows from an index on is the one that it names in the table
-pub named_from_index : (word : List ℕ) (table : List (Bor (List ℕ) × Field)) (index : ℕ) (both : Field × List ℕ) →
-    All (λ row. look_up row.0.now (map row_of table) ≡ Some row.1) table
-    → named word (map row_of (drop index table)) ≡ Ok both →
-    named word (map row_of table) ≡ Ok both
-named_from_index word table index both own h =
-    told_by_parts (map row_of table) (map row_of (drop index table)) (sides_of word) both
-    (All-map (λ row. look_up row.0 (map row_of table) ≡ Some row.1) row_of (drop index table)
-    (All-drop (λ row. look_up row.0.now (map row_of table) ≡ Some row.1) index table own)) h
+-- rows from an index on are rows of the same table
+pub rows_from : (layout : Layout) (rows : List (Bor (List ℕ) × Field)) (index size : ℕ) → size ≡ length rows
+    → AreRowsOf layout rows → AreRowsOf layout (take (size - index) (drop index rows))
+rows_from layout rows index size long are =
+    let rest : take (size - index) (drop index rows) ≡ drop index rows = grind (arith, common_steps) in
+    rw rest (
+      All-drop (λ row. IsBare row.0.now) index rows are.0,
+      All-drop (λ row. look_up row.0.now (fields_of layout) ≡ Some row.1) index rows are.1,
+    )
+
+-- the field that a word names in some rows of a table is the one that it names in the table
+pub named_in_rows : (word : List ℕ) (layout : Layout) (rows : List (Bor (List ℕ) × Field)) (both : Field × List ℕ) →
+    AreRowsOf layout rows → named word (map row_of rows) ≡ Ok both → field_and_number layout word ≡ Ok both
+unfolding field_and_number
+named_in_rows word layout rows both own h =
+    told_by_parts (fields_of layout) (map row_of rows) (sides_of word) both
+    (All-map (λ row. look_up row.0 (fields_of layout) ≡ Some row.1) row_of rows own.1) h
 
 -- ---- a table in another order
 
@@ -238,3 +247,36 @@ in_order rows table (Ok sides) own back = ap (beside sides.1) (same_rows rows ta
 pub named_in_order : (word : List ℕ) (rows table : List (List ℕ × Field)) → AreOwn table rows → AreOwn rows table
     → named word rows ≡ named word table
 named_in_order word rows table own back = in_order rows table (sides_of word) own back
+
+-- ---- the fields of a layout are within the event
+
+lies_by : (same : Bool) (row field : Field) (others : Option Field) → Lies row → (others ≡ Some field → Lies field)
+    → cond same (Some row) others ≡ Some field → Lies field
+lies_by true row field others here later e = subst Lies (search (rules, e)) here
+lies_by false row field others here later e = later e
+
+all_lie : (rows : List (List ℕ × Field)) (word : List ℕ) (field : Field) → All (λ row. Lies row.1) rows
+    → look_up word rows ≡ Some field → Lies field
+all_lie [] word field lies e = absurd (search (rules, e))
+all_lie (row ∷ rows) word field lies e =
+    lies_by (bytes_eq word row.0) row.1 field (look_up word rows) (All-head (λ r. Lies r.1) row rows lies)
+    (all_lie rows word field (All-tail (λ r. Lies r.1) row rows lies)) e
+
+fields_lie : (layout : Layout) → All (λ row. Lies row.1) (fields_of layout)
+fields_lie Account = search rules
+fields_lie Transfer = search rules
+
+lies_found : (field : Option Field) (number : List ℕ) (both : Field × List ℕ) → (found field >>= λ f. Ok (f, number)) ≡ Ok both
+    → field ≡ Some both.0
+lies_found None number both e = absurd (search (rules, e))
+lies_found (Some field) number both e = cc
+
+lies_in : (rows : List (List ℕ × Field)) (sides : Result (List ℕ × List ℕ) Fault) (both : Field × List ℕ)
+    → All (λ row. Lies row.1) rows → (sides >>= λ s. found (look_up s.0 rows) >>= λ f. Ok (f, s.1)) ≡ Ok both → Lies both.0
+lies_in rows (Err fault) both lies e = absurd (search (rules, e))
+lies_in rows (Ok sides) both lies e =
+    all_lie rows sides.0 both.0 lies (lies_found (look_up sides.0 rows) sides.1 both e)
+
+pub lies_of : (layout : Layout) (word : List ℕ) (both : Field × List ℕ) → field_and_number layout word ≡ Ok both → Lies both.0
+unfolding field_and_number
+lies_of layout word both e = lies_in (fields_of layout) (sides_of word) both (fields_lie layout) e

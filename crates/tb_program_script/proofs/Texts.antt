@@ -9,7 +9,7 @@ use Rattle.std.proofs.lemmas.Bool.{cases_lt, cond_below, false_from_ne_true}
 use Rattle.memchr.specs.Find.{IsFirstByte, is_byte}
 use Rattle.tb_program_script.specs.Text.{lines_of, words_of}
 
-abbrev line_end : List ℕ → ℕ
+abbrev pub line_end : List ℕ → ℕ
 line_end bs = position_or_len (λ b. b == 10) bs
 
 one_line : (ends : Bool) (b : ℕ) → cond ends ([] ∷ []) ((b ∷ []) ∷ [])
@@ -31,16 +31,16 @@ lines_first [] h = absurd (omega arith)
 lines_first (b ∷ []) h = one_line (b == 10) b
 lines_first (b ∷ c ∷ bs) h = more_lines (b == 10) b (line_end (c ∷ bs)) (c ∷ bs) (lines_first (c ∷ bs) (omega arith))
 
-abbrev word_end : List ℕ → ℕ
+abbrev pub word_end : List ℕ → ℕ
 word_end bs = position_or_len (λ b. b == 32) bs
 
-abbrev spaces : List ℕ → ℕ
+abbrev pub spaces : List ℕ → ℕ
 spaces bs = position_or_len (λ b. not (b == 32)) bs
 
-abbrev some_words : List (List ℕ) → List (List ℕ)
+abbrev pub some_words : List (List ℕ) → List (List ℕ)
 some_words ws = filter (λ word. nat_lt 0 (length word)) ws
 
-words_from_space : (b : ℕ) (bs : List ℕ) → (b == 32) ≡ true → words_of (b ∷ bs) ≡ words_of bs
+pub words_from_space : (b : ℕ) (bs : List ℕ) → (b == 32) ≡ true → words_of (b ∷ bs) ≡ words_of bs
 unfolding words_of
 words_from_space b bs h = rw h refl
 

@@ -1,5 +1,6 @@
 -- The bytes of an event, from its line.
-use Rattle.std.specs.Prelude.{◌≡◌, ◌<◌, ◌≤◌, ◌⊎◌, ℕ, ◌+◌, ◌-◌, ◌^◌, ◌==◌, not, false, true, List, [], ◌∷◌, ◌++◌, length, take, drop, replicate, set, Option, Some, None, Result, Ok, Err, codes, slice_index_or, if◌then◌else◌, nat_lt}
+use Rattle.std.specs.Prelude.{◌≡◌, ◌<◌, ◌≤◌, ◌⊎◌, ℕ, ◌+◌, ◌-◌, ◌^◌, ◌==◌, not, false, true, List, [], ◌∷◌, ◌++◌, length, take, drop, replicate, set, Option, Some, None, Result, Ok, Err, codes, slice_index_or, if◌then◌else◌, nat_lt, All}
+use Rattle.std.specs.Borrow.{Bor}
 use Rattle.std.specs.List.{before_first, after_first, position_or_len, list_all}
 use Rattle.std.specs.Int.{w128, to_le_bytes}
 use Rattle.hex.specs.Hex.{decode_of}
@@ -91,9 +92,16 @@ sides_of word =
     then Ok (before_first (λ byte. byte == 61) word, after_first (λ byte. byte == 61) word)
     else Err BadField
 
--- no byte of a name is `=` or a space
+-- no byte of a name is `=`, a space or the end of a line
 abbrev pub IsBare : List ℕ → Type 0
-IsBare name = (list_all (λ byte. not (byte == 61)) name ≡ true) × (list_all (λ byte. not (byte == 32)) name ≡ true)
+IsBare name =
+    (list_all (λ byte. not (byte == 61)) name ≡ true) × (list_all (λ byte. not (byte == 32)) name ≡ true)
+    × (list_all (λ byte. not (byte == 10)) name ≡ true)
+
+-- some rows of the table of a layout's fields
+abbrev pub AreRowsOf : Layout → List (Bor (List ℕ) × Field) → Type 0
+AreRowsOf layout rows =
+    All (λ row. IsBare row.0.now) rows × All (λ row. look_up row.0.now (fields_of layout) ≡ Some row.1) rows
 
 abbrev pub found : {Value : Type 0} → Option Value → Result Value Fault
 found None = Err BadField

@@ -18,3 +18,11 @@ first_word line = before_first (λ byte. byte == 32) line
 -- what follows it
 abbrev pub after_first_word : List ℕ → List ℕ
 after_first_word line = drop (position_or_len (λ byte. byte == 32) line) line
+
+-- the first line of a text
+abbrev pub first_line : List ℕ → List ℕ
+first_line text = before_first (λ byte. byte == 10) text
+
+-- what follows it: the byte that ends it, and the other lines
+abbrev pub after_first_line : List ℕ → List ℕ
+after_first_line text = drop (position_or_len (λ byte. byte == 10) text) text

@@ -1,16 +1,15 @@
 //! Events from their lines.
 
-ghost use Rattle.std.specs.Prelude.{◌≡◌, ◌≤◌, ◌<◌, ◌+◌, ◌-◌, ◌⊎◌, ◌++◌, ◌∷◌, ℕ, List, Some, All, length, map, IfOk};
-ghost use Rattle.std.specs.Option.{MatchOption};
+ghost use Rattle.std.specs.Prelude.{◌≡◌, ◌≤◌, ◌<◌, ◌+◌, ◌⊎◌, Some, All, length, map, IfOk};
 ghost use Rattle.std.specs.Int.{to_le_bytes, w128};
-ghost use Rattle.tb_program_script.specs.Text.{words_of, first_word, after_first_word};
-ghost use Rattle.tb_program_script.specs.Steps.{Gives, Makes, Tells, look_up};
+ghost use Rattle.tb_program_script.specs.Text.{words_of, first_line, after_first_line, first_word, after_first_word};
+ghost use Rattle.tb_program_script.specs.Steps.{Gives, Makes, Tells};
 ghost use Rattle.tb_program_script.specs.Number.{number_of};
-ghost use Rattle.tb_program_script.specs.Event.{Lies, IsBare, named, field_and_number, greatest, new_field, with_number, put, after_word, after_words, blank, hex_bytes};
+ghost use Rattle.tb_program_script.specs.Event.{Lies, IsBare, AreRowsOf, named, field_and_number, greatest, new_field, with_number, put, after_word, after_words, blank, hex_bytes};
 
 use crate::fault::{Fault, LineError};
 use crate::number::{in_bounds, leading_number, long_first};
-use crate::text::{Words, trim_spaces};
+use crate::text::{is_at_line_end, strip_word, trim_spaces};
 use hex::FromHexError;
 use std::alloc::Global;
 
@@ -93,7 +92,7 @@ const TRANSFER_FIELDS: [(&[u8], Field); 13] = [
     (b"timestamp", lying_at!(12, 120, 8)),
 ];
 
-/// The field that the first word of a line names, the number of rows of the table after its own, and the line from its
+/// The field that the first word of a text names, the number of rows of the table after its own, and the text from its
 /// number on.
 #[derive(Clone, Copy)]
 struct NamedField<'a> {
@@ -102,77 +101,67 @@ struct NamedField<'a> {
     from_number: &'a [u8],
 }
 
-/// What follows a name and its `=`, if the line begins with these.
-fn after_name<'a>(line: &'a [u8], name: &[u8]) -> Option<&'a [u8]>
-    ensures { MatchOption result ((others : List ℕ) → line.now ≡ name.now ++ 61 ∷ others
-        → ⊥) (λ others. line.now ≡ name.now ++ 61 ∷ others.now) }
-{
-    let end = name.len();
-    if end < line.len() && line[end] == b'=' && &line[..end] == name {
-        Some(&line[end + 1..])
-    } else {
-        None
-    }
-}
-
-/// The field of a table that the first word of a line names. The end of the word isn't looked for: the name is compared
-/// with those of the table in place.
+/// The field of some rows that the first word of a text names. The end of the word isn't looked for: the name is compared
+/// with those of the rows in place.
 #[inline(always)]
-fn named<'a>(mut table: &[(&[u8], Field)], line: &'a [u8]) -> Result<NamedField<'a>, Fault>
-    requires { All (λ row. IsBare row.0.now) table.now }
-    ensures both { Tells (λ first. (first.field, first_word first.from_number.now)) result
-        (named (first_word line.now) (map (λ row. (row.0.now, row.1)) table.entry.now)) }
-    ensures rest { IfOk result (λ first. after_first_word first.from_number.now ≡ after_first_word line.now) }
-    ensures rows_after { IfOk result (λ first. first.rows_after ≤ length table.entry.now) }
+fn named<'a>(mut rows: &[(&[u8], Field)], text: &'a [u8]) -> Result<NamedField<'a>, Fault>
+    requires { All (λ row. IsBare row.0.now) rows.now }
+    ensures both { Tells (λ first. (first.field, first_word (first_line first.from_number.now))) result
+        (named (first_word (first_line text.now)) (map (λ row. (row.0.now, row.1)) rows.entry.now)) }
+    ensures rest { IfOk result (λ first. after_first_word (first_line first.from_number.now)
+        ≡ after_first_word (first_line text.now)) }
+    ensures lines { IfOk result (λ first. after_first_line first.from_number.now ≡ after_first_line text.now) }
+    ensures rows_after { IfOk result (λ first. first.rows_after ≤ length rows.entry.now) }
 {
-    while let [(name, field), others @ ..] = table {
-        if let Some(from_number) = after_name(line, name) {
+    while let [(name, field), others @ ..] = rows {
+        if let Some(from_number) = strip_word(text, name, b'=') {
             return Ok(NamedField {
                 field: *field,
                 rows_after: others.len(),
                 from_number,
             });
         }
-        table = others;
+        rows = others;
     }
     Err(Fault::BadField)
 }
 
-/// The field of a table that the first word of a line names, looked for among the rows from an index on first: the
-/// fields of an event mostly come in the table's order.
-#[inline(always)]
-fn named_from<'a>(
-    table: &[(&[u8], Field)],
-    index: usize,
-    line: &'a [u8],
-) -> Result<NamedField<'a>, Fault>
-    requires index { index ≤ length table.now }
-    requires bare { All (λ row. IsBare row.0.now) table.now }
-    requires own { All (λ row. look_up row.0.now (map (λ row. (row.0.now, row.1)) table.now) ≡ Some row.1) table.now }
-    ensures both { Tells (λ first. (first.field, first_word first.from_number.now)) result
-        (named (first_word line.now) (map (λ row. (row.0.now, row.1)) table.now)) }
-    ensures rest { IfOk result (λ first. after_first_word first.from_number.now ≡ after_first_word line.now) }
-    ensures rows_after { IfOk result (λ first. first.rows_after ≤ length table.now) }
+/// The field that the first word of a text names.
+#[tactic(auto, unfolding(crate::specs::Event::field_and_number))]
+fn field_and_number(layout: Layout, text: &[u8]) -> Result<NamedField, Fault>
+    ensures both { Tells (λ first. (first.field, first_word (first_line first.from_number.now))) result
+        (field_and_number layout (first_word (first_line text.now))) }
+    ensures rest { IfOk result (λ first. after_first_word (first_line first.from_number.now)
+        ≡ after_first_word (first_line text.now)) }
+    ensures lines { IfOk result (λ first. after_first_line first.from_number.now ≡ after_first_line text.now) }
+    ensures rows_after { IfOk result (λ first. first.rows_after ≤ 13) }
 {
-    match named(&table[index..], line) {
-        Ok(first) => Ok(first),
-        Err(_) => named(table, line),
+    match layout {
+        Layout::Account => named(&ACCOUNT_FIELDS, text),
+        Layout::Transfer => named(&TRANSFER_FIELDS, text),
     }
 }
 
-/// What the first word of a line says of an event. `index` is the row that its field probably has.
-#[tactic(auto, unfolding(crate::specs::Event::field_and_number))]
-fn field_and_number(layout: Layout, index: usize, line: &[u8]) -> Result<NamedField, Fault>
-    requires { index ≤ 13 }
-    ensures both { Tells (λ first. (first.field, first_word first.from_number.now)) result
-        (field_and_number layout (first_word line.now)) }
-    ensures rest { IfOk result (λ first. after_first_word first.from_number.now ≡ after_first_word line.now) }
+/// The field that the first word of a text names, looked for among some rows of the table first: the fields of an event
+/// mostly come in the table's order.
+#[inline(always)]
+fn field_among<'a>(
+    layout: Layout,
+    rows: &[(&[u8], Field)],
+    text: &'a [u8],
+) -> Result<NamedField<'a>, Fault>
+    requires rows { AreRowsOf layout rows.now }
+    requires few { length rows.now ≤ 13 }
+    ensures both { Tells (λ first. (first.field, first_word (first_line first.from_number.now))) result
+        (field_and_number layout (first_word (first_line text.now))) }
+    ensures rest { IfOk result (λ first. after_first_word (first_line first.from_number.now)
+        ≡ after_first_word (first_line text.now)) }
+    ensures lines { IfOk result (λ first. after_first_line first.from_number.now ≡ after_first_line text.now) }
     ensures rows_after { IfOk result (λ first. first.rows_after ≤ 13) }
-    ensures lies { IfOk result (λ first. Lies first.field) }
 {
-    match layout {
-        Layout::Account => named_from(&ACCOUNT_FIELDS, index, line),
-        Layout::Transfer => named_from(&TRANSFER_FIELDS, index, line),
+    match named(rows, text) {
+        Ok(first) => Ok(first),
+        Err(_) => field_and_number(layout, text),
     }
 }
 
@@ -209,6 +198,7 @@ fn new_field(draft: &Draft, f: Field) -> Result<Field, Fault>
 const HALF: u128 = 1 << 64;
 
 /// The bytes of a number, the lowest first. Two halves take fewer instructions than the whole.
+#[inline(always)]
 fn bytes_of(n: u128) -> [u8; 16]
     ensures { result ≡ to_le_bytes w128 n }
 {
@@ -219,6 +209,7 @@ fn bytes_of(n: u128) -> [u8; 16]
 }
 
 /// Puts a number into a field's bytes.
+#[inline(always)]
 fn write(draft: &mut Draft, f: Field, n: u128)
     requires { Lies f }
     ensures { draft.new ≡ with_number draft.old f n }
@@ -245,55 +236,88 @@ fn put(draft: &mut Draft, f: Field, n: Option<u128>) -> Result<(), Fault>
     Ok(())
 }
 
-/// Puts the number of a line's first word into a field's bytes, and gives what is left of the line after the word.
+/// Puts the number of a text's first word into a field's bytes, and gives what is left of the text after the word.
 #[inline(always)]
-fn put_first<'a>(draft: &mut Draft, f: Field, line: &'a [u8]) -> Result<&'a [u8], Fault>
+fn put_first<'a>(draft: &mut Draft, f: Field, text: &'a [u8]) -> Result<&'a [u8], Fault>
     requires { Lies f }
-    ensures draft { Makes result draft.new (put draft.old f (number_of (first_word line.now))) }
-    ensures rest { IfOk result (λ rest. rest.now ≡ after_first_word line.now) }
+    ensures draft { Makes result draft.new (put draft.old f (number_of (first_word (first_line text.now)))) }
+    ensures rest { IfOk result (λ rest. first_line rest.now ≡ after_first_word (first_line text.now)) }
+    ensures lines { IfOk result (λ rest. after_first_line rest.now ≡ after_first_line text.now) }
 {
-    if let Some((n, rest)) = leading_number(line) {
+    if let Some((n, rest)) = leading_number(text) {
         put(draft, f, Some(u128::from(n)))?;
         return Ok(rest);
     }
-    let (n, rest) = long_first(line);
+    let (n, rest) = long_first(text);
     put(draft, f, n)?;
     Ok(rest)
 }
 
-/// Takes the first word of a line, NAME=N, and returns the rest of the line. `index` is the row that its field probably
-/// has; the index of the row after it is returned too.
+/// What follows a word: the number of rows of the table after that of its field, and the rest of the text.
+#[derive(Clone, Copy)]
+struct Assigned<'a> {
+    rows_after: usize,
+    rest: &'a [u8],
+}
+
+/// Takes the first word of a text, NAME=N. The rows are those that its field is probably among.
+#[inline(always)]
 #[tactic(auto, using(crate::proofs::Named::after_word_named))]
 fn assign<'a>(
     layout: Layout,
     draft: &mut Draft,
-    index: usize,
-    line: &'a [u8],
-) -> Result<(usize, &'a [u8]), Fault>
-    requires { index ≤ 13 }
-    ensures draft { Makes result draft.new (after_word layout draft.old (first_word line.now)) }
-    ensures index { IfOk result (λ both. both.0 ≤ 13) }
-    ensures rest { IfOk result (λ both. both.1.now ≡ after_first_word line.now) }
+    rows: &[(&[u8], Field)],
+    text: &'a [u8],
+) -> Result<Assigned<'a>, Fault>
+    requires rows { AreRowsOf layout rows.now }
+    requires few { length rows.now ≤ 13 }
+    ensures draft { Makes result draft.new (after_word layout draft.old (first_word (first_line text.now))) }
+    ensures rest { IfOk result (λ next. first_line next.rest.now ≡ after_first_word (first_line text.now)) }
+    ensures lines { IfOk result (λ next. after_first_line next.rest.now ≡ after_first_line text.now) }
+    ensures rows_after { IfOk result (λ next. next.rows_after ≤ 13) }
 {
-    let first = field_and_number(layout, index, line)?;
+    let first = field_among(layout, rows, text)?;
     let f = new_field(draft, first.field)?;
     let rest = put_first(draft, f, first.from_number)?;
-    Ok((13 - first.rows_after, rest))
+    Ok(Assigned {
+        rows_after: first.rows_after,
+        rest,
+    })
 }
 
-/// Takes all words of a line, each a field with its number.
+/// Takes all words of a text's first line, each a field with its number, and returns the text from the end of that line
+/// on.
+#[inline(always)]
 #[tactic(auto, unfolding(crate::specs::Event::after_words))]
-pub fn assign_all(layout: Layout, draft: &mut Draft, words: Words) -> Result<(), Fault>
-    ensures { Makes result draft.new (after_words layout draft.old (words_of words.entry.rest.now)) }
+fn assign_words<'a>(
+    layout: Layout,
+    draft: &mut Draft,
+    table: &[(&[u8], Field); 13],
+    text: &'a [u8],
+) -> Result<&'a [u8], Fault>
+    requires { AreRowsOf layout table.now }
+    ensures draft { Makes result draft.new (after_words layout draft.old (words_of (first_line text.now))) }
+    ensures rest { IfOk result (λ rest. rest.now ≡ after_first_line text.now) }
 {
-    let mut rest = trim_spaces(words.rest);
     let mut index = 0;
-    while !rest.is_empty() {
-        let (next, remainder) = assign(layout, draft, index, rest)?;
-        index = next;
-        rest = trim_spaces(remainder);
+    let mut rest = trim_spaces(text);
+    while !is_at_line_end(rest) {
+        let next = assign(layout, draft, &table[index..], rest)?;
+        index = 13 - next.rows_after;
+        rest = trim_spaces(next.rest);
     }
-    Ok(())
+    Ok(rest)
+}
+
+/// Takes all words of a text's first line, each a field with its number, and returns the text from the end of that line on.
+pub fn assign_all<'a>(layout: Layout, draft: &mut Draft, text: &'a [u8]) -> Result<&'a [u8], Fault>
+    ensures draft { Makes result draft.new (after_words layout draft.old (words_of (first_line text.now))) }
+    ensures rest { IfOk result (λ rest. rest.now ≡ after_first_line text.now) }
+{
+    match layout {
+        Layout::Account => assign_words(layout, draft, &ACCOUNT_FIELDS, text),
+        Layout::Transfer => assign_words(layout, draft, &TRANSFER_FIELDS, text),
+    }
 }
 
 /// The bytes that hexadecimal digits give; there must be exactly as many pairs of these.

@@ -3,11 +3,11 @@
 ghost use Rattle.std.specs.Prelude.{true, ◌≡◌, ◌≤◌, ◌∷◌, [], Some, IfOk, IfSome, map};
 ghost use Rattle.std.specs.List.{list_all};
 ghost use Rattle.std.specs.Char.{is_ascii_digit};
-ghost use Rattle.tb_program_script.specs.Text.{words_of, first_word, after_first_word};
+ghost use Rattle.tb_program_script.specs.Text.{words_of, first_line, after_first_line, first_word, after_first_word};
 ghost use Rattle.tb_program_script.specs.Number.{number_of, fitting, within, number_within};
 
 use crate::fault::Fault;
-use crate::text::{split_word, trim_spaces};
+use crate::text::{is_at_line_end, is_at_word_end, split_first_word, trim_spaces};
 
 /// Whether a word has only digits.
 fn are_digits(word: &[u8]) -> bool
@@ -41,36 +41,53 @@ fn text_of(word: &[u8]) -> &str
 /// The most digits that always leave a number in 64 bits.
 const SHORT: usize = 19;
 
-/// The number that the first word of a line spells in 1 to 19 digits, and the rest of the line. The end of the word is
+/// The number that the first word of a text spells in 1 to 19 digits, and the rest of the text. The end of the word is
 /// seen as its digits are read.
 #[inline(always)]
-pub fn leading_number(line: &[u8]) -> Option<(u64, &[u8])>
-    ensures number { IfSome result (λ both. number_of (first_word line.now) ≡ Some both.0) }
-    ensures rest { IfSome result (λ both. both.1.now ≡ after_first_word line.now) }
+pub fn leading_number(text: &[u8]) -> Option<(u64, &[u8])>
+    ensures number { IfSome result (λ both. number_of (first_word (first_line text.now)) ≡ Some both.0) }
+    ensures rest { IfSome result (λ both. first_line both.1.now ≡ after_first_word (first_line text.now)) }
+    ensures others { IfSome result (λ both. after_first_line both.1.now ≡ after_first_line text.now) }
 {
-    let end = line.len().min(SHORT);
+    let end = text.len().min(SHORT);
     let mut number = 0u64;
     let mut digits = 0;
-    while digits < end && line[digits].is_ascii_digit() {
-        number = 10 * number + u64::from(line[digits] - b'0');
+    while digits < end && text[digits].is_ascii_digit() {
+        number = 10 * number + u64::from(text[digits] - b'0');
         digits += 1;
     }
-    if digits == 0 || digits < line.len() && line[digits] != b' ' {
+    let rest = &text[digits..];
+    if digits == 0 || !is_at_word_end(rest) {
         return None;
     }
-    Some((number, &line[digits..]))
+    Some((number, rest))
 }
 
-/// The numbers that the words of a line spell, where these are two, of 1 to 19 digits each. Where a word ends is seen
-/// while its digits are read.
+/// Two numbers, and the text from the end of their line on.
+#[derive(Clone, Copy)]
+pub struct TwoNumbers<'a> {
+    pub first: u64,
+    pub second: u64,
+    pub rest: &'a [u8],
+}
+
+/// The numbers that the words of a text's first line spell, if these are two, of 1 to 19 digits each. The ends of the
+/// words and of the line are seen as the digits are read.
 #[inline(always)]
-pub fn two_short_numbers(line: &[u8]) -> Option<(u64, u64)>
-    ensures { IfSome result (λ both. map number_of (words_of line.now) ≡ Some both.0 ∷ Some both.1 ∷ []) }
+pub fn two_short_numbers(text: &[u8]) -> Option<TwoNumbers>
+    ensures numbers { IfSome result (λ two. map number_of (words_of (first_line text.now))
+        ≡ Some two.first ∷ Some two.second ∷ []) }
+    ensures rest { IfSome result (λ two. two.rest.now ≡ after_first_line text.now) }
 {
-    let (first, rest) = leading_number(trim_spaces(line))?;
+    let (first, rest) = leading_number(trim_spaces(text))?;
     let (second, rest) = leading_number(trim_spaces(rest))?;
-    if trim_spaces(rest).is_empty() {
-        Some((first, second))
+    let rest = trim_spaces(rest);
+    if is_at_line_end(rest) {
+        Some(TwoNumbers {
+            first,
+            second,
+            rest,
+        })
     } else {
         None
     }
@@ -110,12 +127,13 @@ pub fn number_within(word: &[u8], low: u128, high: u128) -> Result<u128, Fault>
     in_bounds(fitting_number(word), low, high)
 }
 
-/// The number that the first word of a line spells, if it fits, of any length, and the rest of the line.
+/// The number that the first word of a text spells, if it fits, of any length, and the rest of the text.
 #[inline(never)]
-pub fn long_first(line: &[u8]) -> (Option<u128>, &[u8])
-    ensures number { result.0 ≡ fitting (number_of (first_word line.now)) }
-    ensures rest { result.1.now ≡ after_first_word line.now }
+pub fn long_first(text: &[u8]) -> (Option<u128>, &[u8])
+    ensures number { result.0 ≡ fitting (number_of (first_word (first_line text.now))) }
+    ensures rest { first_line result.1.now ≡ after_first_word (first_line text.now) }
+    ensures others { after_first_line result.1.now ≡ after_first_line text.now }
 {
-    let (word, rest) = split_word(line);
+    let (word, rest) = split_first_word(text);
     (long_number(word), rest)
 }

@@ -1,19 +1,21 @@
 //! A script, line after line.
 
-ghost use Rattle.std.specs.Prelude.{◌≡◌, [], IfOk, OnOk};
-ghost use Rattle.tb_program_script.specs.Text.{words_of};
+ghost use Rattle.std.specs.Prelude.{◌≡◌, ◌≤◌, true, Ok, Err, [], drop, length, is_some, IfOk, IfSome, OnOk};
+ghost use Rattle.std.specs.Option.{MatchOption};
+ghost use Rattle.tb_program_script.specs.declared.fault.LineError.TheVariants.{Fault as FaultOf};
+ghost use Rattle.tb_program_script.specs.Text.{words_of, first_line, after_first_line};
 ghost use Rattle.tb_program_script.specs.Steps.{Tells, Leaves};
 ghost use Rattle.tb_program_script.specs.Keyword.{no_word, one_word, two_words};
-ghost use Rattle.tb_program_script.specs.Script.{ParsedScript, nothing_parsed, items_of, has_begun, may_stand, with_packet, with_pulse, with_close, with_bytes, with_event, packet_numbers, with_line, is_text as is_text_line, after_line, InBounds};
+ghost use Rattle.tb_program_script.specs.Script.{ParsedScript, nothing_parsed, items_of, has_begun, may_stand, with_packet, with_pulse, with_close, with_bytes, with_event, packet_numbers, with_line, is_text as is_text_line, line_max, after_line, InBounds};
 
 use crate::bytes::Bytes;
 use crate::event::{Draft, Layout, assign_all, hex_bytes};
 use crate::fault::{Fault, LineError};
 use crate::item::{ScriptItem, Settings, Submission};
 use crate::keyword::{Keyword, keyword_of};
-use crate::number::{in_bounds, number_within, two_short_numbers};
+use crate::number::{number_within, two_short_numbers};
 use crate::submitter_number::SubmitterNumber;
-use crate::text::Words;
+use crate::text::{Words, first_word, skip_line_end, split_line, strip_word};
 use std::alloc::Global;
 use std::marker::Model;
 use tb_layout::{BATCH_MAX, CAPACITY_MAX, CLOCK_MAX, NoMemory, SUBMITTERS_MAX};
@@ -77,24 +79,17 @@ fn two_words(words: Words) -> Result<(&[u8], &[u8]), Fault>
 }
 
 /// The numbers of a packet's line: its submitter, at most this one, and its operation.
-#[inline(always)]
 fn packet_numbers(words: Words, most: u32) -> Result<(u32, u8), Fault>
     ensures { Tells (λ both. (both.0, both.1)) result (packet_numbers most (words_of words.entry.rest.now)) }
 {
-    let most = u128::from(most);
-    if let Some((submitter, operation)) = two_short_numbers(words.rest) {
-        let submitter = in_bounds(Some(u128::from(submitter)), 0, most)?;
-        let operation = in_bounds(Some(u128::from(operation)), 0, 255)?;
-        return Ok((submitter as u32, operation as u8));
-    }
     let (submitter, operation) = two_words(words)?;
-    let submitter = number_within(submitter, 0, most)?;
+    let submitter = number_within(submitter, 0, u128::from(most))?;
     let operation = number_within(operation, 0, 255)?;
     Ok((submitter as u32, operation as u8))
 }
 
 /// Whether a line has only bytes 32 to 126.
-pub(crate) fn is_text(line: &[u8]) -> bool
+fn is_text(line: &[u8]) -> bool
     ensures { result ≡ is_text_line line.now }
 {
     line.iter()
@@ -258,13 +253,24 @@ impl Script {
         Ok(())
     }
 
+    /// Takes the words of a text's first line as an event's fields, and returns the text from the end of that line on.
     #[tactic(auto, unfolding(crate::specs::Event::event_of))]
-    fn take_event(&mut self, layout: Layout, words: Words) -> Result<(), LineError>
-        ensures { Leaves result self.new (with_event self.old layout (words_of words.entry.rest.now)) }
+    fn take_event<'a>(&mut self, layout: Layout, text: &'a [u8]) -> Result<&'a [u8], LineError>
+        ensures script { Leaves result self.new (with_event self.old layout (words_of (first_line text.now))) }
+        ensures rest { IfOk result (λ rest. rest.now ≡ after_first_line text.now) }
+        ensures kept { (fault : Fault) → result ≡ Err (FaultOf fault) → self.new ≡ self.old }
     {
         let mut draft = Draft::new();
-        assign_all(layout, &mut draft, words)?;
+        let rest = assign_all(layout, &mut draft, text)?;
         self.add_bytes(&draft.bytes)?;
+        Ok(rest)
+    }
+
+    fn take_event_line(&mut self, layout: Layout, words: Words) -> Result<(), LineError>
+        requires { is_text_line words.rest.now ≡ true }
+        ensures { Leaves result self.new (with_event self.old layout (words_of words.entry.rest.now)) }
+    {
+        self.take_event(layout, words.rest)?;
         Ok(())
     }
 
@@ -307,6 +313,7 @@ impl Script {
     /// Takes a line in its place, with the words after its first.
     #[tactic(auto, unfolding(crate::specs::Script::with_line))]
     fn take_line(&mut self, alloc: Global, keyword: Keyword, words: Words) -> Result<(), LineError>
+        requires { is_text_line words.rest.now ≡ true }
         ensures { Leaves result self.new (with_line self.old keyword (words_of words.entry.rest.now)) }
     {
         match keyword {
@@ -316,8 +323,8 @@ impl Script {
             Keyword::Credit => self.set_credit(words),
             Keyword::Submitters => self.set_submitters(words),
             Keyword::Packet => self.take_packet(alloc, words),
-            Keyword::Account => self.take_event(Layout::Account, words),
-            Keyword::Transfer => self.take_event(Layout::Transfer, words),
+            Keyword::Account => self.take_event_line(Layout::Account, words),
+            Keyword::Transfer => self.take_event_line(Layout::Transfer, words),
             Keyword::Id => self.take_id(words),
             Keyword::Hex => self.take_hex(alloc, words),
             Keyword::Pulse => self.take_pulse(words),
@@ -325,44 +332,120 @@ impl Script {
         }
     }
 
-    /// Takes a line after those so far; the caller says whether it is text. After an error the script isn't to be used.
+    /// Takes a line after those so far. After an error the script isn't to be used.
     #[tactic(auto, unfolding(crate::specs::Script::after_line))]
-    pub(crate) fn line_if_text(
-        &mut self,
-        alloc: Global,
-        line: &[u8],
-        is_text: bool,
-    ) -> Result<(), LineError>
-        requires { is_text ≡ is_text_line line.now }
+    pub fn line(&mut self, alloc: Global, line: &[u8]) -> Result<(), LineError>
         ensures { Leaves result self.new (after_line self.old line.now) }
     {
         if line.len() > LINE_MAX {
             return Err(LineError::Fault(Fault::LineTooLong));
         }
-        if !is_text {
+        if !is_text(line) {
             return Err(LineError::Fault(Fault::BadByte));
         }
-        let mut words = Words { rest: line };
-        let Some(word) = words.next() else {
+        let Some(first) = first_word(line) else {
             return Ok(());
         };
-        if word.starts_with(b"#") {
+        if first.word.starts_with(b"#") {
             return Ok(());
         }
-        let Some(keyword) = keyword_of(word) else {
+        let Some(keyword) = keyword_of(first.word) else {
             return Err(LineError::Fault(Fault::UnknownWord));
         };
         if !self.may_stand(keyword) {
             return Err(LineError::Fault(Fault::OutOfPlace));
         }
-        self.take_line(alloc, keyword, words)
+        self.take_line(alloc, keyword, Words { rest: first.rest })
     }
 
-    /// Takes a line after those so far. After an error the script isn't to be used.
-    pub fn line(&mut self, alloc: Global, line: &[u8]) -> Result<(), LineError>
-        ensures { Leaves result self.new (after_line self.old line.now) }
+    /// Takes the fields of an event, if a packet is there and they have no fault, and returns the text from the end of
+    /// their line on. Else the script stays as it was.
+    fn take_usual_event<'a>(
+        &mut self,
+        layout: Layout,
+        fields: &'a [u8],
+    ) -> Result<Option<&'a [u8]>, NoMemory>
+        ensures event { IfOk result (λ usual. MatchOption usual (self.new ≡ self.old) (λ _.
+            (is_some self.old.packet ≡ true)
+            × (with_event self.old layout (words_of (first_line fields.now)) ≡ Ok self.new))) }
+        ensures rest { IfOk result (λ usual. IfSome usual (λ rest. rest.now ≡ after_first_line fields.now)) }
     {
-        self.line_if_text(alloc, line, is_text(line))
+        if self.packet.is_none() {
+            return Ok(None);
+        }
+        match self.take_event(layout, fields) {
+            Ok(rest) => Ok(Some(rest)),
+            Err(LineError::Fault(_)) => Ok(None),
+            Err(LineError::NoMemory) => Err(NoMemory),
+        }
+    }
+
+    /// Takes the numbers of a packet, if they have no fault and few digits, and returns the text from the end of their
+    /// line on. Else the script stays as it was.
+    fn take_usual_packet<'a>(
+        &mut self,
+        alloc: Global,
+        numbers: &'a [u8],
+    ) -> Result<Option<&'a [u8]>, NoMemory>
+        ensures packet { IfOk result (λ usual. MatchOption usual (self.new ≡ self.old) (λ _.
+            (is_text_line (first_line numbers.now) ≡ true)
+            × (with_line self.old Keyword.Packet (words_of (first_line numbers.now)) ≡ Ok self.new))) }
+        ensures rest { IfOk result (λ usual. IfSome usual (λ rest. rest.now ≡ after_first_line numbers.now)) }
+    {
+        let Some(two) = two_short_numbers(numbers) else {
+            return Ok(None);
+        };
+        let most = self.settings.submitters().saturating_sub(1);
+        if two.first > u64::from(most) || two.second > 255 {
+            return Ok(None);
+        }
+        let submitter = SubmitterNumber::new(two.first as u32);
+        self.begin_packet(alloc, submitter, two.second as u8)?;
+        Ok(Some(two.rest))
+    }
+
+    /// Takes the first line of a text in one pass, if it begins with a usual keyword and has no fault, and returns the
+    /// text from its end on. Else the script stays as it was. A line that is too long is taken too.
+    fn take_usual<'a>(
+        &mut self,
+        alloc: Global,
+        text: &'a [u8],
+    ) -> Result<Option<&'a [u8]>, NoMemory>
+        ensures line { IfOk result (λ usual. MatchOption usual (self.new ≡ self.old) (λ _.
+            length (first_line text.now) ≤ line_max → after_line self.old (first_line text.now) ≡ Ok self.new)) }
+        ensures rest { IfOk result (λ usual. IfSome usual (λ rest. rest.now ≡ after_first_line text.now)) }
+    {
+        if let Some(fields) = strip_word(text, b"transfer", b' ') {
+            return self.take_usual_event(Layout::Transfer, fields);
+        }
+        if let Some(fields) = strip_word(text, b"account", b' ') {
+            return self.take_usual_event(Layout::Account, fields);
+        }
+        match strip_word(text, b"packet", b' ') {
+            Some(numbers) => self.take_usual_packet(alloc, numbers),
+            None => Ok(None),
+        }
+    }
+
+    /// Takes the first line of a text after the lines so far, and returns the other lines. After an error the script
+    /// isn't to be used.
+    pub(crate) fn first_line<'a>(
+        &mut self,
+        alloc: Global,
+        text: &'a [u8],
+    ) -> Result<&'a [u8], LineError>
+        ensures script { Leaves result self.new (after_line self.old (first_line text.now)) }
+        ensures others { IfOk result (λ others. others.now ≡ drop 1 (after_first_line text.now)) }
+    {
+        if let Some(rest) = self.take_usual(alloc, text)? {
+            if text.len() - rest.len() > LINE_MAX {
+                return Err(LineError::Fault(Fault::LineTooLong));
+            }
+            return Ok(skip_line_end(rest));
+        }
+        let (line, others) = split_line(text);
+        self.line(alloc, line)?;
+        Ok(others)
     }
 
     /// The settings, and all items. The packet to which lines still added is the last of them.

@@ -3,7 +3,7 @@ use Rattle.std.specs.Prelude.{codes}
 use Rattle.tb_program_script.specs.declared.event.Field.{Field}
 use Rattle.tb_program_script.specs.Event.{account_fields, field, field_and_number, transfer_fields}
 use Rattle.tb_program_script.specs.Steps.{Tells}
-use Rattle.tb_program_script.specs.Text.{first_word}
+use Rattle.tb_program_script.specs.Text.{first_line, first_word}
 use Rattle.tb_program_script.proofs.Named.{named_in_order}
 use Rattle.tb_program_script.proofs.event.field_and_number.Goals as goal
 
@@ -46,15 +46,15 @@ transfer_rows =
 pub returns-in-Account-clause-both : goal.returns-in-Account-clause-both
 unfolding field_and_number
 returns-in-Account-clause-both c =
-    rw c.in-Account.is (subst (λ told. Tells (λ first. (first.field, first_word first.from_number.now))
-    c.named_from.result told)
-    (named_in_order (first_word c.args.line.now) account_rows account_fields (search rules) (search rules))
-    c.named_from.ensures.both)
+    rw c.in-Account.is (subst (λ told. Tells (λ first. (first.field, first_word (first_line first.from_number.now)))
+    c.named.result told)
+    (named_in_order (first_word (first_line c.args.text.now)) account_rows account_fields (search rules) (search rules))
+    c.named.ensures.both)
 
 pub returns-in-Transfer-clause-both : goal.returns-in-Transfer-clause-both
 unfolding field_and_number
 returns-in-Transfer-clause-both c =
-    rw c.in-Transfer.is (subst (λ told. Tells (λ first. (first.field, first_word first.from_number.now))
-    c.named_from-in-Transfer.result told)
-    (named_in_order (first_word c.args.line.now) transfer_rows transfer_fields (search rules) (search rules))
-    c.named_from-in-Transfer.ensures.both)
+    rw c.in-Transfer.is (subst (λ told. Tells (λ first. (first.field, first_word (first_line first.from_number.now)))
+    c.named-in-Transfer.result told)
+    (named_in_order (first_word (first_line c.args.text.now)) transfer_rows transfer_fields (search rules) (search rules))
+    c.named-in-Transfer.ensures.both)

@@ -1,15 +1,15 @@
 use Rattle.std.proofs.Common.{◌≡◌, ◌≤◌, length, map, All}
 use Rattle.tb_program_script.specs.Event.{IsBare, named}
-use Rattle.tb_program_script.specs.Text.{first_word}
+use Rattle.tb_program_script.specs.Text.{first_line, first_word}
 use Rattle.tb_program_script.proofs.event.named.Given as goal
 
-abbrev pub invariant-loop-table : goal.invariant-loop-table
-invariant-loop-table l = record {
-  same : named (first_word l.line) (map (λ row. (row.0.now, row.1)) l.table)
-      ≡ named (first_word l.line) (map (λ row. (row.0.now, row.1)) l.initial.table);
-  bare : All (λ row. IsBare row.0.now) l.table;
-  fewer : length l.table ≤ length l.initial.table;
+abbrev pub invariant-loop-rows : goal.invariant-loop-rows
+invariant-loop-rows l = record {
+  same : named (first_word (first_line l.text)) (map (λ row. (row.0.now, row.1)) l.rows)
+      ≡ named (first_word (first_line l.text)) (map (λ row. (row.0.now, row.1)) l.initial.rows);
+  bare : All (λ row. IsBare row.0.now) l.rows;
+  fewer : length l.rows ≤ length l.initial.rows;
 }
 
-abbrev pub decreases-loop-table : goal.decreases-loop-table
-decreases-loop-table l = length l.table
+abbrev pub decreases-loop-rows : goal.decreases-loop-rows
+decreases-loop-rows l = length l.rows
