@@ -159,10 +159,10 @@ fn field_among<'a>(
     ensures lines { IfOk result (λ first. after_first_line first.from_number.now ≡ after_first_line text.now) }
     ensures rows_after { IfOk result (λ first. first.rows_after ≤ 13) }
 {
-    match named(rows, text) {
-        Ok(first) => Ok(first),
-        Err(_) => field_and_number(layout, text),
+    if let Ok(first) = named(rows, text) {
+        return Ok(first);
     }
+    field_and_number(layout, text)
 }
 
 /// The greatest number of this many bytes.
@@ -325,9 +325,8 @@ pub fn assign_all<'a>(layout: Layout, draft: &mut Draft, text: &'a [u8]) -> Resu
 pub fn hex_bytes(alloc: Global, word: &[u8]) -> Result<Vec<u8>, LineError>
     ensures { Gives (λ v. v.items) result (hex_bytes word.now) }
 {
-    match hex::decode(alloc, word) {
-        Ok(bytes) => Ok(bytes),
-        Err(FromHexError::OutOfMemory) => Err(LineError::NoMemory),
-        Err(_) => Err(LineError::Fault(Fault::BadHex)),
-    }
+    hex::decode(alloc, word).map_err(|error| match error {
+        FromHexError::OutOfMemory => LineError::NoMemory,
+        _ => LineError::Fault(Fault::BadHex),
+    })
 }

@@ -68,24 +68,42 @@ fn one_word(words: Words) -> Result<&[u8], Fault>
 }
 
 /// The words of a line that has two.
-fn two_words(words: Words) -> Result<(&[u8], &[u8]), Fault>
-    ensures { Tells (λ both. (both.0.now, both.1.now)) result (two_words (words_of words.entry.rest.now)) }
+#[derive(Clone, Copy)]
+struct TwoWords<'a> {
+    first: &'a [u8],
+    second: &'a [u8],
+}
+
+/// The words of a line, if it has two.
+fn two_words(words: Words) -> Result<TwoWords, Fault>
+    ensures { Tells (λ two. (two.first.now, two.second.now)) result (two_words (words_of words.entry.rest.now)) }
 {
     let mut words = words;
     match (words.next(), words.next(), words.next()) {
-        (Some(word), Some(more), None) => Ok((word, more)),
+        (Some(first), Some(second), None) => Ok(TwoWords { first, second }),
         _ => Err(Fault::WrongNumberOfWords),
     }
 }
 
+/// The numbers of a packet's line.
+#[derive(Clone, Copy)]
+struct PacketNumbers {
+    submitter: u32,
+    operation: u8,
+}
+
 /// The numbers of a packet's line: its submitter, at most this one, and its operation.
-fn packet_numbers(words: Words, most: u32) -> Result<(u32, u8), Fault>
-    ensures { Tells (λ both. (both.0, both.1)) result (packet_numbers most (words_of words.entry.rest.now)) }
+fn packet_numbers(words: Words, most: u32) -> Result<PacketNumbers, Fault>
+    ensures { Tells (λ numbers. (numbers.submitter, numbers.operation)) result
+        (packet_numbers most (words_of words.entry.rest.now)) }
 {
-    let (submitter, operation) = two_words(words)?;
-    let submitter = number_within(submitter, 0, u128::from(most))?;
-    let operation = number_within(operation, 0, 255)?;
-    Ok((submitter as u32, operation as u8))
+    let two = two_words(words)?;
+    let submitter = number_within(two.first, 0, u128::from(most))?;
+    let operation = number_within(two.second, 0, 255)?;
+    Ok(PacketNumbers {
+        submitter: submitter as u32,
+        operation: operation as u8,
+    })
 }
 
 /// Whether a line has only bytes 32 to 126.
@@ -248,8 +266,9 @@ impl Script {
         ensures { Leaves result self.new (with_line self.old Keyword.Packet (words_of words.entry.rest.now)) }
     {
         let most = self.settings.submitters().saturating_sub(1);
-        let (submitter, operation) = packet_numbers(words, most)?;
-        self.begin_packet(alloc, SubmitterNumber::new(submitter), operation)?;
+        let numbers = packet_numbers(words, most)?;
+        let submitter = SubmitterNumber::new(numbers.submitter);
+        self.begin_packet(alloc, submitter, numbers.operation)?;
         Ok(())
     }
 
