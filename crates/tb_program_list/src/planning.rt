@@ -14,6 +14,13 @@ use tb_program_script::{ScriptItem, Submission, SubmitterNumber};
 use tb_program_text::packet_of;
 use tb_work::{Job, Moment, Refusal};
 
+/// A plan in its parts: what is queued, and what is printed of each item.
+#[derive(Drop)]
+pub struct PlanParts {
+    pub queue: Vec<tb_work::Item>,
+    pub lines: Vec<Line>,
+}
+
 /// What the items so far queue, and what is printed of each.
 #[derive(Drop)]
 pub struct Plan {
@@ -121,12 +128,15 @@ impl Plan {
         }
     }
 
-    /// What is queued, and what is printed.
-    pub fn into_split(self) -> (Vec<tb_work::Item>, Vec<Line>)
-        ensures queue { result.0.items ≡ self.queue }
-        ensures lines { result.1.items ≡ self.lines }
+    /// The parts of the plan.
+    pub fn into_parts(self) -> PlanParts
+        ensures queue { result.queue.items ≡ self.queue }
+        ensures lines { result.lines.items ≡ self.lines }
     {
-        (self.queue, self.lines)
+        PlanParts {
+            queue: self.queue,
+            lines: self.lines,
+        }
     }
 }
 

@@ -10,7 +10,7 @@ ghost use Rattle.tb_program_text.specs.Plan.{Planned, queue_of};
 
 use crate::listing::put_listing;
 use crate::plan::Line;
-use crate::planning::plan_all;
+use crate::planning::{PlanParts, plan_all};
 use std::alloc::Global;
 use std::io::{Read, Write};
 use tb_core::run_list;
@@ -51,7 +51,7 @@ fn output_for(alloc: Global, script: Script) -> Result<String, NoMemory>
 {
     let (settings, mut items) = script.finish()?;
     let limit = settings.limit();
-    let (queue, lines) = plan_all(alloc, limit, &mut items)?.into_split();
+    let PlanParts { queue, lines } = plan_all(alloc, limit, &mut items)?.into_parts();
     text_of(alloc, settings.clock(), limit, queue, &lines)
 }
 
