@@ -1,6 +1,6 @@
 -- what a call did to the engine inside a handle; a closed handle has none.
 use Rattle.std.specs.Prelude.{◌≡◌, ◌<◌, ◌≤◌, ◌⊎◌, ◌+◌, ◌*◌, ◌^◌, ℕ, List, [], nat_lt, if◌then◌else◌, length, slice_get, Option, Some, None}
-use Rattle.tb_layout.specs.Account.{account_bytes}
+use Rattle.tb_layout.specs.inside.Records.{account_bytes}
 use Rattle.tb_layout.specs.Limits.{clock_max}
 use Rattle.tb_layout.specs.declared.account.Account.{Account}
 use Rattle.tb_tables.specs.Balances.{balanced_account}

@@ -1,7 +1,7 @@
 -- A reply as C reads it.
 use Rattle.std.specs.Prelude.{◌≡◌, ℕ, ◌*◌, List, [], ◌++◌, length, drop}
 use Rattle.std.specs.List.{flat_map}
-use Rattle.tb_layout.specs.Account.{account_bytes}
+use Rattle.tb_layout.specs.inside.Records.{account_bytes}
 use Rattle.tb_layout.specs.Failure.{failure_bytes}
 use Rattle.tb_layout.specs.declared.answer.Answer.{Answer}
 use Rattle.tb_layout.specs.declared.answer.Answer.TheVariants.{Failures, Accounts}

@@ -2,7 +2,7 @@
 
 ghost use Rattle.std.specs.Prelude.{◌≡◌, ◌≤◌, ◌+◌, ◌*◌, ◌++◌, take, drop, length};
 ghost use Rattle.std.specs.List.{flat_map};
-ghost use Rattle.tb_layout.specs.Account.{account_bytes};
+ghost use Rattle.tb_layout.specs.inside.Records.{account_bytes};
 ghost use Rattle.tb_layout.specs.Failure.{failure_bytes};
 ghost use Rattle.kip.specs.Results.{AreWritten, IsHeadOf, answer_bytes, answer_size, result_bytes, result_size};
 

@@ -2,8 +2,8 @@
 use Rattle.std.specs.Prelude.{◌≡◌, ◌==◌, ◌<◌, ◌≤◌, ℕ, Bool, true, false, List, [], ◌∷◌, length, map, IsOk, Vec, vec_capacity}
 use Rattle.std.specs.List.{flat_map, list_all, AllByRecursion}
 use Rattle.std.specs.declared.alloc.Global.{Global}
-use Rattle.tb_layout.specs.Limits.{batch_max}
-use Rattle.tb_layout.specs.Operation.{lookup_accounts}
+use Rattle.tb_layout.specs.inside.Limits.{batch_max}
+use Rattle.tb_layout.specs.inside.Events.{lookup_accounts}
 use Rattle.tb_layout.specs.declared.account.Account.{Account}
 use Rattle.tb_layout.specs.declared.failure.Failure.{Failure}
 use Rattle.tb_work.specs.Admission.{admission_of}

@@ -1,6 +1,6 @@
 -- A batcher's value: its limit, and the group that it holds.
 use Rattle.std.specs.Prelude.{◌≤◌, ℕ, List, [], Option, Some, None}
-use Rattle.tb_layout.specs.Limits.{batch_max}
+use Rattle.tb_layout.specs.inside.Limits.{batch_max}
 use Rattle.tb_work.specs.Packet.{Numbered}
 use Rattle.tb_batch.specs.Grouping.{IsGroup}
 

@@ -1,7 +1,7 @@
 //! The group that a batcher holds.
 
 ghost use Rattle.std.specs.Prelude.{◌≡◌, ◌<◌, ◌≤◌, ◌==◌, ◌++◌, ◌∷◌, [], length, IfOk, IfErr, OnOk, OnErr};
-ghost use Rattle.tb_layout.specs.Limits.{batch_max};
+ghost use Rattle.tb_layout.specs.inside.Limits.{batch_max};
 ghost use Rattle.tb_work.specs.Job.{count_of_all};
 ghost use Rattle.std.specs.Prelude.{true};
 ghost use Rattle.tb_batch.specs.Batch.{body_of};

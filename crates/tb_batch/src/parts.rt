@@ -1,8 +1,8 @@
 //! What a batch is made of.
 
 ghost use Rattle.std.specs.Prelude.{◌≡◌, ◌==◌, ◌+◌, ◌<◌, ◌≤◌, ◌++◌, ◌∷◌, [], true, false, length, vec_len, vec_capacity, IsOk, OnOk};
-ghost use Rattle.tb_layout.specs.Limits.{batch_max};
-ghost use Rattle.tb_layout.specs.Operation.{lookup_accounts};
+ghost use Rattle.tb_layout.specs.inside.Limits.{batch_max};
+ghost use Rattle.tb_layout.specs.inside.Events.{lookup_accounts};
 ghost use Rattle.tb_work.specs.Admission.{admission_of};
 ghost use Rattle.tb_work.specs.Job.{stub_of};
 

@@ -2,8 +2,8 @@
 use Rattle.std.proofs.Common.{refl, sym, ap, subst, ◌∙◌, arith, ◌≡◌, ◌<◌, ◌≤◌, ℕ, zero, suc, ◌+◌, Bool, true, false, List, [], ◌∷◌, ◌++◌, length, Option, Some, None, append_assoc, append-nil}
 use Rattle.std.specs.Prelude.{is_some, IfSome, slice_get}
 use Rattle.std.proofs.lemmas.Bool.{le-leb, lt-leb}
-use Rattle.tb_layout.specs.Input.{Input}
-use Rattle.tb_layout.specs.Input as input
+use Rattle.tb_layout.specs.Events.{Input}
+use Rattle.tb_layout.specs.Events as input
 use Rattle.tb_work.specs.Packet.{Numbered, input_of}
 use Rattle.tb_work.specs.Queue.{ahead}
 use Rattle.tb_work.specs.declared.item.Item.{Item}

@@ -6,7 +6,8 @@ use Rattle.std.specs.Simd.{first_chunks}
 use Rattle.std.proofs.lemmas.List.{length-map}
 use Rattle.std.proofs.lemmas.Bool.{and_parts, and_from}
 use Rattle.tb_layout.specs.declared.failure.Failure.{Failure}
-use Rattle.tb_layout.specs.Events.{Events, events_of, chunks, is_last_linked, is_open}
+use Rattle.tb_layout.specs.Events.{Events, events_of, chunks, is_last_linked}
+use Rattle.tb_layout.specs.inside.Events.{is_open}
 use Rattle.tb_layout.specs.Failures.{RiseWithin}
 use Rattle.tb_layout.specs.Limits.{clock_max}
 use Rattle.tb_machine.specs.Replay.{State, failures_of, answer_of, after_packet}

@@ -7,8 +7,8 @@ use Rattle.std.proofs.lemmas.Bool.{and_parts, and_from, cond_both}
 use Rattle.tb_layout.specs.Account.{account_of}
 use Rattle.tb_layout.specs.Transfer.{transfer_of}
 use Rattle.tb_layout.specs.Bytes.{little_endian}
-use Rattle.tb_layout.specs.Events.{events_of, chunks, is_open, count_of as count_of_events}
-use Rattle.tb_layout.specs.Input.{Pulse}
+use Rattle.tb_layout.specs.Events.{events_of, chunks, Pulse}
+use Rattle.tb_layout.specs.inside.Events.{is_open, count_of as count_of_events}
 use Rattle.tb_work.specs.Admission.{admission_of, count_of_size, event_size}
 use Rattle.tb_work.specs.Packet.{Numbered, events_in, ReplyValue, input_of}
 use Rattle.tb_work.specs.Job.{count_of_all}

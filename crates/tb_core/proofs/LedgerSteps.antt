@@ -7,8 +7,8 @@ use Rattle.std.proofs.lemmas.Bool.{cond_both, or_parts}
 use Rattle.std.proofs.lemmas.Grind.{fold-append}
 use Rattle.std.proofs.lemmas.List.{take-append-le}
 use Rattle.std.proofs.lemmas.Option.{slice_get_past}
-use Rattle.tb_layout.specs.Input.{Input}
-use Rattle.tb_layout.specs.Input as input
+use Rattle.tb_layout.specs.Events.{Input}
+use Rattle.tb_layout.specs.Events as input
 use Rattle.tb_machine.specs.Replay.{State, opening, answer_of, replay, after_input, after_packet}
 use Rattle.tb_work.specs.Packet.{Numbered, events_in, ReplyValue, reply_with, input_of}
 use Rattle.tb_work.specs.declared.outcome.Outcome.TheVariants as outcome

@@ -5,10 +5,9 @@ use Rattle.std.specs.List.{flat_map}
 use Rattle.std.proofs.lemmas.List.{length-map}
 use Rattle.std.proofs.lemmas.Grind.{flat_map-append, fold-append}
 use Rattle.std.proofs.lemmas.Bool.{eqb-true, ltb-false, or_parts}
-use Rattle.tb_layout.specs.Events.{events_of}
+use Rattle.tb_layout.specs.Events.{events_of, Input}
 use Rattle.tb_machine.specs.Replay.{State, after_packet, after_input, opening}
 use Rattle.tb_work.specs.Packet.{Numbered, events_in, input_of}
-use Rattle.tb_layout.specs.Input.{Input}
 use Rattle.tb_batch.specs.Batch.{body_of}
 use Rattle.tb_batch.specs.declared.parts.Parts.{Parts}
 use Rattle.tb_core.specs.inside.BatchAnswer.{AreAnswered}

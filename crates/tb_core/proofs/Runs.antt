@@ -5,8 +5,8 @@ use Rattle.std.specs.List.{AllByRecursion}
 use Rattle.std.proofs.lemmas.Bool.{le-leb, lt-leb, eq-eqb, cond_both, both_ways, or_parts, or_from, or_right}
 use Rattle.std.proofs.lemmas.List.{take-append-drop, drop_all, nil_from_length}
 use Rattle.std.proofs.lemmas.List.Folds.{list_any-append}
-use Rattle.tb_layout.specs.Input.{Input}
-use Rattle.tb_layout.specs.Input as input
+use Rattle.tb_layout.specs.Events.{Input}
+use Rattle.tb_layout.specs.Events as input
 use Rattle.tb_machine.specs.Replay.{replay}
 use Rattle.tb_work.specs.Queue.{ahead, items_in, IsSubmitted, AreSubmitted}
 use Rattle.tb_work.specs.Packet.{ReplyValue, reply_with, input_of}

@@ -1,7 +1,7 @@
 -- The reply that is due to each packet of a queue.
 use Rattle.std.specs.Prelude.{ℕ, ◌+◌, ◌==◌, List, [], ◌∷◌, ◌++◌, filter, Option, Some, None}
 use Rattle.tb_layout.specs.declared.answer.Answer.{Answer}
-use Rattle.tb_layout.specs.Input.{Input}
+use Rattle.tb_layout.specs.Events.{Input}
 use Rattle.tb_machine.specs.Replay.{answer_at}
 use Rattle.tb_work.specs.Packet.{ReplyValue, reply_with}
 use Rattle.tb_work.specs.Queue.{items_in}

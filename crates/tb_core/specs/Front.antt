@@ -1,7 +1,7 @@
 -- What a front makes of one ticket.
 use Rattle.std.specs.Prelude.{◌≡◌, ℕ, ◌+◌, ◌≤◌, Bool, true, false, not, ◌||◌, if◌then◌else◌, List, [], ◌∷◌, ◌++◌, length, map, take, slice_set, get_or, nat_lt, Option, Some, None}
 use Rattle.std.specs.List.{list_all, list_any, flat_map}
-use Rattle.tb_layout.specs.Limits.{batch_max, submitters_max}
+use Rattle.tb_layout.specs.inside.Limits.{batch_max, submitters_max}
 use Rattle.tb_work.specs.Packet.{Numbered}
 use Rattle.tb_work.specs.Queue.{part, is_end}
 use Rattle.tb_work.specs.declared.item.Ticket.{Ticket}

@@ -2,9 +2,8 @@
 -- neighbours).
 use Rattle.std.specs.Prelude.{◌≡◌, ◌≤◌, ℕ, ◌+◌, ◌==◌, Bool, true, false, not, ◌&&◌, nat_le, List, [], ◌∷◌, ◌++◌}
 use Rattle.std.specs.List.{list_all, AllByRecursion, flat_map}
-use Rattle.tb_layout.specs.Operation.{create_accounts, create_transfers, lookup_accounts}
-use Rattle.tb_layout.specs.Events.{Events, Accounts, Transfers, Ids, is_open, count_of}
-use Rattle.tb_layout.specs.Input.{Input, Packet, Pulse}
+use Rattle.tb_layout.specs.Events.{create_accounts, create_transfers, Events, Accounts, Transfers, Ids, Input, Packet, Pulse}
+use Rattle.tb_layout.specs.inside.Events.{lookup_accounts, is_open, count_of}
 use Rattle.tb_batch.specs.Grouping.{IsGroup}
 use Rattle.tb_core.specs.declared.parcel.Parcel.{Parcel}
 use Rattle.tb_core.specs.declared.parcel.Parcel.TheVariants as parcel

@@ -1,7 +1,7 @@
 -- The headline: what a lawful report says of each submitter, in the words of the README.
 use Rattle.std.specs.Prelude.{◌≡◌, ◌<◌, ℕ, ◌==◌, Bool, false, List, [], ◌∷◌, map, filter, take, slice_get, Some}
 use Rattle.tb_layout.specs.declared.answer.Answer.{Answer}
-use Rattle.tb_layout.specs.Input.{Input, Packet, Pulse}
+use Rattle.tb_layout.specs.Events.{Input, Packet, Pulse}
 use Rattle.tb_machine.specs.Replay.{replay, answer_of}
 use Rattle.tb_work.specs.Packet.{Numbered, events_in, ReplyValue, input_of}
 use Rattle.tb_work.specs.declared.item.Item.{Item}

@@ -1,7 +1,7 @@
 -- A ledger as its callers see it: its journal, and the state of its machine.
 use Rattle.std.specs.Prelude.{ℕ, Bool, false, List, []}
 use Rattle.std.specs.List.{flat_map}
-use Rattle.tb_layout.specs.Input.{Input}
+use Rattle.tb_layout.specs.Events.{Input}
 use Rattle.tb_machine.specs.Replay.{State, opening as no_inputs}
 
 -- its opening clock, the packets or the pulse of each entry of its journal, its machine's state, and whether it stopped

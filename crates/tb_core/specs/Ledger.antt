@@ -1,9 +1,9 @@
 -- What a ledger makes of one parcel.
 use Rattle.std.specs.Prelude.{◌≡◌, ◌≤◌, ℕ, ◌+◌, ◌*◌, Bool, true, false, ◌||◌, fold, nat_lt, List, [], ◌∷◌, ◌++◌, length, map, take, drop, unwrap_or, IsSome, if◌then◌else◌, not}
 use Rattle.std.specs.List.{sum_by, AllByRecursion}
-use Rattle.tb_layout.specs.Events.{events_of}
-use Rattle.tb_layout.specs.Input.{Input, Packet, Pulse}
-use Rattle.tb_layout.specs.Limits.{batch_max, clock_max, places_max}
+use Rattle.tb_layout.specs.Events.{events_of, Input, Packet, Pulse}
+use Rattle.tb_layout.specs.inside.Limits.{batch_max, places_max}
+use Rattle.tb_layout.specs.Limits.{clock_max}
 use Rattle.tb_machine.specs.Replay.{replay, after_input}
 use Rattle.tb_work.specs.Admission.{event_size}
 use Rattle.tb_work.specs.Packet.{Numbered, reply_with, input_of}

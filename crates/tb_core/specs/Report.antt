@@ -1,7 +1,7 @@
 -- What a run reports once its threads have ended. No definition here mentions a batch.
 use Rattle.std.specs.Prelude.{◌≡◌, ◌↔◌, ℕ, ◌<◌, Bool, true, false, List, ◌++◌}
 use Rattle.std.specs.List.{list_any}
-use Rattle.tb_layout.specs.Input.{Input}
+use Rattle.tb_layout.specs.Events.{Input}
 use Rattle.tb_machine.specs.Replay.{replay}
 use Rattle.tb_work.specs.Queue.{ahead, items_in, IsQueueOf}
 use Rattle.tb_work.specs.Packet.{ReplyValue}

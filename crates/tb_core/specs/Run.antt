@@ -1,6 +1,6 @@
 -- What a front and a ledger did, also if an allocation failed; batches are left out.
 use Rattle.std.specs.Prelude.{◌≡◌, ◌<◌, ℕ, Bool, false, List, [], ◌∷◌, ◌++◌, length}
-use Rattle.tb_layout.specs.Input.{Input}
+use Rattle.tb_layout.specs.Events.{Input}
 use Rattle.tb_machine.specs.Replay.{replay}
 use Rattle.tb_work.specs.Queue.{IsQueueOf, ahead, items_in}
 use Rattle.tb_work.specs.Packet.{ReplyValue}

@@ -1,9 +1,9 @@
 //! The ledger: the journal, and the machine that it gives.
 
 ghost use Rattle.std.specs.Prelude.{◌≡◌, ◌==◌, ◌<◌, ◌≤◌, ◌+◌, ◌++◌, ◌∷◌, [], ℕ, List, Bool, false, true, length, map, vec_len, vec_capacity, OnOk, OnErr, IfOk, IfErr, ◌||◌};
-ghost use Rattle.tb_layout.specs.Events.{events_of};
-ghost use Rattle.tb_layout.specs.Limits.{clock_max, places_max};
-ghost use Rattle.tb_layout.specs.Input.{Input};
+ghost use Rattle.tb_layout.specs.Events.{events_of, Input};
+ghost use Rattle.tb_layout.specs.Limits.{clock_max};
+ghost use Rattle.tb_layout.specs.inside.Limits.{places_max};
 ghost use Rattle.tb_machine.specs.Replay.{State, after_packet, replay};
 ghost use Rattle.tb_batch.specs.Batch.{AreAdmitted, AreParts};
 ghost use Rattle.tb_work.specs.Packet.{reply_with, input_of};

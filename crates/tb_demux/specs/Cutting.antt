@@ -1,7 +1,7 @@
 -- The replies to the packets of one batch.
 use Rattle.std.specs.Prelude.{◌≡◌, ◌≤◌, ℕ, ◌+◌, true, not, List, [], ◌∷◌, length, map}
 use Rattle.std.specs.List.{list_all}
-use Rattle.tb_layout.specs.Limits.{places_max}
+use Rattle.tb_layout.specs.inside.Limits.{places_max}
 use Rattle.tb_layout.specs.declared.failure.Failure.{Failure}
 use Rattle.tb_layout.specs.Failures.{RiseWithin, failures_within}
 use Rattle.tb_layout.specs.declared.answer.Answer.{Answer}

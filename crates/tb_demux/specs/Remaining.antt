@@ -1,7 +1,7 @@
 -- What a cutter has left.
 use Rattle.std.specs.Prelude.{◌≡◌, ◌≤◌, ◌+◌, true, not, List, [], ◌∷◌, length, map, drop}
 use Rattle.std.specs.List.{list_all}
-use Rattle.tb_layout.specs.Limits.{places_max}
+use Rattle.tb_layout.specs.inside.Limits.{places_max}
 use Rattle.tb_layout.specs.declared.failure.Failure.{Failure}
 use Rattle.tb_layout.specs.Failures.{RiseWithin}
 use Rattle.tb_work.specs.declared.outcome.Outcome.{Outcome}

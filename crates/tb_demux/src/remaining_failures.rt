@@ -1,7 +1,7 @@
 //! The failures of a batch that aren't cut yet.
 
 ghost use Rattle.std.specs.Prelude.{◌≡◌, ◌⊎◌, ◌<◌, ◌≤◌, ◌+◌, ℕ, [], false, length, drop};
-ghost use Rattle.tb_layout.specs.Limits.{places_max};
+ghost use Rattle.tb_layout.specs.inside.Limits.{places_max};
 ghost use Rattle.tb_layout.specs.Failures.{RiseWithin, failures_within};
 ghost use Rattle.tb_work.specs.Admission.{count_of};
 ghost use Rattle.tb_work.specs.Job.{is_lookup};

@@ -1,7 +1,7 @@
 -- What the control queues by a plan, and what the plan's driver has had queued.
 use Rattle.std.specs.Prelude.{◌≡◌, ◌<◌, ◌+◌, ◌^◌, ℕ, nat_lt, Bool, true, false, List, [], ◌∷◌, ◌++◌, Some, slice_get, take, if◌then◌else◌}
 use Rattle.std.specs.List.{count_by, flat_map}
-use Rattle.tb_layout.specs.Limits.{moment_max}
+use Rattle.tb_layout.specs.inside.Limits.{moment_max}
 use Rattle.tb_submit.specs.Ends.{SenderState}
 use Rattle.tb_work.specs.declared.item.Item.{Item}
 use Rattle.tb_work.specs.declared.item.Item.TheVariants as item

@@ -1,7 +1,7 @@
 //! The control's thread.
 
 ghost use Rattle.std.specs.Prelude.{◌≡◌, [], ◌∷◌, ◌++◌, List, ◌⊎◌, ◌<◌, ◌≤◌, length, true, false, Err, IfErr, IfSome, OnOk, OnSome};
-ghost use Rattle.tb_layout.specs.Limits.{moment_max, queued_max};
+ghost use Rattle.tb_layout.specs.inside.Limits.{moment_max, queued_max};
 ghost use Rattle.tb_submit.specs.Ends.{sender_with};
 ghost use Rattle.tb_work.specs.declared.item.Item.{Item as ItemValue};
 ghost use Rattle.tb_work.specs.declared.refusal.Refusal.TheVariants as refusal;

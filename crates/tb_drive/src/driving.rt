@@ -1,7 +1,7 @@
 //! A run of a pipeline, with a thread for each of its senders.
 
 ghost use Rattle.std.specs.Prelude.{◌≡◌, ◌<◌, ◌≤◌, [], map, length, set, slice_get, Some, None, Err, IfOk, IfErr, OnOk};
-ghost use Rattle.tb_layout.specs.Limits.{queued_max};
+ghost use Rattle.tb_layout.specs.inside.Limits.{queued_max};
 ghost use Rattle.tb_submit.specs.Ends.{SubmitterState, origin_of};
 ghost use Rattle.tb_submit.specs.Refusals.{IsSubmitRefusal, submit_refusal};
 ghost use Rattle.tb_work.specs.declared.refusal.Refusal.TheVariants as refusal;

@@ -1,7 +1,7 @@
 //! A submitter's thread.
 
 ghost use Rattle.std.specs.Prelude.{◌≡◌, [], ◌∷◌, ◌++◌, ◌<◌, ◌≤◌, length, None, Err, OnOk, IfOk, IfErr, IfSome};
-ghost use Rattle.tb_layout.specs.Limits.{queued_max};
+ghost use Rattle.tb_layout.specs.inside.Limits.{queued_max};
 ghost use Rattle.tb_submit.specs.Ends.{origin_of};
 ghost use Rattle.tb_submit.specs.Refusals.{IsSubmitRefusal, submit_refusal};
 ghost use Rattle.tb_work.specs.Job.{numbered_packet};

@@ -1,6 +1,6 @@
 -- An engine: what was queued in it, which replies were read, and what follows. No batch is in it.
 use Rattle.std.specs.Prelude.{◌≡◌, ◌≤◌, ◌==◌, ◌⊎◌, ◌^◌, ◌-◌, ℕ, Bool, false, nat_lt, nat_le, if◌then◌else◌, List, [], ◌∷◌, ◌++◌, length, get_or, Option, Some, None, Result, Ok, Err}
-use Rattle.tb_layout.specs.Limits.{batch_max, moment_max, submitters_max}
+use Rattle.tb_layout.specs.inside.Limits.{batch_max, moment_max, submitters_max}
 use Rattle.tb_machine.specs.Replay.{State}
 use Rattle.tb_work.specs.Admission.{admission_of}
 use Rattle.tb_work.specs.Queue.{part, ahead, items_in}

@@ -1,10 +1,8 @@
--- An account: its place in 128 bytes, and its flags.
-use Rattle.std.specs.Prelude.{ℕ, List, [], ◌∷◌, Bool}
+-- An account: its fields in 128 bytes, and its flags.
+use Rattle.std.specs.Prelude.{ℕ, List, Bool}
 use Rattle.tb_layout.specs.declared.account.Account.{Account}
-use Rattle.tb_layout.specs.Bytes.{number_at, bytes_in_turn}
-use Rattle.tb_layout.specs.Flags.{has_flag}
+use Rattle.tb_layout.specs.Bytes.{number_at, has_flag}
 
--- the account in 128 bytes
 abbrev pub account_of : List ℕ → Account
 account_of bytes = record {
   id = number_at bytes 0 16;
@@ -21,14 +19,6 @@ account_of bytes = record {
   flags = number_at bytes 118 2;
   timestamp = number_at bytes 120 8;
 }
-
--- the 128 bytes of an account
-abbrev pub account_bytes : Account → List ℕ
-account_bytes account = bytes_in_turn (
-    (16, account.id) ∷ (16, account.debits_pending) ∷ (16, account.debits_posted) ∷ (16, account.credits_pending) ∷
-    (16, account.credits_posted) ∷ (16, account.user_data_128) ∷ (8, account.user_data_64) ∷ (4, account.user_data_32) ∷
-    (4, account.reserved) ∷ (4, account.ledger) ∷ (2, account.code) ∷ (2, account.flags) ∷ (8, account.timestamp) ∷ []
-    )
 
 abbrev pub is_linked : Account → Bool
 is_linked account = has_flag account.flags 0

@@ -1,5 +1,5 @@
--- Numbers in a list of bytes, and records as lists of numbers.
-use Rattle.std.specs.Prelude.{◌≡◌, ◌<◌, ℕ, zero, suc, ◌+◌, ◌*◌, ◌/◌, ◌%◌, List, [], ◌∷◌, ◌++◌, length, slice_range, All}
+-- Numbers in a list of bytes, and bits of a flags field.
+use Rattle.std.specs.Prelude.{ℕ, ◌+◌, ◌*◌, List, [], ◌∷◌, slice_range, ◌^◌, Bool, not, ◌==◌, bit_and, nat_lt}
 
 -- the number whose bytes these are, the least significant first
 abbrev pub little_endian : List ℕ → ℕ
@@ -10,17 +10,9 @@ little_endian (byte ∷ bytes) = byte + 256 * little_endian bytes
 abbrev pub number_at : List ℕ → ℕ → ℕ → ℕ
 number_at bytes offset size = little_endian (slice_range bytes offset (offset + size))
 
--- the lowest `size` bytes of a number, the least significant first
-unfoldable pub bytes_of : ℕ → ℕ → List ℕ
-bytes_of zero number = []
-bytes_of (suc size) number = number % 256 ∷ bytes_of size (number / 256)
+abbrev pub has_flag : ℕ → ℕ → Bool
+has_flag flags bit = not (bit_and flags (2 ^ bit) == 0)
 
--- the bytes of numbers that lie one after another, each with its size
-abbrev pub bytes_in_turn : List (ℕ × ℕ) → List ℕ
-bytes_in_turn [] = []
-bytes_in_turn ((size, number) ∷ fields) = bytes_of size number ++ bytes_in_turn fields
-
--- a list of this many bytes
-pub record IsBytes (size : ℕ) (bytes : List ℕ) : Type 0 where
-  pub count : length bytes ≡ size
-  pub each : All (λ byte. byte < 256) bytes
+-- whether one of the bits 4 to 15 is set
+abbrev pub has_reserved_flag : ℕ → Bool
+has_reserved_flag flags = nat_lt 15 flags

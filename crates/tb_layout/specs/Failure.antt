@@ -1,7 +1,8 @@
 -- A failure: its place in 8 bytes.
 use Rattle.std.specs.Prelude.{ℕ, List, [], ◌∷◌}
 use Rattle.tb_layout.specs.declared.failure.Failure.{Failure}
-use Rattle.tb_layout.specs.Bytes.{number_at, bytes_in_turn}
+use Rattle.tb_layout.specs.Bytes.{number_at}
+use Rattle.tb_layout.specs.inside.Bytes.{bytes_in_turn}
 
 abbrev pub failure_of : List ℕ → Failure
 failure_of bytes = record { index = number_at bytes 0 4; code = number_at bytes 4 4 }

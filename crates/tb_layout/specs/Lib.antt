@@ -1,7 +1,5 @@
-pub mod Operation
 pub mod Limits
 pub mod Bytes
-pub mod Flags
 pub mod Account
 pub mod AccountCode
 pub mod Transfer
@@ -9,5 +7,4 @@ pub mod TransferCode
 pub mod Failure
 pub mod Events
 pub mod Failures
-pub mod Input
 pub mod inside

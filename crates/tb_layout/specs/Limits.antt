@@ -1,34 +1,9 @@
--- The bounds that packets, moments, clocks and counts keep.
+-- The clock's bound and unit.
 use Rattle.std.specs.Prelude.{ℕ, ◌^◌, ◌-◌}
-
--- the most events of a batch
-abbrev pub batch_max : ℕ
-batch_max = 8190
-
--- the most places of a submission queue, and the greatest credit of a submitter
-abbrev pub capacity_max : ℕ
-capacity_max = 65536
-
--- the greatest moment of a pulse, in nanoseconds
-abbrev pub moment_max : ℕ
-moment_max = 2 ^ 62
 
 -- the greatest clock, in nanoseconds
 abbrev pub clock_max : ℕ
 clock_max = 2 ^ 63 - 1
 
--- the most packets that a submitter queues, or pulses that the control does
-abbrev pub queued_max : ℕ
-queued_max = 2 ^ 56
-
--- the most places of a journal: committed packets and pulses
-abbrev pub places_max : ℕ
-places_max = 2 ^ 63
-
--- the nanoseconds of a second
 abbrev pub nanoseconds_per_second : ℕ
 nanoseconds_per_second = 10 ^ 9
-
--- the most submitters of a front
-abbrev pub submitters_max : ℕ
-submitters_max = 16

@@ -1,10 +1,8 @@
--- A transfer: its place in 128 bytes, and its flags.
-use Rattle.std.specs.Prelude.{ℕ, List, [], ◌∷◌, Bool, ◌||◌}
+-- A transfer: its fields in 128 bytes, and its flags.
+use Rattle.std.specs.Prelude.{ℕ, List, Bool, ◌||◌}
 use Rattle.tb_layout.specs.declared.transfer.Transfer.{Transfer}
-use Rattle.tb_layout.specs.Bytes.{number_at, bytes_in_turn}
-use Rattle.tb_layout.specs.Flags.{has_flag}
+use Rattle.tb_layout.specs.Bytes.{number_at, has_flag}
 
--- the transfer in 128 bytes
 abbrev pub transfer_of : List ℕ → Transfer
 transfer_of bytes = record {
   id = number_at bytes 0 16;
@@ -21,15 +19,6 @@ transfer_of bytes = record {
   flags = number_at bytes 118 2;
   timestamp = number_at bytes 120 8;
 }
-
--- the 128 bytes of a transfer
-abbrev pub transfer_bytes : Transfer → List ℕ
-transfer_bytes transfer = bytes_in_turn (
-    (16, transfer.id) ∷ (16, transfer.debit_account_id) ∷ (16, transfer.credit_account_id) ∷ (16, transfer.amount) ∷
-    (16, transfer.pending_id) ∷ (16, transfer.user_data_128) ∷ (8, transfer.user_data_64) ∷ (4, transfer.user_data_32) ∷
-    (4, transfer.timeout) ∷ (4, transfer.ledger) ∷ (2, transfer.code) ∷ (2, transfer.flags) ∷
-    (8, transfer.timestamp) ∷ []
-    )
 
 abbrev pub is_linked : Transfer → Bool
 is_linked transfer = has_flag transfer.flags 0

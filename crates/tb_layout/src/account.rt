@@ -1,9 +1,10 @@
 //! Accounts.
 
 ghost use Rattle.std.specs.Prelude.{◌≡◌, ℕ, List};
-ghost use Rattle.tb_layout.specs.Bytes.{IsBytes};
+ghost use Rattle.tb_layout.specs.inside.Bytes.{IsBytes};
 ghost use Rattle.tb_layout.specs.Account as spec;
-ghost use Rattle.tb_layout.specs.Flags.{has_reserved_flag as is_reserved_in};
+ghost use Rattle.tb_layout.specs.inside.Records.{account_bytes};
+ghost use Rattle.tb_layout.specs.Bytes.{has_reserved_flag as is_reserved_in};
 
 use crate::flags::has_reserved_flag;
 use crate::number::{
@@ -91,7 +92,7 @@ pub fn read_account(bytes: &[u8; 128]) -> Account
 
 /// The 128 bytes of an account.
 pub fn write_account(account: &Account) -> [u8; 128]
-    ensures value { result ≡ spec.account_bytes account.now }
+    ensures value { result ≡ account_bytes account.now }
     ensures read_back { spec.account_of result ≡ account.now }
     ensures reads_only_so { (bytes : List ℕ) → IsBytes 128 bytes
         → spec.account_of bytes ≡ account.now → bytes ≡ result }

@@ -8,12 +8,12 @@ ghost use Rattle.tb_layout.specs.inside.Codes.{first_with, code_in, name_in, rea
 pub trait Code: Copy {
     ghost number_of: { Self → ℕ };
 
-    /// The number that a failure carries.
+    /// Returns the number that a failure carries.
     fn number(self) -> u32
         ensures { result ≡ number_of self };
 }
 
-/// The first of some results whose number this is, with its name.
+/// Returns the first result with this number, and its name.
 pub fn row_with<C: Code>(rows: &[(C, &'static str)], number: u32) -> Option<(C, &'static str)>
     ensures { option_map read_row result ≡ first_with C.number_of number (map read_row rows.now) }
 {
@@ -25,7 +25,7 @@ pub fn row_with<C: Code>(rows: &[(C, &'static str)], number: u32) -> Option<(C, 
     None
 }
 
-/// The first of some results whose number this is.
+/// Returns the first result with this number.
 pub fn code_with<C: Code>(rows: &[(C, &'static str)], number: u32) -> Option<C>
     ensures { result ≡ code_in (first_with C.number_of number (map read_row rows.now)) }
 {
@@ -33,7 +33,7 @@ pub fn code_with<C: Code>(rows: &[(C, &'static str)], number: u32) -> Option<C>
     Some(code)
 }
 
-/// The name of a result that has a row.
+/// Returns the name of a result that has a row.
 pub fn name_with<C: Code>(rows: &[(C, &'static str)], code: C) -> &'static str
     requires { is_some (first_with C.number_of (C.number_of code) (map read_row rows.now)) ≡ true }
     ensures { result.now ≡ name_in (first_with C.number_of (C.number_of code) (map read_row rows.now)) }
@@ -44,7 +44,7 @@ pub fn name_with<C: Code>(rows: &[(C, &'static str)], code: C) -> &'static str
     }
 }
 
-/// The results of an enum, each with its name.
+/// Makes an array of an enum's results, each with its name.
 macro_rules! rows {
     ($results:ident; $($result:ident => $name:literal,)*) => {
         [$(($results::$result, $name)),*]

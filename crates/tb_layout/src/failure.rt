@@ -11,7 +11,7 @@ pub struct Failure {
 
 ghost use Rattle.std.specs.Prelude.{◌≡◌, ℕ, List};
 ghost use Rattle.tb_layout.specs.Failure.{failure_of, failure_bytes};
-ghost use Rattle.tb_layout.specs.Bytes.{IsBytes};
+ghost use Rattle.tb_layout.specs.inside.Bytes.{IsBytes};
 
 /// The failure in 8 bytes: the index, then the code (requests reference of TigerBeetle, results).
 pub fn read_failure(bytes: &[u8; 8]) -> Failure

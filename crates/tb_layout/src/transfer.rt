@@ -1,9 +1,10 @@
 //! Transfers.
 
 ghost use Rattle.std.specs.Prelude.{◌≡◌, ℕ, List};
-ghost use Rattle.tb_layout.specs.Bytes.{IsBytes};
-ghost use Rattle.tb_layout.specs.Flags.{has_reserved_flag as is_reserved_in};
+ghost use Rattle.tb_layout.specs.inside.Bytes.{IsBytes};
+ghost use Rattle.tb_layout.specs.Bytes.{has_reserved_flag as is_reserved_in};
 ghost use Rattle.tb_layout.specs.Transfer as spec;
+ghost use Rattle.tb_layout.specs.inside.Records.{transfer_bytes};
 
 use crate::flags::has_reserved_flag;
 use crate::number::{
@@ -101,7 +102,7 @@ pub fn read_transfer(bytes: &[u8; 128]) -> Transfer
 
 /// The 128 bytes of a transfer.
 pub fn write_transfer(transfer: &Transfer) -> [u8; 128]
-    ensures value { result ≡ spec.transfer_bytes transfer.now }
+    ensures value { result ≡ transfer_bytes transfer.now }
     ensures read_back { spec.transfer_of result ≡ transfer.now }
     ensures reads_only_so { (bytes : List ℕ) → IsBytes 128 bytes
         → spec.transfer_of bytes ≡ transfer.now → bytes ≡ result }

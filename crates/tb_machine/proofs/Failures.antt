@@ -5,8 +5,7 @@ use Rattle.std.proofs.lemmas.List.{length-replicate, replicate_more}
 use Rattle.tb_layout.specs.declared.failure.Failure.{Failure}
 use Rattle.tb_tables.specs.Facts.{Facts}
 use Rattle.tb_machine.specs.declared.fault.ChainFault.{ChainFault}
-use Rattle.tb_machine.specs.Chain.{Operation, closed_outcome, failed_results}
-use Rattle.tb_machine.specs.Packet.{failures_from}
+use Rattle.tb_machine.specs.Chain.{Operation, closed_outcome, failed_results, failures_from}
 use Rattle.tb_machine.specs.Examining.{LiesBelow}
 use Rattle.tb_machine.proofs.Faults.{eqb-false, length-failed_results}
 

@@ -6,8 +6,7 @@ use Rattle.std.proofs.lemmas.Bool.Decides.{eqb_tells}
 use Rattle.tb_layout.specs.Events.{is_last_linked}
 use Rattle.tb_tables.specs.Facts.{Facts}
 use Rattle.tb_machine.specs.declared.fault.ChainFault.{ChainFault}
-use Rattle.tb_machine.specs.Clock.{next_timestamp, clock_after}
-use Rattle.tb_machine.specs.Chain.{Operation, Outcome, verdict_at, facts_with, first_fault, failed_results, closed_outcome, chain_outcome, all_but_last}
+use Rattle.tb_machine.specs.Chain.{next_timestamp, clock_after, Operation, Outcome, verdict_at, facts_with, first_fault, failed_results, closed_outcome, chain_outcome, all_but_last}
 use Rattle.tb_machine.specs.Examining.{LiesBelow, fault_as}
 
 pub eqb-false : (a b : ℕ) → a ≢ b → (a == b) ≡ false

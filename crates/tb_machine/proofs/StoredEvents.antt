@@ -13,17 +13,19 @@ use Rattle.tb_layout.specs.declared.transfer_code.TransferCode.{TransferCode}
 use Rattle.tb_layout.specs.declared.transfer_code.TransferCode.TheVariants.{Exists, Ok}
 use Rattle.tb_layout.specs.TransferCode.{number_of}
 use Rattle.tb_layout.specs.Transfer.{is_pending, is_post, is_void, is_resolving}
-use Rattle.tb_tables.specs.Facts.{Facts, account_with, IsIndexOf, transfer_with}
-use Rattle.tb_tables.specs.Balances.{balanced_account, with_balances, debits, credits}
+use Rattle.tb_tables.specs.Facts.{Facts, account_with, transfer_with}
+use Rattle.tb_tables.specs.inside.Indices.{IsIndexOf}
+use Rattle.tb_tables.specs.Balances.{balanced_account, with_balances}
+use Rattle.tb_tables.specs.inside.Balances.{debits, credits}
 use Rattle.tb_tables.specs.Status.{status_of, is_due, expires_at}
 use Rattle.tb_tables.specs.declared.status.Status.{Status}
 use Rattle.tb_tables.specs.declared.status.Status.TheVariants.{Pending, Posted, Voided, Expired}
 use Rattle.tb_tables.specs.Conditions.{MayAdd, MayResolve}
 use Rattle.tb_tables.proofs.FoundById.{found-id}
 use Rattle.tb_layout.specs.Limits.{clock_max, nanoseconds_per_second}
-use Rattle.tb_machine.specs.AccountVerdict.{u128_max}
-use Rattle.tb_machine.specs.Table.{first_row}
-use Rattle.tb_machine.specs.TransferVerdict.{transfer_verdict, new_transfer_verdict, event_checks, against_id, check_new_transfer, stored_checks, new_id_checks, resolving_checks, resolving_verdict, against_named, pending_checks, against_status, moving_checks, moving_verdict, check_accounts_found, balance_checks, resolved_transfer, resolved_transfer_of, stored_transfer, has_exclusive_flags}
+use Rattle.tb_machine.specs.AccountVerdict.{u128_max, first_row}
+use Rattle.tb_machine.specs.TransferVerdict.{transfer_verdict, event_checks, against_id, check_new_transfer, stored_checks, new_id_checks, resolving_checks, resolving_verdict, against_named, pending_checks, against_status, moving_checks, moving_verdict, check_accounts_found, balance_checks, resolved_transfer, resolved_transfer_of, stored_transfer, has_exclusive_flags}
+use Rattle.tb_machine.specs.Examining.{new_transfer_verdict}
 
 -- ---- where a table doesn't end in a failure, none of its checks applies
 

@@ -1,14 +1,17 @@
--- The verdict on an event that asks for an account, and the account that is stored where it is ok.
-use Rattle.std.specs.Prelude.{ℕ, not, ◌&&◌, ◌==◌, [], ◌∷◌, Option, Some, None}
+-- The verdict on an event that asks for an account.
+use Rattle.std.specs.Prelude.{ℕ, not, ◌&&◌, ◌==◌, [], ◌∷◌, Option, Some, None, Bool, List, if◌then◌else◌}
 use Rattle.tb_layout.specs.declared.account.Account.{Account}
 use Rattle.tb_layout.specs.declared.account_code.AccountCode.{AccountCode}
 use Rattle.tb_layout.specs.declared.account_code.AccountCode.TheVariants.{TimestampMustBeZero, ReservedField, ReservedFlag, IdMustNotBeZero, IdMustNotBeIntMax, ExistsWithDifferentFlags, ExistsWithDifferentUserData128, ExistsWithDifferentUserData64, ExistsWithDifferentUserData32, ExistsWithDifferentLedger, ExistsWithDifferentCode, FlagsAreMutuallyExclusive, DebitsPendingMustBeZero, DebitsPostedMustBeZero, CreditsPendingMustBeZero, CreditsPostedMustBeZero, LedgerMustNotBeZero, CodeMustNotBeZero, Exists, Ok}
 use Rattle.tb_layout.specs.Account.{debits_must_not_exceed_credits, credits_must_not_exceed_debits}
-use Rattle.tb_layout.specs.Flags.{has_reserved_flag}
+use Rattle.tb_layout.specs.Bytes.{has_reserved_flag}
 use Rattle.tb_tables.specs.Facts.{Facts, account_with}
-use Rattle.tb_machine.specs.Table.{first_row}
 
--- the greatest number of 128 bits
+-- the code of the first row that applies, or what follows the table
+abbrev pub first_row : {Code : Type 0} → List (Bool × Code) → Code → Code
+first_row [] otherwise = otherwise
+first_row ((applies, code) ∷ rows) otherwise = if applies then code else first_row rows otherwise
+
 abbrev pub u128_max : ℕ
 u128_max = 340282366920938463463374607431768211455
 

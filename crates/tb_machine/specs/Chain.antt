@@ -1,9 +1,16 @@
--- Chains of linked events: where they end, and what each results in.
-use Rattle.std.specs.Prelude.{ℕ, ◌+◌, ◌-◌, ◌==◌, Bool, List, [], ◌∷◌, ◌++◌, length, replicate, Option, Some, None, if◌then◌else◌}
+-- Chains of linked events: where they end, and the results of each and of a packet.
+use Rattle.std.specs.Prelude.{ℕ, ◌+◌, ◌-◌, ◌==◌, Bool, List, [], ◌∷◌, ◌++◌, length, replicate, Option, Some, None, if◌then◌else◌, min, nat_lt}
 use Rattle.tb_layout.specs.Events.{is_last_linked}
 use Rattle.tb_tables.specs.Facts.{Facts}
 use Rattle.tb_machine.specs.declared.fault.ChainFault.{ChainFault}
-use Rattle.tb_machine.specs.Clock.{next_timestamp, clock_after}
+use Rattle.tb_layout.specs.Limits.{clock_max}
+use Rattle.tb_layout.specs.declared.failure.Failure.{Failure}
+
+abbrev pub next_timestamp : ℕ → Option ℕ
+next_timestamp clock = if nat_lt clock clock_max then Some (clock + 1) else None
+
+abbrev pub clock_after : ℕ → ℕ → ℕ
+clock_after clock count = min (clock + count) clock_max
 
 abbrev pub linked_event_failed : ℕ
 linked_event_failed = 1
@@ -22,11 +29,11 @@ pub record Operation (Event : Type 0) : Type 0 where
   pub stored : Facts → ℕ → Event → Facts
   pub remembered : Facts → ℕ → Event → Facts
 
--- the events cut after each one that is not linked, and at their end
 abbrev pub before_chains : {Event : Type 0} → Event → List (List Event) → List (List Event)
 before_chains event [] = (event ∷ []) ∷ []
 before_chains event (chain ∷ chains) = (event ∷ chain) ∷ chains
 
+-- the events cut after each one that is not linked, and at their end
 abbrev pub chains_of : {Event : Type 0} → (Event → Bool) → List Event → List (List Event)
 chains_of is_linked [] = []
 chains_of is_linked (event ∷ events) =
@@ -38,7 +45,7 @@ all_but_last [] = []
 all_but_last (event ∷ []) = []
 all_but_last (event ∷ next ∷ events) = event ∷ all_but_last (next ∷ events)
 
--- an event that is examined, with its timestamp if it has one
+-- an event is examined only if it has a timestamp
 abbrev pub verdict_at : {Event : Type 0} → Operation Event → Facts → Option ℕ → Event → ℕ
 verdict_at operation facts (Some timestamp) event = operation.verdict facts timestamp event
 verdict_at operation facts None event = clock_exhausted
@@ -47,7 +54,6 @@ abbrev pub facts_with : {Event : Type 0} → Operation Event → Facts → Optio
 facts_with operation facts (Some timestamp) event = operation.stored facts timestamp event
 facts_with operation facts None event = facts
 
--- the facts once all of the events are stored
 abbrev pub facts_with_all : {Event : Type 0} → Operation Event → ℕ → Facts → List Event → Facts
 facts_with_all operation clock facts [] = facts
 facts_with_all operation clock facts (event ∷ events) =
@@ -69,7 +75,6 @@ failed_results count (Some fault) =
     replicate fault.index linked_event_failed ++ fault.code
     ∷ replicate (count - fault.index - 1) linked_event_failed
 
--- the facts that a failed chain leaves
 abbrev pub facts_after_failure : {Event : Type 0} → Operation Event → Facts → Option (ChainFault Event) → Facts
 facts_after_failure operation facts None = facts
 facts_after_failure operation facts (Some fault) = operation.remembered facts fault.code fault.event
@@ -79,7 +84,7 @@ pub record Outcome : Type 0 where
   pub results : List ℕ
   pub facts : Facts
 
--- a chain that is not open succeeds where it has no fault
+-- a chain that is not open succeeds if it has no fault
 abbrev pub closed_outcome : {Event : Type 0} → Operation Event → ℕ → Facts → List Event
     → Option (ChainFault Event) → Outcome
 closed_outcome operation clock facts chain None =
@@ -113,3 +118,14 @@ chains_outcome operation clock facts [] = record { results = []; facts = facts }
 chains_outcome operation clock facts (chain ∷ chains) =
     let first = chain_outcome operation clock facts chain in
     then_outcome first (chains_outcome operation (clock_after clock (length chain)) first.facts chains)
+
+abbrev pub events_outcome : {Event : Type 0} → Operation Event → ℕ → Facts → List Event → Outcome
+events_outcome operation clock facts events =
+    chains_outcome operation clock facts (chains_of operation.is_linked events)
+
+-- the results that are not 0, with their indices from an index on
+abbrev pub failures_from : ℕ → List ℕ → List Failure
+failures_from index [] = []
+failures_from index (code ∷ codes) =
+    if code == 0 then failures_from (index + 1) codes
+    else record { index = index; code = code } ∷ failures_from (index + 1) codes

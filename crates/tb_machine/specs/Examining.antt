@@ -3,6 +3,10 @@ use Rattle.std.specs.Prelude.{◌≢◌, ◌<◌, ℕ, suc, Bool, List, [], ◌�
 use Rattle.tb_tables.specs.Facts.{Facts}
 use Rattle.tb_machine.specs.declared.fault.ChainFault.{ChainFault}
 use Rattle.tb_machine.specs.Chain.{Operation, Outcome, closed_outcome, first_fault}
+use Rattle.tb_layout.specs.declared.transfer.Transfer.{Transfer}
+use Rattle.tb_layout.specs.declared.transfer_code.TransferCode.{TransferCode}
+use Rattle.tb_machine.specs.AccountVerdict.{first_row}
+use Rattle.tb_machine.specs.TransferVerdict.{check_new_transfer, event_checks}
 
 -- how many events the first chain has
 abbrev pub first_chain_length : {Event : Type 0} → (Event → Bool) → List Event → ℕ
@@ -23,3 +27,7 @@ fault_as become (Some fault) = Some (record { index = fault.index; event = becom
 abbrev pub event_outcome : {Event : Type 0} → Operation Event → ℕ → Facts → Event → Outcome
 event_outcome operation clock facts event =
     closed_outcome operation clock facts (event ∷ []) (first_fault operation 0 clock facts (event ∷ []))
+
+-- the verdict on an event, if its id is new
+abbrev pub new_transfer_verdict : Facts → ℕ → Transfer → TransferCode
+new_transfer_verdict facts timestamp event = first_row (event_checks event) (check_new_transfer facts timestamp event)

@@ -1,12 +1,10 @@
-pub mod Clock
-pub mod Table
 pub mod AccountVerdict
 pub mod TransferVerdict
 pub mod Prefetch
 pub mod Chain
-pub mod Packet
 pub mod Operations
 pub mod Replay
 pub mod Joining
 pub mod Examining
 pub mod Invariant
+pub mod inside

@@ -2,7 +2,8 @@
 use Rattle.std.specs.Prelude.{◌≡◌, true, false}
 use Rattle.tb_layout.specs.declared.transfer.Transfer.{Transfer}
 use Rattle.tb_layout.specs.Transfer.{is_resolving}
-use Rattle.tb_tables.specs.Facts.{Facts, IsIndexOf, IsIndexOfTransfer}
+use Rattle.tb_tables.specs.Facts.{Facts}
+use Rattle.tb_tables.specs.inside.Indices.{IsIndexOf, IsIndexOfTransfer}
 use Rattle.tb_machine.specs.declared.prefetch.Sides.{Sides}
 use Rattle.tb_machine.specs.declared.prefetch.Target.{Target}
 use Rattle.tb_machine.specs.declared.prefetch.Target.TheVariants.{Between, Named}

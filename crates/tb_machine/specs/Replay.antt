@@ -1,25 +1,21 @@
 -- The state machine over packets and pulses.
-use Rattle.std.specs.Prelude.{ℕ, max, List, [], fold, map, length, take, slice_get, Option, Some, None}
+use Rattle.std.specs.Prelude.{ℕ, max, List, [], fold, length, take, slice_get, Option, Some, None}
 use Rattle.std.specs.List.{filter_map}
 use Rattle.tb_layout.specs.declared.account.Account.{Account}
 use Rattle.tb_layout.specs.declared.failure.Failure.{Failure}
 use Rattle.tb_layout.specs.declared.answer.Answer.{Answer}
-use Rattle.tb_layout.specs.declared.answer.Answer.TheVariants as answer
-use Rattle.tb_layout.specs.Events.{Events, Accounts, Transfers, Ids}
-use Rattle.tb_layout.specs.Input.{Input, Packet, Pulse}
+use Rattle.tb_layout.specs.Events.{Events, Accounts, Transfers, Ids, Input, Packet, Pulse}
 use Rattle.tb_tables.specs.Facts.{Facts, no_facts}
 use Rattle.tb_tables.specs.Status.{expire_due}
-use Rattle.tb_tables.specs.Balances.{with_balances, balanced_account}
-use Rattle.tb_machine.specs.Chain.{Outcome}
-use Rattle.tb_machine.specs.Packet.{events_outcome, failures_from}
+use Rattle.tb_tables.specs.Balances.{balanced_account}
+use Rattle.tb_machine.specs.Chain.{Outcome, events_outcome, failures_from, clock_after}
 use Rattle.tb_machine.specs.Operations.{accounts_operation, transfers_operation}
-use Rattle.tb_machine.specs.Clock.{clock_after}
+use Rattle.tb_layout.specs.declared.answer.Answer.TheVariants as answer
 
 pub record State : Type 0 where
   pub clock : ℕ
   pub facts : Facts
 
--- a state without facts
 abbrev pub opening : ℕ → State
 opening clock = record { clock = clock; facts = no_facts }
 
@@ -35,15 +31,10 @@ outcome_of state (Ids ids) = record { results = []; facts = state.facts }
 abbrev pub failures_of : State → Events → List Failure
 failures_of state events = failures_from 0 (outcome_of state events).results
 
--- the accounts with these ids that are there, with their balances, in the order asked
+-- the accounts with these ids, with their balances, in the order asked
 abbrev pub accounts_found : Facts → List ℕ → List Account
 accounts_found facts ids = filter_map (balanced_account facts) ids
 
--- all accounts in order of making, with their balances
-abbrev pub balanced_accounts : Facts → List Account
-balanced_accounts facts = map (with_balances facts) facts.accounts
-
--- what a packet is answered
 abbrev pub answer_of : State → Events → Answer
 answer_of state (Accounts events) = answer.Failures (failures_of state (Accounts events))
 answer_of state (Transfers events) = answer.Failures (failures_of state (Transfers events))
@@ -53,7 +44,6 @@ answer_of state (Ids ids) = answer.Accounts (accounts_found state.facts ids)
 abbrev pub after_events : State → ℕ → Facts → State
 after_events state count facts = record { clock = clock_after state.clock count; facts = facts }
 
--- a lookup leaves the state as it is
 abbrev pub after_packet : State → Events → State
 after_packet state (Accounts events) = after_events state (length events) (outcome_of state (Accounts events)).facts
 after_packet state (Transfers events) = after_events state (length events) (outcome_of state (Transfers events)).facts

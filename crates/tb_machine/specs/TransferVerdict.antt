@@ -1,28 +1,27 @@
--- The verdict on an event that asks for a transfer, and the transfer that is stored where it is ok.
+-- The verdict on an event that asks for a transfer, and the transfer that is stored if it is ok.
 use Rattle.std.specs.Prelude.{ℕ, ◌+◌, Bool, not, ◌&&◌, ◌||◌, ◌==◌, nat_lt, List, [], ◌∷◌, Option, Some, None, if◌then◌else◌}
 use Rattle.tb_layout.specs.declared.account.Account.{Account}
 use Rattle.tb_layout.specs.declared.transfer.Transfer.{Transfer}
 use Rattle.tb_layout.specs.declared.transfer_code.TransferCode.{TransferCode}
 use Rattle.tb_layout.specs.declared.transfer_code.TransferCode.TheVariants.{TimestampMustBeZero, ReservedFlag, IdMustNotBeZero, IdMustNotBeIntMax, ExistsWithDifferentFlags, ExistsWithDifferentPendingId, ExistsWithDifferentDebitAccountId, ExistsWithDifferentCreditAccountId, ExistsWithDifferentAmount, ExistsWithDifferentUserData128, ExistsWithDifferentUserData64, ExistsWithDifferentUserData32, ExistsWithDifferentTimeout, ExistsWithDifferentLedger, ExistsWithDifferentCode, Exists, IdAlreadyFailed, FlagsAreMutuallyExclusive, PendingIdMustNotBeZero, PendingIdMustNotBeIntMax, PendingIdMustBeDifferent, TimeoutReservedForPendingTransfer, PendingTransferNotFound, PendingTransferNotPending, PendingTransferHasDifferentDebitAccountId, PendingTransferHasDifferentCreditAccountId, PendingTransferHasDifferentLedger, PendingTransferHasDifferentCode, ExceedsPendingTransferAmount, PendingTransferHasDifferentAmount, PendingTransferAlreadyPosted, PendingTransferAlreadyVoided, PendingTransferExpired, DebitAccountIdMustNotBeZero, DebitAccountIdMustNotBeIntMax, CreditAccountIdMustNotBeZero, CreditAccountIdMustNotBeIntMax, AccountsMustBeDifferent, PendingIdMustBeZero, LedgerMustNotBeZero, CodeMustNotBeZero, DebitAccountNotFound, CreditAccountNotFound, AccountsMustHaveTheSameLedger, TransferMustHaveTheSameLedgerAsAccounts, OverflowsDebitsPending, OverflowsCreditsPending, OverflowsDebitsPosted, OverflowsCreditsPosted, OverflowsDebits, OverflowsCredits, OverflowsTimeout, ExceedsCredits, ExceedsDebits, Ok}
 use Rattle.tb_layout.specs.Account.{debits_must_not_exceed_credits, credits_must_not_exceed_debits}
-use Rattle.tb_layout.specs.Flags.{has_reserved_flag}
+use Rattle.tb_layout.specs.Bytes.{has_reserved_flag}
 use Rattle.tb_layout.specs.Transfer.{is_pending, is_post, is_void, is_resolving}
 use Rattle.tb_tables.specs.Facts.{Facts, transfer_with, is_failed}
 use Rattle.tb_tables.specs.Balances.{balanced_account}
 use Rattle.tb_tables.specs.Status.{status_of, is_due, expires_at}
 use Rattle.tb_tables.specs.declared.status.Status.{Status}
 use Rattle.tb_tables.specs.declared.status.Status.TheVariants.{Pending, Posted, Voided, Expired}
-use Rattle.tb_machine.specs.AccountVerdict.{u128_max}
+use Rattle.tb_machine.specs.AccountVerdict.{u128_max, first_row}
 use Rattle.tb_layout.specs.Limits.{clock_max}
-use Rattle.tb_machine.specs.Table.{first_row}
 
 -- ---- what a post or a void leaves to the transfer that it names
 
--- a field, or where it is 0 the pending transfer's
+-- a field, or the pending transfer's if it is 0
 abbrev pub unless_zero : ℕ → ℕ → ℕ
 unless_zero field otherwise = if field == 0 then otherwise else field
 
--- whether the amount stands for the whole of the pending transfer's: the greatest in a post, 0 in a void
+-- whether the amount means all of the pending transfer's: the greatest in a post, 0 in a void
 abbrev pub means_whole_amount : Transfer → Bool
 means_whole_amount event = (is_post event && (event.amount == u128_max)) || (is_void event && (event.amount == 0))
 
@@ -49,7 +48,7 @@ abbrev pub stored_transfer : Facts → ℕ → Transfer → Transfer
 stored_transfer facts timestamp event =
     record (resolved_transfer_of (transfer_with facts event.pending_id) event) { timestamp = timestamp }
 
--- ---- each table has its checks in their order, and what follows where none applies
+-- ---- each table has its checks in their order
 
 -- an event, with its fields resolved, whose id is that of a stored transfer
 abbrev pub stored_checks : Transfer → Transfer → List (Bool × TransferCode)
@@ -115,14 +114,13 @@ resolving_verdict facts timestamp event =
 
 -- ---- a plain or pending transfer
 
--- an account's debits, and its credits, with an amount more; sums have no bound
+-- sums have no bound
 abbrev pub debits_with : Account → ℕ → ℕ
 debits_with account amount = account.debits_pending + account.debits_posted + amount
 
 abbrev pub credits_with : Account → ℕ → ℕ
 credits_with account amount = account.credits_pending + account.credits_posted + amount
 
--- between two accounts, which have their balances
 abbrev pub balance_checks : ℕ → Account → Account → Transfer → List (Bool × TransferCode)
 balance_checks timestamp debit credit event =
     (not (debit.ledger == credit.ledger), AccountsMustHaveTheSameLedger) ∷
@@ -196,10 +194,6 @@ event_checks event =
     (event.id == 0, IdMustNotBeZero) ∷
     (event.id == u128_max, IdMustNotBeIntMax) ∷
     []
-
--- an event, if its id is new
-abbrev pub new_transfer_verdict : Facts → ℕ → Transfer → TransferCode
-new_transfer_verdict facts timestamp event = first_row (event_checks event) (check_new_transfer facts timestamp event)
 
 abbrev pub transfer_verdict : Facts → ℕ → Transfer → TransferCode
 transfer_verdict facts timestamp event =

@@ -2,7 +2,7 @@
 
 ghost use Rattle.std.specs.Prelude.{◌≡◌, ◌+◌, ◌^◌, ◌<◌, ◌≤◌, length, map};
 ghost use Rattle.tb_layout.specs.Limits.{clock_max};
-ghost use Rattle.tb_machine.specs.Clock as spec;
+ghost use Rattle.tb_machine.specs.Chain as spec;
 ghost use Rattle.tb_machine.specs.Examining.{first_chain_length};
 
 use crate::clock::clock_after;
@@ -19,7 +19,7 @@ pub struct ChainStart {
 }
 
 impl ChainStart {
-    /// The start of the next chain, if this one has `count` events.
+    /// Returns the start of the next chain, if this one has `count` events.
     pub fn next(self, count: usize) -> ChainStart
         requires clock { self.clock ≤ clock_max }
         requires fits { self.index + count < 2 ^ 64 }

@@ -2,7 +2,7 @@
 
 ghost use Rattle.std.specs.Prelude.{◌≡◌, ◌+◌, ◌*◌, ◌≤◌};
 ghost use Rattle.tb_layout.specs.Limits.{clock_max, nanoseconds_per_second};
-ghost use Rattle.tb_machine.specs.Clock as spec;
+ghost use Rattle.tb_machine.specs.Chain as spec;
 
 use tb_layout::{CLOCK_MAX, NANOSECONDS_PER_SECOND};
 

@@ -3,10 +3,9 @@
 ghost use Rattle.std.specs.Prelude.{◌≡◌, ◌≢◌, ◌+◌, ◌^◌, ◌<◌, ◌≤◌, ◌++◌, [], length, map, take, vec_len, vec_capacity, Ok, None, IfOk, OnOk};
 ghost use Rattle.tb_tables.specs.History.{mark_of, back_to, Extends};
 ghost use Rattle.tb_layout.specs.Limits.{clock_max};
-ghost use Rattle.tb_machine.specs.Clock as spec;
-ghost use Rattle.tb_machine.specs.Chain.{verdict_at, facts_with, facts_with_all, first_fault, facts_after_failure, open_outcome, closed_outcome, chain_outcome};
+ghost use Rattle.tb_machine.specs.Chain as spec;
+ghost use Rattle.tb_machine.specs.Chain.{verdict_at, facts_with, facts_with_all, first_fault, facts_after_failure, open_outcome, closed_outcome, chain_outcome, events_outcome, failures_from};
 ghost use Rattle.tb_machine.specs.Examining.{event_outcome, fault_as, first_chain_length};
-ghost use Rattle.tb_machine.specs.Packet.{events_outcome, failures_from};
 
 use crate::chain::{ChainStart, first_chain_length};
 use crate::clock::{clock_after, next_timestamp};

@@ -9,7 +9,8 @@ ghost use Rattle.tb_tables.specs.Facts.{Facts, account_with, add_account, add_tr
 ghost use Rattle.tb_tables.specs.History.{with_change, Extends};
 ghost use Rattle.tb_layout.specs.Limits.{clock_max};
 ghost use Rattle.tb_machine.specs.Chain.{Operation};
-ghost use Rattle.tb_machine.specs.TransferVerdict.{stored_transfer, new_transfer_verdict as new_verdict_of, transfer_verdict as verdict_of};
+ghost use Rattle.tb_machine.specs.TransferVerdict.{stored_transfer, transfer_verdict as verdict_of};
+ghost use Rattle.tb_machine.specs.Examining.{new_transfer_verdict as new_verdict_of};
 ghost use Rattle.tb_machine.specs.AccountVerdict.{verdict_given};
 ghost use Rattle.tb_machine.specs.Prefetch.{IsTarget};
 ghost use Rattle.tb_machine.specs.declared.prefetch.Target.TheVariants.{Between, Named};

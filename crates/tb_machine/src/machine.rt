@@ -1,13 +1,13 @@
 //! The machine.
 
 ghost use Rattle.std.specs.Prelude.{◌≡◌, ◌==◌, ◌||◌, ◌/◌, ◌%◌, ◌≤◌, [], true, length, map, slice_get, vec_capacity, OnOk, OnErr};
-ghost use Rattle.tb_layout.specs.Events.{events_of, ids_of, chunks};
+ghost use Rattle.tb_layout.specs.Events.{events_of, ids_of, chunks, create_accounts, create_transfers};
 ghost use Rattle.tb_tables.specs.Facts.{transfer_with};
-ghost use Rattle.tb_tables.specs.Status.{status_with};
+ghost use Rattle.tb_tables.specs.inside.Status.{status_with};
 ghost use Rattle.tb_tables.specs.Balances.{balanced_account};
-ghost use Rattle.tb_layout.specs.Limits.{batch_max, clock_max, moment_max};
-ghost use Rattle.tb_layout.specs.Operation.{create_accounts, create_transfers};
-ghost use Rattle.tb_machine.specs.Packet.{events_outcome, failures_from};
+ghost use Rattle.tb_layout.specs.inside.Limits.{batch_max, moment_max};
+ghost use Rattle.tb_layout.specs.Limits.{clock_max};
+ghost use Rattle.tb_machine.specs.Chain.{events_outcome, failures_from};
 
 use crate::clock::clock_after;
 use crate::commit::commit_chains;
@@ -44,7 +44,8 @@ impl Model for Machine {
 }
 
 impl Machine {
-    ghost use Rattle.tb_machine.specs.Replay.{opening, failures_of, accounts_found, balanced_accounts, after_events, after_packet, after_pulse};
+    ghost use Rattle.tb_machine.specs.Replay.{opening, failures_of, accounts_found, after_events, after_packet, after_pulse};
+    ghost use Rattle.tb_machine.specs.inside.Accounts.{balanced_accounts};
 
     /// A machine without facts. Its clock starts at a number of nanoseconds, 0 to `CLOCK_MAX`; the first event gets
     /// the next one as its timestamp. Takes no memory.

@@ -1,7 +1,7 @@
 //! What is looked up for a transfer before its checks.
 
 ghost use Rattle.std.specs.Prelude.{◌≡◌, ℕ};
-ghost use Rattle.tb_tables.specs.Facts.{IsIndexOf};
+ghost use Rattle.tb_tables.specs.inside.Indices.{IsIndexOf};
 ghost use Rattle.tb_tables.specs.Balances.{balanced_account};
 ghost use Rattle.tb_machine.specs.Prefetch.{IsTarget};
 

@@ -1,8 +1,7 @@
 //! The failures of a chain that failed.
 
 ghost use Rattle.std.specs.Prelude.{◌≡◌, ◌+◌, ◌^◌, ◌<◌, ◌≤◌, ◌++◌, replicate, vec_len, vec_capacity};
-ghost use Rattle.tb_machine.specs.Chain.{linked_event_failed, failed_results};
-ghost use Rattle.tb_machine.specs.Packet.{failures_from};
+ghost use Rattle.tb_machine.specs.Chain.{linked_event_failed, failed_results, failures_from};
 ghost use Rattle.tb_machine.specs.Examining.{LiesBelow};
 
 use crate::fault::ChainFault;

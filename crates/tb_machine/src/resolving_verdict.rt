@@ -5,7 +5,7 @@ ghost use Rattle.tb_layout.specs.declared.transfer_code.TransferCode.{TransferCo
 ghost use Rattle.tb_layout.specs.TransferCode.{number_of};
 ghost use Rattle.tb_layout.specs.Transfer.{is_pending};
 ghost use Rattle.tb_tables.specs.Status.{status_of, is_due as is_due_at};
-ghost use Rattle.tb_machine.specs.Table.{first_row};
+ghost use Rattle.tb_machine.specs.AccountVerdict.{first_row};
 ghost use Rattle.tb_machine.specs.Prefetch.{IsTarget};
 ghost use Rattle.tb_machine.specs.declared.prefetch.Target.TheVariants.{Named};
 ghost use Rattle.tb_machine.specs.TransferVerdict as spec;

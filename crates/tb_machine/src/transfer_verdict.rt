@@ -3,9 +3,11 @@
 ghost use Rattle.std.specs.Prelude.{◌≡◌, ◌≢◌, ℕ, Some, None, IfNone, IfSome, MatchOption};
 ghost use Rattle.tb_layout.specs.declared.transfer_code.TransferCode.{TransferCode as Code};
 ghost use Rattle.tb_layout.specs.TransferCode.{number_of};
-ghost use Rattle.tb_tables.specs.Facts.{IsIndexOfTransfer, transfer_with};
+ghost use Rattle.tb_tables.specs.inside.Indices.{IsIndexOfTransfer};
+ghost use Rattle.tb_tables.specs.Facts.{transfer_with};
 ghost use Rattle.tb_machine.specs.TransferVerdict as spec;
-ghost use Rattle.tb_machine.specs.Table.{first_row};
+ghost use Rattle.tb_machine.specs.Examining.{new_transfer_verdict as new_verdict_of};
+ghost use Rattle.tb_machine.specs.AccountVerdict.{first_row};
 ghost use Rattle.tb_machine.specs.Prefetch.{IsTarget};
 ghost use Rattle.tb_machine.specs.declared.prefetch.Target.TheVariants.{Named};
 
@@ -148,7 +150,7 @@ pub fn new_transfer_verdict(
     event: &Transfer,
 ) -> TransferCode
     requires { IsTarget tables.now.now event.now target }
-    ensures { result ≡ spec.new_transfer_verdict tables.now.now timestamp event.now }
+    ensures { result ≡ new_verdict_of tables.now.now timestamp event.now }
 {
     if let Some(code) = event_fault(event) {
         return code;
@@ -166,8 +168,8 @@ pub fn new_resolving(
 ) -> Option<Transfer>
     requires { IsTarget tables.now.now event.now (Named pending) }
     ensures stored { IfSome result (λ transfer. transfer ≡ spec.stored_transfer tables.now.now timestamp event.now) }
-    ensures ok { IfSome result (λ _. number_of (spec.new_transfer_verdict tables.now.now timestamp event.now) ≡ 0) }
-    ensures faulty { IfNone result (number_of (spec.new_transfer_verdict tables.now.now timestamp event.now) ≢ 0) }
+    ensures ok { IfSome result (λ _. number_of (new_verdict_of tables.now.now timestamp event.now) ≡ 0) }
+    ensures faulty { IfNone result (number_of (new_verdict_of tables.now.now timestamp event.now) ≢ 0) }
 {
     if event_fault(event).is_some() || new_id_fault(tables, event).is_some() {
         return None;

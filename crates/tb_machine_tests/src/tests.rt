@@ -1,8 +1,8 @@
 //! What no clause says: each call once with ample memory, and commits with each allocation refused.
 
 ghost use Rattle.std.specs.Prelude.{◌≡◌, ◌==◌, ◌||◌, ◌/◌, ◌%◌, ◌≤◌, true, length};
-ghost use Rattle.tb_layout.specs.Limits.{batch_max};
-ghost use Rattle.tb_layout.specs.Operation.{create_accounts, create_transfers};
+ghost use Rattle.tb_layout.specs.inside.Limits.{batch_max};
+ghost use Rattle.tb_layout.specs.Events.{create_accounts, create_transfers};
 
 use std::alloc::{AllocError, Global};
 use std::process::Abort;

@@ -5,11 +5,11 @@ use Rattle.std.specs.Simd.{first_chunks}
 use Rattle.std.proofs.lemmas.Bool.Decides.{nat_tests}
 use Rattle.std.proofs.lemmas.List.{length-map}
 use Rattle.std.proofs.lemmas.Grind.{flat_map-append}
-use Rattle.tb_layout.specs.Input.{Input}
+use Rattle.tb_layout.specs.Events.{Input, Accounts, Transfers, Ids, accounts_of, transfers_of, ids_of, chunks}
 use Rattle.tb_layout.specs.Account.{account_of}
 use Rattle.tb_layout.specs.Bytes.{little_endian}
 use Rattle.tb_layout.specs.Transfer.{transfer_of}
-use Rattle.tb_layout.specs.Events.{Accounts, Transfers, Ids, accounts_of, transfers_of, ids_of, chunks, count_of}
+use Rattle.tb_layout.specs.inside.Events.{count_of}
 use Rattle.tb_work.specs.Admission.{admission_of, admission_of_size}
 use Rattle.tb_work.specs.Packet.{events_in, ReplyValue}
 use Rattle.tb_work.specs.Queue.{ahead, ahead_of, items_in}

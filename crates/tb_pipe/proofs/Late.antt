@@ -4,7 +4,7 @@ use Rattle.std.specs.Prelude.{◌||◌, is_some, if◌then◌else◌, Contains}
 use Rattle.std.proofs.lemmas.List.Elements.{Contains-append_left}
 use Rattle.tb_work.specs.Packet.{Numbered, input_of}
 use Rattle.tb_work.specs.Queue.{ahead, items_in}
-use Rattle.tb_layout.specs.Input as input
+use Rattle.tb_layout.specs.Events as input
 use Rattle.tb_work.specs.declared.item.Item.{Item}
 use Rattle.tb_work.specs.declared.item.Item.TheVariants as item
 use Rattle.tb_work.specs.declared.item.Ticket.{Ticket}

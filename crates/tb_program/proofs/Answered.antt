@@ -4,7 +4,7 @@ use Rattle.std.specs.Prelude.{◌==◌, slice_get, if◌then◌else◌}
 use Rattle.std.proofs.lemmas.Option.{slice_get_within}
 use Rattle.tb_core.specs.Due.{outcome_at, reply_due, all_due_from, replies_to, Place, Ahead, next_place}
 use Rattle.tb_core.specs.Journal.{LedgerState, inputs}
-use Rattle.tb_layout.specs.Input.{Input}
+use Rattle.tb_layout.specs.Events.{Input}
 use Rattle.tb_submit.specs.Ends.{EndedState, SenderState, SubmitterState, queued_by, replies_of}
 use Rattle.tb_work.specs.Queue.{AreSubmitted, IsSubmitted, items_in, part}
 use Rattle.tb_work.specs.declared.item.Item.{Item}

@@ -1,6 +1,6 @@
 -- The lines of pulses, entry by entry.
 use Rattle.std.proofs.Common.{◌≡◌, ◌∙◌, ◌+◌, ◌*◌, ℕ, suc, List, [], ◌∷◌, ◌++◌, append_assoc, length, map, drop, refl, ap, sym, arith}
-use Rattle.tb_layout.specs.Input.{Input, Packet, Pulse}
+use Rattle.tb_layout.specs.Events.{Input, Packet, Pulse}
 use Rattle.std.specs.List.{flat_map}
 use Rattle.std.proofs.lemmas.List.Folds.{flat_map-map}
 use Rattle.tb_core.specs.Journal.{LedgerState, inputs}

@@ -3,7 +3,7 @@ use Rattle.std.specs.Prelude.{◌≡◌, ℕ, ◌+◌, zero, suc, List, [], ◌�
 use Rattle.tb_core.specs.Grouping.{IsGrouping}
 use Rattle.tb_core.specs.Headline.{moments_in as moments_committed, moments_queued}
 use Rattle.tb_core.specs.Report.{Run, committed_in, IsPrefix, LawfulReport}
-use Rattle.tb_layout.specs.Input.{Input, Packet, Pulse}
+use Rattle.tb_layout.specs.Events.{Input, Packet, Pulse}
 use Rattle.tb_machine.specs.Replay.{State}
 use Rattle.tb_work.specs.Packet.{ReplyValue}
 use Rattle.tb_work.specs.declared.item.Item.{Item}

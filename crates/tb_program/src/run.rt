@@ -4,7 +4,7 @@ ghost use Rattle.std.specs.Prelude.{◌≡◌, ◌≤◌, ℕ, List, [], false, 
 ghost use Rattle.std.specs.Io.KnownBytes.{Appends, Keeps};
 ghost use Rattle.tb_drive.specs.Plan.{planned_items, refused_of};
 ghost use Rattle.tb_drive.specs.Reported.{AreTogether};
-ghost use Rattle.tb_layout.specs.Limits.{submitters_max};
+ghost use Rattle.tb_layout.specs.inside.Limits.{submitters_max};
 ghost use Rattle.tb_program.specs.Drivers.{AreNew, lists_of, share_of};
 ghost use Rattle.tb_program.specs.Noting.{AreFresh, HaveCredit};
 ghost use Rattle.tb_program_text.specs.Output.{out, is_faultless};

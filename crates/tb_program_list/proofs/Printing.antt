@@ -5,7 +5,7 @@ use Rattle.tb_machine.specs.Replay.{State, replay}
 use Rattle.tb_work.specs.Job.{numbered_packet}
 use Rattle.tb_work.specs.Queue.{ahead}
 use Rattle.tb_work.specs.Packet.{ReplyValue, reply_with}
-use Rattle.tb_layout.specs.Input.{Input}
+use Rattle.tb_layout.specs.Events.{Input}
 use Rattle.tb_work.specs.declared.item.Item as work
 use Rattle.tb_work.specs.declared.refusal.Refusal.{Refusal}
 use Rattle.tb_core.specs.Due.{all_due_from, outcome_at, Ahead, Behind}

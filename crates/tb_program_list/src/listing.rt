@@ -1,7 +1,7 @@
 //! The lines of `list`.
 
 ghost use Rattle.std.specs.Prelude.{◌≡◌, ◌<◌, ◌++◌, ℕ, IfSome, OnOk, List, Some, map, string_bytes};
-ghost use Rattle.tb_layout.specs.Limits.{places_max};
+ghost use Rattle.tb_layout.specs.inside.Limits.{places_max};
 ghost use Rattle.tb_core.specs.Run.{IsListed};
 ghost use Rattle.tb_program_list.specs.SplitPlan.{line_of};
 ghost use Rattle.tb_program_text.specs.Plan.{Planned, queue_of};

@@ -1,7 +1,7 @@
 //! The plan of a script's items.
 
 ghost use Rattle.std.specs.Prelude.{◌≡◌, ◌<◌, ◌≤◌, [], ℕ, get_or, OnOk, IfOk};
-ghost use Rattle.tb_layout.specs.Limits.{batch_max};
+ghost use Rattle.tb_layout.specs.inside.Limits.{batch_max};
 ghost use Rattle.tb_program_text.specs.Plan.{Packet as PacketPlanned, Close as ClosePlanned, number_in, pulse_as, planned_as, plan_after};
 ghost use Rattle.tb_program_list.specs.SplitPlan.{with_planned, split_plan};
 ghost use Rattle.tb_program_script.specs.declared.item.ScriptItem.TheVariants.{Packet as PacketItem};

@@ -2,7 +2,8 @@
 
 ghost use Rattle.std.specs.Prelude.{◌≡◌, ◌≢◌, ◌≤◌, List, map, IfOk, IfErr, IfSome, IsErrOf, string_bytes};
 ghost use Rattle.std.specs.Io.KnownBytes.{Appends, Keeps};
-ghost use Rattle.tb_layout.specs.Limits.{batch_max, clock_max};
+ghost use Rattle.tb_layout.specs.inside.Limits.{batch_max};
+ghost use Rattle.tb_layout.specs.Limits.{clock_max};
 ghost use Rattle.tb_program_text.specs.Output.{plan_text, listing, out, is_faultless};
 ghost use Rattle.tb_program_list.specs.SplitPlan.{line_of};
 ghost use Rattle.tb_program_text.specs.Plan.{Planned, queue_of};

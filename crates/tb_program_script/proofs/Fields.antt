@@ -12,7 +12,7 @@ use Rattle.std.proofs.Math.Nat.{div-div-eq-div-mul, div-one, pow-suc, pow-le-pow
 use Rattle.std.proofs.Math.Seq.{drop-append-add, take-append_seam}
 use Rattle.tb_layout.specs.declared.account.Account.{Account}
 use Rattle.tb_layout.specs.declared.transfer.Transfer.{Transfer}
-use Rattle.tb_layout.specs.Bytes.{bytes_of, bytes_in_turn}
+use Rattle.tb_layout.specs.inside.Bytes.{bytes_of, bytes_in_turn}
 use Rattle.tb_program_script.specs.declared.fault.Fault.{Fault}
 use Rattle.tb_program_script.specs.declared.event.Draft.{Draft}
 use Rattle.tb_program_script.specs.declared.event.Layout.{Layout}

@@ -25,7 +25,8 @@ use Rattle.tb_program_script.specs.Number.{number_of, number_within}
 use Rattle.tb_program_script.specs.Steps.{◌>>=◌}
 use Rattle.tb_program_script.specs.Keyword.{keyword_of}
 use Rattle.tb_program_script.specs.Event.{hex_bytes}
-use Rattle.tb_layout.specs.Limits.{capacity_max, clock_max, submitters_max}
+use Rattle.tb_layout.specs.inside.Limits.{capacity_max, submitters_max}
+use Rattle.tb_layout.specs.Limits.{clock_max}
 use Rattle.tb_program_script.specs.Script.{ParsedScript, nothing_parsed, items_of, may_stand, is_text, with_words, with_line, with_packet, with_pulse, with_close, after_line, after_lines, at_line, submitters_of}
 use Rattle.tb_program_script.specs.Spelling.{line_of_words, text_of_lines, setting_lines, settings_lines, byte_line, packet_lines, item_lines, CanBeSet, CanBeSubmitted, CanBeWritten, CanAllBeWritten, shut_by}
 use Rattle.tb_program_script.specs.Laws.{SpelledScriptsAreRead}

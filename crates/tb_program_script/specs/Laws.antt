@@ -2,9 +2,8 @@
 use Rattle.std.specs.Prelude.{◌≡◌, ◌<◌, ℕ, ◌+◌, ◌^◌, true, false, List, ◌∷◌, ◌++◌, length, All, codes, Ok, Err, IsOk, is_some}
 use Rattle.tb_layout.specs.declared.account.Account.{Account}
 use Rattle.tb_layout.specs.declared.transfer.Transfer.{Transfer}
-use Rattle.tb_layout.specs.Account.{account_bytes}
-use Rattle.tb_layout.specs.Bytes.{bytes_of}
-use Rattle.tb_layout.specs.Transfer.{transfer_bytes}
+use Rattle.tb_layout.specs.inside.Records.{account_bytes, transfer_bytes}
+use Rattle.tb_layout.specs.inside.Bytes.{bytes_of}
 use Rattle.tb_program_script.specs.declared.fault.Fault.{Fault}
 use Rattle.tb_program_script.specs.declared.item.Settings.{Settings}
 use Rattle.tb_program_script.specs.declared.item.ScriptItem.{ScriptItem}

@@ -2,7 +2,8 @@
 use Rattle.std.specs.Prelude.{◌≤◌, ℕ, ◌+◌, ◌-◌, ◌^◌, ◌==◌, Bool, true, false, not, ◌&&◌, ◌||◌, List, [], ◌∷◌, ◌++◌, length, Option, Some, None, Result, Ok, Err, is_some, is_none, unwrap_or, if◌then◌else◌, nat_lt, nat_le, slice_index}
 use Rattle.std.specs.List.{list_all}
 use Rattle.std.specs.Int.{w128, to_le_bytes}
-use Rattle.tb_layout.specs.Limits.{batch_max, capacity_max, clock_max, submitters_max}
+use Rattle.tb_layout.specs.inside.Limits.{batch_max, capacity_max, submitters_max}
+use Rattle.tb_layout.specs.Limits.{clock_max}
 use Rattle.tb_program_script.specs.declared.fault.Fault.{Fault}
 use Rattle.tb_program_script.specs.declared.fault.Fault.TheVariants.{LineTooLong, BadByte, UnknownWord, OutOfPlace}
 use Rattle.tb_program_script.specs.declared.keyword.Keyword.{Keyword}

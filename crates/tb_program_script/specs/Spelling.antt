@@ -2,7 +2,8 @@
 use Rattle.std.specs.Prelude.{◌≡◌, ℕ, ◌<◌, ◌≤◌, ◌^◌, Bool, true, false, List, [], ◌∷◌, ◌++◌, map, All, Option, Some, None, codes, decimal, IfSome}
 use Rattle.std.specs.List.{flat_map}
 use Rattle.hex.specs.Hex.{encode_lower}
-use Rattle.tb_layout.specs.Limits.{batch_max, capacity_max, clock_max, submitters_max}
+use Rattle.tb_layout.specs.inside.Limits.{batch_max, capacity_max, submitters_max}
+use Rattle.tb_layout.specs.Limits.{clock_max}
 use Rattle.tb_layout.specs.declared.account.Account.{Account}
 use Rattle.tb_layout.specs.declared.transfer.Transfer.{Transfer}
 use Rattle.tb_program_script.specs.declared.item.Settings.{Settings}

@@ -3,11 +3,12 @@ use Rattle.std.specs.Prelude.{◌≡◌, ◌<◌, ◌≤◌, ℕ, Bool, true, fa
 use Rattle.std.specs.declared.alloc.Global.{Global}
 use Rattle.tb_layout.specs.declared.account.Account.{Account}
 use Rattle.tb_layout.specs.declared.failure.Failure.{Failure}
-use Rattle.tb_machine.specs.Replay.{State, replay, balanced_accounts}
+use Rattle.tb_machine.specs.Replay.{State, replay}
+use Rattle.tb_machine.specs.inside.Accounts.{balanced_accounts}
 use Rattle.tb_work.specs.Queue.{ahead}
 use Rattle.tb_work.specs.Refusal.{number_of, name_of}
 use Rattle.tb_work.specs.Packet.{ReplyValue, reply_with}
-use Rattle.tb_layout.specs.Input.{Input}
+use Rattle.tb_layout.specs.Events.{Input}
 use Rattle.tb_layout.specs.declared.answer.Answer.{Answer}
 use Rattle.tb_layout.specs.declared.answer.Answer.TheVariants.{Failures, Accounts}
 use Rattle.tb_work.specs.declared.outcome.Outcome.{Outcome}

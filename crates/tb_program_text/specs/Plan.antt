@@ -2,7 +2,7 @@
 -- refused.
 use Rattle.std.specs.Prelude.{ℕ, ◌==◌, nat_lt, Bool, false, List, [], ◌∷◌, ◌++◌, count_by, Result, Ok, Err, if◌then◌else◌}
 use Rattle.std.specs.List.{flat_map}
-use Rattle.tb_layout.specs.Limits.{moment_max}
+use Rattle.tb_layout.specs.inside.Limits.{moment_max}
 use Rattle.tb_work.specs.Admission.{admission_of}
 use Rattle.tb_work.specs.Packet.{Numbered}
 use Rattle.tb_work.specs.Job.{numbered_packet}

@@ -5,7 +5,7 @@ ghost use Rattle.std.specs.Prelude.{◌≡◌, ◌++◌, OnOk, IfErr, codes, str
 ghost use Rattle.tb_program_command.specs.declared.program_fault.ProgramFault.TheVariants.{Write as WriteFault};
 ghost use Rattle.std.specs.List.{flat_map};
 ghost use Rattle.tb_program_text.specs.Output.{fault_line, refused_line, failure_text, found_debits, found_credits, found_text, answer_text, outcome_text, packet_front, reply_line, pulse_line, refused_pulse_line, clock_line, account_front, balances_text, account_line, state_text};
-ghost use Rattle.tb_machine.specs.Replay.{balanced_accounts};
+ghost use Rattle.tb_machine.specs.inside.Accounts.{balanced_accounts};
 
 use itoa::{Buffer, Integer};
 use std::alloc::AllocError;

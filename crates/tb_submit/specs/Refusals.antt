@@ -1,6 +1,6 @@
 -- Why a call is refused.
 use Rattle.std.specs.Prelude.{◌≡◌, ℕ, ◌-◌, ◌<◌, ◌==◌, false, ◌||◌, ◌⊎◌, if◌then◌else◌, nat_lt, List, [], ◌∷◌, length, Option, Some, None, Result, Ok, Err}
-use Rattle.tb_layout.specs.Limits.{batch_max, capacity_max, submitters_max}
+use Rattle.tb_layout.specs.inside.Limits.{batch_max, capacity_max, submitters_max}
 use Rattle.tb_work.specs.Admission.{admission_of, count_of}
 use Rattle.tb_work.specs.Packet.{ReplyValue}
 use Rattle.tb_work.specs.Job.{is_lookup}

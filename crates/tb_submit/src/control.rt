@@ -1,7 +1,7 @@
 //! The control.
 
 ghost use Rattle.std.specs.Prelude.{◌≡◌, ◌<◌, ◌≤◌, [], length, OnOk, IfOk, IfErr, Err};
-ghost use Rattle.tb_layout.specs.Limits.{moment_max, queued_max};
+ghost use Rattle.tb_layout.specs.inside.Limits.{moment_max, queued_max};
 ghost use Rattle.tb_submit.specs.Ends.{sender_with};
 ghost use Rattle.tb_work.specs.declared.item.Item.TheVariants as item;
 ghost use Rattle.tb_work.specs.declared.refusal.Refusal.TheVariants as refusal;

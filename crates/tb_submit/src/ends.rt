@@ -1,7 +1,7 @@
 //! Opening a queue.
 
 ghost use Rattle.std.specs.Prelude.{◌≡◌, ◌<◌, ◌≤◌, [], map, length, None, All, OnOk, IfOk, IfErr};
-ghost use Rattle.tb_layout.specs.Limits.{batch_max, capacity_max, submitters_max};
+ghost use Rattle.tb_layout.specs.inside.Limits.{batch_max, capacity_max, submitters_max};
 ghost use Rattle.tb_rings.specs.Ends.{given, slots};
 ghost use Rattle.tb_submit.specs.Ends.{new_submitter, new_control, new_intake, origins, origin_of};
 ghost use Rattle.tb_submit.specs.Refusals.{IsQueueRefusal, queue_refusal};

@@ -1,7 +1,7 @@
 //! Submitters.
 
 ghost use Rattle.std.specs.Prelude.{◌≡◌, ◌<◌, ◌≤◌, [], ◌∷◌, ◌++◌, length, None, OnOk, IfOk, IfErr, IfSome, IfNone, IsSomeAnd};
-ghost use Rattle.tb_layout.specs.Limits.{batch_max, capacity_max, queued_max};
+ghost use Rattle.tb_layout.specs.inside.Limits.{batch_max, capacity_max, queued_max};
 ghost use Rattle.tb_rings.specs.Ends.{inlet_ring, taken, lies};
 ghost use Rattle.tb_submit.specs.Ends.{ended_with, with_item, new_submitter};
 ghost use Rattle.tb_submit.specs.Refusals as spec;
@@ -31,7 +31,7 @@ pub struct Submitter {
 }
 
 impl Model for Submitter {
-    ghost use Rattle.tb_layout.specs.Limits.{batch_max, capacity_max};
+    ghost use Rattle.tb_layout.specs.inside.Limits.{batch_max, capacity_max};
     ghost use Rattle.tb_rings.specs.Ends.{inlet_ring, taken, lies};
     ghost use Rattle.tb_submit.specs.Ends.{SubmitterState};
     ghost use Rattle.tb_submit.specs.Inside.{IsSubmitter};

@@ -1,5 +1,5 @@
 -- An account's balances, as sums over the facts.
-use Rattle.std.specs.Prelude.{ℕ, ◌+◌, Bool, not, ◌&&◌, ◌==◌, filter, sum_by, Option}
+use Rattle.std.specs.Prelude.{ℕ, Bool, not, ◌&&◌, ◌==◌, filter, sum_by, Option}
 use Rattle.std.specs.Option.{option_map}
 use Rattle.tb_layout.specs.declared.account.Account.{Account}
 use Rattle.tb_layout.specs.declared.transfer.Transfer.{Transfer}
@@ -7,7 +7,6 @@ use Rattle.tb_layout.specs.Transfer.{is_pending, is_void}
 use Rattle.tb_tables.specs.Facts.{Facts, account_with}
 use Rattle.tb_tables.specs.Status.{is_reserving}
 
--- the amounts of the transfers that pass a test, together
 abbrev pub amount_of : (Transfer → Bool) → Facts → ℕ
 amount_of test facts = sum_by (λ transfer. transfer.amount) (filter test facts.transfers)
 
@@ -28,14 +27,6 @@ credits_pending facts id =
 abbrev pub credits_posted : Facts → ℕ → ℕ
 credits_posted facts id = amount_of (λ transfer. is_posting transfer && (transfer.credit_account_id == id)) facts
 
--- all that was debited, or credited, pending and posted together
-abbrev pub debits : Facts → ℕ → ℕ
-debits facts id = debits_pending facts id + debits_posted facts id
-
-abbrev pub credits : Facts → ℕ → ℕ
-credits facts id = credits_pending facts id + credits_posted facts id
-
--- an account with its balances
 abbrev pub with_balances : Facts → Account → Account
 with_balances facts account =
     record account {
@@ -45,6 +36,5 @@ with_balances facts account =
       credits_posted = credits_posted facts account.id;
     }
 
--- the account with this id, with its balances
 abbrev pub balanced_account : Facts → ℕ → Option Account
 balanced_account facts id = option_map (with_balances facts) (account_with facts id)

@@ -5,7 +5,7 @@ use Rattle.tb_layout.specs.declared.transfer.Transfer.{Transfer}
 use Rattle.tb_layout.specs.Transfer.{is_pending, is_post, is_void}
 use Rattle.tb_tables.specs.Facts.{Facts, account_with, transfer_with}
 use Rattle.tb_tables.specs.Status.{status_of, expires_at}
-use Rattle.tb_tables.specs.Balances.{debits, credits}
+use Rattle.tb_tables.specs.inside.Balances.{debits, credits}
 use Rattle.tb_tables.specs.declared.status.Status.TheVariants.{Pending}
 
 -- a new account has no balances of its own: they are sums over the transfers

@@ -1,5 +1,5 @@
 -- What the state machine knows.
-use Rattle.std.specs.Prelude.{◌≡◌, ℕ, ◌==◌, Bool, List, [], ◌∷◌, ◌++◌, Option, Some, None, find, slice_get}
+use Rattle.std.specs.Prelude.{ℕ, ◌==◌, Bool, List, [], ◌∷◌, ◌++◌, Option, find}
 use Rattle.std.specs.List.{list_any}
 use Rattle.tb_layout.specs.declared.account.Account.{Account}
 use Rattle.tb_layout.specs.declared.transfer.Transfer.{Transfer}
@@ -16,24 +16,11 @@ pub record Facts : Type 0 where
 abbrev pub no_facts : Facts
 no_facts = record { accounts = []; transfers = []; expired = []; failed = [] }
 
--- the account, or the transfer, with this id
 abbrev pub account_with : Facts → ℕ → Option Account
 account_with facts id = find (λ account. account.id == id) facts.accounts
 
 abbrev pub transfer_with : Facts → ℕ → Option Transfer
 transfer_with facts id = find (λ transfer. transfer.id == id) facts.transfers
-
--- the index of what was found among others, if something was found
-abbrev pub IsIndexAmong : {X : Type 0} → List X → Option X → Option ℕ → Type 0
-IsIndexAmong {X} others found None = found ≡ None
-IsIndexAmong {X} others found (Some index) = (one : X) × (slice_get others index ≡ Some one) × (found ≡ Some one)
-
--- the index of the account, or the transfer, with this id, if it is there
-abbrev pub IsIndexOf : Facts → ℕ → Option ℕ → Type 0
-IsIndexOf facts id = IsIndexAmong facts.accounts (account_with facts id)
-
-abbrev pub IsIndexOfTransfer : Facts → ℕ → Option ℕ → Type 0
-IsIndexOfTransfer facts id = IsIndexAmong facts.transfers (transfer_with facts id)
 
 abbrev pub is_expired : Facts → ℕ → Bool
 is_expired facts id = list_any (λ expired. expired == id) facts.expired

@@ -3,7 +3,7 @@ use Rattle.std.specs.Prelude.{◌≡◌, ℕ, ◌<◌, ◌^◌, ◌==◌, Bool, 
 use Rattle.std.specs.List.{list_any}
 use Rattle.tb_layout.specs.declared.transfer.Transfer.{Transfer}
 use Rattle.tb_tables.specs.Facts.{Facts}
-use Rattle.tb_tables.specs.Balances.{debits, credits}
+use Rattle.tb_tables.specs.inside.Balances.{debits, credits}
 
 -- whether the id is that of one of the transfers
 abbrev pub has_id : ℕ → List Transfer → Bool

@@ -12,3 +12,4 @@ pub mod Contents
 pub mod MapFields
 pub mod Changing
 pub mod Hashing
+pub mod inside

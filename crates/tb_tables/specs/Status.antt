@@ -1,10 +1,10 @@
 -- The status of a pending transfer.
-use Rattle.std.specs.Prelude.{ℕ, ◌+◌, ◌*◌, Bool, not, ◌&&◌, ◌||◌, ◌==◌, nat_le, if◌then◌else◌, map, filter, Option, Some, None}
+use Rattle.std.specs.Prelude.{ℕ, ◌+◌, ◌*◌, Bool, not, ◌&&◌, ◌||◌, ◌==◌, nat_le, if◌then◌else◌, map, filter}
 use Rattle.std.specs.List.{list_any}
 use Rattle.tb_layout.specs.declared.transfer.Transfer.{Transfer}
 use Rattle.tb_layout.specs.Limits.{nanoseconds_per_second}
 use Rattle.tb_layout.specs.Transfer.{is_pending, is_post, is_void, is_resolving}
-use Rattle.tb_tables.specs.Facts.{Facts, is_expired, transfer_with}
+use Rattle.tb_tables.specs.Facts.{Facts, is_expired}
 use Rattle.tb_tables.specs.declared.status.Status.{Status}
 use Rattle.tb_tables.specs.declared.status.Status.TheVariants.{Pending, Posted, Voided, Expired}
 
@@ -22,22 +22,11 @@ status_of facts id =
     else if is_expired facts id then Expired
     else Pending
 
--- only a pending transfer has a status
-abbrev pub status_in : Facts → Transfer → Option Status
-status_in facts transfer = if is_pending transfer then Some (status_of facts transfer.id) else None
-
-abbrev pub status_if_pending : Facts → Option Transfer → Option Status
-status_if_pending facts None = None
-status_if_pending facts (Some transfer) = status_in facts transfer
-
--- the status of the transfer with this id
-abbrev pub status_with : Facts → ℕ → Option Status
-status_with facts id = status_if_pending facts (transfer_with facts id)
-
--- whether a transfer still reserves its amount: a pending one whose status is Pending
+-- whether a post or a void names the transfer with this id
 abbrev pub is_resolved : Facts → ℕ → Bool
 is_resolved facts id = list_any (λ other. is_resolving other && (other.pending_id == id)) facts.transfers
 
+-- whether a transfer still reserves its amount: a pending one whose status is Pending
 abbrev pub is_reserving : Facts → Transfer → Bool
 is_reserving facts transfer =
     is_pending transfer && not (is_resolved facts transfer.id) && not (is_expired facts transfer.id)
@@ -46,7 +35,6 @@ is_reserving facts transfer =
 abbrev pub expires_at : Transfer → ℕ
 expires_at transfer = transfer.timestamp + transfer.timeout * nanoseconds_per_second
 
--- whether it is due at a clock
 abbrev pub is_due : ℕ → Transfer → Bool
 is_due clock transfer = not (transfer.timeout == 0) && nat_le (expires_at transfer) clock
 

@@ -40,9 +40,11 @@ impl Model for Maps {
 }
 
 impl Maps {
-    ghost use Rattle.tb_tables.specs.Facts.{no_facts, account_with, IsIndexOf, IsIndexOfTransfer, transfer_with, is_failed, add_account as with_account, add_transfer as with_transfer, add_failed as with_failed};
+    ghost use Rattle.tb_tables.specs.Facts.{no_facts, account_with, transfer_with, is_failed, add_account as with_account, add_transfer as with_transfer, add_failed as with_failed};
+    ghost use Rattle.tb_tables.specs.inside.Indices.{IsIndexOf, IsIndexOfTransfer};
     ghost use Rattle.tb_layout.specs.Transfer.{is_pending};
-    ghost use Rattle.tb_tables.specs.Status.{expires_at, status_with, status_if_pending, expire_due as with_due_expired};
+    ghost use Rattle.tb_tables.specs.Status.{expires_at, expire_due as with_due_expired};
+    ghost use Rattle.tb_tables.specs.inside.Status.{status_with, status_if_pending};
     ghost use Rattle.tb_tables.specs.Balances.{with_balances as balanced, balanced_account};
     ghost use Rattle.tb_tables.specs.Expiries.{has_pair};
     ghost use Rattle.tb_tables.specs.Changes.{before};

@@ -90,7 +90,7 @@ pub fn apply(
     }
 }
 
-/// Takes back what `apply` changed, once the transfer is stored no more.
+/// Takes back what `apply` changed, after the transfer was removed.
 fn unapply(
     accounts: &mut ById<Account>,
     transfers: &mut Transfers,

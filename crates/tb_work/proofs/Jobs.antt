@@ -4,7 +4,8 @@ use Rattle.std.specs.List.{slice_get}
 use Rattle.std.specs.Prelude.{◌==◌, if◌then◌else◌}
 use Rattle.tb_layout.specs.Account.{account_of, is_linked as is_linked_account}
 use Rattle.tb_layout.specs.Transfer.{transfer_of, is_linked as is_linked_transfer}
-use Rattle.tb_layout.specs.Events.{Events, Accounts, Transfers, Ids, accounts_of, transfers_of, ids_of, events_of, is_last_linked, is_open, chunks as chunks_of}
+use Rattle.tb_layout.specs.Events.{Events, Accounts, Transfers, Ids, accounts_of, transfers_of, ids_of, events_of, is_last_linked, chunks as chunks_of}
+use Rattle.tb_layout.specs.inside.Events.{is_open}
 use Rattle.tb_work.specs.Job.{is_chunk_linked}
 
 -- of events that chunks hold, the last chunk tells

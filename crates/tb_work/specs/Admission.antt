@@ -1,6 +1,7 @@
 -- Which packets are admitted.
 use Rattle.std.specs.Prelude.{ℕ, ◌/◌, ◌%◌, ◌==◌, not, List, length, Option, Some, None, Result, Ok, Err, nat_lt, if◌then◌else◌}
-use Rattle.tb_layout.specs.Operation.{create_accounts, create_transfers, lookup_accounts}
+use Rattle.tb_layout.specs.Events.{create_accounts, create_transfers}
+use Rattle.tb_layout.specs.inside.Events.{lookup_accounts}
 use Rattle.tb_work.specs.declared.packet.Packet.{Packet}
 use Rattle.tb_work.specs.declared.refusal.Refusal.{Refusal}
 use Rattle.tb_work.specs.declared.refusal.Refusal.TheVariants.{InvalidOperation, InvalidDataSize, TooMuchData}

@@ -1,10 +1,10 @@
 -- A packet that was admitted, with its number.
 use Rattle.std.specs.Prelude.{ℕ, ◌≡◌, ◌≤◌, ◌+◌, ◌==◌, Bool, false, List, [], ◌∷◌, Ok, if◌then◌else◌}
 use Rattle.smallvec.specs.SmallVec.{SmallVec}
-use Rattle.tb_layout.specs.Limits.{batch_max}
-use Rattle.tb_layout.specs.Operation.{create_accounts, create_transfers, lookup_accounts}
+use Rattle.tb_layout.specs.inside.Limits.{batch_max}
+use Rattle.tb_layout.specs.Events.{create_accounts, create_transfers}
+use Rattle.tb_layout.specs.inside.Events.{lookup_accounts, is_open as is_open_events}
 use Rattle.tb_layout.specs.declared.failure.Failure.{Failure}
-use Rattle.tb_layout.specs.Events.{is_open as is_open_events}
 use Rattle.tb_layout.specs.Account.{account_of, is_linked as is_linked_account}
 use Rattle.tb_layout.specs.Transfer.{transfer_of, is_linked as is_linked_transfer}
 use Rattle.tb_work.specs.declared.packet.Packet.{Packet}

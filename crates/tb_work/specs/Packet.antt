@@ -1,9 +1,8 @@
 -- A packet as definitions see it: with its submitter and its number, with what the state machine works on, and with its
 -- outcome.
 use Rattle.std.specs.Prelude.{ℕ}
-use Rattle.tb_layout.specs.Events.{Events, events_of}
-use Rattle.tb_layout.specs.Input as input
-use Rattle.tb_layout.specs.Input.{Input}
+use Rattle.tb_layout.specs.Events.{Events, events_of, Input}
+use Rattle.tb_layout.specs.Events as input
 use Rattle.tb_work.specs.declared.outcome.Outcome.{Outcome}
 use Rattle.tb_work.specs.declared.packet.Packet.{Packet}
 

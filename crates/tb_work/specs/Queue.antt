@@ -4,9 +4,9 @@ use Rattle.std.specs.List.{list_all, AllByRecursion}
 use Rattle.tb_work.specs.declared.item.Item.{Item}
 use Rattle.tb_work.specs.declared.item.Item.TheVariants.{Packet, Pulse, End, Close}
 use Rattle.tb_work.specs.declared.item.Ticket.{Ticket}
-use Rattle.tb_layout.specs.Input.{Input}
+use Rattle.tb_layout.specs.Events.{Input}
 use Rattle.tb_work.specs.Packet.{input_of}
-use Rattle.tb_layout.specs.Input as input
+use Rattle.tb_layout.specs.Events as input
 
 -- what a sender has in a queue, in order
 abbrev pub part : ℕ → List Ticket → List Item

@@ -1,8 +1,8 @@
 //! Packets that were admitted.
 
 ghost use Rattle.std.specs.Prelude.{◌≡◌, ◌<◌, ◌≤◌, ◌==◌, ◌⊎◌, true, false, [], IfOk, OnOk, IfErr, OnErr, IsOk, Err};
-ghost use Rattle.tb_layout.specs.Limits.{batch_max};
-ghost use Rattle.tb_layout.specs.Operation.{lookup_accounts};
+ghost use Rattle.tb_layout.specs.inside.Limits.{batch_max};
+ghost use Rattle.tb_layout.specs.inside.Events.{lookup_accounts};
 ghost use Rattle.tb_work.specs.Admission.{admission_of};
 ghost use Rattle.tb_work.specs.declared.refusal.Refusal.TheVariants.{NoMemory};
 ghost use Rattle.tb_work.specs.Job.{is_chunk_linked};

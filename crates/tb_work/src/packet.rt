@@ -2,11 +2,13 @@
 
 ghost use Rattle.std.specs.Prelude.{◌≡◌, ◌+◌, ◌++◌, length, IfOk, OnOk};
 ghost use Rattle.std.specs.List.{flat_map};
-ghost use Rattle.tb_layout.specs.Account.{account_bytes, account_of};
-ghost use Rattle.tb_layout.specs.Bytes.{bytes_of, little_endian};
-ghost use Rattle.tb_layout.specs.Events.{accounts_of, ids_of, transfers_of};
-ghost use Rattle.tb_layout.specs.Operation.{create_accounts, create_transfers, lookup_accounts};
-ghost use Rattle.tb_layout.specs.Transfer.{transfer_bytes, transfer_of};
+ghost use Rattle.tb_layout.specs.inside.Records.{account_bytes, transfer_bytes};
+ghost use Rattle.tb_layout.specs.Account.{account_of};
+ghost use Rattle.tb_layout.specs.inside.Bytes.{bytes_of};
+ghost use Rattle.tb_layout.specs.Bytes.{little_endian};
+ghost use Rattle.tb_layout.specs.Events.{accounts_of, ids_of, transfers_of, create_accounts, create_transfers};
+ghost use Rattle.tb_layout.specs.inside.Events.{lookup_accounts};
+ghost use Rattle.tb_layout.specs.Transfer.{transfer_of};
 
 use crate::bytes::Bytes;
 use std::alloc::Global;

@@ -1,7 +1,8 @@
 //! A list of events.
 
 ghost use Rattle.std.specs.Prelude.{◌≡◌, ◌≤◌, true, IfOk, OnOk, OnErr};
-ghost use Rattle.tb_layout.specs.Limits.{batch_max, clock_max, submitters_max};
+ghost use Rattle.tb_layout.specs.inside.Limits.{batch_max, submitters_max};
+ghost use Rattle.tb_layout.specs.Limits.{clock_max};
 ghost use Rattle.tb_world.specs.EveryOrder.{HasRun};
 ghost use Rattle.tb_world.specs.World.{TakeMemory, after_event, run, takes_memory};
 

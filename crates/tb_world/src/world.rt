@@ -1,7 +1,8 @@
 //! The stages in one thread, in any order of their steps.
 
 ghost use Rattle.std.specs.Prelude.{◌≡◌, ◌≤◌, ◌<◌, ◌+◌, ◌⊎◌, true, replicate, Some, None, IfOk, OnOk, IfErr, OnErr, is_some};
-ghost use Rattle.tb_layout.specs.Limits.{clock_max, submitters_max};
+ghost use Rattle.tb_layout.specs.Limits.{clock_max};
+ghost use Rattle.tb_layout.specs.inside.Limits.{submitters_max};
 ghost use Rattle.tb_work.specs.declared.refusal.Refusal.TheVariants.{NoMemory as NoMemoryRefusal};
 ghost use Rattle.tb_core.specs.Front.{opening_refusal};
 ghost use Rattle.tb_world.specs.Pushing.{newcomer};

@@ -1,6 +1,6 @@
 -- The parts of a batch that the machine took.
 use Rattle.std.specs.Prelude.{◌≡◌, ◌≤◌, ℕ, ◌==◌, true, false, List, map, if◌then◌else◌}
-use Rattle.tb_layout.specs.Operation.{lookup_accounts}
+use Rattle.tb_layout.specs.inside.Events.{lookup_accounts}
 use Rattle.tb_layout.specs.declared.account.Account.{Account}
 use Rattle.tb_layout.specs.declared.failure.Failure.{Failure}
 use Rattle.tb_layout.specs.Events.{events_of, ids_of}

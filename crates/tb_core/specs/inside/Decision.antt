@@ -1,7 +1,7 @@
 -- What becomes of packets and pulses before the state machine; batches are left out.
 use Rattle.std.specs.Prelude.{◌≡◌, ℕ, ◌+◌, Bool, true, false, ◌||◌, nat_le, List, [], ◌∷◌, ◌++◌, slice_get, Option, Some, None, is_some, IfSome, if◌then◌else◌}
-use Rattle.tb_layout.specs.Input.{Input}
-use Rattle.tb_layout.specs.Input as input
+use Rattle.tb_layout.specs.Events.{Input}
+use Rattle.tb_layout.specs.Events as input
 use Rattle.tb_work.specs.Packet.{Numbered, ReplyValue, reply_with, input_of}
 use Rattle.tb_work.specs.Queue.{ahead}
 use Rattle.tb_work.specs.declared.item.Item.{Item}

@@ -4,7 +4,7 @@ ghost use Rattle.std.specs.Prelude.{◌≡◌, ◌<◌, ◌≤◌, ◌+◌, ◌^
 ghost use Rattle.std.specs.List.{flat_map};
 ghost use Rattle.tb_core.specs.Ledger.{group_of};
 ghost use Rattle.tb_core.specs.Journal.{inputs};
-ghost use Rattle.tb_layout.specs.Limits.{submitters_max};
+ghost use Rattle.tb_layout.specs.inside.Limits.{submitters_max};
 ghost use Rattle.tb_machine.specs.Replay.{replay};
 ghost use Rattle.tb_submit.specs.Ends.{replies_of};
 ghost use Rattle.tb_program.specs.Answering.{AreAllAnswered, AreAllDone, IsAnswered, IsAnsweredBy};

@@ -1,7 +1,7 @@
 //! 400 events, made by a rule from a counter: the maps and the plain lists take them side by side.
 
 ghost use Rattle.std.specs.Prelude.{◌≡◌, ◌+◌, ◌≤◌, ◌<◌, ◌^◌, true, None, IsSome, OnOk};
-ghost use Rattle.tb_tables.specs.Balances.{debits, credits};
+ghost use Rattle.tb_tables.specs.inside.Balances.{debits, credits};
 ghost use Rattle.tb_tables.specs.Conditions.{HasNoBalances, MayAdd, MayResolve};
 ghost use Rattle.tb_tables.specs.Facts.{account_with, transfer_with};
 ghost use Rattle.tb_tables.specs.History.{mark_of};

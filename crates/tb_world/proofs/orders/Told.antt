@@ -3,7 +3,7 @@ use Rattle.std.proofs.Common.{refl, sym, ap, subst, ◌∙◌, ◌≡◌, ℕ, �
 use Rattle.std.specs.List.{list_any}
 use Rattle.std.proofs.lemmas.List.{map-append}
 use Rattle.std.proofs.lemmas.List.Elements.{filter-append}
-use Rattle.tb_layout.specs.Input.{Input}
+use Rattle.tb_layout.specs.Events.{Input}
 use Rattle.tb_work.specs.Packet.{Numbered, ReplyValue}
 use Rattle.tb_work.specs.Queue.{part, ahead, items_in}
 use Rattle.tb_work.specs.declared.item.Item.{Item}

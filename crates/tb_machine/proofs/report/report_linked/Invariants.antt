@@ -1,6 +1,6 @@
 use Rattle.std.proofs.Common.{◌≡◌, ◌+◌, ◌++◌, replicate, vec_len}
 use Rattle.std.specs.Prelude.{vec_capacity}
-use Rattle.tb_machine.specs.Packet.{failures_from}
+use Rattle.tb_machine.specs.Chain.{failures_from}
 use Rattle.tb_machine.proofs.report.report_linked.Given as goal
 
 abbrev pub invariant-loop-k : goal.invariant-loop-k

@@ -2,7 +2,7 @@ use Rattle.std.proofs.Common.{◌≡◌, ◌∙◌, ◌+◌, ◌++◌, ◌∷◌
 use Rattle.std.specs.List.{flat_map, slice_get}
 use Rattle.std.proofs.lemmas.List.{take_more, flat_map_more}
 use Rattle.std.proofs.lemmas.Option.{get_or_from_slice_get, slice_get_within}
-use Rattle.tb_machine.specs.Replay.{balanced_accounts}
+use Rattle.tb_machine.specs.inside.Accounts.{balanced_accounts}
 use Rattle.tb_program_text.specs.Output.{account_line}
 use Rattle.tb_program_text.proofs.output.put_accounts.Goals as goal
 

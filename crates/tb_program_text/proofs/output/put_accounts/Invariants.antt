@@ -1,6 +1,6 @@
 use Rattle.std.proofs.Common.{◌≡◌, ◌++◌, take, string_bytes}
 use Rattle.std.specs.List.{flat_map}
-use Rattle.tb_machine.specs.Replay.{balanced_accounts}
+use Rattle.tb_machine.specs.inside.Accounts.{balanced_accounts}
 use Rattle.tb_program_text.specs.Output.{account_line}
 use Rattle.tb_program_text.proofs.output.put_accounts.Given as goal
 

@@ -32,7 +32,8 @@ impl Model for PlainTables {
 
 impl PlainTables {
     ghost use Rattle.tb_tables.specs.Facts.{no_facts, account_with, transfer_with, is_failed, add_account as with_account, add_transfer as with_transfer, add_failed as with_failed};
-    ghost use Rattle.tb_tables.specs.Status.{status_with, expire_due as with_due_expired};
+    ghost use Rattle.tb_tables.specs.inside.Status.{status_with};
+    ghost use Rattle.tb_tables.specs.Status.{expire_due as with_due_expired};
     ghost use Rattle.tb_tables.specs.Balances.{with_balances as balanced, balanced_account};
     ghost use Rattle.tb_tables.specs.Conditions.{HasNoBalances, MayAdd, MayResolve};
     ghost use Rattle.tb_tables.specs.History.{with_change, mark_of, back_to, without_past};

@@ -1,6 +1,7 @@
 use Rattle.std.proofs.Common.{arith}
 use Rattle.std.proofs.lemmas.List.{take_more}
-use Rattle.tb_layout.specs.Account.{account_bytes, account_of}
+use Rattle.tb_layout.specs.inside.Records.{account_bytes}
+use Rattle.tb_layout.specs.Account.{account_of}
 use Rattle.tb_work.proofs.Laid.{laid-bytes, laid-length, laid-events}
 use Rattle.tb_work.proofs.packet.lay_accounts.Goals as goal
 

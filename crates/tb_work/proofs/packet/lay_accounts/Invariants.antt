@@ -1,6 +1,6 @@
 use Rattle.std.proofs.Common.{◌≡◌, ◌*◌, length, take}
 use Rattle.std.specs.List.{flat_map}
-use Rattle.tb_layout.specs.Account.{account_bytes}
+use Rattle.tb_layout.specs.inside.Records.{account_bytes}
 use Rattle.tb_layout.specs.Events.{accounts_of}
 use Rattle.tb_work.proofs.packet.lay_accounts.Given as goal
 

@@ -1,6 +1,7 @@
 use Rattle.std.proofs.Common.{arith}
 use Rattle.std.proofs.lemmas.List.{take_more}
-use Rattle.tb_layout.specs.Bytes.{bytes_of, little_endian}
+use Rattle.tb_layout.specs.inside.Bytes.{bytes_of}
+use Rattle.tb_layout.specs.Bytes.{little_endian}
 use Rattle.tb_work.proofs.Laid.{laid-bytes, laid-length, laid-events}
 use Rattle.tb_work.proofs.packet.lay_ids.Goals as goal
 

@@ -1,6 +1,7 @@
 use Rattle.std.proofs.Common.{arith}
 use Rattle.std.proofs.lemmas.List.{take_more}
-use Rattle.tb_layout.specs.Transfer.{transfer_bytes, transfer_of}
+use Rattle.tb_layout.specs.inside.Records.{transfer_bytes}
+use Rattle.tb_layout.specs.Transfer.{transfer_of}
 use Rattle.tb_work.proofs.Laid.{laid-bytes, laid-length, laid-events}
 use Rattle.tb_work.proofs.packet.lay_transfers.Goals as goal
 

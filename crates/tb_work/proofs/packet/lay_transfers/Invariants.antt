@@ -1,6 +1,6 @@
 use Rattle.std.proofs.Common.{◌≡◌, ◌*◌, length, take}
 use Rattle.std.specs.List.{flat_map}
-use Rattle.tb_layout.specs.Transfer.{transfer_bytes}
+use Rattle.tb_layout.specs.inside.Records.{transfer_bytes}
 use Rattle.tb_layout.specs.Events.{transfers_of}
 use Rattle.tb_work.proofs.packet.lay_transfers.Given as goal
 

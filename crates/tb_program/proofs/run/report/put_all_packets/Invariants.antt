@@ -1,6 +1,6 @@
 use Rattle.std.proofs.Common.{◌≡◌, ◌+◌, ◌≤◌, ◌++◌, length, map, string_bytes}
 use Rattle.std.specs.Vec.Iter.{into_iter_items}
-use Rattle.tb_layout.specs.Limits.{submitters_max}
+use Rattle.tb_layout.specs.inside.Limits.{submitters_max}
 use Rattle.tb_submit.specs.Ends.{replies_of}
 use Rattle.tb_program.specs.Answering.{AreAllAnswered, AreAllDone}
 use Rattle.tb_program.specs.Drivers.{told_of}

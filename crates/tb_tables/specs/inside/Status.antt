@@ -1,0 +1,19 @@
+-- The status that a transfer with an id has.
+use Rattle.std.specs.Prelude.{ℕ, if◌then◌else◌, Option, Some, None}
+use Rattle.tb_layout.specs.declared.transfer.Transfer.{Transfer}
+use Rattle.tb_layout.specs.Transfer.{is_pending}
+use Rattle.tb_tables.specs.Facts.{Facts, transfer_with}
+use Rattle.tb_tables.specs.declared.status.Status.{Status}
+use Rattle.tb_tables.specs.Status.{status_of}
+
+-- only a pending transfer has a status
+abbrev pub status_in : Facts → Transfer → Option Status
+status_in facts transfer = if is_pending transfer then Some (status_of facts transfer.id) else None
+
+abbrev pub status_if_pending : Facts → Option Transfer → Option Status
+status_if_pending facts None = None
+status_if_pending facts (Some transfer) = status_in facts transfer
+
+-- the status of the transfer with this id
+abbrev pub status_with : Facts → ℕ → Option Status
+status_with facts id = status_if_pending facts (transfer_with facts id)
