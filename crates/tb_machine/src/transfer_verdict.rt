@@ -188,10 +188,11 @@ pub fn transfer_verdict(
     requires { IsTarget tables.now.now event.now target }
     ensures { result ≡ spec.transfer_verdict tables.now.now timestamp event.now }
 {
+    let found = tables.transfer_index(event.id);
     if let Some(code) = event_fault(event) {
         return code;
     }
-    match tables.transfer_index(event.id) {
+    match found {
         Some(index) => compare_with_stored_at(tables, index, event),
         None => check_new_transfer(tables, target, timestamp, event),
     }
