@@ -1,5 +1,5 @@
 -- What a ledger makes of one parcel.
-use Rattle.std.specs.Prelude.{◌≡◌, ◌≤◌, ℕ, ◌+◌, ◌*◌, Bool, true, false, ◌||◌, fold, nat_lt, List, [], ◌∷◌, ◌++◌, length, map, take, drop, unwrap_or, IsSome, IfSome, Option, option_to_list, if◌then◌else◌, not}
+use Rattle.std.specs.Prelude.{◌≡◌, ◌≤◌, ℕ, ◌+◌, ◌*◌, Bool, true, false, ◌||◌, fold, nat_lt, List, [], ◌∷◌, ◌++◌, length, map, take, drop, unwrap_or, IsSome, if◌then◌else◌, not}
 use Rattle.std.specs.List.{sum_by, AllByRecursion}
 use Rattle.tb_layout.specs.Events.{events_of, Input, Packet, Pulse}
 use Rattle.tb_layout.specs.inside.Limits.{batch_max, places_max}
@@ -54,16 +54,12 @@ IsEntry (entry.Pulse moment) = Unit {0}
 abbrev pub AreEntries : List Entry → Type 0
 AreEntries entries = AllByRecursion IsEntry entries
 
--- its machine is what was committed gives from its opening clock, and its places are counted
-pub record IsCommitter (ledger : LedgerState) (places : ℕ) : Type 0 where
+-- its machine is what its journal gives from its opening clock, its places are counted, and each entry is whole
+pub record IsLedger (ledger : LedgerState) (entries : List Entry) (places : ℕ) : Type 0 where
   pub machine : ledger.state ≡ replay ledger.opening (inputs ledger)
   pub counted : places ≡ length (inputs ledger)
   pub few : places ≤ places_max
   pub opening : ledger.opening ≤ clock_max
-
--- the journal has all that was committed, and each of its entries is whole
-pub record IsLedger (ledger : LedgerState) (entries : List Entry) : Type 0 where
-  pub groups : map group_of entries ≡ ledger.groups
   pub whole : AreEntries entries
 
 -- ---- one parcel
@@ -112,10 +108,3 @@ takes_memory ledger (parcel.Batch jobs) = not (must_stop false ledger (length jo
 takes_memory ledger (parcel.Pulse moment) = not (must_stop false ledger 1)
 takes_memory ledger (parcel.Return job cause) = false
 takes_memory ledger parcel.Last = false
-
--- the entry, if there is one, that a journal gets of a parcel: it has what was committed, and the parcel took memory
-pub record IsEntryOf (before : LedgerState) (parcel : Parcel) (after : LedgerState) (entry : Option Entry)
-    : Type 0 where
-  pub groups : after.groups ≡ before.groups ++ map group_of (option_to_list entry)
-  pub whole : AreEntries (option_to_list entry)
-  pub takes : IfSome entry (λ _. takes_memory before parcel ≡ true)

@@ -1,4 +1,3 @@
 -- What proofs need and the claim doesn't mention.
 pub mod Decision
 pub mod BatchAnswer
-pub mod Past

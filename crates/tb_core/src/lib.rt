@@ -1,7 +1,7 @@
 //! The core: what becomes of tickets between the queue and the replies, in one thread and without a lock.
 //!
 //! A packet goes one way: `Front` takes its ticket and joins it to its neighbours, `Ledger` commits the batch and notes
-//! it in the journal, and a `Cutter` (tb_demux) gives each packet its reply. A `Committer` is a ledger without a journal.
+//! it in the journal, and a `Cutter` (tb_demux) gives each packet its reply.
 //!
 //! ```text
 //! for parcel in front.take(ticket) {          // what the ticket seals, or sends back
@@ -23,7 +23,6 @@
 //! `each_part_is_lawful` says what holds on the way.
 #![tactic(auto)]
 
-mod committer;
 mod front;
 mod journal;
 mod laws;
@@ -31,9 +30,7 @@ mod ledger;
 mod list;
 mod outcomes;
 mod parcel;
-mod past;
 
-pub use committer::Committer;
 pub use front::Front;
 pub use journal::Entry;
 pub use laws::{each_part_is_lawful, headline, run_is_lawful};

@@ -20,18 +20,17 @@ use crate::unread::Unread;
 use arrayvec::ArrayVec;
 use std::alloc::Global;
 use std::marker::Model;
-use tb_core::{Committer, Front, Parcel, Seed};
+use tb_core::{Front, Ledger, Parcel, Seed};
 use tb_layout::{Account, MOMENT_MAX};
 use tb_work::{Item, Job, Moment, Packet, Refusal, Reply, Ticket};
 
-/// A ledger with its front and cutter, driven by its caller one call at a time. It keeps no journal: its memory grows by the
-/// accounts and transfers that are stored, and by the replies that aren't read.
+/// A ledger with its front and cutter, driven by its caller one call at a time.
 pub struct Engine {
     limit: u32,
     submitters: u32,
     shut: bool,
     front: Front,
-    committer: Committer,
+    ledger: Ledger,
     unread: Unread,
     numbers: [u64; 16],
 }
@@ -44,12 +43,12 @@ impl Drop for Engine {
             submitters: _,
             shut: _,
             front,
-            committer,
+            ledger,
             unread,
             numbers: _,
         } = self;
         drop(front);
-        drop(committer);
+        drop(ledger);
         drop(unread);
     }
 }
@@ -61,7 +60,7 @@ impl Model for Engine {
 
     ghost view = { λ engine. record {
       front = engine.front;
-      ledger = engine.committer;
+      ledger = engine.ledger;
       unread = engine.unread.replies;
       numbers = engine.numbers;
       shut = engine.shut;
@@ -71,16 +70,16 @@ impl Model for Engine {
 }
 
 /// Applies parcels in order, for whose outcomes there is capacity.
-fn apply_all(committer: &mut Committer, unread: &mut Unread, parcels: &mut ArrayVec<Parcel, 2>)
+fn apply_all(ledger: &mut Ledger, unread: &mut Unread, parcels: &mut ArrayVec<Parcel, 2>)
     requires room { length parcels.old.items ≤ unread.old.room }
     ensures commits { (clock : ℕ) (sent : List Decision) (read : List ReplyValue)
-        → Commits clock sent committer.old (read ++ unread.old.replies)
-        → Commits clock (sent ++ all_decisions_in parcels.old.items) committer.new (read ++ unread.new.replies) }
-    ensures joined { (limit : ℕ) → AreJoinedParcels limit parcels.old.items → AreJoined limit committer.old.groups
-        → AreJoined limit committer.new.groups }
+        → Commits clock sent ledger.old (read ++ unread.old.replies)
+        → Commits clock (sent ++ all_decisions_in parcels.old.items) ledger.new (read ++ unread.new.replies) }
+    ensures joined { (limit : ℕ) → AreJoinedParcels limit parcels.old.items → AreJoined limit ledger.old.groups
+        → AreJoined limit ledger.new.groups }
 {
     while let Some(parcel) = parcels.pop_at(0) {
-        unread.push(committer.apply(parcel));
+        unread.push(ledger.apply(parcel));
     }
 }
 
@@ -124,7 +123,7 @@ impl Engine {
             submitters,
             shut: false,
             front,
-            committer: Committer::with_seed(alloc, clock, seed),
+            ledger: Ledger::with_seed(alloc, clock, seed),
             unread: Unread::new(alloc),
             numbers: [0; 16],
         })
@@ -140,13 +139,13 @@ impl Engine {
         ensures same { self.new ≡ self.old }
         ensures err { IfErr result (λ refusal. refusal ≡ NoMemoryRefusal) }
     {
-        if self.committer.reserve(accounts, transfers).is_err() {
+        if self.ledger.reserve(accounts, transfers).is_err() {
             return Err(Refusal::NoMemory);
         }
         Ok(())
     }
 
-    /// Passes a ticket through the front and the committer. If there is no memory for its outcomes, it is returned and
+    /// Passes a ticket through the front and the ledger. If there is no memory for its outcomes, it is returned and
     /// nothing has changed.
     fn take(&mut self, ticket: Ticket) -> Result<(), Ticket>
         requires { ticket.sender ≤ self.old.front.submitters }
@@ -165,11 +164,11 @@ impl Engine {
         self.front.take_into(&mut parcels, ticket);
         let count = parcels.len();
         prove!(count <= 2);
-        apply_all(&mut self.committer, &mut self.unread, &mut parcels);
+        apply_all(&mut self.ledger, &mut self.unread, &mut parcels);
         Ok(())
     }
 
-    /// Passes an item of the control through the front and the committer.
+    /// Passes an item of the control through the front and the ledger.
     fn take_control(&mut self, item: Item) -> Result<(), Refusal>
         ensures taken { OnOk result ((clock : ℕ) (items : List ItemValue) (read : List ReplyValue)
             → HasTaken clock items (read ++ self.old.unread) self.old.front self.old.ledger
@@ -305,7 +304,7 @@ impl Engine {
             return Err(Refusal::NoMemory);
         }
         if let Some(batch) = self.front.idle() {
-            self.unread.push(self.committer.apply(Parcel::Batch(batch)));
+            self.unread.push(self.ledger.apply(Parcel::Batch(batch)));
         }
         Ok(())
     }
@@ -330,13 +329,13 @@ impl Engine {
     pub fn lookup_account(&self, id: u128) -> Option<Account>
         ensures { result ≡ balanced_account (state_of self.now).facts id }
     {
-        self.committer.machine().account(id)
+        self.ledger.machine().account(id)
     }
 
     /// Returns the clock in nanoseconds.
     pub fn clock(&self) -> u64
         ensures { result ≡ (state_of self.now).clock }
     {
-        self.committer.machine().clock()
+        self.ledger.machine().clock()
     }
 }

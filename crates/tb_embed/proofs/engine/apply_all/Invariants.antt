@@ -11,10 +11,10 @@ abbrev pub invariant-loop-parcel : goal.invariant-loop-parcel
 invariant-loop-parcel l =
     (length l.parcels.items ≤ l.unread.room)
     × ((clock : ℕ) (sent : List Decision) (read : List ReplyValue)
-    → Commits clock sent l.fn.committer (read ++ l.fn.unread.replies) →
-    AreApplied clock (sent ++ all_decisions_in l.fn.parcels.items) l.parcels.items l.committer (read ++ l.unread.replies))
-    × ((limit : ℕ) → AreJoinedParcels limit l.fn.parcels.items → AreJoined limit l.fn.committer.groups →
-    AreJoinedParcels limit l.parcels.items × AreJoined limit l.committer.groups)
+    → Commits clock sent l.fn.ledger (read ++ l.fn.unread.replies) →
+    AreApplied clock (sent ++ all_decisions_in l.fn.parcels.items) l.parcels.items l.ledger (read ++ l.unread.replies))
+    × ((limit : ℕ) → AreJoinedParcels limit l.fn.parcels.items → AreJoined limit l.fn.ledger.groups →
+    AreJoinedParcels limit l.parcels.items × AreJoined limit l.ledger.groups)
 
 abbrev pub decreases-loop-parcel : goal.decreases-loop-parcel
 decreases-loop-parcel l = length l.parcels.items

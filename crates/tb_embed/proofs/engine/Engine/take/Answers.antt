@@ -7,7 +7,7 @@ use Rattle.tb_embed.proofs.engine.Engine.take.Goals as goal
 pub returns-clause-taken : goal.returns-clause-taken
 returns-clause-taken c = rw (← c.self.view_is) (λ clock items read has.
     let old = c.self.inside in
-    let ledger = c.apply_all.new.committer in
+    let ledger = c.apply_all.new.ledger in
     record {
       sent = has.sent ++ all_decisions_in c.take_into.new.parcels.items;
       passed = c.take_into.ensures.passes items has.sent has.passed;
