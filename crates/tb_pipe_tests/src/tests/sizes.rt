@@ -28,13 +28,15 @@ fn open_under(rt: &impl Abort, alloc: Global, limit: u32, places: u32) -> Lone
     }
 }
 
-/// Returns rising numbers.
-fn numbers<const N: usize>(first: u8) -> [u8; N] {
-    let mut numbers = [first; N];
-    for k in 0..N {
-        numbers[k] = first.wrapping_add(k as u8);
+/// Returns the ids from 1 to 100.
+fn hundred_ids() -> [u8; 100] {
+    let mut ids = [0u8; 100];
+    let mut id = 1u8;
+    for k in 0..100usize {
+        ids[k] = id;
+        id = id.wrapping_add(1);
     }
-    numbers
+    ids
 }
 
 /// Asserts that the replies are committed at the places from `first` to `count - 1`.
@@ -58,7 +60,7 @@ fn assert_all(rt: &impl Abort, report: Report, wanted_clock: u64, count: u64) {
 #[test]
 fn a_hundred_packets_in_one_batch(rt: HostRuntime) {
     let lone = open_under(&rt, rt.alloc(), 8190, 256);
-    let ids = numbers::<100>(1);
+    let ids = hundred_ids();
     let report = finish_lone(&rt, rt.alloc(), lone, false, &ids, &Open);
     assert_entries(&rt, &report, &[100]);
     assert_all(&rt, report, 100, 100);
