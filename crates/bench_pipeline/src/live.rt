@@ -18,6 +18,7 @@ pub struct Over {
 }
 
 impl Over {
+    /// The input hasn't ended.
     pub const fn new() -> Over {
         Over {
             ended: AtomicBool::new(false),
@@ -55,6 +56,7 @@ pub struct Echo<I, O> {
 }
 
 impl<I: Read + Drop, O: Write + Drop> Echo<I, O> {
+    /// A driver that has sent nothing.
     pub fn new(input: I, output: O) -> Echo<I, O> {
         Echo {
             input,

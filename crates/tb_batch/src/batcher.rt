@@ -119,13 +119,10 @@ impl Batcher {
     {
         let before = self.size_of_held();
         match Group::alone(self.alloc, before, job) {
-            Ok(group) => {
-                self.before = before;
-                match mem::replace(&mut self.held, Some(group)) {
-                    Some(held) => Offered::Sealed(held.seal()),
-                    None => Offered::Joined,
-                }
-            }
+            Ok(group) => match mem::replace(&mut self.held, Some(group)) {
+                Some(held) => Offered::Sealed(held.seal()),
+                None => Offered::Joined,
+            },
             Err((job, refused)) => Offered::Refused(job, refused),
         }
     }

@@ -1,5 +1,5 @@
 -- What drivers have seen, list by list.
-use Rattle.std.proofs.Common.{◌≡◌, ◌∙◌, ◌<◌, ◌+◌, ℕ, refl, zero, suc, List, [], ◌∷◌, ◌++◌, Some, length, slice_get, get_or, ap, sym, subst, arith, append_assoc, append-nil}
+use Rattle.std.proofs.Common.{◌≡◌, ◌∙◌, ◌<◌, ◌+◌, ℕ, refl, zero, suc, List, [], ◌∷◌, ◌++◌, Some, length, slice_get, get_or, ap, sym, subst, arith, ◌-◌, append_assoc, append-nil}
 use Rattle.std.specs.Prelude.{slice_index_or}
 use Rattle.std.proofs.lemmas.Option.{slice_get_within, slice_get-get_or, get_or_from_slice_get}
 use Rattle.tb_submit.specs.Ends.{EndedState, SenderState, SubmitterState, queued_by}
@@ -79,6 +79,13 @@ all_jobs limit sender number (item.Packet job ∷ items) are =
 all_jobs limit sender number (item.Pulse moment ∷ items) are = absurd are
 all_jobs limit sender number (item.End ∷ items) are = absurd are
 all_jobs limit sender number (item.Close ∷ items) are = absurd are
+
+-- while a packet is in flight, fewer replies were read than packets queued
+pub fewer_read : (limit sender flight : ℕ) (items : List Item) (read : List ReplyValue)
+    → ArePackets limit sender 0 items → flight ≡ length items - length read → (flight ≡ 0 → ⊥)
+    → length read < length (jobs_in items)
+fewer_read limit sender flight items read are is some =
+    omega (arith, all_jobs limit sender 0 items are, is, some)
 
 -- ---- front parts
 

@@ -12,10 +12,9 @@
 //! ```
 //!
 //! Each thread ends its sender, whatever its driver does, since `serve` waits for each end. `drive_all` settles with
-//! the pipeline's own ends, so that what `settle` says of the report it says itself. The crate `example_two_tellers` is such an
-//! application.
+//! the pipeline's own ends, so that what `settle` says of the report it says itself.
 //!
-//! `crates/example_two_tellers` is an example that the gate compiles.
+//! `crates/example_two_tellers` is such an application, which the gate compiles.
 #![tactic(auto)]
 
 mod control_driver;

@@ -19,6 +19,7 @@ pub struct SpinWait {
 }
 
 impl SpinWait {
+    /// As if there had just been something to do. Takes no memory.
     pub fn new() -> SpinWait {
         SpinWait {
             backoff: Backoff::new(),
