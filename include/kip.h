@@ -6,8 +6,8 @@
  * Proved, of the engine behind a handle, for every sequence of calls: what it committed is a prefix of what was queued
  * ahead of kip_shut, in order; the replies read are a prefix of those due, and each is what the state machine gives that
  * packet alone at its place, however packets were joined. Once kip_flush returned KIP_OK and kip_reply KIP_NO_REPLY they
- * are all of them. Unless memory ran out, all of it is committed. A call that returns another status than KIP_OK leaves
- * the engine as it was.
+ * are all of them, and unless the engine stopped, all that was queued ahead of kip_shut is committed. A call that returns
+ * another status than KIP_OK leaves the engine as it was. Only tested: an engine stops only if memory ran out.
  *
  * The caller must ensure, and nothing checks:
  *  - Each pointer is valid, aligned and not null, and its memory belongs to no other argument of the call. Null is

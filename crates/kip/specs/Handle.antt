@@ -91,11 +91,11 @@ pub record IsReading (status : ℕ) (head : KipReply) (before after : List ℕ) 
   pub same : (status ≡ 0 → ⊥) → (new ≡ old) × (after ≡ before)
   pub one_of : (status ≡ 0) ⊎ ((status ≡ 102) ⊎ (status ≡ 103))
 
--- a closed handle reads nothing
+-- a closed handle reads nothing and stays closed
 abbrev pub IsReadingOf : ℕ → KipReply → List ℕ → List ℕ → Option EngineState → Option EngineState → Type 0
 IsReadingOf status head before after (Some old) (Some new) = IsReading status head before after old new
 IsReadingOf status head before after (Some old) None = ⊥
-IsReadingOf status head before after None new = (status ≡ 100) × (after ≡ before)
+IsReadingOf status head before after None new = (status ≡ 100) × (after ≡ before) × (new ≡ None)
 
 -- ---- look-ups
 

@@ -11,8 +11,8 @@
 //! let finished = drive_all(&rt, alloc, opened, drivers, ControlPlan::none(alloc).driver())?;
 //! ```
 //!
-//! Each thread ends its sender, whatever its driver does, since `serve` waits for each end. `drive_all` settles with
-//! the pipeline's own ends, so that what `settle` says of the report it says itself.
+//! Each thread ends its sender once its driver says `End`, since `serve` waits for each end. `drive_all` settles with the
+//! pipeline's own ends, so that what `settle` says of the report it says itself.
 //!
 //! `crates/example_two_tellers` is such an application, which the gate compiles.
 #![tactic(auto)]
