@@ -115,16 +115,6 @@ admitted limit read packet none = by (told_in read) (admission_of limit packet) 
 
 pub refused_longer : (limit : ℕ) (read more : List ReplyValue) (packet : Packet) (refusal : Refusal)
     → IsRefusedFor limit read packet refusal → IsRefusedFor limit (read ++ more) packet refusal
-refused_longer limit read more packet refusals.InvalidOperation is = is
-refused_longer limit read more packet refusals.InvalidDataSize is = is
-refused_longer limit read more packet refusals.TooMuchData is = is
-refused_longer limit read more packet refusals.InFlight is = is
-refused_longer limit read more packet refusals.Full is = is
-refused_longer limit read more packet refusals.NoMemory is = is
 refused_longer limit read more packet refusals.Shutdown is = told_longer read more refusals.Shutdown is
 refused_longer limit read more packet refusals.Stopped is = told_longer read more refusals.Stopped is
-refused_longer limit read more packet refusals.BadLimit is = is
-refused_longer limit read more packet refusals.BadCapacity is = is
-refused_longer limit read more packet refusals.BadSubmitters is = is
-refused_longer limit read more packet refusals.MomentTooLarge is = is
-refused_longer limit read more packet refusals.NoThread is = is
+refused_longer limit read more packet other is = is

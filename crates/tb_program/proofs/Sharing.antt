@@ -7,8 +7,6 @@ use Rattle.std.proofs.lemmas.List.{append-nil}
 use Rattle.tb_work.specs.declared.packet.Packet as packets
 use Rattle.tb_program_script.specs.declared.item.ScriptItem.{ScriptItem}
 use Rattle.tb_program_script.specs.declared.item.ScriptItem.TheVariants.{Packet}
-use Rattle.tb_program_script.specs.declared.item.Submission.{Submission}
-use Rattle.tb_program_text.specs.Plan.{packet_of}
 use Rattle.tb_program.specs.Drivers.{lists_of}
 use Rattle.tb_program.specs.Sharing.{AreDealt, packet_by, packets_by, shares_of}
 
@@ -18,9 +16,9 @@ one_more submitter items item =
     flat_map-append (packet_by submitter) items (item ∷ [])
     ∙ ap (λ last. packets_by submitter items ++ last) (append-nil (packet_by submitter item))
 
-pub not_its : (submitter : ℕ) (submission : Submission) → (submission.submitter ≡ submitter → ⊥)
-    → packet_by submitter (Packet submission) ≡ []
-not_its submitter submission other = rw (ne_eqb submission.submitter submitter other) refl
+pub not_its : (submitter owner : ℕ) (packet : packets.Packet) → (owner ≡ submitter → ⊥)
+    → packet_by submitter (Packet owner packet) ≡ []
+not_its submitter owner packet other = rw (ne_eqb owner submitter other) refl
 
 -- an item that is no packet of these submitters changes nothing
 pub dealt_past : (submitter : ℕ) (shares : List (Vec packets.Packet Global)) (items : List ScriptItem) (item : ScriptItem)
@@ -35,26 +33,24 @@ dealt_past submitter (own ∷ shares) items item none dealt = (
 )
 
 -- a packet goes to its submitter
-pub dealt_to : (submitter k : ℕ) (shares : List (Vec packets.Packet Global)) (items : List ScriptItem)
-    (submission : Submission) (share : Vec packets.Packet Global)
-    → submission.submitter ≡ submitter + k → k < length shares
-    → share.items ≡ (get_or shares k share).items ++ packet_of submission ∷ []
-    → AreDealt submitter shares items → AreDealt submitter (set shares k share) (items ++ Packet submission ∷ [])
-dealt_to submitter k [] items submission share its within is dealt = absurd (omega (arith, within))
-dealt_to submitter zero (own ∷ shares) items submission share its within is dealt =
-    let same : submission.submitter ≡ submitter = omega (arith, its) in
-    let last : packet_by submitter (Packet submission)
-    ≡ packet_of submission ∷ [] = rw (eq-eqb submission.submitter submitter same) refl in (
-      is ∙ ap (λ before. before ++ packet_of submission ∷ []) dealt.0
-          ∙ sym (one_more submitter items (Packet submission) ∙ ap (λ end. packets_by submitter items ++ end) last),
-      dealt_past (suc submitter) shares items (Packet submission)
-          (λ other least most. not_its other submission (λ e. omega (arith, e, same, least))) dealt.1,
+pub dealt_to : (submitter k owner : ℕ) (shares : List (Vec packets.Packet Global)) (items : List ScriptItem)
+    (packet : packets.Packet) (share : Vec packets.Packet Global)
+    → owner ≡ submitter + k → k < length shares → share.items ≡ (get_or shares k share).items ++ packet ∷ []
+    → AreDealt submitter shares items → AreDealt submitter (set shares k share) (items ++ Packet owner packet ∷ [])
+dealt_to submitter k owner [] items packet share its within is dealt = absurd (omega (arith, within))
+dealt_to submitter zero owner (own ∷ shares) items packet share its within is dealt =
+    let same : owner ≡ submitter = omega (arith, its) in
+    let last : packet_by submitter (Packet owner packet) ≡ packet ∷ [] = rw (eq-eqb owner submitter same) refl in (
+      is ∙ ap (λ before. before ++ packet ∷ []) dealt.0
+          ∙ sym (one_more submitter items (Packet owner packet) ∙ ap (λ end. packets_by submitter items ++ end) last),
+      dealt_past (suc submitter) shares items (Packet owner packet)
+          (λ other least most. not_its other owner packet (λ e. omega (arith, e, same, least))) dealt.1,
     )
-dealt_to submitter (suc k) (own ∷ shares) items submission share its within is dealt = (
-  dealt.0 ∙ sym (one_more submitter items (Packet submission)
-      ∙ ap (λ last. packets_by submitter items ++ last) (not_its submitter submission (λ e. omega (arith, e, its)))
+dealt_to submitter (suc k) owner (own ∷ shares) items packet share its within is dealt = (
+  dealt.0 ∙ sym (one_more submitter items (Packet owner packet)
+      ∙ ap (λ last. packets_by submitter items ++ last) (not_its submitter owner packet (λ e. omega (arith, e, its)))
       ∙ append-nil (packets_by submitter items)),
-  dealt_to (suc submitter) k shares items submission share (omega (arith, its)) (omega (arith, within)) is dealt.1,
+  dealt_to (suc submitter) k owner shares items packet share (omega (arith, its)) (omega (arith, within)) is dealt.1,
 )
 
 -- what is dealt are the submitters' shares

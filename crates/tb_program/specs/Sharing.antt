@@ -5,10 +5,9 @@ use Rattle.std.specs.declared.alloc.Global.{Global}
 use Rattle.tb_work.specs.declared.packet.Packet as packets
 use Rattle.tb_program_script.specs.declared.item.ScriptItem.{ScriptItem}
 use Rattle.tb_program_script.specs.declared.item.ScriptItem.TheVariants.{Packet, Pulse, Shut}
-use Rattle.tb_program_text.specs.Plan.{packet_of}
 
 abbrev pub packet_by : ℕ → ScriptItem → List packets.Packet
-packet_by submitter (Packet submission) = if submission.submitter == submitter then packet_of submission ∷ [] else []
+packet_by submitter (Packet owner packet) = if owner == submitter then packet ∷ [] else []
 packet_by submitter (Pulse moment) = []
 packet_by submitter Shut = []
 
@@ -17,7 +16,7 @@ abbrev pub packets_by : ℕ → List ScriptItem → List packets.Packet
 packets_by submitter items = flat_map (packet_by submitter) items
 
 abbrev pub moment_in : ScriptItem → List ℕ
-moment_in (Packet submission) = []
+moment_in (Packet submitter packet) = []
 moment_in (Pulse moment) = moment ∷ []
 moment_in Shut = []
 
@@ -25,7 +24,7 @@ abbrev pub moments_in : List ScriptItem → List ℕ
 moments_in items = flat_map moment_in items
 
 abbrev pub is_shut : ScriptItem → Bool
-is_shut (Packet submission) = false
+is_shut (Packet submitter packet) = false
 is_shut (Pulse moment) = false
 is_shut Shut = true
 

@@ -7,22 +7,21 @@ use Rattle.tb_work.specs.Queue.{ahead}
 use Rattle.tb_work.specs.Packet.{ReplyValue, reply_with}
 use Rattle.tb_layout.specs.Events.{Input}
 use Rattle.tb_work.specs.declared.item.Item as work
+use Rattle.tb_work.specs.declared.packet.Packet as packets
 use Rattle.tb_work.specs.declared.refusal.Refusal.{Refusal}
 use Rattle.tb_core.specs.Due.{all_due_from, outcome_at, Ahead, Behind}
 use Rattle.tb_core.specs.Journal.{LedgerState, inputs}
 use Rattle.tb_core.specs.Run.{IsListed}
-use Rattle.tb_program_script.specs.declared.item.Submission.{Submission}
 use Rattle.tb_program_list.specs.declared.plan.Line.{Line}
-use Rattle.tb_program_text.specs.Plan.{Planned, Packet, Pulse, Close, RefusedPacket, RefusedPulse, queue_of, number_in, packet_of, packet_as}
+use Rattle.tb_program_text.specs.Plan.{Planned, Packet, Pulse, Close, RefusedPacket, RefusedPulse, queue_of, number_in, packet_as}
 use Rattle.tb_program_text.specs.Output.{reply_line, pulse_line, refused_line, refused_pulse_line, state_text, lines_from, plan_text}
 use Rattle.tb_program_list.specs.SplitPlan.{line_of}
 use Rattle.tb_program_list.specs.Printing.{as_place, text_from}
 
-pub admitted_is_queued : (items : List work.Item) (submission : Submission) (r : Result ℕ Refusal) → IsOk r →
-    packet_as items submission r ≡ Packet (numbered_packet submission.submitter
-    (number_in submission.submitter items) (packet_of submission))
-admitted_is_queued items submission (Ok count) is = refl
-admitted_is_queued items submission (Err refusal) is = cc
+pub admitted_is_queued : (items : List work.Item) (submitter : ℕ) (packet : packets.Packet) (r : Result ℕ Refusal) → IsOk r
+    → packet_as items submitter packet r ≡ Packet (numbered_packet submitter (number_in submitter items) packet)
+admitted_is_queued items submitter packet (Ok count) is = refl
+admitted_is_queued items submitter packet (Err refusal) is = cc
 
 texts_agree : (clock : ℕ) (committed : List Input) (place : Option ℕ) (plan : List Planned) →
     text_from place (all_due_from clock committed (as_place place) (queue_of plan)) (map line_of plan)

@@ -10,9 +10,8 @@ use crate::plan::Line;
 use std::alloc::Global;
 use std::marker::Model;
 use tb_layout::{MOMENT_MAX, NoMemory};
-use tb_program_script::{ScriptItem, Submission, SubmitterNumber};
-use tb_program_text::packet_of;
-use tb_work::{Job, Moment, Refusal};
+use tb_program_script::{ScriptItem, SubmitterNumber};
+use tb_work::{Job, Moment, Packet, Refusal};
 
 /// A plan in its parts: what is queued, and what is printed of each item.
 #[derive(Drop)]
@@ -75,14 +74,13 @@ impl Plan {
         &mut self,
         alloc: Global,
         limit: u32,
-        submission: Submission,
+        submitter: SubmitterNumber,
+        packet: Packet,
     ) -> Result<(), NoMemory>
         requires { limit ≤ batch_max }
         ensures { OnOk result (self.new ≡ with_planned self.old
-            (planned_as limit self.old.queue (PacketItem submission))) }
+            (planned_as limit self.old.queue (PacketItem submitter packet))) }
     {
-        let submitter = submission.submitter;
-        let packet = packet_of(submission);
         let number = self.numbers[submitter.get() as usize];
         match Job::new(alloc, submitter.get(), number, limit, packet) {
             Ok(job) => self.queue_packet(job),
@@ -122,7 +120,9 @@ impl Plan {
         ensures { OnOk result (self.new ≡ with_planned self.old (planned_as limit self.old.queue item)) }
     {
         match item {
-            ScriptItem::Packet(submission) => self.add_packet(alloc, limit, submission),
+            ScriptItem::Packet(submitter, packet) => {
+                self.add_packet(alloc, limit, submitter, packet)
+            }
             ScriptItem::Pulse(moment) => self.add_pulse(moment),
             ScriptItem::Shut => self.add_close(),
         }

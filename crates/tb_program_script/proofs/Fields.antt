@@ -26,7 +26,7 @@ use Rattle.tb_program_script.specs.Event.{field, field_of, after_word, after_wor
 use Rattle.tb_program_script.specs.Spelling.{NamedNumber, IsOfItsSize, field_word, fields_line, line_of_words, named_of_account, named_of_transfer}
 use Rattle.tb_program_script.specs.Steps.{◌>>=◌}
 use Rattle.tb_program_script.proofs.Named.{sides_of_named}
-use Rattle.tb_program_script.proofs.Spelling.{is_word, is_word_byte, decimal_is_word, length-decimal, number_within-decimal, keyword_line}
+use Rattle.tb_program_script.proofs.Spelling.{is_word, is_word_byte, decimal_is_word, length-decimal, number_line, number_within-decimal, keyword_line}
 
 -- ---- bytes
 
@@ -287,10 +287,7 @@ transfers_are_laid_out transfer h =
 pub ids_are_laid_out : SpelledIdsAreLaidOut
 unfolding keyword_of with_line
 ids_are_laid_out id h parsed begun =
-    let small : id < 2 ^ 128 = omega (arith, h) in
-    let words : list_all is_word (codes "id" ∷ decimal id ∷ []) ≡ true = rw (decimal_is_word id small) refl in
-    let short : length (line_of_words (codes "id" ∷ decimal id ∷ []))
-    ≤ 65536 = omega (arith, length-decimal id small) in
     let all : to_le_bytes w128 id ≡ bytes_of 16 id = lowest 16 id (omega arith) in
-    keyword_line parsed word.Id (codes "id") (decimal id ∷ []) words short refl refl begun
-    ∙ rw (number_within-decimal 0 (2 ^ 128 - 1) id (omega arith) (omega (arith, small)) small, all) refl
+    let line = number_line parsed (λ n. with_bytes parsed (to_le_bytes w128 n)) word.Id (codes "id") 0 (2 ^ 128 - 1) id
+    refl (omega arith) refl refl begun (omega arith) (λ text. refl) (omega arith) (omega (arith, h)) in
+    line.read ∙ rw all refl

@@ -1,5 +1,5 @@
 -- The first line of a text, and its first word.
-use Rattle.std.proofs.Common.{◌≡◌, ℕ, ◌+◌, ◌<◌, ◌≤◌, Bool, true, false, cond, not, List, [], ◌∷◌, length, ◌++◌, take, drop, refl, sym, ap, ◌∙◌, arith, inl, inr, ◌⊎◌, suc, length-append, append_assoc, append-nil, take-append-drop, length-take-le}
+use Rattle.std.proofs.Common.{◌≡◌, ℕ, ◌+◌, ◌<◌, ◌≤◌, Bool, true, false, cond, not, List, [], ◌∷◌, length, ◌++◌, take, drop, refl, sym, ap, ◌∙◌, arith, inl, inr, ◌⊎◌, suc, length-append, append_assoc, take-append-drop, length-take-le}
 use Rattle.std.specs.Prelude.{◌==◌, ◌||◌}
 use Rattle.std.specs.List.{position_or_len, list_all}
 use Rattle.std.specs.Char.{is_ascii_digit}
@@ -9,7 +9,7 @@ use Rattle.std.proofs.lemmas.List.Folds.{length-prefix_len}
 use Rattle.std.proofs.lemmas.Bool.{and_parts}
 use Rattle.std.proofs.Math.Seq.{drop-append-add, take-append-add, take-append_seam, drop-append_seam}
 use Rattle.tb_program_script.specs.Text.{lines_of, words_of, first_line, after_first_line, first_word, after_first_word}
-use Rattle.tb_program_script.proofs.Texts.{spaces, word_end, line_end, lines_first, words_from_space, trimmed_begins}
+use Rattle.tb_program_script.proofs.Texts.{list_all-implied, none_before, spaces, word_end, line_end, lines_first, words_from_space, trimmed_begins}
 
 -- what is first found behind bytes that don't pass
 pub found_behind : (p : ℕ → Bool) (front others : List ℕ) → list_all (λ byte. not (p byte)) front ≡ true
@@ -47,23 +47,13 @@ whole_text text = take-append-drop (line_end text) text
 
 -- ---- spaces at the front
 
-all_spaces : (space : Bool) (b n : ℕ) (bs : List ℕ) → space ≡ (b == 32) → list_all (λ byte. byte == 32) (take n bs) ≡ true
-    → list_all (λ byte. byte == 32) (take (cond (not (not space)) (1 + n) 0) (b ∷ bs)) ≡ true
-all_spaces true b n bs e h = let one : 1 + n ≡ suc n = omega arith in rw (one, sym e, h) refl
-all_spaces false b n bs e h = refl
-
 spaces_only : (bs : List ℕ) → list_all (λ byte. byte == 32) (take (spaces bs) bs) ≡ true
-spaces_only [] = refl
-spaces_only (b ∷ bs) = all_spaces (b == 32) b (spaces bs) bs refl (spaces_only bs)
+spaces_only bs =
+    list_all-implied (λ byte. not (not (byte == 32))) (λ byte. byte == 32) (take (spaces bs) bs)
+    (λ byte h. grind (arith, common_steps, h)) (none_before (λ byte. not (byte == 32)) bs)
 
 no_end : (byte : ℕ) → (byte == 32) ≡ true → not (byte == 10) ≡ true
 no_end byte h = grind (arith, common_steps, h)
-
-spaces_end_nothing : (front : List ℕ) → list_all (λ byte. byte == 32) front ≡ true → has_no_end front ≡ true
-spaces_end_nothing [] h = refl
-spaces_end_nothing (b ∷ front) h =
-    let parts = and_parts (b == 32) (list_all (λ byte. byte == 32) front) h in
-    rw (no_end b parts.0, spaces_end_nothing front parts.1) refl
 
 words_behind : (front others : List ℕ) → list_all (λ byte. byte == 32) front ≡ true → words_of (front ++ others) ≡ words_of others
 words_behind [] others h = refl
@@ -97,7 +87,8 @@ pub record Trimmed (text rest : List ℕ) : Type 0 where
 pub trimmed_text : (text rest : List ℕ) → rest ≡ drop (spaces text) text → Trimmed text rest
 trimmed_text text rest e =
     let only = spaces_only text in
-    let cut = cut_line text (spaces text) (spaces_end_nothing (take (spaces text) text) only) in
+    let cut = cut_line text (spaces text)
+    (list_all-implied (λ byte. byte == 32) (λ byte. not (byte == 10)) (take (spaces text) text) no_end only) in
     rw e (record {
       words = sym (ap words_of cut.line ∙ words_behind (take (spaces text) text) (first_line (drop (spaces text) text)) only);
       begins = line_begins (drop (spaces text) text) (trimmed_begins text);
@@ -131,52 +122,10 @@ no_name_first text name differs others e = differs (others ++ after_first_line t
     (sym (whole_text text) ∙ ap (λ front. front ++ after_first_line text) e
     ∙ append_assoc name (61 ∷ others) (after_first_line text))
 
--- ---- digits and what ends them
-
-digit_is_no_end : (byte : ℕ) → is_ascii_digit byte ≡ true → not (byte == 10) ≡ true
-digit_is_no_end byte digit = grind (arith, common_steps, digit)
-
-digit_is_no_space : (byte : ℕ) → is_ascii_digit byte ≡ true → not (byte == 32) ≡ true
-digit_is_no_space byte digit = grind (arith, common_steps, digit)
-
-digits_have_no_end : (front : List ℕ) → list_all is_ascii_digit front ≡ true → has_no_end front ≡ true
-digits_have_no_end [] h = refl
-digits_have_no_end (b ∷ front) h =
-    let parts = and_parts (is_ascii_digit b) (list_all is_ascii_digit front) h in
-    rw (digit_is_no_end b parts.0, digits_have_no_end front parts.1) refl
-
-digits_have_no_space : (front : List ℕ) → list_all is_ascii_digit front ≡ true
-    → list_all (λ byte. not (byte == 32)) front ≡ true
-digits_have_no_space [] h = refl
-digits_have_no_space (b ∷ front) h =
-    let parts = and_parts (is_ascii_digit b) (list_all is_ascii_digit front) h in
-    rw (digit_is_no_space b parts.0, digits_have_no_space front parts.1) refl
+-- ---- the first word
 
 abbrev pub ends_word : ℕ → Bool
 ends_word byte = (byte == 32) || (byte == 10)
-
--- a text whose first word is digits
-pub record DigitsFirst (text : List ℕ) (count : ℕ) : Type 0 where
-  pub word : first_word (first_line text) ≡ take count text
-  pub rest : first_line (drop count text) ≡ after_first_word (first_line text)
-  pub others : after_first_line (drop count text) ≡ after_first_line text
-
-pub digits_first : (text : List ℕ) (count : ℕ) → count ≤ length text → list_all is_ascii_digit (take count text) ≡ true →
-    length (first_word (first_line (drop count text))) ≡ 0 → DigitsFirst text count
-digits_first text count within digits ends =
-    let front = take count text in
-    let back = first_line (drop count text) in
-    let cut = cut_line text count (digits_have_no_end front digits) in
-    let none : word_end back ≡ 0 = sym (length-prefix_len (λ byte. not (byte == 32)) back) ∙ ends in
-    let at : word_end (front ++ back) ≡ length front + 0
-    = found_behind (λ byte. byte == 32) front back (digits_have_no_space front digits) ∙ ap (λ n. length front + n) none in
-    record {
-      word = ap first_word cut.line ∙ rw at (take-append-add front back 0 ∙ grind (arith, common_steps));
-      rest = sym (ap after_first_word cut.line ∙ rw at (drop-append-add front back 0));
-      others = sym cut.rest;
-    }
-
--- ---- the first word
 
 word_end_at : (b n : ℕ) (bs : List ℕ) (space end : Bool) → space ≡ (b == 32) → end ≡ (b == 10) → n ≡ word_end (first_line bs) →
     cond (not (space || end)) (1 + n) 0 ≡ word_end (take (cond (not end) (1 + line_end bs) 0) (b ∷ bs))
@@ -194,22 +143,12 @@ word_end_in_line [] = refl
 word_end_in_line (b ∷ bs) =
     word_end_at b (position_or_len ends_word bs) bs (b == 32) (b == 10) refl refl (word_end_in_line bs)
 
-no_end_before : (b n : ℕ) (bs : List ℕ) (space end : Bool) → end ≡ (b == 10) → has_no_end (take n bs) ≡ true
-    → has_no_end (take (cond (not (space || end)) (1 + n) 0) (b ∷ bs)) ≡ true
-no_end_before b n bs true end f h = refl
-no_end_before b n bs false true f h = refl
-no_end_before b n bs false false f h =
-    let one : 1 + n ≡ suc n = omega arith in
-    rw (one, sym f, h) refl
-
-no_end_in_word : (bs : List ℕ) → has_no_end (take (position_or_len ends_word bs) bs) ≡ true
-no_end_in_word [] = refl
-no_end_in_word (b ∷ bs) =
-    no_end_before b (position_or_len ends_word bs) bs (b == 32) (b == 10) refl (no_end_in_word bs)
+no_end_in_word : (byte : ℕ) → not (ends_word byte) ≡ true → not (byte == 10) ≡ true
+no_end_in_word byte h = grind (arith, common_steps, h)
 
 -- a text cut behind its first word
 pub record WordCut (text : List ℕ) (count : ℕ) : Type 0 where
-  pub word : take count text ≡ first_word (first_line text)
+  pub word : first_word (first_line text) ≡ take count text
   pub rest : first_line (drop count text) ≡ after_first_word (first_line text)
   pub others : after_first_line (drop count text) ≡ after_first_line text
 
@@ -217,28 +156,33 @@ pub word_cut : (text : List ℕ) (count : ℕ) → count ≤ length text → cou
 word_cut text count within e =
     let front = take count text in
     let back = first_line (drop count text) in
-    let none : has_no_end front ≡ true = rw e (no_end_in_word text) in
+    let before : list_all (λ byte. not (ends_word byte)) front ≡ true = rw e (none_before ends_word text) in
+    let none = list_all-implied (λ byte. not (ends_word byte)) (λ byte. not (byte == 10)) front no_end_in_word before in
     let cut = cut_line text count none in
     let long : length front ≡ count = length-take-le count text within in
     let at : word_end (first_line text) ≡ length front = sym (word_end_in_line text) ∙ sym e ∙ sym long in
     record {
-      word = sym (ap (λ n. take n (first_line text)) at ∙ ap (take (length front)) cut.line ∙ take-append_seam front back);
+      word = ap (λ n. take n (first_line text)) at ∙ ap (take (length front)) cut.line ∙ take-append_seam front back;
       rest = sym (ap (λ n. drop n (first_line text)) at ∙ ap (drop (length front)) cut.line ∙ drop-append_seam front back);
       others = sym cut.rest;
     }
 
+digit_ends_nothing : (byte : ℕ) → is_ascii_digit byte ≡ true → not (ends_word byte) ≡ true
+digit_ends_nothing byte digit = grind (arith, common_steps, digit)
+
+-- a text whose first word is digits
+pub digits_first : (text : List ℕ) (count : ℕ) → count ≤ length text → list_all is_ascii_digit (take count text) ≡ true →
+    length (first_word (first_line (drop count text))) ≡ 0 → WordCut text count
+digits_first text count within digits ends =
+    let rest = drop count text in
+    let before = list_all-implied is_ascii_digit (λ byte. not (ends_word byte)) (take count text) digit_ends_nothing digits in
+    let none = word_end_in_line rest ∙ sym (length-prefix_len (λ byte. not (byte == 32)) (first_line rest)) ∙ ends in
+    let at = ap (position_or_len ends_word) (sym (take-append-drop count text)) ∙ found_behind ends_word (take count text) rest before in
+    word_cut text count within (omega (arith, at, none, length-take-le count text within))
+
 -- a text whose first line has no byte
 pub ends_at_once : (text : List ℕ) → length (first_line text) ≡ 0 → text ≡ after_first_line text
 ends_at_once text none = sym (whole_text text) ∙ ap (λ front. front ++ after_first_line text) (nil_from_length (first_line text) none)
-
--- a text with no byte behind its first word
-pub only_word : (text rest : List ℕ) → length rest ≡ 0 → first_line rest ≡ after_first_word (first_line text)
-    → after_first_line rest ≡ after_first_line text → first_word (first_line text) ≡ text
-only_word text [] none word others =
-    let line = first_line text in
-    sym (append-nil (first_word line)) ∙ ap (λ back. first_word line ++ back) word ∙ take-append-drop (word_end line) line
-    ∙ sym (append-nil line) ∙ ap (λ back. line ++ back) others ∙ whole_text text
-only_word text (byte ∷ rest) none word others = absurd (omega arith)
 
 -- the lines of a text are the first and the others
 pub record FirstOfLines (text others : List ℕ) : Type 0 where

@@ -2,7 +2,6 @@ pub mod Tables
 pub mod Texts
 pub mod FirstLines
 pub mod Numbers
-pub mod Scripts
 pub mod Lines
 pub mod Named
 pub mod UsualLines

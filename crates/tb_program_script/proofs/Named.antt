@@ -1,15 +1,14 @@
 -- The field that a word names, and its number.
-use Rattle.std.proofs.Common.{rules, ◌≡◌, ℕ, ◌+◌, ◌<◌, ◌≤◌, true, false, List, [], ◌∷◌, ◌++◌, length, take, drop, refl, sym, ap, ◌∙◌, arith, ◌-◌, suc, Bor, Bool, cond, subst, Some, None, Option, Ok, Err, Result, length-append, append_assoc, take-append-drop, lt-ltb, le-ltb, inl, inr}
+use Rattle.std.proofs.Common.{rules, ◌≡◌, ℕ, ◌+◌, ◌<◌, ◌≤◌, true, false, List, [], ◌∷◌, ◌++◌, length, take, drop, refl, sym, ap, ◌∙◌, arith, ◌-◌, suc, Bor, Some, None, Option, Ok, Err, Result, length-append, append_assoc, take-append-drop, lt-ltb, le-ltb, inl, inr}
 use Rattle.std.specs.Prelude.{◌==◌, All, map, slice_index_or, not, bytes_eq, get_or}
 use Rattle.std.specs.List.{list_all, position_or_len, before_first, after_first as rest_after}
-use Rattle.std.proofs.lemmas.Bool.{and_parts, cases_lt, false_from_ne_true}
+use Rattle.std.proofs.lemmas.Bool.{cases_lt, false_from_ne_true}
 use Rattle.std.proofs.lemmas.Bool.Decides.{Decides-eqb}
 use Rattle.std.proofs.lemmas.List.Sums.{split_at_first, passes_at_first}
 use Rattle.std.proofs.lemmas.List.Elements.{All-head, All-tail, All-drop, All-map}
 use Rattle.std.proofs.lemmas.Slice.Eq.{bytes_eq-Decides}
 use Rattle.std.proofs.Math.Seq.{drop-append-add, take-append-add, take-append_seam, get_or-append_seam, split_at}
 use Rattle.std.proofs.lemmas.Grind.{common_steps}
-use Rattle.tb_program_script.specs.declared.fault.Fault.TheVariants.{BadField}
 use Rattle.tb_program_script.specs.declared.event.Field.{Field}
 use Rattle.tb_program_script.specs.declared.fault.Fault.{Fault}
 use Rattle.tb_program_script.specs.declared.event.Draft.{Draft}
@@ -19,21 +18,17 @@ use Rattle.tb_program_script.specs.Event.{AreRowsOf, IsBare, Lies, after_word, a
 use Rattle.tb_program_script.specs.Number.{number_within}
 use Rattle.tb_program_script.specs.Steps.{◌>>=◌, look_up}
 use Rattle.tb_program_script.specs.Text.{words_of, first_word, after_first_word}
-use Rattle.tb_program_script.proofs.Texts.{words_first, empty_words}
-use Rattle.tb_program_script.proofs.Tables.{AreOwn, own_row, same_rows}
-
-up_to_equals : (name digits : List ℕ) → list_all (λ byte. not (byte == 61)) name ≡ true
-    → position_or_len (λ byte. byte == 61) (name ++ 61 ∷ digits) ≡ length name
-up_to_equals [] digits h = refl
-up_to_equals (byte ∷ name) digits h =
-    let parts = and_parts (not (byte == 61)) (list_all (λ byte. not (byte == 61)) name) h in
-    rw (parts.0, up_to_equals name digits parts.1) (omega arith)
+use Rattle.tb_program_script.proofs.FirstLines.{found_behind}
+use Rattle.tb_program_script.proofs.Texts.{word_end, words_first, empty_words}
+use Rattle.tb_program_script.proofs.Tables.{AreOwn, found_row}
 
 pub sides_of_named : (name digits : List ℕ) → list_all (λ byte. not (byte == 61)) name ≡ true
     → sides_of (name ++ 61 ∷ digits) ≡ Ok (name, digits)
 sides_of_named name digits h =
     let inside : length name < length (name ++ 61 ∷ digits) = omega (arith, length-append name (61 ∷ digits)) in
-    rw (up_to_equals name digits h, lt-ltb (length name) (length (name ++ 61 ∷ digits)) inside)
+    let up_to : position_or_len (λ byte. byte == 61) (name ++ 61 ∷ digits) ≡ length name =
+    found_behind (λ byte. byte == 61) name (61 ∷ digits) h ∙ omega arith in
+    rw (up_to, lt-ltb (length name) (length (name ++ 61 ∷ digits)) inside)
     (rw (take-append_seam name (61 ∷ digits), drop-append-add name (61 ∷ digits) 1) refl)
 
 -- if the name and `=` are at the front, the row is the one
@@ -44,26 +39,18 @@ found_here word name number f rows bare e =
     let same : bytes_eq name name ≡ true = (bytes_eq-Decides name name).1 refl in
     rw (e, sides_of_named name number bare.0, same) refl
 
--- where the first word ends of a line that begins with a name and `=`
-up_to_space : (name others : List ℕ) → list_all (λ byte. not (byte == 32)) name ≡ true →
-    position_or_len (λ byte. byte == 32) (name ++ 61 ∷ others)
-    ≡ length name + suc (position_or_len (λ byte. byte == 32) others)
-up_to_space [] others h = omega arith
-up_to_space (byte ∷ name) others h =
-    let parts = and_parts (not (byte == 32)) (list_all (λ byte. not (byte == 32)) name) h in
-    rw (parts.0, up_to_space name others parts.1) (omega arith)
-
--- the first word of such a line, and the rest of the line
+-- the first word of a line that begins with a name and `=`, and the rest of the line
 pub record NamedFirst (line name others : List ℕ) : Type 0 where
   pub word : first_word line ≡ name ++ 61 ∷ first_word others
   pub rest : after_first_word line ≡ after_first_word others
 
 pub named_first : (line name others : List ℕ) → IsBare name → line ≡ name ++ 61 ∷ others → NamedFirst line name others
 named_first line name others bare e =
-    let up_to = up_to_space name others bare.1 in
+    let up_to = found_behind (λ byte. byte == 32) name (61 ∷ others) bare.1 in
+    let one : 1 + word_end others ≡ suc (word_end others) = omega arith in
     record {
-      word = rw (e, up_to) (take-append-add name (61 ∷ others) (suc (position_or_len (λ byte. byte == 32) others)));
-      rest = rw (e, up_to) (drop-append-add name (61 ∷ others) (suc (position_or_len (λ byte. byte == 32) others)));
+      word = rw (e, up_to, one) (take-append-add name (61 ∷ others) (suc (word_end others)));
+      rest = rw (e, up_to, one) (drop-append-add name (61 ∷ others) (suc (word_end others)));
     }
 
 -- a line that begins so not, has no such first word
@@ -93,12 +80,6 @@ found_later word name f rows differs = elim (cases_lt (position_or_len (λ byte.
       (parts_of word below ∙ ap (λ front. front ++ (61 ∷ rest_after (λ byte. byte == 61) word))
       ((bytes_eq-Decides (before_first (λ byte. byte == 61) word) name).0 same))) in
       rw (lt-ltb (position_or_len (λ byte. byte == 61) word) (length word) below, other) refl
-  | inr above ↦ rw (le-ltb (position_or_len (λ byte. byte == 61) word) (length word) above) refl
-]
-
-pub found_nowhere : (word : List ℕ) → named word [] ≡ Err BadField
-found_nowhere word = elim (cases_lt (position_or_len (λ byte. byte == 61) word) (length word)) [
-  | inl below ↦ rw (lt-ltb (position_or_len (λ byte. byte == 61) word) (length word) below) refl
   | inr above ↦ rw (le-ltb (position_or_len (λ byte. byte == 61) word) (length word) above) refl
 ]
 
@@ -203,7 +184,7 @@ told_by_row : (table rows : List (List ℕ × Field)) (name number : List ℕ) (
     (both : Field × List ℕ) → row ≡ look_up name rows → AreOwn table rows →
     (found row >>= λ f. Ok (f, number)) ≡ Ok both → (found (look_up name table) >>= λ f. Ok (f, number)) ≡ Ok both
 told_by_row table rows name number None both e own h = absurd (search (rules, h))
-told_by_row table rows name number (Some f) both e own h = rw (own_row table rows name f own (sym e)) h
+told_by_row table rows name number (Some f) both e own h = rw (found_row (λ word field. look_up word table ≡ Some field) rows name f own (sym e)) h
 
 told_by_parts : (table rows : List (List ℕ × Field)) (sides : Result (List ℕ × List ℕ) Fault)
     (both : Field × List ℕ) → AreOwn table rows →
@@ -231,36 +212,7 @@ named_in_rows word layout rows both own h =
     told_by_parts (fields_of layout) (map row_of rows) (sides_of word) both
     (All-map (λ row. look_up row.0 (fields_of layout) ≡ Some row.1) row_of rows own.1) h
 
--- ---- a table in another order
-
-abbrev beside : List ℕ → Option Field → Result (Field × List ℕ) Fault
-beside number field = do
-  f ← found field
-  Ok (f, number)
-
-in_order : (rows table : List (List ℕ × Field)) (sides : Result (List ℕ × List ℕ) Fault)
-    → AreOwn table rows → AreOwn rows table →
-    (sides >>= λ s. beside s.1 (look_up s.0 rows)) ≡ (sides >>= λ s. beside s.1 (look_up s.0 table))
-in_order rows table (Err fault) own back = refl
-in_order rows table (Ok sides) own back = ap (beside sides.1) (same_rows rows table sides.0 own back)
-
-pub named_in_order : (word : List ℕ) (rows table : List (List ℕ × Field)) → AreOwn table rows → AreOwn rows table
-    → named word rows ≡ named word table
-named_in_order word rows table own back = in_order rows table (sides_of word) own back
-
 -- ---- the fields of a layout are within the event
-
-lies_by : (same : Bool) (row field : Field) (others : Option Field) → Lies row → (others ≡ Some field → Lies field)
-    → cond same (Some row) others ≡ Some field → Lies field
-lies_by true row field others here later e = subst Lies (search (rules, e)) here
-lies_by false row field others here later e = later e
-
-all_lie : (rows : List (List ℕ × Field)) (word : List ℕ) (field : Field) → All (λ row. Lies row.1) rows
-    → look_up word rows ≡ Some field → Lies field
-all_lie [] word field lies e = absurd (search (rules, e))
-all_lie (row ∷ rows) word field lies e =
-    lies_by (bytes_eq word row.0) row.1 field (look_up word rows) (All-head (λ r. Lies r.1) row rows lies)
-    (all_lie rows word field (All-tail (λ r. Lies r.1) row rows lies)) e
 
 fields_lie : (layout : Layout) → All (λ row. Lies row.1) (fields_of layout)
 fields_lie Account = search rules
@@ -275,7 +227,7 @@ lies_in : (rows : List (List ℕ × Field)) (sides : Result (List ℕ × List �
     → All (λ row. Lies row.1) rows → (sides >>= λ s. found (look_up s.0 rows) >>= λ f. Ok (f, s.1)) ≡ Ok both → Lies both.0
 lies_in rows (Err fault) both lies e = absurd (search (rules, e))
 lies_in rows (Ok sides) both lies e =
-    all_lie rows sides.0 both.0 lies (lies_found (look_up sides.0 rows) sides.1 both e)
+    found_row (λ name field. Lies field) rows sides.0 both.0 lies (lies_found (look_up sides.0 rows) sides.1 both e)
 
 pub lies_of : (layout : Layout) (word : List ℕ) (both : Field × List ℕ) → field_and_number layout word ≡ Ok both → Lies both.0
 unfolding field_and_number

@@ -1,5 +1,5 @@
 -- What `parse` answers for a word of digits.
-use Rattle.std.proofs.Common.{◌≡◌, ℕ, zero, suc, ◌+◌, ◌-◌, ◌*◌, ◌/◌, ◌%◌, ◌<◌, ◌≤◌, ◌^◌, true, false, List, ◌∷◌, ◌++◌, length, take, drop, get_or, get_or-take, refl, ap, ◌∙◌, arith, rules, lt-ltb, le-ltb, length-take-le, Some, None, Ok, Err, Result, inl, inr}
+use Rattle.std.proofs.Common.{◌≡◌, ℕ, zero, suc, ◌+◌, ◌-◌, ◌*◌, ◌/◌, ◌%◌, ◌<◌, ◌≤◌, ◌^◌, true, false, List, ◌∷◌, ◌++◌, length, take, get_or, refl, ap, ◌∙◌, arith, rules, lt-ltb, le-ltb, length-take-le, Some, None, Ok, Err, Result, inl, inr}
 use Rattle.std.specs.Prelude.{◌==◌}
 use Rattle.std.specs.List.{list_all, position_or_len}
 use Rattle.std.specs.Char.{is_ascii_digit}
@@ -10,8 +10,7 @@ use Rattle.std.proofs.lemmas.Str.{IsUtf8-from_ascii}
 use Rattle.std.proofs.lemmas.Fmt.{IsAscii-from_digits}
 use Rattle.std.proofs.lemmas.Str.Parse.{IsNumeralModel, numerals_by_value, parse_digits, digits_value_short}
 use Rattle.std.proofs.lemmas.Int.Digits.{digits_value_more}
-use Rattle.std.proofs.lemmas.List.Folds.{list_all_at, list_all_more}
-use Rattle.std.proofs.lemmas.List.Sums.{AllPass-from_list_all, position_or_len_is}
+use Rattle.std.proofs.lemmas.List.Folds.{list_all_more}
 use Rattle.std.proofs.lemmas.Str.{digit_value_digit}
 use Rattle.std.proofs.lemmas.Nat.{le_bytes_8}
 use Rattle.std.specs.Int.{bytes_low_first, to_le_bytes, w64, w128}
@@ -34,10 +33,6 @@ too_long word h = grind (arith, common_steps)
 pub no_digits : (word : List ℕ) → list_all is_ascii_digit word ≡ false → number_of word ≡ None
 unfolding number_of
 no_digits word h = grind (arith, common_steps)
-
-pub no_digit_at : (word : List ℕ) (offset : ℕ) → offset < length word
-    → is_ascii_digit (get_or word offset 0) ≡ false → number_of word ≡ None
-no_digit_at word offset within no_digit = no_digits word (list_all_at is_ascii_digit word offset 0 within no_digit)
 
 pub no_number : (word : List ℕ) → length word ≡ 0 → number_of word ≡ None
 unfolding number_of
@@ -72,36 +67,6 @@ one_more word offset within short digits digit =
       );
       small = digits_value_short own (take (offset + 1) word) 19 more
           (omega (arith, length-take-le (offset + 1) word (omega arith), short, within));
-    }
-
-no_space : (byte : ℕ) → is_ascii_digit byte ≡ true → (byte == 32) ≡ false
-no_space byte digit = grind (arith, common_steps, digit)
-
--- if digits are at the front, and a space or the end after them, the first word ends there
-digits_end : (line : List ℕ) (count : ℕ) → count ≤ length line → list_all is_ascii_digit (take count line) ≡ true →
-    (count < length line → get_or line count 0 ≡ 32) → position_or_len (λ byte. byte == 32) line ≡ count
-digits_end line count within digits ends =
-    let pass = AllPass-from_list_all is_ascii_digit (take count line) digits in
-    let long = length-take-le count line within in
-    position_or_len_is (λ byte. byte == 32) line count 0 within
-    (λ k below. no_space (get_or line k 0) (rw (get_or-take count line k 0 below) at
-    (pass k 0 (omega (arith, below, long)))))
-    (λ below. rw (ends below) refl)
-
--- what such a line begins with
-pub record LeadingDigits (line : List ℕ) (count : ℕ) : Type 0 where
-  pub number : number_of (first_word line) ≡ Some (digits_value 10 (take count line))
-  pub rest : take (length line - count) (drop count line) ≡ after_first_word line
-
-pub leading_digits : (line : List ℕ) (count : ℕ) → 0 < count → count ≤ 19 → count ≤ length line
-    → list_all is_ascii_digit (take count line) ≡ true →
-    (count < length line → get_or line count 0 ≡ 32) → LeadingDigits line count
-leading_digits line count some short within digits ends =
-    let at = digits_end line count within digits ends in
-    let long = length-take-le count line within in
-    record {
-      number = rw at (all_digits (take count line) (omega (arith, some, long)) (omega (arith, short, long)) digits);
-      rest = rw at (grind (arith, common_steps));
     }
 
 digits_read : {E : Type 0} (word : List ℕ) (r : Result ℕ E)

@@ -1,11 +1,11 @@
 -- What is spelled is read.
-use Rattle.std.proofs.Common.{◌≡◌, ℕ, suc, ◌+◌, ◌-◌, ◌/◌, ◌%◌, ◌^◌, ◌<◌, ◌≤◌, Bool, true, false, List, [], ◌∷◌, ◌++◌, length, map, refl, sym, ap, ◌∙◌, arith, Some, None, Option, Ok, Err, Result, length-append, subst, append_assoc, lt-ltb, le-ltb, zero, append-nil}
-use Rattle.std.specs.Prelude.{◌==◌, ◌&&◌, nat_le, nat_lt, filter, codes, decimal, slice_index, All, IfSome, unwrap_or}
+use Rattle.std.proofs.Common.{◌≡◌, ℕ, suc, ◌+◌, ◌-◌, ◌/◌, ◌%◌, ◌^◌, ◌<◌, ◌≤◌, Bool, true, false, List, [], ◌∷◌, ◌++◌, length, map, refl, sym, ap, ◌∙◌, arith, Some, None, Option, Ok, length-append, subst, append_assoc, lt-ltb, le-ltb, zero, append-nil}
+use Rattle.std.specs.Prelude.{◌==◌, ◌&&◌, nat_le, nat_lt, filter, codes, decimal, slice_index, All, unwrap_or}
 use Rattle.std.specs.List.{list_all, flat_map}
 use Rattle.std.specs.Char.{is_ascii_digit}
 use Rattle.std.specs.Str.Parse.{digits_value}
 use Rattle.std.proofs.lemmas.List.Folds.{list_all-append}
-use Rattle.std.proofs.lemmas.List.Elements.{All-nil, All-cons, All-head, All-tail}
+use Rattle.std.proofs.lemmas.List.Elements.{All-head, All-tail}
 use Rattle.std.proofs.lemmas.List.Sums.{AllPass-from_list_all}
 use Rattle.std.proofs.lemmas.List.Splits.{slice_split_at, slice_split_none}
 use Rattle.std.proofs.lemmas.Bool.{and_parts}
@@ -16,21 +16,22 @@ use Rattle.hex.proofs.HexLemmas.{decode_of-encode_lower}
 use Rattle.tb_program_script.specs.declared.keyword.Keyword.{Keyword}
 use Rattle.tb_program_script.specs.declared.keyword.Keyword.TheVariants as word
 use Rattle.tb_program_script.specs.declared.item.Settings.{Settings}
-use Rattle.tb_program_script.specs.declared.item.Submission.{Submission}
 use Rattle.tb_program_script.specs.declared.item.ScriptItem.{ScriptItem}
 use Rattle.tb_program_script.specs.declared.item.ScriptItem.TheVariants.{Packet, Pulse, Shut}
-use Rattle.tb_program_script.specs.declared.fault.Fault.{Fault}
 use Rattle.tb_program_script.specs.Text.{lines_of, words_of}
 use Rattle.tb_program_script.specs.Number.{number_of, number_within}
 use Rattle.tb_program_script.specs.Steps.{◌>>=◌}
 use Rattle.tb_program_script.specs.Keyword.{keyword_of}
 use Rattle.tb_program_script.specs.Event.{hex_bytes}
-use Rattle.tb_layout.specs.inside.Limits.{capacity_max, submitters_max}
+use Rattle.tb_layout.specs.inside.Limits.{batch_max, capacity_max, submitters_max}
 use Rattle.tb_layout.specs.Limits.{clock_max}
-use Rattle.tb_program_script.specs.Script.{ParsedScript, nothing_parsed, items_of, may_stand, is_text, with_words, with_line, with_packet, with_pulse, with_close, after_line, after_lines, at_line, submitters_of}
-use Rattle.tb_program_script.specs.Spelling.{line_of_words, text_of_lines, setting_lines, settings_lines, byte_line, packet_lines, item_lines, CanBeSet, CanBeSubmitted, CanBeWritten, CanAllBeWritten, shut_by}
+use Rattle.tb_work.specs.declared.packet.Packet as packets
+use Rattle.tb_program_script.specs.Script.{ParsedScript, nothing_parsed, items_of, may_stand, is_text, with_words, with_line, with_pulse, with_close, after_line, after_lines, submitters_of}
+use Rattle.tb_program_script.specs.Spelling.{line_of_words, text_of_lines, setting_lines, settings_lines, byte_line, packet_lines, item_lines, IsWithin, CanBeSet, CanBeSubmitted, CanBeWritten, CanAllBeWritten, shut_by}
 use Rattle.tb_program_script.specs.Laws.{SpelledScriptsAreRead}
+use Rattle.tb_program_script.proofs.Lines.{after_lines-append}
 use Rattle.tb_program_script.proofs.Numbers.{own}
+use Rattle.tb_program_script.proofs.Texts.{all-implied, list_all-implied}
 
 -- ---- words
 
@@ -39,20 +40,6 @@ is_word_byte byte = nat_le 33 byte && nat_le byte 126
 
 abbrev pub is_word : List ℕ → Bool
 is_word word = nat_lt 0 (length word) && list_all is_word_byte word
-
-pub list_all-implied : (p q : ℕ → Bool) (xs : List ℕ) → ((x : ℕ) → p x ≡ true → q x ≡ true)
-    → list_all p xs ≡ true → list_all q xs ≡ true
-list_all-implied p q [] h all = refl
-list_all-implied p q (x ∷ xs) h all =
-    let parts = and_parts (p x) (list_all p xs) all in
-    rw (h x parts.0, list_all-implied p q xs h parts.1) refl
-
-all-implied : (p : ℕ → Bool) (P : ℕ → Type 0) (xs : List ℕ) → ((x : ℕ) → p x ≡ true → P x)
-    → list_all p xs ≡ true → All P xs
-all-implied p P [] h all = All-nil P
-all-implied p P (x ∷ xs) h all =
-    let parts = and_parts (p x) (list_all p xs) all in
-    All-cons P x xs (h x parts.0) (all-implied p P xs h parts.1)
 
 word_is_text : (x : ℕ) → is_word_byte x ≡ true → (nat_le 32 x && nat_le x 126) ≡ true
 word_is_text x h = grind (arith, nat_tests)
@@ -120,32 +107,21 @@ says_nothing : (parsed : ParsedScript) → Says parsed [] parsed
 unfolding after_lines
 says_nothing parsed = record { text = refl; read = λ number. refl }
 
-says_more : (parsed between next : ParsedScript) (line : List ℕ) (lines : List (List ℕ)) → is_text line ≡ true
-    → after_line parsed line ≡ Ok between → Says between lines next → Says parsed (line ∷ lines) next
+-- a line that does so
+pub record SaysLine (parsed : ParsedScript) (line : List ℕ) (next : ParsedScript) : Type 0 where
+  pub text : is_text line ≡ true
+  pub read : after_line parsed line ≡ Ok next
+
+says_more : (parsed between next : ParsedScript) (line : List ℕ) (lines : List (List ℕ)) → SaysLine parsed line between
+    → Says between lines next → Says parsed (line ∷ lines) next
 unfolding after_lines
-says_more parsed between next line lines text first rest = record {
-  text = rw (text, rest.text) refl;
-  read = λ number. rw first (rest.read (number + 1));
+says_more parsed between next line lines first rest = record {
+  text = rw (first.text, rest.text) refl;
+  read = λ number. rw first.read (rest.read (number + 1));
 }
 
-first_step : (number : ℕ) (r : Result ParsedScript Fault) (lines : List (List ℕ)) (next : ParsedScript)
-    → (at_line number r >>= λ s. after_lines (number + 1) s lines) ≡ Ok next →
-    (s : ParsedScript) × (r ≡ Ok s) × (after_lines (number + 1) s lines ≡ Ok next)
-first_step number (Ok s) lines next h = (s, refl, h)
-first_step number (Err fault) lines next h = cc
-
-after_lines-append : (number : ℕ) (parsed next : ParsedScript) (front back : List (List ℕ))
-    → after_lines number parsed front ≡ Ok next → after_lines number parsed (front ++ back)
-    ≡ after_lines (number + length front) next back
-unfolding after_lines
-after_lines-append number parsed next [] back h =
-    let same : parsed ≡ next = cc in
-    let count : number + 0 ≡ number = omega arith in
-    rw (same, count) refl
-after_lines-append number parsed next (line ∷ front) back h =
-    let step = first_step number (after_line parsed line) front next h in
-    let count : number + 1 + length front ≡ number + suc (length front) = omega arith in
-    rw step.1 (after_lines-append (number + 1) step.0 next front back step.2 ∙ ap (λ n. after_lines n next back) count)
+says_line : (parsed next : ParsedScript) (line : List ℕ) → SaysLine parsed line next → Says parsed (line ∷ []) next
+says_line parsed next line says = says_more parsed next next line [] says (says_nothing next)
 
 says_both : (parsed between next : ParsedScript) (front back : List (List ℕ)) → Says parsed front between
     → Says between back next → Says parsed (front ++ back) next
@@ -206,18 +182,24 @@ number_within-decimal low high n above below h =
       is.value,
     ) (grind (arith, nat_tests))
 
--- ---- settings
-
-says_setting : (parsed next : ParsedScript) (keyword : Keyword) (name : List ℕ) (n : ℕ) → is_word name ≡ true
-    → length name ≤ 16 → (slice_index name 0 == 35) ≡ false →
-    keyword_of name ≡ Some keyword → may_stand parsed keyword ≡ true → n < 2 ^ 128
-    → with_line parsed keyword (decimal n ∷ []) ≡ Ok next → Says parsed (setting_lines name (Some n)) next
-says_setting parsed next keyword name n good short mark is index small line =
+-- a line of a keyword in its place and a number in its bounds
+pub number_line : (parsed : ParsedScript) (to : ℕ → ParsedScript) (keyword : Keyword) (name : List ℕ) (low high n : ℕ)
+    → is_word name ≡ true → length name ≤ 16 → (slice_index name 0 == 35) ≡ false → keyword_of name ≡ Some keyword
+    → may_stand parsed keyword ≡ true → high < 2 ^ 128 →
+    ((text : List ℕ) → with_line parsed keyword (text ∷ []) ≡ (number_within low high text >>= λ n. Ok (to n)))
+    → low ≤ n → n ≤ high → SaysLine parsed (line_of_words (name ∷ decimal n ∷ [])) (to n)
+number_line parsed to keyword name low high n good short mark is index fits makes above below =
+    let small : n < 2 ^ 128 = omega (arith, fits, below) in
     let words : list_all is_word (name ∷ decimal n ∷ []) ≡ true = rw (good, decimal_is_word n small) refl in
     let count : length (line_of_words (name ∷ decimal n ∷ []))
-    ≤ 65536 = omega (arith, length-append name (32 ∷ decimal n), length-decimal n small) in
-    says_more parsed next next _ [] (is_text-line_of_words (name ∷ decimal n ∷ []) words)
-    (keyword_line parsed keyword name (decimal n ∷ []) words count mark is index ∙ line) (says_nothing next)
+    ≤ 65536 = omega (arith, short, length-append name (32 ∷ decimal n), length-decimal n small) in
+    record {
+      text = is_text-line_of_words (name ∷ decimal n ∷ []) words;
+      read = keyword_line parsed keyword name (decimal n ∷ []) words count mark is index ∙ makes (decimal n)
+          ∙ rw (number_within-decimal low high n above below small) refl;
+    }
+
+-- ---- settings
 
 abbrev given : Option ℕ → Option ℕ → Option ℕ → Option ℕ → Option ℕ → ParsedScript
 given clock limit capacity credit submitters = record {
@@ -227,59 +209,31 @@ given clock limit capacity credit submitters = record {
   shut = false;
 }
 
-says_clock : (clock : Option ℕ) → IfSome clock (λ n. n ≤ clock_max)
-    → Says nothing_parsed (setting_lines (codes "clock") clock) (given clock None None None None)
-unfolding with_line keyword_of
-says_clock None h = says_nothing nothing_parsed
-says_clock (Some n) h =
-    says_setting nothing_parsed _ word.Clock (codes "clock") n refl (omega arith) refl refl refl (omega arith)
-    (rw (number_within-decimal 0 clock_max n (omega arith) (omega arith) (omega arith)) refl)
-
-says_limit : (clock limit : Option ℕ) → IfSome limit (λ n. (1 ≤ n) × (n ≤ 8190))
-    → Says (given clock None None None None) (setting_lines (codes "limit") limit)
-    (given clock limit None None None)
-unfolding with_line keyword_of
-says_limit clock None h = says_nothing _
-says_limit clock (Some n) h =
-    says_setting _ _ word.Limit (codes "limit") n refl (omega arith) refl refl refl (omega (arith, h.1))
-    (rw (number_within-decimal 1 8190 n h.0 h.1 (omega (arith, h.1))) refl)
-
-says_capacity : (clock limit capacity : Option ℕ) → IfSome capacity (λ n. (1 ≤ n) × (n ≤ capacity_max))
-    → Says (given clock limit None None None) (setting_lines (codes "capacity") capacity)
-    (given clock limit capacity None None)
-unfolding with_line keyword_of
-says_capacity clock limit None h = says_nothing _
-says_capacity clock limit (Some n) h =
-    says_setting _ _ word.Capacity (codes "capacity") n refl (omega arith) refl refl refl (omega (arith, h.1))
-    (rw (number_within-decimal 1 capacity_max n h.0 h.1 (omega (arith, h.1))) refl)
-
-says_credit : (clock limit capacity credit : Option ℕ) → IfSome credit (λ n. (1 ≤ n) × (n ≤ capacity_max))
-    → Says (given clock limit capacity None None) (setting_lines (codes "credit") credit)
-    (given clock limit capacity credit None)
-unfolding with_line keyword_of
-says_credit clock limit capacity None h = says_nothing _
-says_credit clock limit capacity (Some n) h =
-    says_setting _ _ word.Credit (codes "credit") n refl (omega arith) refl refl refl (omega (arith, h.1))
-    (rw (number_within-decimal 1 capacity_max n h.0 h.1 (omega (arith, h.1))) refl)
-
-says_submitters : (clock limit capacity credit submitters : Option ℕ)
-    → IfSome submitters (λ n. (1 ≤ n) × (n ≤ submitters_max))
-    → Says (given clock limit capacity credit None) (setting_lines (codes "submitters") submitters)
-    (given clock limit capacity credit submitters)
-unfolding with_line keyword_of
-says_submitters clock limit capacity credit None h = says_nothing _
-says_submitters clock limit capacity credit (Some n) h =
-    says_setting _ _ word.Submitters (codes "submitters") n refl (omega arith) refl refl refl (omega (arith, h.1))
-    (rw (number_within-decimal 1 submitters_max n h.0 h.1 (omega (arith, h.1))) refl)
+-- a setting's line, if it is given
+says_setting : (to : Option ℕ → ParsedScript) (keyword : Keyword) (name : List ℕ) (low high : ℕ) (setting : Option ℕ)
+    → is_word name ≡ true → length name ≤ 16 → (slice_index name 0 == 35) ≡ false → keyword_of name ≡ Some keyword
+    → may_stand (to None) keyword ≡ true → high < 2 ^ 128 →
+    ((text : List ℕ) → with_line (to None) keyword (text ∷ []) ≡ (number_within low high text >>= λ n. Ok (to (Some n))))
+    → IsWithin low high setting → Says (to None) (setting_lines name setting) (to setting)
+says_setting to keyword name low high None good short mark is index fits makes h = says_nothing (to None)
+says_setting to keyword name low high (Some n) good short mark is index fits makes h =
+    says_line (to None) (to (Some n)) _
+    (number_line (to None) (λ n. to (Some n)) keyword name low high n good short mark is index fits makes h.0 h.1)
 
 says_settings : (s : Settings) → CanBeSet s → Says nothing_parsed (settings_lines s)
     (given s.clock s.limit s.capacity s.credit s.submitters)
+unfolding with_line keyword_of
 says_settings s h =
-    says_both _ _ _ _ _ (says_clock s.clock h.clock)
-    (says_both _ _ _ _ _ (says_limit s.clock s.limit h.limit)
-    (says_both _ _ _ _ _ (says_capacity s.clock s.limit s.capacity h.capacity)
-    (says_both _ _ _ _ _ (says_credit s.clock s.limit s.capacity s.credit h.credit)
-    (says_submitters s.clock s.limit s.capacity s.credit s.submitters h.submitters))))
+    says_both _ _ _ _ _ (says_setting (λ clock. given clock None None None None) word.Clock (codes "clock")
+    0 clock_max s.clock refl (omega arith) refl refl refl (omega arith) (λ text. refl) h.clock)
+    (says_both _ _ _ _ _ (says_setting (λ limit. given s.clock limit None None None) word.Limit (codes "limit")
+    1 batch_max s.limit refl (omega arith) refl refl refl (omega arith) (λ text. refl) h.limit)
+    (says_both _ _ _ _ _ (says_setting (λ capacity. given s.clock s.limit capacity None None) word.Capacity (codes "capacity")
+    1 capacity_max s.capacity refl (omega arith) refl refl refl (omega arith) (λ text. refl) h.capacity)
+    (says_both _ _ _ _ _ (says_setting (λ credit. given s.clock s.limit s.capacity credit None) word.Credit (codes "credit")
+    1 capacity_max s.credit refl (omega arith) refl refl refl (omega arith) (λ text. refl) h.credit)
+    (says_setting (λ submitters. given s.clock s.limit s.capacity s.credit submitters) word.Submitters (codes "submitters")
+    1 submitters_max s.submitters refl (omega arith) refl refl refl (omega arith) (λ text. refl) h.submitters))))
 
 -- ---- packets
 
@@ -305,135 +259,110 @@ one_byte : (byte : ℕ) → byte < 256 → hex_bytes (encode_lower (byte ∷ [])
 unfolding hex_bytes
 one_byte byte h = rw (decode_of-encode_lower (byte ∷ []) (one_is_bytes byte h)) refl
 
-abbrev adding : Settings → Bool → List ScriptItem → Submission → ParsedScript
-adding settings shut items packet = record { settings = settings; items = items; packet = Some packet; shut = shut }
+-- a packet to which lines add, after what was said
+abbrev adding : ParsedScript → ℕ → packets.Packet → ParsedScript
+adding parsed submitter packet = record parsed { items = items_of parsed; packet = Some (submitter, packet) }
 
-says_byte : (settings : Settings) (shut : Bool) (items : List ScriptItem) (packet : Submission) (byte : ℕ) → byte < 256 →
-    after_line (adding settings shut items packet) (byte_line byte)
-    ≡ Ok (adding settings shut items (record packet { bytes = packet.bytes ++ byte ∷ [] }))
+says_byte : (parsed : ParsedScript) (submitter : ℕ) (packet : packets.Packet) (byte : ℕ) → byte < 256
+    → SaysLine (adding parsed submitter packet) (byte_line byte)
+    (adding parsed submitter (record packet { bytes = packet.bytes ++ byte ∷ [] }))
 unfolding with_line keyword_of
-says_byte settings shut items packet byte h =
-    keyword_line (adding settings shut items packet) word.Hex (codes "hex") (encode_lower (byte ∷ []) ∷ [])
-    (rw (encoded_is_word byte h) refl) (omega (arith, length-encoded byte)) refl refl refl
-    ∙ rw (one_byte byte h) refl
+says_byte parsed submitter packet byte h =
+    let words : list_all is_word (codes "hex" ∷ encode_lower (byte ∷ []) ∷ []) ≡ true = rw (encoded_is_word byte h) refl in
+    record {
+      text = is_text-line_of_words (codes "hex" ∷ encode_lower (byte ∷ []) ∷ []) words;
+      read = keyword_line (adding parsed submitter packet) word.Hex (codes "hex") (encode_lower (byte ∷ []) ∷ [])
+          words (omega (arith, length-encoded byte)) refl refl refl ∙ rw (one_byte byte h) refl;
+    }
 
-byte_line_is_text : (byte : ℕ) → byte < 256 → is_text (byte_line byte) ≡ true
-byte_line_is_text byte h =
-    is_text-line_of_words (codes "hex" ∷ encode_lower (byte ∷ []) ∷ []) (rw (encoded_is_word byte h) refl)
-
-says_bytes : (settings : Settings) (shut : Bool) (items : List ScriptItem) (packet : Submission) (bytes : List ℕ)
+says_bytes : (parsed : ParsedScript) (submitter : ℕ) (packet : packets.Packet) (bytes : List ℕ)
     → All (λ byte. byte < 256) bytes →
-    Says (adding settings shut items packet) (map byte_line bytes)
-    (adding settings shut items (record packet { bytes = packet.bytes ++ bytes }))
-says_bytes settings shut items packet [] h =
-    subst (λ bs. Says (adding settings shut items packet) []
-    (adding settings shut items (record packet { bytes = bs }))) (sym (append-nil packet.bytes)) (says_nothing _)
-says_bytes settings shut items packet (byte ∷ bytes) h =
+    Says (adding parsed submitter packet) (map byte_line bytes)
+    (adding parsed submitter (record packet { bytes = packet.bytes ++ bytes }))
+says_bytes parsed submitter packet [] h =
+    subst (λ bs. Says (adding parsed submitter packet) [] (adding parsed submitter (record packet { bytes = bs })))
+    (sym (append-nil packet.bytes)) (says_nothing _)
+says_bytes parsed submitter packet (byte ∷ bytes) h =
     let small = All-head (λ b. b < 256) byte bytes h in
     let more = record packet { bytes = packet.bytes ++ byte ∷ [] } in
-    says_more _ (adding settings shut items more) _ _ _ (byte_line_is_text byte small)
-    (says_byte settings shut items packet byte small)
-    (subst (λ bs. Says (adding settings shut items more) (map byte_line bytes)
-    (adding settings shut items (record packet { bytes = bs }))) (append_assoc packet.bytes (byte ∷ []) bytes)
-    (says_bytes settings shut items more bytes (All-tail (λ b. b < 256) byte bytes h)))
+    says_more _ (adding parsed submitter more) _ _ _ (says_byte parsed submitter packet byte small)
+    (subst (λ bs. Says (adding parsed submitter more) (map byte_line bytes) (adding parsed submitter (record packet { bytes = bs })))
+    (append_assoc packet.bytes (byte ∷ []) bytes)
+    (says_bytes parsed submitter more bytes (All-tail (λ b. b < 256) byte bytes h)))
 
-abbrev packet_words : Submission → List (List ℕ)
-packet_words packet = codes "packet" ∷ decimal packet.submitter ∷ decimal packet.operation ∷ []
+abbrev packet_words : ℕ → packets.Packet → List (List ℕ)
+packet_words submitter packet = codes "packet" ∷ decimal submitter ∷ decimal packet.operation ∷ []
 
-packet_words_are_words : (packet : Submission) (submitters : ℕ) → submitters ≤ 16 → CanBeSubmitted submitters packet
-    → list_all is_word (packet_words packet) ≡ true
-packet_words_are_words packet submitters few h =
-    rw (
-      decimal_is_word packet.submitter (omega (arith, h.submitter)),
-      decimal_is_word packet.operation
-          (omega (arith, h.operation)),
-    ) refl
-
-says_packet_line : (parsed : ParsedScript) (packet : Submission) → submitters_of parsed.settings ≤ submitters_max
-    → CanBeSubmitted (submitters_of parsed.settings) packet →
-    after_line parsed (line_of_words (packet_words packet)) ≡ Ok (with_packet parsed packet.submitter packet.operation)
+-- a packet's line begins the packet, and those of its bytes add them
+says_packet : (parsed : ParsedScript) (submitter : ℕ) (packet : packets.Packet) → submitters_of parsed.settings ≤ submitters_max
+    → CanBeSubmitted (submitters_of parsed.settings) submitter packet →
+    Says parsed (packet_lines submitter packet) (adding parsed submitter packet)
 unfolding with_line keyword_of
-says_packet_line parsed packet few h =
-    let submitter : packet.submitter < 2 ^ 128 = omega (arith, h.submitter) in
-    let operation : packet.operation < 2 ^ 128 = omega (arith, h.operation) in
-    let words = packet_words_are_words packet (submitters_of parsed.settings) few h in
-    let short : length (line_of_words (packet_words packet)) ≤ 65536 =
-    omega (
+says_packet parsed submitter packet few h =
+    let empty = record packet { bytes = [] } in
+    let first : submitter < 2 ^ 128 = omega (arith, h.known) in
+    let second : packet.operation < 2 ^ 128 = omega (arith, h.operation) in
+    let words : list_all is_word (packet_words submitter packet) ≡ true =
+    rw (decimal_is_word submitter first, decimal_is_word packet.operation second) refl in
+    let short : length (line_of_words (packet_words submitter packet)) ≤ 65536 = omega (
       arith,
-      length-append (decimal packet.submitter)
-          (32 ∷ decimal packet.operation),
-      length-decimal packet.submitter submitter,
-      length-decimal
-          packet.operation operation,
+      length-append (decimal submitter) (32 ∷ decimal packet.operation),
+      length-decimal submitter first,
+      length-decimal packet.operation second,
     ) in
-    keyword_line parsed word.Packet (codes "packet")
-    (decimal packet.submitter ∷ decimal packet.operation ∷ []) words short refl refl refl
-    ∙ rw (
-      number_within-decimal 0 (submitters_of parsed.settings - 1) packet.submitter (omega arith)
-          (omega (arith, h.submitter)) submitter,
-      number_within-decimal 0 255 packet.operation (omega arith)
-          (omega (arith, h.operation)) operation,
-    ) refl
+    says_more parsed (adding parsed submitter empty) (adding parsed submitter packet) _ (map byte_line packet.bytes) (record {
+      text = is_text-line_of_words (packet_words submitter packet) words;
+      read = keyword_line parsed word.Packet (codes "packet") (decimal submitter ∷ decimal packet.operation ∷ [])
+          words short refl refl refl
+          ∙ rw (
+            number_within-decimal 0 (submitters_of parsed.settings - 1) submitter (omega arith) (omega (arith, h.known)) first,
+            number_within-decimal 0 255 packet.operation (omega arith) (omega (arith, h.operation)) second,
+            h.user,
+          ) refl;
+    }) (says_bytes parsed submitter empty packet.bytes h.bytes)
 
 -- a pulse's line says its pulse
 says_pulse : (parsed : ParsedScript) (moment : ℕ) → parsed.shut ≡ false → moment < 2 ^ 64
     → Says parsed (item_lines (Pulse moment)) (with_pulse parsed moment)
 unfolding with_line keyword_of
 says_pulse parsed moment unshut small =
-    let h : moment < 2 ^ 128 = omega (arith, small) in
-    let words : list_all is_word (codes "pulse" ∷ decimal moment ∷ []) ≡ true = rw (decimal_is_word moment h) refl in
-    let short : length (line_of_words (codes "pulse" ∷ decimal moment ∷ []))
-    ≤ 65536 = omega (arith, length-decimal moment h) in
-    let line = keyword_line parsed word.Pulse (codes "pulse") (decimal moment ∷ []) words short refl refl
-    (rw unshut refl) ∙ rw (number_within-decimal 0 (2 ^ 64 - 1) moment (omega arith)
-    (omega (arith, small)) h) refl in
-    says_more parsed (with_pulse parsed moment) (with_pulse parsed moment) _ []
-    (is_text-line_of_words (codes "pulse" ∷ decimal moment ∷ []) words) line
-    (says_nothing (with_pulse parsed moment))
+    says_line parsed (with_pulse parsed moment) _ (number_line parsed (with_pulse parsed) word.Pulse (codes "pulse")
+    0 (2 ^ 64 - 1) moment refl (omega arith) refl refl (rw unshut refl) (omega arith) (λ text. refl)
+    (omega arith) (omega (arith, small)))
 
 -- the line of the Close says it
 says_close : (parsed : ParsedScript) → parsed.shut ≡ false → Says parsed (item_lines Shut) (with_close parsed)
 unfolding with_line keyword_of
 says_close parsed unshut =
-    says_more parsed (with_close parsed) (with_close parsed) _ [] refl
-    (keyword_line parsed word.Shut (codes "shut") [] refl (omega arith) refl refl (rw unshut refl))
-    (says_nothing (with_close parsed))
-
--- a packet's lines say the packet
-says_packet : (parsed : ParsedScript) (packet : Submission) → submitters_of parsed.settings ≤ submitters_max
-    → CanBeSubmitted (submitters_of parsed.settings) packet →
-    Says parsed (packet_lines packet) (adding parsed.settings parsed.shut (items_of parsed) packet)
-says_packet parsed packet few h =
-    let started = adding parsed.settings parsed.shut (items_of parsed) (record packet { bytes = [] }) in
-    let words = packet_words_are_words packet (submitters_of parsed.settings) few h in
-    says_more parsed started (adding parsed.settings parsed.shut (items_of parsed) packet) _ (map byte_line packet.bytes)
-    (is_text-line_of_words (packet_words packet) words) (says_packet_line parsed packet few h)
-    (says_bytes parsed.settings parsed.shut (items_of parsed) (record packet { bytes = [] }) packet.bytes h.bytes)
+    says_line parsed (with_close parsed) _ (record {
+      text = refl;
+      read = keyword_line parsed word.Shut (codes "shut") [] refl (omega arith) refl refl (rw unshut refl);
+    })
 
 -- one item after those that were said
 abbrev with_item : ParsedScript → ScriptItem → ParsedScript
-with_item parsed (Packet packet) = adding parsed.settings parsed.shut (items_of parsed) packet
+with_item parsed (Packet submitter packet) = adding parsed submitter packet
 with_item parsed (Pulse moment) = with_pulse parsed moment
 with_item parsed Shut = with_close parsed
 
 says_item : (parsed : ParsedScript) (item : ScriptItem) → submitters_of parsed.settings ≤ submitters_max
     → CanBeWritten (submitters_of parsed.settings) parsed.shut item → Says parsed (item_lines item) (with_item parsed item)
-says_item parsed (Packet packet) few h = says_packet parsed packet few h
+says_item parsed (Packet submitter packet) few h = says_packet parsed submitter packet few h
 says_item parsed (Pulse moment) few h = says_pulse parsed moment h.0 h.1
 says_item parsed Shut few h = says_close parsed h
 
 settings_stay : (parsed : ParsedScript) (item : ScriptItem) → (with_item parsed item).settings ≡ parsed.settings
-settings_stay parsed (Packet packet) = refl
+settings_stay parsed (Packet submitter packet) = refl
 settings_stay parsed (Pulse moment) = refl
 settings_stay parsed Shut = refl
 
 shut_after : (parsed : ParsedScript) (item : ScriptItem) → (with_item parsed item).shut ≡ shut_by parsed.shut item
-shut_after parsed (Packet packet) = refl
+shut_after parsed (Packet submitter packet) = refl
 shut_after parsed (Pulse moment) = refl
 shut_after parsed Shut = refl
 
 item_is_last : (parsed : ParsedScript) (item : ScriptItem) → items_of (with_item parsed item) ≡ items_of parsed ++ item ∷ []
-item_is_last parsed (Packet packet) = refl
+item_is_last parsed (Packet submitter packet) = refl
 item_is_last parsed (Pulse moment) = append-nil (items_of parsed ++ Pulse moment ∷ [])
 item_is_last parsed Shut = append-nil (items_of parsed ++ Shut ∷ [])
 
@@ -465,8 +394,7 @@ says_items parsed (item ∷ items) few all =
           ∙ append_assoc (items_of parsed) (item ∷ []) items;
     }
 
-few_submitters : (submitters : Option ℕ) → IfSome submitters (λ n. (1 ≤ n) × (n ≤ submitters_max))
-    → unwrap_or submitters 2 ≤ submitters_max
+few_submitters : (submitters : Option ℕ) → IsWithin 1 submitters_max submitters → unwrap_or submitters 2 ≤ submitters_max
 few_submitters None h = omega arith
 few_submitters (Some n) h = h.1
 

@@ -1,13 +1,38 @@
 -- The first line of bytes, and the first word of a line.
-use Rattle.std.proofs.Common.{◌≡◌, ℕ, ◌+◌, ◌-◌, ◌<◌, ◌≤◌, Bool, true, false, cond, not, List, [], ◌∷◌, length, ◌++◌, take, drop, refl, sym, ap, ◌∙◌, arith, lt-ltb, inl, inr, Some, None, Option, ◌⊎◌, suc}
-use Rattle.std.specs.Prelude.{◌==◌, ◌&&◌, filter, nat_lt, position, unwrap_or}
+use Rattle.std.proofs.Common.{◌≡◌, ℕ, ◌+◌, ◌-◌, ◌<◌, Bool, true, false, cond, not, List, [], ◌∷◌, length, ◌++◌, take, drop, refl, sym, ap, ◌∙◌, arith, lt-ltb, inl, inr, Some, None, Option, ◌⊎◌, suc}
+use Rattle.std.specs.Prelude.{◌==◌, ◌&&◌, All, filter, nat_lt, position, unwrap_or}
 use Rattle.std.specs.List.{position_or_len, slice_split, onto_first, list_all}
 use Rattle.std.proofs.lemmas.Grind.{common_steps}
+use Rattle.std.proofs.lemmas.List.Elements.{All-nil, All-cons}
 use Rattle.std.proofs.lemmas.List.Folds.{length-prefix_len, list_all-append}
-use Rattle.std.proofs.lemmas.List.Sums.{prefix_len-le-length, position_or_len_is}
-use Rattle.std.proofs.lemmas.Bool.{cases_lt, cond_below, false_from_ne_true}
+use Rattle.std.proofs.lemmas.List.{get_or-take}
+use Rattle.std.proofs.lemmas.List.Sums.{list_all-from_AllPass, prefix_len-le-length, prefix_len_passes, position_or_len_is}
+use Rattle.std.proofs.lemmas.Bool.{and_parts, cases_lt, cond_below, false_from_ne_true}
 use Rattle.memchr.specs.Find.{IsFirstByte, is_byte}
 use Rattle.tb_program_script.specs.Text.{lines_of, words_of}
+
+-- what passes a test passes each that it implies
+pub list_all-implied : (p q : ℕ → Bool) (xs : List ℕ) → ((x : ℕ) → p x ≡ true → q x ≡ true)
+    → list_all p xs ≡ true → list_all q xs ≡ true
+list_all-implied p q [] h all = refl
+list_all-implied p q (x ∷ xs) h all =
+    let parts = and_parts (p x) (list_all p xs) all in
+    rw (h x parts.0, list_all-implied p q xs h parts.1) refl
+
+pub all-implied : {X : Type 0} (p : X → Bool) (P : X → Type 0) (xs : List X) → ((x : X) → p x ≡ true → P x)
+    → list_all p xs ≡ true → All P xs
+all-implied p P [] h all = All-nil P
+all-implied p P (x ∷ xs) h all =
+    let parts = and_parts (p x) (list_all p xs) all in
+    All-cons P x xs (h x parts.0) (all-implied p P xs h parts.1)
+
+-- before the first that passes none does
+pub none_before : (p : ℕ → Bool) (bs : List ℕ) → list_all (λ b. not (p b)) (take (position_or_len p bs) bs) ≡ true
+none_before p bs =
+    let count = position_or_len p bs in
+    list_all-from_AllPass (λ b. not (p b)) (take count bs) (λ k d below.
+    let inside : k < count = omega (arith, below, length-prefix_len (λ b. not (p b)) bs) in
+    ap (λ b. not (p b)) (get_or-take count bs k d inside) ∙ prefix_len_passes (λ b. not (p b)) bs k d inside)
 
 abbrev pub line_end : List ℕ → ℕ
 line_end bs = position_or_len (λ b. b == 10) bs
@@ -107,14 +132,6 @@ pub some_word : (line : List ℕ) → (length line ≡ 0) ⊎ (0 < word_end line
 some_word line (inl none) some = absurd (omega (arith, none))
 some_word line (inr word) some = word
 
-pub no_words : words_of [] ≡ []
-unfolding words_of
-no_words = refl
-
-pub no_lines : lines_of [] ≡ []
-unfolding lines_of
-no_lines = refl
-
 -- no byte passes
 pub nowhere : (p : ℕ → Bool) (bs : List ℕ) → position p bs ≡ None → position_or_len p bs ≡ length bs
 nowhere p bs h = elim (cases_lt (position_or_len p bs) (length bs)) [
@@ -131,21 +148,6 @@ before_found byte bs None h =
 before_found byte bs (Some i) h =
     position_or_len_is (λ b. b == byte) bs i 0 (omega (arith, h.0.high))
     (λ k below. false_from_ne_true _ (h.0.before k (omega arith) below)) (λ below. h.1)
-
--- the first line, where a byte ends it
-pub line_ended : (bs : List ℕ) (end : ℕ) → end ≡ line_end bs → end < length bs →
-    lines_of bs ≡ take end bs ∷ lines_of (take (length bs - (end + 1)) (drop (end + 1) bs))
-line_ended bs end e h =
-    let rest : take (length bs - (end + 1)) (drop (end + 1) bs) ≡ drop (end + 1) bs = grind (arith, common_steps) in
-    rw (rest, e) (lines_first bs (omega arith))
-
--- the first line, where none does
-pub line_unended : (bs : List ℕ) (end : ℕ) → end ≡ line_end bs → length bs ≤ end → 0 < length bs
-    → lines_of bs ≡ bs ∷ lines_of []
-line_unended bs end e h some =
-    let line : take end bs ≡ bs = grind (arith, common_steps) in
-    let rest : drop (end + 1) bs ≡ [] = grind (arith, common_steps) in
-    lines_first bs some ∙ rw (← e) (rw (line, rest) refl)
 
 pub empty_words : (line : List ℕ) → length line ≡ 0 → words_of line ≡ []
 unfolding words_of

@@ -1,6 +1,6 @@
 -- Lines without fault are text, and what they say.
-use Rattle.std.proofs.Common.{◌≡◌, ℕ, ◌+◌, ◌<◌, ◌≤◌, Bool, true, false, cond, not, List, [], ◌∷◌, length, ◌++◌, take, drop, refl, sym, ap, ◌∙◌, arith, rules, inl, inr, Some, None, Option, Ok, Err, Result, suc, Decides, lt-ltb, le-ltb, le-leb, take-append-drop}
-use Rattle.std.specs.Prelude.{◌==◌, ◌&&◌, IfOk, bytes_eq, codes, is_some, map, nat_le, nat_lt, slice_index, slice_index_or}
+use Rattle.std.proofs.Common.{◌≡◌, ℕ, ◌+◌, ◌<◌, ◌≤◌, Bool, true, false, cond, not, List, [], ◌∷◌, length, ◌++◌, take, drop, refl, sym, ap, ◌∙◌, arith, rules, inl, inr, Some, None, Option, Ok, Err, Result, suc, lt-ltb, le-ltb, le-leb, take-append-drop}
+use Rattle.std.specs.Prelude.{◌==◌, ◌&&◌, IfOk, codes, is_some, map, nat_le, nat_lt, slice_index, slice_index_or}
 use Rattle.std.specs.List.{after_first, before_first, list_all, onto_first, position_or_len, slice_split}
 use Rattle.std.specs.Option.{MatchOption}
 use Rattle.std.specs.Char.{is_ascii_digit}
@@ -8,7 +8,6 @@ use Rattle.std.specs.Str.Parse.{digits_value}
 use Rattle.std.proofs.lemmas.Grind.{common_steps}
 use Rattle.std.proofs.lemmas.List.Folds.{list_all-append}
 use Rattle.std.proofs.lemmas.Bool.{and_parts, cases_lt}
-use Rattle.std.proofs.lemmas.Slice.Eq.{bytes_eq-Decides}
 use Rattle.std.proofs.Math.Seq.{take-append_seam, drop-append_seam}
 use Rattle.tb_program_script.specs.declared.event.Field.{Field}
 use Rattle.tb_program_script.specs.declared.event.Draft.{Draft}
@@ -22,11 +21,12 @@ use Rattle.tb_program_script.specs.Event.{after_word, after_words, blank, event_
 use Rattle.tb_program_script.specs.Keyword.{keyword_of}
 use Rattle.tb_program_script.specs.Number.{number_of, number_within, within}
 use Rattle.tb_program_script.specs.Script.{ParsedScript, after_line, is_text, line_max, may_stand, packet_numbers, with_bytes, with_event, with_line, with_words}
-use Rattle.tb_program_script.specs.Steps.{◌>>=◌, look_up}
+use Rattle.tb_program_script.specs.Steps.{◌>>=◌}
 use Rattle.tb_program_script.specs.Text.{after_first_line, first_line, words_of}
 use Rattle.tb_program_script.proofs.FirstLines.{begins_line, found_behind, has_no_end}
 use Rattle.tb_program_script.proofs.Named.{parts_of}
-use Rattle.tb_program_script.proofs.Texts.{kept, line_end, some_words, word_end, words_first, words_from_space}
+use Rattle.tb_program_script.proofs.Tables.{found_row}
+use Rattle.tb_program_script.proofs.Texts.{all-implied, kept, line_end, list_all-implied, some_words, word_end, words_first, words_from_space}
 
 abbrev is_text_byte : ℕ → Bool
 is_text_byte byte = nat_le 32 byte && nat_le byte 126
@@ -93,17 +93,6 @@ line_is_text line h =
 text_digit : (byte : ℕ) → is_ascii_digit byte ≡ true → is_text_byte byte ≡ true
 text_digit byte h = grind (arith, common_steps, h)
 
-digits_are_text : (digits : List ℕ) → list_all is_ascii_digit digits ≡ true → is_text digits ≡ true
-digits_are_text [] h = refl
-digits_are_text (byte ∷ digits) h =
-    let parts = and_parts (is_ascii_digit byte) (list_all is_ascii_digit digits) h in
-    rw (text_digit byte parts.0, digits_are_text digits parts.1) refl
-
-both_last : (first second third : Bool) → (first && second && third) ≡ true → third ≡ true
-both_last true true third e = e
-both_last true false third e = absurd (search (rules, e))
-both_last false second third e = absurd (search (rules, e))
-
 tested : (test : Bool) (value n : ℕ) → cond test (Some value) None ≡ Some n → test ≡ true
 tested true value n e = refl
 tested false value n e = absurd (search (rules, e))
@@ -113,24 +102,10 @@ unfolding number_of
 number_is_text digits n e =
     let test = tested (nat_lt 0 (length digits) && nat_lt (length digits) 40 && list_all is_ascii_digit digits)
     (digits_value 10 digits) n e in
-    digits_are_text digits (both_last (nat_lt 0 (length digits)) (nat_lt (length digits) 40)
-    (list_all is_ascii_digit digits) test)
+    list_all-implied is_ascii_digit is_text_byte digits text_digit
+    (and_parts (nat_lt 0 (length digits) && nat_lt (length digits) 40) (list_all is_ascii_digit digits) test).1
 
 -- ---- the words of an event are text
-
-name_by : (same : Bool) (name word : List ℕ) (value field : Field) (others : Option Field) → Decides same (word ≡ name)
-    → is_text name ≡ true → (others ≡ Some field → is_text word ≡ true)
-    → cond same (Some value) others ≡ Some field → is_text word ≡ true
-name_by true name word value field others decides text later e = ap is_text (decides.0 refl) ∙ text
-name_by false name word value field others decides text later e = later e
-
-name_is_text : (rows : List (List ℕ × Field)) (word : List ℕ) (field : Field) → list_all (λ row. is_text row.0) rows ≡ true
-    → look_up word rows ≡ Some field → is_text word ≡ true
-name_is_text [] word field texts e = absurd (search (rules, e))
-name_is_text (row ∷ rows) word field texts e =
-    let parts = and_parts (is_text row.0) (list_all (λ row. is_text row.0) rows) texts in
-    name_by (bytes_eq word row.0) row.0 word row.1 field (look_up word rows) (bytes_eq-Decides word row.0)
-    parts.0 (name_is_text rows word field parts.1) e
 
 names_are_text : (layout : Layout) → list_all (λ row. is_text row.0) (fields_of layout) ≡ true
 names_are_text Account = refl
@@ -138,7 +113,9 @@ names_are_text Transfer = refl
 
 field_is_text : (layout : Layout) (name : List ℕ) (field : Field) → field_of layout name ≡ Some field → is_text name ≡ true
 unfolding field_of
-field_is_text layout name field e = name_is_text (fields_of layout) name field (names_are_text layout) e
+field_is_text layout name field e =
+    found_row (λ word value. is_text word ≡ true) (fields_of layout) name field (all-implied (λ row. is_text row.0)
+    (λ row. is_text row.0 ≡ true) (fields_of layout) (λ row h. h) (names_are_text layout)) e
 
 abbrev with_sides : Layout → Draft → List ℕ × List ℕ → Result Draft Fault
 with_sides layout draft sides =

@@ -23,20 +23,21 @@ pub record Lies (field : Field) : Type 0 where
   pub inside : field.offset + field.size ≤ 128
   pub size : (field.size ≡ 2) ⊎ ((field.size ≡ 4) ⊎ ((field.size ≡ 8) ⊎ (field.size ≡ 16)))
 
+-- in the order in which lines mostly give them
 abbrev pub account_fields : List (List ℕ × Field)
 account_fields =
     (codes "id", field 0 0 16) ∷
-    (codes "debits_pending", field 1 16 16) ∷
-    (codes "debits_posted", field 2 32 16) ∷
-    (codes "credits_pending", field 3 48 16) ∷
-    (codes "credits_posted", field 4 64 16) ∷
+    (codes "ledger", field 9 112 4) ∷
+    (codes "code", field 10 116 2) ∷
+    (codes "flags", field 11 118 2) ∷
     (codes "user_data_128", field 5 80 16) ∷
     (codes "user_data_64", field 6 96 8) ∷
     (codes "user_data_32", field 7 104 4) ∷
     (codes "reserved", field 8 108 4) ∷
-    (codes "ledger", field 9 112 4) ∷
-    (codes "code", field 10 116 2) ∷
-    (codes "flags", field 11 118 2) ∷
+    (codes "debits_pending", field 1 16 16) ∷
+    (codes "debits_posted", field 2 32 16) ∷
+    (codes "credits_pending", field 3 48 16) ∷
+    (codes "credits_posted", field 4 64 16) ∷
     (codes "timestamp", field 12 120 8) ∷
     []
 
@@ -47,13 +48,13 @@ transfer_fields =
     (codes "credit_account_id", field 2 32 16) ∷
     (codes "amount", field 3 48 16) ∷
     (codes "pending_id", field 4 64 16) ∷
-    (codes "user_data_128", field 5 80 16) ∷
-    (codes "user_data_64", field 6 96 8) ∷
-    (codes "user_data_32", field 7 104 4) ∷
     (codes "timeout", field 8 108 4) ∷
     (codes "ledger", field 9 112 4) ∷
     (codes "code", field 10 116 2) ∷
     (codes "flags", field 11 118 2) ∷
+    (codes "user_data_128", field 5 80 16) ∷
+    (codes "user_data_64", field 6 96 8) ∷
+    (codes "user_data_32", field 7 104 4) ∷
     (codes "timestamp", field 12 120 8) ∷
     []
 

@@ -8,18 +8,18 @@ use Rattle.tb_program_script.specs.Steps.{look_up}
 
 abbrev pub keywords : List (List ℕ × Keyword)
 keywords =
+    (codes "transfer", Transfer) ∷
+    (codes "packet", Packet) ∷
+    (codes "account", Account) ∷
+    (codes "id", Id) ∷
+    (codes "pulse", Pulse) ∷
+    (codes "hex", Hex) ∷
+    (codes "shut", Shut) ∷
     (codes "clock", Clock) ∷
     (codes "limit", Limit) ∷
     (codes "capacity", Capacity) ∷
     (codes "credit", Credit) ∷
     (codes "submitters", Submitters) ∷
-    (codes "packet", Packet) ∷
-    (codes "account", Account) ∷
-    (codes "transfer", Transfer) ∷
-    (codes "id", Id) ∷
-    (codes "hex", Hex) ∷
-    (codes "pulse", Pulse) ∷
-    (codes "shut", Shut) ∷
     []
 
 unfoldable pub keyword_of : List ℕ → Option Keyword

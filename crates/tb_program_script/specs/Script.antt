@@ -4,6 +4,7 @@ use Rattle.std.specs.List.{list_all}
 use Rattle.std.specs.Int.{w128, to_le_bytes}
 use Rattle.tb_layout.specs.inside.Limits.{batch_max, capacity_max, submitters_max}
 use Rattle.tb_layout.specs.Limits.{clock_max}
+use Rattle.tb_work.specs.declared.packet.Packet as packets
 use Rattle.tb_program_script.specs.declared.fault.Fault.{Fault}
 use Rattle.tb_program_script.specs.declared.fault.Fault.TheVariants.{LineTooLong, BadByte, UnknownWord, OutOfPlace}
 use Rattle.tb_program_script.specs.declared.keyword.Keyword.{Keyword}
@@ -11,7 +12,7 @@ use Rattle.tb_program_script.specs.declared.keyword.Keyword.TheVariants as word
 use Rattle.tb_program_script.specs.declared.event.Layout.{Layout}
 use Rattle.tb_program_script.specs.declared.event.Layout.TheVariants.{Account, Transfer}
 use Rattle.tb_program_script.specs.declared.item.Settings.{Settings}
-use Rattle.tb_program_script.specs.declared.item.Submission.{Submission}
+use Rattle.tb_program_script.specs.declared.item.OpenPacket.{OpenPacket}
 use Rattle.tb_program_script.specs.declared.item.ScriptItem.{ScriptItem}
 use Rattle.tb_program_script.specs.declared.item.ScriptItem.TheVariants.{Packet, Pulse, Shut}
 use Rattle.tb_program_script.specs.Text.{lines_of, words_of}
@@ -21,11 +22,11 @@ use Rattle.tb_program_script.specs.Keyword.{keyword_of, no_word, one_word, two_w
 use Rattle.tb_program_script.specs.Event.{event_of, hex_bytes}
 
 -- what the lines so far say: the settings given, the items that are whole, the packet to which lines of events still
--- add, and whether there was a Close
+-- add, with its submitter, and whether there was a Close
 pub record ParsedScript : Type 0 where
   pub settings : Settings
   pub items : List ScriptItem
-  pub packet : Option Submission
+  pub packet : Option (ℕ × packets.Packet)
   pub shut : Bool
 
 abbrev pub nothing_parsed : ParsedScript
@@ -36,9 +37,15 @@ nothing_parsed = record {
   shut = false;
 }
 
-abbrev pub packet_items : Option Submission → List ScriptItem
+-- a packet to which lines still add; a script's packets have the user word 0
+abbrev pub so_far : Option OpenPacket → Option (ℕ × packets.Packet)
+so_far None = None
+so_far (Some packet) =
+    Some (packet.submitter, record { operation = packet.operation; bytes = packet.bytes.items; user = 0 })
+
+abbrev pub packet_items : Option (ℕ × packets.Packet) → List ScriptItem
 packet_items None = []
-packet_items (Some packet) = Packet packet ∷ []
+packet_items (Some (submitter, packet)) = Packet submitter packet ∷ []
 
 -- all items
 abbrev pub items_of : ParsedScript → List ScriptItem
@@ -88,7 +95,7 @@ set_to parsed settings = record parsed { settings = settings }
 abbrev pub with_packet : ParsedScript → ℕ → ℕ → ParsedScript
 with_packet parsed submitter operation = record parsed {
   items = items_of parsed;
-  packet = Some (record { submitter = submitter; operation = operation; bytes = [] });
+  packet = Some (submitter, record { operation = operation; bytes = []; user = 0 });
 }
 
 abbrev pub with_pulse : ParsedScript → ℕ → ParsedScript
@@ -97,9 +104,9 @@ with_pulse parsed moment = record parsed { items = items_of parsed ++ Pulse mome
 abbrev pub with_close : ParsedScript → ParsedScript
 with_close parsed = record parsed { items = items_of parsed ++ Shut ∷ []; packet = None; shut = true }
 
-abbrev pub more_bytes : Option Submission → List ℕ → Option Submission
+abbrev pub more_bytes : Option (ℕ × packets.Packet) → List ℕ → Option (ℕ × packets.Packet)
 more_bytes None bytes = None
-more_bytes (Some packet) bytes = Some (record packet { bytes = packet.bytes ++ bytes })
+more_bytes (Some (submitter, packet)) bytes = Some (submitter, record packet { bytes = packet.bytes ++ bytes })
 
 abbrev pub with_bytes : ParsedScript → List ℕ → ParsedScript
 with_bytes parsed bytes = record parsed { packet = more_bytes parsed.packet bytes }
@@ -117,48 +124,42 @@ packet_numbers most words = do
   operation ← number_within 0 255 texts.1
   Ok (submitter, operation)
 
+abbrev pub one_number : ℕ → ℕ → List (List ℕ) → Result ℕ Fault
+one_number low high words = do
+  text ← one_word words
+  number_within low high text
+
 -- a line in its place, with the words after its first
 unfoldable pub with_line : ParsedScript → Keyword → List (List ℕ) → Result ParsedScript Fault
 with_line parsed word.Clock words = do
-  text ← one_word words
-  n ← number_within 0 clock_max text
+  n ← one_number 0 clock_max words
   Ok (set_to parsed (record parsed.settings { clock = Some n }))
 with_line parsed word.Limit words = do
-  text ← one_word words
-  n ← number_within 1 batch_max text
+  n ← one_number 1 batch_max words
   Ok (set_to parsed (record parsed.settings { limit = Some n }))
 with_line parsed word.Capacity words = do
-  text ← one_word words
-  n ← number_within 1 capacity_max text
+  n ← one_number 1 capacity_max words
   Ok (set_to parsed (record parsed.settings { capacity = Some n }))
 with_line parsed word.Credit words = do
-  text ← one_word words
-  n ← number_within 1 capacity_max text
+  n ← one_number 1 capacity_max words
   Ok (set_to parsed (record parsed.settings { credit = Some n }))
 with_line parsed word.Submitters words = do
-  text ← one_word words
-  n ← number_within 1 submitters_max text
+  n ← one_number 1 submitters_max words
   Ok (set_to parsed (record parsed.settings { submitters = Some n }))
 with_line parsed word.Packet words = do
   numbers ← packet_numbers (submitters_of parsed.settings - 1) words
   Ok (with_packet parsed numbers.0 numbers.1)
-with_line parsed word.Account words = do
-  bytes ← event_of Account words
-  Ok (with_bytes parsed bytes)
-with_line parsed word.Transfer words = do
-  bytes ← event_of Transfer words
-  Ok (with_bytes parsed bytes)
+with_line parsed word.Account words = with_event parsed Account words
+with_line parsed word.Transfer words = with_event parsed Transfer words
 with_line parsed word.Id words = do
-  text ← one_word words
-  id ← number_within 0 (2 ^ 128 - 1) text
+  id ← one_number 0 (2 ^ 128 - 1) words
   Ok (with_bytes parsed (to_le_bytes w128 id))
 with_line parsed word.Hex words = do
   text ← one_word words
   bytes ← hex_bytes text
   Ok (with_bytes parsed bytes)
 with_line parsed word.Pulse words = do
-  text ← one_word words
-  moment ← number_within 0 (2 ^ 64 - 1) text
+  moment ← one_number 0 (2 ^ 64 - 1) words
   Ok (with_pulse parsed moment)
 with_line parsed word.Shut words = do
   none ← no_word words

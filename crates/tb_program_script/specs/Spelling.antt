@@ -6,8 +6,8 @@ use Rattle.tb_layout.specs.inside.Limits.{batch_max, capacity_max, submitters_ma
 use Rattle.tb_layout.specs.Limits.{clock_max}
 use Rattle.tb_layout.specs.declared.account.Account.{Account}
 use Rattle.tb_layout.specs.declared.transfer.Transfer.{Transfer}
+use Rattle.tb_work.specs.declared.packet.Packet as packets
 use Rattle.tb_program_script.specs.declared.item.Settings.{Settings}
-use Rattle.tb_program_script.specs.declared.item.Submission.{Submission}
 use Rattle.tb_program_script.specs.declared.item.ScriptItem.{ScriptItem}
 use Rattle.tb_program_script.specs.declared.item.ScriptItem.TheVariants.{Packet, Pulse, Shut}
 
@@ -38,13 +38,13 @@ abbrev pub byte_line : ℕ → List ℕ
 byte_line byte = line_of_words (codes "hex" ∷ encode_lower (byte ∷ []) ∷ [])
 
 -- a packet's line, and one for each byte of its data
-abbrev pub packet_lines : Submission → List (List ℕ)
-packet_lines packet =
-    line_of_words (codes "packet" ∷ decimal packet.submitter ∷ decimal packet.operation ∷ [])
+abbrev pub packet_lines : ℕ → packets.Packet → List (List ℕ)
+packet_lines submitter packet =
+    line_of_words (codes "packet" ∷ decimal submitter ∷ decimal packet.operation ∷ [])
     ∷ map byte_line packet.bytes
 
 abbrev pub item_lines : ScriptItem → List (List ℕ)
-item_lines (Packet packet) = packet_lines packet
+item_lines (Packet submitter packet) = packet_lines submitter packet
 item_lines (Pulse moment) = line_of_words (codes "pulse" ∷ decimal moment ∷ []) ∷ []
 item_lines Shut = codes "shut" ∷ []
 
@@ -111,28 +111,32 @@ fields_line keyword fields = line_of_words (keyword ∷ map field_word fields)
 abbrev pub id_line : ℕ → List ℕ
 id_line id = line_of_words (codes "id" ∷ decimal id ∷ [])
 
+abbrev pub IsWithin : ℕ → ℕ → Option ℕ → Type 0
+IsWithin low high setting = IfSome setting (λ n. (low ≤ n) × (n ≤ high))
+
 -- a script can say these settings
 pub record CanBeSet (settings : Settings) : Type 0 where
-  pub clock : IfSome settings.clock (λ n. n ≤ clock_max)
-  pub limit : IfSome settings.limit (λ n. (1 ≤ n) × (n ≤ batch_max))
-  pub capacity : IfSome settings.capacity (λ n. (1 ≤ n) × (n ≤ capacity_max))
-  pub credit : IfSome settings.credit (λ n. (1 ≤ n) × (n ≤ capacity_max))
-  pub submitters : IfSome settings.submitters (λ n. (1 ≤ n) × (n ≤ submitters_max))
+  pub clock : IsWithin 0 clock_max settings.clock
+  pub limit : IsWithin 1 batch_max settings.limit
+  pub capacity : IsWithin 1 capacity_max settings.capacity
+  pub credit : IsWithin 1 capacity_max settings.credit
+  pub submitters : IsWithin 1 submitters_max settings.submitters
 
--- a script can say a packet of one of this number of submitters
-pub record CanBeSubmitted (submitters : ℕ) (packet : Submission) : Type 0 where
-  pub submitter : packet.submitter < submitters
+-- a script can say a packet of one of this number of submitters, with the user word 0
+pub record CanBeSubmitted (submitters submitter : ℕ) (packet : packets.Packet) : Type 0 where
+  pub known : submitter < submitters
   pub operation : packet.operation < 256
   pub bytes : All (λ byte. byte < 256) packet.bytes
+  pub user : packet.user ≡ 0
 
 -- behind the Close there is no pulse, and no other Close
 abbrev pub CanBeWritten : ℕ → Bool → ScriptItem → Type 0
-CanBeWritten submitters shut (Packet packet) = CanBeSubmitted submitters packet
+CanBeWritten submitters shut (Packet submitter packet) = CanBeSubmitted submitters submitter packet
 CanBeWritten submitters shut (Pulse moment) = (shut ≡ false) × (moment < 2 ^ 64)
 CanBeWritten submitters shut Shut = shut ≡ false
 
 abbrev pub shut_by : Bool → ScriptItem → Bool
-shut_by shut (Packet packet) = shut
+shut_by shut (Packet submitter packet) = shut
 shut_by shut (Pulse moment) = shut
 shut_by shut Shut = true
 

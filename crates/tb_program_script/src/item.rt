@@ -3,9 +3,9 @@
 ghost use Rattle.std.specs.Prelude.{◌≡◌};
 ghost use Rattle.tb_program_script.specs.Script.{clock_of, limit_of, capacity_of, credit_of, submitters_of};
 
-use crate::bytes::Bytes;
 use crate::submitter_number::SubmitterNumber;
 use tb_layout::BATCH_MAX;
+use tb_work::Packet;
 
 /// The settings that the script gives.
 #[derive(Clone, Copy)]
@@ -57,17 +57,18 @@ impl Settings {
 /// What a script queues, in the order of its lines.
 #[derive(Drop)]
 pub enum ScriptItem {
-    Packet(Submission),
+    /// A packet with its submitter.
+    Packet(SubmitterNumber, Packet),
     /// A pulse with its moment, in nanoseconds, which may be too large.
     Pulse(u64),
     /// The Close.
     Shut,
 }
 
-/// A packet, as its submitter hands it in.
+/// A packet to which lines still add bytes.
 #[derive(Drop)]
-pub struct Submission {
+pub struct OpenPacket {
     pub submitter: SubmitterNumber,
     pub operation: u8,
-    pub bytes: Bytes,
+    pub bytes: Vec<u8>,
 }

@@ -7,7 +7,6 @@
 //! id spelled from its fields is the bytes that `tb_layout` lays out (`spelled_accounts_are_laid_out` and its like).
 #![tactic(auto)]
 
-mod bytes;
 mod event;
 mod fault;
 mod item;
@@ -20,9 +19,8 @@ mod submitter_number;
 mod table;
 mod text;
 
-pub use bytes::Bytes;
 pub use fault::Fault;
-pub use item::{ScriptItem, Settings, Submission};
+pub use item::{ScriptItem, Settings};
 pub use laws::{
     faultless_lines_are_parsed, first_fault_decides, spelled_accounts_are_laid_out,
     spelled_ids_are_laid_out, spelled_scripts_are_read, spelled_transfers_are_laid_out,

@@ -19,7 +19,7 @@ fn are_digits(word: &[u8]) -> bool
 /// A number, if it is there and in bounds.
 pub fn in_bounds(n: Option<u128>, low: u128, high: u128) -> Result<u128, Fault>
     ensures value { result ≡ within low high n }
-    ensures bound { IfOk result (λ n. n ≤ high) }
+    ensures bounds { IfOk result (λ n. (low ≤ n) × (n ≤ high)) }
 {
     match n {
         Some(n) if low <= n && n <= high => Ok(n),
@@ -122,7 +122,7 @@ fn fitting_number(word: &[u8]) -> Option<u128>
 #[inline(always)]
 pub fn number_within(word: &[u8], low: u128, high: u128) -> Result<u128, Fault>
     ensures value { result ≡ number_within low high word.now }
-    ensures bound { IfOk result (λ n. n ≤ high) }
+    ensures bounds { IfOk result (λ n. (low ≤ n) × (n ≤ high)) }
 {
     in_bounds(fitting_number(word), low, high)
 }

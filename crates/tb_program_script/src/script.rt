@@ -6,12 +6,11 @@ ghost use Rattle.tb_program_script.specs.declared.fault.LineError.TheVariants.{F
 ghost use Rattle.tb_program_script.specs.Text.{words_of, first_line, after_first_line};
 ghost use Rattle.tb_program_script.specs.Steps.{Tells, Leaves};
 ghost use Rattle.tb_program_script.specs.Keyword.{no_word, one_word, two_words};
-ghost use Rattle.tb_program_script.specs.Script.{ParsedScript, nothing_parsed, items_of, has_begun, may_stand, with_packet, with_pulse, with_close, with_bytes, with_event, packet_numbers, with_line, is_text as is_text_line, line_max, after_line, InBounds};
+ghost use Rattle.tb_program_script.specs.Script.{ParsedScript, nothing_parsed, so_far, items_of, has_begun, may_stand, with_packet, with_pulse, with_close, with_bytes, with_event, packet_numbers, one_number, with_line, is_text as is_text_line, line_max, after_line, InBounds};
 
-use crate::bytes::Bytes;
 use crate::event::{Draft, Layout, assign_all, hex_bytes};
 use crate::fault::{Fault, LineError};
-use crate::item::{ScriptItem, Settings, Submission};
+use crate::item::{OpenPacket, ScriptItem, Settings};
 use crate::keyword::{Keyword, keyword_of};
 use crate::number::{number_within, two_short_numbers};
 use crate::submitter_number::SubmitterNumber;
@@ -19,6 +18,7 @@ use crate::text::{Words, first_word, skip_line_end, split_line, strip_word};
 use std::alloc::Global;
 use std::marker::Model;
 use tb_layout::{BATCH_MAX, CAPACITY_MAX, CLOCK_MAX, NoMemory, SUBMITTERS_MAX};
+use tb_work::{Bytes, Packet};
 
 /// The most bytes of a line, its ending byte not counted.
 const LINE_MAX: usize = 65_536;
@@ -28,7 +28,7 @@ const LINE_MAX: usize = 65_536;
 pub struct Script {
     settings: Settings,
     items: Vec<ScriptItem>,
-    packet: Option<Submission>,
+    packet: Option<OpenPacket>,
     /// How many bytes the last packet that ended has: probably the next has as many.
     probable_size: usize,
     shut: bool,
@@ -40,7 +40,7 @@ impl Model for Script {
     ghost view = { λ script. record {
       settings = script.settings;
       items = script.items.items;
-      packet = script.packet;
+      packet = so_far script.packet;
       shut = script.shut;
     } };
 
@@ -65,6 +65,14 @@ fn one_word(words: Words) -> Result<&[u8], Fault>
         (Some(word), None) => Ok(word),
         _ => Err(Fault::WrongNumberOfWords),
     }
+}
+
+/// The number of a line that has one word more, if it is in bounds.
+fn one_number(words: Words, low: u128, high: u128) -> Result<u128, Fault>
+    ensures value { result ≡ one_number low high (words_of words.entry.rest.now) }
+    ensures bounds { IfOk result (λ n. (low ≤ n) × (n ≤ high)) }
+{
+    number_within(one_word(words)?, low, high)
 }
 
 /// The words of a line that has two.
@@ -163,9 +171,14 @@ impl Script {
     fn end_packet(&mut self) -> Result<(), NoMemory>
         ensures { OnOk result (self.new ≡ record self.old { items = items_of self.old; packet = None }) }
     {
-        if let Some(packet) = self.packet.take() {
-            self.probable_size = packet.bytes.len();
-            self.items.push(ScriptItem::Packet(packet))?;
+        if let Some(open) = self.packet.take() {
+            self.probable_size = open.bytes.len();
+            let packet = Packet {
+                operation: open.operation,
+                bytes: Bytes::from_vec(open.bytes),
+                user: 0,
+            };
+            self.items.push(ScriptItem::Packet(open.submitter, packet))?;
         }
         Ok(())
     }
@@ -181,10 +194,10 @@ impl Script {
         ensures { OnOk result (self.new ≡ with_packet self.old submitter operation) }
     {
         self.end_packet()?;
-        self.packet = Some(Submission {
+        self.packet = Some(OpenPacket {
             submitter,
             operation,
-            bytes: Bytes::with_capacity(alloc, self.probable_size)?,
+            bytes: Vec::with_capacity(alloc, self.probable_size)?,
         });
         Ok(())
     }
@@ -213,51 +226,6 @@ impl Script {
         if let Some(packet) = &mut self.packet {
             packet.bytes.extend_from_slice(bytes)?;
         }
-        Ok(())
-    }
-
-    #[tactic(auto, unfolding(crate::specs::Script::with_line))]
-    fn set_clock(&mut self, words: Words) -> Result<(), LineError>
-        ensures { Leaves result self.new (with_line self.old Keyword.Clock (words_of words.entry.rest.now)) }
-    {
-        let n = number_within(one_word(words)?, 0, CLOCK_MAX as u128)?;
-        self.settings.clock = Some(n as u64);
-        Ok(())
-    }
-
-    #[tactic(auto, unfolding(crate::specs::Script::with_line))]
-    fn set_limit(&mut self, words: Words) -> Result<(), LineError>
-        ensures { Leaves result self.new (with_line self.old Keyword.Limit (words_of words.entry.rest.now)) }
-    {
-        let n = number_within(one_word(words)?, 1, BATCH_MAX as u128)?;
-        self.settings.limit = Some(n as u32);
-        Ok(())
-    }
-
-    #[tactic(auto, unfolding(crate::specs::Script::with_line))]
-    fn set_capacity(&mut self, words: Words) -> Result<(), LineError>
-        ensures { Leaves result self.new (with_line self.old Keyword.Capacity (words_of words.entry.rest.now)) }
-    {
-        let n = number_within(one_word(words)?, 1, CAPACITY_MAX as u128)?;
-        self.settings.capacity = Some(n as u32);
-        Ok(())
-    }
-
-    #[tactic(auto, unfolding(crate::specs::Script::with_line))]
-    fn set_credit(&mut self, words: Words) -> Result<(), LineError>
-        ensures { Leaves result self.new (with_line self.old Keyword.Credit (words_of words.entry.rest.now)) }
-    {
-        let n = number_within(one_word(words)?, 1, CAPACITY_MAX as u128)?;
-        self.settings.credit = Some(n as u32);
-        Ok(())
-    }
-
-    #[tactic(auto, unfolding(crate::specs::Script::with_line))]
-    fn set_submitters(&mut self, words: Words) -> Result<(), LineError>
-        ensures { Leaves result self.new (with_line self.old Keyword.Submitters (words_of words.entry.rest.now)) }
-    {
-        let n = number_within(one_word(words)?, 1, SUBMITTERS_MAX as u128)?;
-        self.settings.submitters = Some(n as u32);
         Ok(())
     }
 
@@ -293,42 +261,6 @@ impl Script {
         Ok(())
     }
 
-    #[tactic(auto, unfolding(crate::specs::Script::with_line))]
-    fn take_id(&mut self, words: Words) -> Result<(), LineError>
-        ensures { Leaves result self.new (with_line self.old Keyword.Id (words_of words.entry.rest.now)) }
-    {
-        let id = number_within(one_word(words)?, 0, u128::MAX)?;
-        self.add_bytes(&id.to_le_bytes())?;
-        Ok(())
-    }
-
-    #[tactic(auto, unfolding(crate::specs::Script::with_line))]
-    fn take_pulse(&mut self, words: Words) -> Result<(), LineError>
-        ensures { Leaves result self.new (with_line self.old Keyword.Pulse (words_of words.entry.rest.now)) }
-    {
-        let moment = number_within(one_word(words)?, 0, u64::MAX as u128)?;
-        self.add_pulse(moment as u64)?;
-        Ok(())
-    }
-
-    #[tactic(auto, unfolding(crate::specs::Script::with_line))]
-    fn take_hex(&mut self, alloc: Global, words: Words) -> Result<(), LineError>
-        ensures { Leaves result self.new (with_line self.old Keyword.Hex (words_of words.entry.rest.now)) }
-    {
-        let bytes = hex_bytes(alloc, one_word(words)?)?;
-        self.add_bytes(&bytes)?;
-        Ok(())
-    }
-
-    #[tactic(auto, unfolding(crate::specs::Script::with_line))]
-    fn take_close(&mut self, words: Words) -> Result<(), LineError>
-        ensures { Leaves result self.new (with_line self.old Keyword.Shut (words_of words.entry.rest.now)) }
-    {
-        no_word(words)?;
-        self.add_close()?;
-        Ok(())
-    }
-
     /// Takes a line in its place, with the words after its first.
     #[tactic(auto, unfolding(crate::specs::Script::with_line))]
     fn take_line(&mut self, alloc: Global, keyword: Keyword, words: Words) -> Result<(), LineError>
@@ -336,19 +268,35 @@ impl Script {
         ensures { Leaves result self.new (with_line self.old keyword (words_of words.entry.rest.now)) }
     {
         match keyword {
-            Keyword::Clock => self.set_clock(words),
-            Keyword::Limit => self.set_limit(words),
-            Keyword::Capacity => self.set_capacity(words),
-            Keyword::Credit => self.set_credit(words),
-            Keyword::Submitters => self.set_submitters(words),
-            Keyword::Packet => self.take_packet(alloc, words),
-            Keyword::Account => self.take_event_line(Layout::Account, words),
-            Keyword::Transfer => self.take_event_line(Layout::Transfer, words),
-            Keyword::Id => self.take_id(words),
-            Keyword::Hex => self.take_hex(alloc, words),
-            Keyword::Pulse => self.take_pulse(words),
-            Keyword::Shut => self.take_close(words),
+            Keyword::Clock => {
+                self.settings.clock = Some(one_number(words, 0, CLOCK_MAX as u128)? as u64);
+            }
+            Keyword::Limit => {
+                self.settings.limit = Some(one_number(words, 1, BATCH_MAX as u128)? as u32);
+            }
+            Keyword::Capacity => {
+                self.settings.capacity = Some(one_number(words, 1, CAPACITY_MAX as u128)? as u32);
+            }
+            Keyword::Credit => {
+                self.settings.credit = Some(one_number(words, 1, CAPACITY_MAX as u128)? as u32);
+            }
+            Keyword::Submitters => {
+                self.settings.submitters = Some(
+                    one_number(words, 1, SUBMITTERS_MAX as u128)? as u32,
+                );
+            }
+            Keyword::Packet => self.take_packet(alloc, words)?,
+            Keyword::Account => self.take_event_line(Layout::Account, words)?,
+            Keyword::Transfer => self.take_event_line(Layout::Transfer, words)?,
+            Keyword::Id => self.add_bytes(&one_number(words, 0, u128::MAX)?.to_le_bytes())?,
+            Keyword::Hex => self.add_bytes(&hex_bytes(alloc, one_word(words)?)?)?,
+            Keyword::Pulse => self.add_pulse(one_number(words, 0, u64::MAX as u128)? as u64)?,
+            Keyword::Shut => {
+                no_word(words)?;
+                self.add_close()?;
+            }
         }
+        Ok(())
     }
 
     /// Takes a line after those so far. After an error the script isn't to be used.

@@ -10,7 +10,6 @@ use Rattle.tb_work.specs.declared.item.Item as work
 use Rattle.tb_work.specs.declared.item.Item.TheVariants as queue
 use Rattle.tb_work.specs.declared.packet.Packet as packets
 use Rattle.tb_work.specs.declared.refusal.Refusal.{Refusal}
-use Rattle.tb_program_script.specs.declared.item.Submission.{Submission}
 use Rattle.tb_program_script.specs.declared.item.ScriptItem.{ScriptItem}
 use Rattle.tb_program_script.specs.declared.item.ScriptItem.TheVariants as script
 
@@ -42,23 +41,19 @@ is_of submitter queue.Close = false
 abbrev pub number_in : ℕ → List work.Item → ℕ
 number_in submitter items = count_by (is_of submitter) items
 
--- a script's packets have the user word 0
-abbrev pub packet_of : Submission → packets.Packet
-packet_of submission = record { operation = submission.operation; bytes = submission.bytes; user = 0 }
-
 -- a packet after what is queued
-abbrev pub packet_as : List work.Item → Submission → Result ℕ Refusal → Planned
-packet_as items submission (Ok count) =
-    Packet (numbered_packet submission.submitter (number_in submission.submitter items) (packet_of submission))
-packet_as items submission (Err refusal) = RefusedPacket submission.submitter refusal
+abbrev pub packet_as : List work.Item → ℕ → packets.Packet → Result ℕ Refusal → Planned
+packet_as items submitter packet (Ok count) =
+    Packet (numbered_packet submitter (number_in submitter items) packet)
+packet_as items submitter packet (Err refusal) = RefusedPacket submitter refusal
 
 -- a moment above 2^62 is refused
 abbrev pub pulse_as : ℕ → Planned
 pulse_as moment = if nat_lt moment_max moment then RefusedPulse else Pulse moment
 
 abbrev pub planned_as : ℕ → List work.Item → ScriptItem → Planned
-planned_as limit items (script.Packet submission) =
-    packet_as items submission (admission_of limit (packet_of submission))
+planned_as limit items (script.Packet submitter packet) =
+    packet_as items submitter packet (admission_of limit packet)
 planned_as limit items (script.Pulse moment) = pulse_as moment
 planned_as limit items script.Shut = Close
 

@@ -5,13 +5,11 @@
 #![tactic(auto)]
 
 mod output;
-mod packet;
 mod read;
 mod source;
 
 pub use output::{
     put_close, put_pulse, put_refused, put_refused_pulse, put_reply, put_state, write_out,
 };
-pub use packet::packet_of;
 pub use read::read_script;
 pub use source::{Source, read_source, source_of};

@@ -8,8 +8,7 @@ ghost use Rattle.tb_program_script.specs.declared.item.ScriptItem.TheVariants.{P
 use std::alloc::Global;
 use tb_drive::ControlPlan;
 use tb_layout::NoMemory;
-use tb_program_script::{ScriptItem, Submission};
-use tb_program_text::packet_of;
+use tb_program_script::{ScriptItem, SubmitterNumber};
 use tb_work::Packet;
 
 /// The items of a script by the threads that queue them: the packets of each submitter, and the control's lines.
@@ -37,15 +36,14 @@ impl Shares {
     }
 
     /// Adds a packet to its submitter's. That is there: else the script's line was faulty.
-    fn add_packet(&mut self, submission: Submission) -> Result<(), NoMemory>
+    fn add_packet(&mut self, submitter: SubmitterNumber, packet: Packet) -> Result<(), NoMemory>
         ensures number { length self.new.packets.items ≡ length self.old.packets.items }
         ensures packets { (items : List ItemValue) → AreDealt 0 self.old.packets.items items
-            → OnOk result (AreDealt 0 self.new.packets.items (items ++ PacketItem submission ∷ [])) }
+            → OnOk result (AreDealt 0 self.new.packets.items (items ++ PacketItem submitter packet ∷ [])) }
         ensures lines { self.new.lines ≡ self.old.lines }
     {
-        let submitter = submission.submitter.get() as usize;
-        if let Some(packets) = self.packets.get_mut(submitter) {
-            packets.push(packet_of(submission))?;
+        if let Some(packets) = self.packets.get_mut(submitter.get() as usize) {
+            packets.push(packet)?;
         }
         Ok(())
     }
@@ -59,7 +57,7 @@ impl Shares {
         ensures shuts { OnOk result (self.new.lines.shuts ≡ (self.old.lines.shuts || is_shut item)) }
     {
         match item {
-            ScriptItem::Packet(submission) => self.add_packet(submission)?,
+            ScriptItem::Packet(submitter, packet) => self.add_packet(submitter, packet)?,
             ScriptItem::Pulse(moment) => self.lines.moments.push(moment)?,
             ScriptItem::Shut => self.lines.shuts = true,
         }

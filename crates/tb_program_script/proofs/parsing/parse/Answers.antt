@@ -1,6 +1,6 @@
 use Rattle.std.proofs.Common.{◌+◌, arith, rules, refl, sym, ◌∙◌}
 use Rattle.tb_program_script.proofs.FirstLines.{first_of_lines}
-use Rattle.tb_program_script.proofs.Scripts.{line_parsed, line_faulty, lines_ended}
+use Rattle.tb_program_script.proofs.Lines.{line_parsed, line_faulty, lines_ended}
 use Rattle.tb_program_script.proofs.parsing.parse.Goals as goal
 
 pub loop-rest-preserved : goal.loop-rest-preserved
