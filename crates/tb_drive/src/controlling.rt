@@ -9,13 +9,13 @@ ghost use Rattle.tb_drive.specs.Plan.{is_refused, last_item, pulse_of, with_item
 ghost use Rattle.tb_drive.specs.Threads.{HasQueued, IsControlResultOf};
 
 use crate::control_driver::{ControlAction, ControlDriver};
-use crate::stop::Stop;
 use crossbeam_utils::Backoff;
 use std::marker::Model;
 use std::snapshot::Snapshot;
 use std::sync::Wait;
 use std::thread::Promise;
 use tb_layout::QUEUED_MAX;
+use tb_pipe::Stop;
 use tb_submit::{Control, ControlEnd};
 use tb_work::Refusal;
 

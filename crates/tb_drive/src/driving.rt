@@ -13,7 +13,6 @@ ghost use Rattle.tb_drive.specs.Tasks.{AreTasksOf};
 use crate::control_driver::ControlDriver;
 use crate::controlling::ControlTask;
 use crate::driver::Driver;
-use crate::stop::Stop;
 use crate::submitting::submit_once;
 use crate::threads::{Tasks, assign};
 use std::alloc::{AllocError, AllocFailed, Global};
@@ -24,7 +23,7 @@ use std::sync::Wait;
 use std::thread::Threads;
 use std::{fmt, thread};
 use tb_layout::NoMemory;
-use tb_pipe::{Opened, Report};
+use tb_pipe::{Opened, Report, Stop};
 use tb_submit::Ended;
 use tb_work::{Packet, Refusal};
 
@@ -150,8 +149,8 @@ pub fn drive_all<D: Driver + Send, C: ControlDriver + Send, R: Threads + Wait + 
         control: sender,
         driver: control,
     };
-    let mut stop = Stop::new(alloc);
-    let submitters = assign(alloc, submitters, drivers, &mut stop)?;
+    let stop = Stop::of(alloc, &submitters)?;
+    let submitters = assign(alloc, submitters, drivers)?;
     let tasks = Tasks {
         submitters,
         control,

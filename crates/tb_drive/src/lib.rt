@@ -22,7 +22,6 @@ mod controlling;
 mod driver;
 mod driving;
 mod plan;
-mod stop;
 mod submitting;
 mod threads;
 

@@ -13,7 +13,6 @@ ghost use Rattle.tb_drive.specs.Refusing.{IsFinalRefusal, final_refusal};
 ghost use Rattle.tb_drive.specs.Tasks.{IsEnd, IsResultOf};
 
 use crate::driver::{Action, Driver};
-use crate::stop::Stop;
 use crossbeam_utils::Backoff;
 use std::alloc::Global;
 use std::marker::Model;
@@ -21,6 +20,7 @@ use std::snapshot::Snapshot;
 use std::sync::Wait;
 use std::thread::Promise;
 use tb_layout::QUEUED_MAX;
+use tb_pipe::Stop;
 use tb_rings::SpinWait;
 use tb_submit::{Ended, Submitter};
 use tb_work::{Packet, Refusal};

@@ -12,14 +12,13 @@ use crate::control_driver::ControlDriver;
 use crate::controlling::{ControlPromise, ControlResult, ControlTask};
 use crate::driver::Driver;
 use crate::driving::{DriveFault, Finished};
-use crate::stop::Stop;
 use crate::submitting::{SubmitterPromise, SubmitterResult, SubmitterTask};
 use std::alloc::Global;
 use std::marker::Model;
 use std::snapshot::Snapshot;
 use std::sync::Wait;
 use std::thread::{PromisedHandle, Scope, Threads};
-use tb_pipe::{Open, Pipeline, settle};
+use tb_pipe::{Open, Pipeline, Stop, settle};
 use tb_submit::{Ended, Submitter};
 
 /// All senders of a run with their drivers, before their threads are started.
@@ -87,12 +86,11 @@ impl<D: Driver, C: ControlDriver> Model for Running<D, C> {
     ghost invariant = { λ running. (running.ends.items ≡ []) × (running.drivers.items ≡ []) };
 }
 
-/// Assigns each submitter the driver of its index, and adds it to those that `stop` wakes.
+/// Assigns each submitter the driver of its index.
 pub(crate) fn assign<D: Driver>(
     alloc: Global,
     submitters: Vec<Submitter>,
     drivers: Vec<D>,
-    stop: &mut Stop,
 ) -> Result<Vec<SubmitterTask<D>>, DriveFault>
     requires number { length drivers.items ≡ length submitters.items }
     requires seen { HaveSeen D.has_seen drivers.items submitters.items }
@@ -107,7 +105,6 @@ pub(crate) fn assign<D: Driver>(
         let Some(driver) = drivers.next() else {
             unreachable!()
         };
-        stop.add(&submitter)?;
         all.push(SubmitterTask { submitter, driver })?;
     }
     Ok(all)
