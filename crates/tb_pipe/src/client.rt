@@ -42,7 +42,7 @@ impl<'s> Model for Client<'s> {
 }
 
 impl<'s> Client<'s> {
-    /// Returns the client of a submitter, which waits no longer once `stop` is asked.
+    /// Returns a client of the submitter, whose calls stop waiting once `stop` is asked.
     pub fn new(submitter: Submitter, stop: &'s Stop) -> Client<'s>
         ensures { result ≡ submitter }
     {

@@ -17,6 +17,7 @@ use tb_pipe::{Gate, Opened, Pipeline, Report, open, settle};
 use tb_submit::{Control, ControlEnd, Ended, Intake, Submitter};
 use tb_work::{Bytes, Outcome, Packet, Refusal, Reply};
 
+mod clients;
 mod driven;
 mod gates;
 mod memory;
