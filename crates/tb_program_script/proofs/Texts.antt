@@ -1,5 +1,5 @@
 -- The first line of bytes, and the first word of a line.
-use Rattle.std.proofs.Common.{◌≡◌, ℕ, ◌+◌, ◌-◌, ◌<◌, Bool, true, false, cond, not, List, [], ◌∷◌, length, ◌++◌, take, drop, refl, sym, ap, ◌∙◌, arith, lt-ltb, inl, inr, Some, None, Option, ◌⊎◌, suc}
+use Rattle.std.proofs.Common.{◌≡◌, ℕ, ◌+◌, ◌<◌, Bool, true, false, cond, not, List, [], ◌∷◌, length, ◌++◌, take, drop, refl, sym, ap, ◌∙◌, arith, lt-ltb, inl, inr, Some, None, Option, ◌⊎◌, suc}
 use Rattle.std.specs.Prelude.{◌==◌, ◌&&◌, All, filter, nat_lt, position, unwrap_or}
 use Rattle.std.specs.List.{position_or_len, slice_split, onto_first, list_all}
 use Rattle.std.proofs.lemmas.Grind.{common_steps}
