@@ -1,5 +1,5 @@
 -- The first line of a text, and its first word.
-use Rattle.std.proofs.Common.{◌≡◌, ℕ, ◌+◌, ◌<◌, ◌≤◌, Bool, true, false, cond, not, List, [], ◌∷◌, length, ◌++◌, take, drop, refl, sym, ap, ◌∙◌, arith, inl, inr, ◌⊎◌, suc, length-append, append_assoc, take-append-drop, length-take-le}
+use Rattle.std.proofs.Common.{◌≡◌, ℕ, ◌+◌, ◌<◌, ◌≤◌, Bool, true, not, List, [], ◌∷◌, length, ◌++◌, take, drop, refl, sym, ap, ◌∙◌, arith, inl, inr, ◌⊎◌, suc, length-append, append_assoc, take-append-drop, length-take-le}
 use Rattle.std.specs.Prelude.{◌==◌, ◌||◌}
 use Rattle.std.specs.List.{position_or_len, list_all}
 use Rattle.std.specs.Char.{is_ascii_digit}
@@ -9,7 +9,7 @@ use Rattle.std.proofs.lemmas.List.Folds.{length-prefix_len}
 use Rattle.std.proofs.lemmas.Bool.{and_parts}
 use Rattle.std.proofs.Math.Seq.{drop-append-add, take-append-add, take-append_seam, drop-append_seam}
 use Rattle.tb_program_script.specs.Text.{lines_of, words_of, first_line, after_first_line, first_word, after_first_word}
-use Rattle.tb_program_script.proofs.Texts.{list_all-implied, none_before, spaces, word_end, line_end, lines_first, words_from_space, trimmed_begins}
+use Rattle.tb_program_script.proofs.Texts.{list_all-implied, next_taken, none_before, spaces, word_end, line_end, lines_first, words_from_space, trimmed_begins}
 
 -- what is first found behind bytes that don't pass
 pub found_behind : (p : ℕ → Bool) (front others : List ℕ) → list_all (λ byte. not (p byte)) front ≡ true
@@ -61,21 +61,11 @@ words_behind (b ∷ front) others h =
     let parts = and_parts (b == 32) (list_all (λ byte. byte == 32) front) h in
     words_from_space b (front ++ others) parts.0 ∙ words_behind front others parts.1
 
-begins_word : (b : ℕ) (bs : List ℕ) (space end : Bool) → space ≡ (b == 32) → end ≡ (b == 10) →
-    0 < cond (not space) (1 + word_end bs) 0 →
-    (length (take (cond (not end) (1 + line_end bs) 0) (b ∷ bs)) ≡ 0)
-    ⊎ (0 < word_end (take (cond (not end) (1 + line_end bs) 0) (b ∷ bs)))
-begins_word b bs true end e f h = absurd (omega (arith, h))
-begins_word b bs false true e f h = inl refl
-begins_word b bs false false e f h =
-    let one : 1 + line_end bs ≡ suc (line_end bs) = omega arith in
-    inr (rw (one, sym e) (omega arith))
-
 line_begins : (bs : List ℕ) → (length bs ≡ 0) ⊎ (0 < word_end bs)
     → (length (first_line bs) ≡ 0) ⊎ (0 < word_end (first_line bs))
 line_begins [] h = inl refl
 line_begins (b ∷ bs) (inl none) = absurd (omega (arith, none))
-line_begins (b ∷ bs) (inr some) = begins_word b bs (b == 32) (b == 10) refl refl some
+line_begins (b ∷ bs) (inr some) = grind (arith, common_steps, some, next_taken b (line_end bs) bs)
 
 -- a text without the spaces at its front
 pub record Trimmed (text rest : List ℕ) : Type 0 where
@@ -127,21 +117,9 @@ no_name_first text name differs others e = differs (others ++ after_first_line t
 abbrev pub ends_word : ℕ → Bool
 ends_word byte = (byte == 32) || (byte == 10)
 
-word_end_at : (b n : ℕ) (bs : List ℕ) (space end : Bool) → space ≡ (b == 32) → end ≡ (b == 10) → n ≡ word_end (first_line bs) →
-    cond (not (space || end)) (1 + n) 0 ≡ word_end (take (cond (not end) (1 + line_end bs) 0) (b ∷ bs))
-word_end_at b n bs true true e f h = refl
-word_end_at b n bs true false e f h =
-    let one : 1 + line_end bs ≡ suc (line_end bs) = omega arith in
-    rw (one, sym e) refl
-word_end_at b n bs false true e f h = refl
-word_end_at b n bs false false e f h =
-    let one : 1 + line_end bs ≡ suc (line_end bs) = omega arith in
-    rw (one, sym e, h) refl
-
 pub word_end_in_line : (bs : List ℕ) → position_or_len ends_word bs ≡ word_end (first_line bs)
 word_end_in_line [] = refl
-word_end_in_line (b ∷ bs) =
-    word_end_at b (position_or_len ends_word bs) bs (b == 32) (b == 10) refl refl (word_end_in_line bs)
+word_end_in_line (b ∷ bs) = grind (arith, common_steps, word_end_in_line bs, next_taken b (line_end bs) bs)
 
 no_end_in_word : (byte : ℕ) → not (ends_word byte) ≡ true → not (byte == 10) ≡ true
 no_end_in_word byte h = grind (arith, common_steps, h)

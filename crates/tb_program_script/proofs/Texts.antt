@@ -1,5 +1,5 @@
 -- The first line of bytes, and the first word of a line.
-use Rattle.std.proofs.Common.{◌≡◌, ℕ, ◌+◌, ◌-◌, ◌<◌, Bool, true, false, cond, not, List, [], ◌∷◌, length, ◌++◌, take, drop, refl, sym, ap, ◌∙◌, arith, lt-ltb, inl, inr, Some, None, Option, ◌⊎◌, suc}
+use Rattle.std.proofs.Common.{◌≡◌, ℕ, ◌+◌, ◌<◌, Bool, true, false, cond, not, List, [], ◌∷◌, length, ◌++◌, take, drop, refl, sym, ap, ◌∙◌, arith, lt-ltb, inl, inr, Some, None, Option, ◌⊎◌, suc}
 use Rattle.std.specs.Prelude.{◌==◌, ◌&&◌, All, filter, nat_lt, position, unwrap_or}
 use Rattle.std.specs.List.{position_or_len, slice_split, onto_first, list_all}
 use Rattle.std.proofs.lemmas.Grind.{common_steps}
@@ -34,27 +34,23 @@ none_before p bs =
     let inside : k < count = omega (arith, below, length-prefix_len (λ b. not (p b)) bs) in
     ap (λ b. not (p b)) (get_or-take count bs k d inside) ∙ prefix_len_passes (λ b. not (p b)) bs k d inside)
 
+pub next_taken : (b n : ℕ) (bs : List ℕ) → take (1 + n) (b ∷ bs) ≡ b ∷ take n bs
+next_taken b n bs = let one : 1 + n ≡ suc n = omega arith in rw one refl
+
+next_dropped : (b n : ℕ) (bs : List ℕ) → drop (1 + n) (b ∷ bs) ≡ drop n bs
+next_dropped b n bs = let one : 1 + n ≡ suc n = omega arith in rw one refl
+
 abbrev pub line_end : List ℕ → ℕ
 line_end bs = position_or_len (λ b. b == 10) bs
-
-one_line : (ends : Bool) (b : ℕ) → cond ends ([] ∷ []) ((b ∷ []) ∷ [])
-    ≡ take (cond (not ends) 1 0) (b ∷ []) ∷ lines_of (drop (cond (not ends) 1 0 + 1) (b ∷ []))
-unfolding lines_of
-one_line true b = refl
-one_line false b = refl
-
-more_lines : (ends : Bool) (b n : ℕ) (bs : List ℕ) → lines_of bs ≡ take n bs ∷ lines_of (drop (n + 1) bs) →
-    cond ends ([] ∷ lines_of bs) (onto_first b (lines_of bs))
-    ≡ take (cond (not ends) (1 + n) 0) (b ∷ bs) ∷ lines_of (drop (cond (not ends) (1 + n) 0 + 1) (b ∷ bs))
-more_lines true b n bs e = refl
-more_lines false b n bs e = rw e (grind (arith, common_steps))
 
 pub lines_first : (bs : List ℕ) → 0 < length bs
     → lines_of bs ≡ take (line_end bs) bs ∷ lines_of (drop (line_end bs + 1) bs)
 unfolding lines_of
 lines_first [] h = absurd (omega arith)
-lines_first (b ∷ []) h = one_line (b == 10) b
-lines_first (b ∷ c ∷ bs) h = more_lines (b == 10) b (line_end (c ∷ bs)) (c ∷ bs) (lines_first (c ∷ bs) (omega arith))
+lines_first (b ∷ []) h = grind (arith, common_steps)
+lines_first (b ∷ c ∷ bs) h =
+    let n = line_end (c ∷ bs) in
+    grind (arith, common_steps, lines_first (c ∷ bs) (omega arith), next_taken b n (c ∷ bs), next_dropped b n (c ∷ bs))
 
 abbrev pub word_end : List ℕ → ℕ
 word_end bs = position_or_len (λ b. b == 32) bs
@@ -69,15 +65,10 @@ pub words_from_space : (b : ℕ) (bs : List ℕ) → (b == 32) ≡ true → word
 unfolding words_of
 words_from_space b bs h = rw h refl
 
-trimmed : (space : Bool) (b n : ℕ) (bs : List ℕ) → space ≡ (b == 32) → words_of bs ≡ words_of (drop n bs) →
-    words_of (b ∷ bs) ≡ words_of (drop (cond (not (not space)) (1 + n) 0) (b ∷ bs))
-trimmed true b n bs e h = words_from_space b bs (sym e) ∙ h ∙ ap words_of (grind (arith, common_steps))
-trimmed false b n bs e h = refl
-
 -- spaces at the front don't matter
 pub words_trimmed : (bs : List ℕ) → words_of bs ≡ words_of (drop (spaces bs) bs)
 words_trimmed [] = refl
-words_trimmed (b ∷ bs) = trimmed (b == 32) b (spaces bs) bs refl (words_trimmed bs)
+words_trimmed (b ∷ bs) = grind (arith, common_steps, words_from_space b bs, words_trimmed bs, next_dropped b (spaces bs) bs)
 
 record Front (parts : List (List ℕ)) (n : ℕ) (bs : List ℕ) : Type 0 where
   others : List (List ℕ)
@@ -115,17 +106,10 @@ words_first bs h =
     let some : 0 < length (take (word_end bs) bs) = omega (arith, length-prefix_len (λ b. not (b == 32)) bs) in
     ap some_words f.parted ∙ kept (take (word_end bs) bs) f.others some ∙ ap (λ ws. take (word_end bs) bs ∷ ws) f.words
 
-begins : (space : Bool) (b n : ℕ) (bs : List ℕ) → space ≡ (b == 32)
-    → (length (drop n bs) ≡ 0) ⊎ (0 < word_end (drop n bs)) →
-    (length (drop (cond (not (not space)) (1 + n) 0) (b ∷ bs)) ≡ 0)
-    ⊎ (0 < word_end (drop (cond (not (not space)) (1 + n) 0) (b ∷ bs)))
-begins true b n bs e h = let one : 1 + n ≡ suc n = omega arith in rw one h
-begins false b n bs e h = inr (rw (sym e) (omega arith))
-
 -- after the spaces there is nothing, or a word
 pub trimmed_begins : (bs : List ℕ) → (length (drop (spaces bs) bs) ≡ 0) ⊎ (0 < word_end (drop (spaces bs) bs))
 trimmed_begins [] = inl refl
-trimmed_begins (b ∷ bs) = begins (b == 32) b (spaces bs) bs refl (trimmed_begins bs)
+trimmed_begins (b ∷ bs) = grind (arith, common_steps, trimmed_begins bs, next_dropped b (spaces bs) bs)
 
 -- a line after its spaces begins with a word, unless it has no byte
 pub some_word : (line : List ℕ) → (length line ≡ 0) ⊎ (0 < word_end line) → 0 < length line → 0 < word_end line

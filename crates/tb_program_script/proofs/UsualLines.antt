@@ -1,10 +1,9 @@
 -- Lines without fault are text, and what they say.
 use Rattle.std.proofs.Common.{◌≡◌, ℕ, ◌+◌, ◌<◌, ◌≤◌, Bool, true, false, cond, not, List, [], ◌∷◌, length, ◌++◌, take, drop, refl, sym, ap, ◌∙◌, arith, rules, inl, inr, Some, None, Option, Ok, Err, Result, suc, lt-ltb, le-ltb, le-leb, take-append-drop}
-use Rattle.std.specs.Prelude.{◌==◌, ◌&&◌, IfOk, codes, is_some, map, nat_le, nat_lt, slice_index, slice_index_or}
+use Rattle.std.specs.Prelude.{◌==◌, ◌&&◌, IfOk, codes, is_some, map, nat_le, slice_index, slice_index_or}
 use Rattle.std.specs.List.{after_first, before_first, list_all, onto_first, position_or_len, slice_split}
 use Rattle.std.specs.Option.{MatchOption}
 use Rattle.std.specs.Char.{is_ascii_digit}
-use Rattle.std.specs.Str.Parse.{digits_value}
 use Rattle.std.proofs.lemmas.Grind.{common_steps}
 use Rattle.std.proofs.lemmas.List.Folds.{list_all-append}
 use Rattle.std.proofs.lemmas.Bool.{and_parts, cases_lt}
@@ -93,17 +92,11 @@ line_is_text line h =
 text_digit : (byte : ℕ) → is_ascii_digit byte ≡ true → is_text_byte byte ≡ true
 text_digit byte h = grind (arith, common_steps, h)
 
-tested : (test : Bool) (value n : ℕ) → cond test (Some value) None ≡ Some n → test ≡ true
-tested true value n e = refl
-tested false value n e = absurd (search (rules, e))
-
 number_is_text : (digits : List ℕ) (n : ℕ) → number_of digits ≡ Some n → is_text digits ≡ true
 unfolding number_of
 number_is_text digits n e =
-    let test = tested (nat_lt 0 (length digits) && nat_lt (length digits) 40 && list_all is_ascii_digit digits)
-    (digits_value 10 digits) n e in
-    list_all-implied is_ascii_digit is_text_byte digits text_digit
-    (and_parts (nat_lt 0 (length digits) && nat_lt (length digits) 40) (list_all is_ascii_digit digits) test).1
+    let all : list_all is_ascii_digit digits ≡ true = grind (arith, common_steps, e) in
+    list_all-implied is_ascii_digit is_text_byte digits text_digit all
 
 -- ---- the words of an event are text
 

@@ -145,6 +145,7 @@ fn field_and_number(layout: Layout, text: &[u8]) -> Result<NamedField, Fault>
 /// The field that the first word of a text names, looked for among some rows of the table first: the fields of an event
 /// mostly come in the table's order.
 #[inline(always)]
+#[tactic(auto, using(crate::proofs::Named::named_in_rows))]
 fn field_among<'a>(
     layout: Layout,
     rows: &[(&[u8], Field)],
@@ -199,6 +200,7 @@ const HALF: u128 = 1 << 64;
 
 /// The bytes of a number, the lowest first. Two halves take fewer instructions than the whole.
 #[inline(always)]
+#[tactic(auto, using(crate::proofs::Numbers::halves))]
 fn bytes_of(n: u128) -> [u8; 16]
     ensures { result ≡ to_le_bytes w128 n }
 {
@@ -262,7 +264,7 @@ struct Assigned<'a> {
 
 /// Takes the first word of a text, NAME=N. The rows are those that its field is probably among.
 #[inline(always)]
-#[tactic(auto, using(crate::proofs::Named::after_word_named))]
+#[tactic(auto, using(crate::proofs::Named::after_word_named, crate::proofs::Named::lies_of))]
 fn assign<'a>(
     layout: Layout,
     draft: &mut Draft,

@@ -28,6 +28,7 @@ pub fn in_bounds(n: Option<u128>, low: u128, high: u128) -> Result<u128, Fault>
 }
 
 /// The text of a word that has only digits.
+#[tactic(auto, using(crate::proofs::Numbers::digits_are_text))]
 fn text_of(word: &[u8]) -> &str
     requires { list_all is_ascii_digit word.now ≡ true }
     ensures { result.now ≡ word.now }
@@ -95,6 +96,7 @@ pub fn two_short_numbers(text: &[u8]) -> Option<TwoNumbers>
 
 /// The number that a word spells, if it fits, of any length.
 #[inline(never)]
+#[tactic(auto, using(crate::proofs::Numbers::too_long, crate::proofs::Numbers::no_digits, crate::proofs::Numbers::parsed))]
 fn long_number(word: &[u8]) -> Option<u128>
     ensures { result ≡ fitting (number_of word.now) }
 {

@@ -68,6 +68,7 @@ fn one_word(words: Words) -> Result<&[u8], Fault>
 }
 
 /// The number of a line that has one word more, if it is in bounds.
+#[inline(always)]
 fn one_number(words: Words, low: u128, high: u128) -> Result<u128, Fault>
     ensures value { result ≡ one_number low high (words_of words.entry.rest.now) }
     ensures bounds { IfOk result (λ n. (low ≤ n) × (n ≤ high)) }
@@ -253,6 +254,7 @@ impl Script {
         Ok(rest)
     }
 
+    #[tactic(auto, using(crate::proofs::UsualLines::one_line))]
     fn take_event_line(&mut self, layout: Layout, words: Words) -> Result<(), LineError>
         requires { is_text_line words.rest.now ≡ true }
         ensures { Leaves result self.new (with_event self.old layout (words_of words.entry.rest.now)) }

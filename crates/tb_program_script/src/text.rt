@@ -57,6 +57,7 @@ fn leading_spaces(bytes: &[u8]) -> usize
 }
 
 /// What follows the spaces at the front.
+#[tactic(auto, using(crate::proofs::Texts::words_trimmed, crate::proofs::Texts::trimmed_begins))]
 pub fn trim_spaces(line: &[u8]) -> &[u8]
     ensures same { words_of result.now ≡ words_of line.now }
     ensures begins { (length result.now ≡ 0) ⊎ (0 < position_or_len (λ b. b == 32) result.now) }
@@ -116,6 +117,7 @@ fn length_before_word_end(text: &[u8]) -> usize
 }
 
 /// The first word of a text that begins with one, and the rest of the text.
+#[tactic(auto, using(crate::proofs::FirstLines::word_cut))]
 pub fn split_first_word(text: &[u8]) -> (&[u8], &[u8])
     ensures word { result.0.now ≡ first_word (first_line text.now) }
     ensures rest { first_line result.1.now ≡ after_first_word (first_line text.now) }
