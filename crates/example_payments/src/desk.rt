@@ -41,6 +41,15 @@ impl Desk {
         }
     }
 
+    /// Returns `Receive` while replies are unread: after `End` no more are received, and none would be counted.
+    fn receive_or_end(&self) -> Action {
+        if self.unread > 0 {
+            Action::Receive
+        } else {
+            Action::End
+        }
+    }
+
     /// Returns whether it has seen its balances, and nothing is held.
     fn is_settled(&self) -> bool {
         match &self.balances {
@@ -62,7 +71,7 @@ impl Driver for Desk {
 
     fn next<R: Wait>(&mut self, _rt: &R, alloc: Global) -> Action {
         if self.stopped {
-            return Action::End;
+            return self.receive_or_end();
         }
         let packet = match self.orders.next() {
             Some(order) => order.packet(alloc, self.till),
@@ -74,7 +83,7 @@ impl Driver for Desk {
             Ok(packet) => Action::Submit(packet),
             Err(_) => {
                 self.stopped = true;
-                Action::End
+                self.receive_or_end()
             }
         }
     }
