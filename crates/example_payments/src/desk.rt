@@ -41,7 +41,7 @@ impl Desk {
         }
     }
 
-    /// Returns `Receive` while replies are unread: after `End` no more are received, and none would be counted.
+    /// Returns `Receive` while replies are unread: after `End` they may never be received, and then aren't counted.
     fn receive_or_end(&self) -> Action {
         if self.unread > 0 {
             Action::Receive

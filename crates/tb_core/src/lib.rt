@@ -23,6 +23,7 @@
 //! `each_part_is_lawful` says what holds on the way.
 #![tactic(auto)]
 
+mod bare_ledger;
 mod front;
 mod journal;
 mod laws;
@@ -31,6 +32,7 @@ mod list;
 mod outcomes;
 mod parcel;
 
+pub use bare_ledger::BareLedger;
 pub use front::Front;
 pub use journal::Entry;
 pub use laws::{each_part_is_lawful, headline, run_is_lawful};

@@ -11,13 +11,13 @@ use Rattle.std.proofs.Math.Seq.{drop-append-add, take-append-add, take-append_se
 use Rattle.tb_program_script.specs.Text.{lines_of, words_of, first_line, after_first_line, first_word, after_first_word}
 use Rattle.tb_program_script.proofs.Texts.{list_all-implied, next_taken, none_before, spaces, word_end, line_end, lines_first, words_from_space, trimmed_begins}
 
--- what is first found behind bytes that don't pass
-pub found_behind : (p : ℕ → Bool) (front others : List ℕ) → list_all (λ byte. not (p byte)) front ≡ true
+-- what is first found after bytes that don't pass
+pub found_after : (p : ℕ → Bool) (front others : List ℕ) → list_all (λ byte. not (p byte)) front ≡ true
     → position_or_len p (front ++ others) ≡ length front + position_or_len p others
-found_behind p [] others none = omega arith
-found_behind p (byte ∷ front) others none =
+found_after p [] others none = omega arith
+found_after p (byte ∷ front) others none =
     let parts = and_parts (not (p byte)) (list_all (λ x. not (p x)) front) none in
-    rw (parts.0, found_behind p front others parts.1) (omega arith)
+    rw (parts.0, found_after p front others parts.1) (omega arith)
 
 abbrev pub has_no_end : List ℕ → Bool
 has_no_end front = list_all (λ byte. not (byte == 10)) front
@@ -29,7 +29,7 @@ pub record BeginsLine (text front others : List ℕ) : Type 0 where
 
 pub begins_line : (text front others : List ℕ) → has_no_end front ≡ true → text ≡ front ++ others → BeginsLine text front others
 begins_line text front others none e =
-    let at = found_behind (λ byte. byte == 10) front others none in
+    let at = found_after (λ byte. byte == 10) front others none in
     record {
       line = rw (e, at) (take-append-add front others (line_end others));
       rest = rw (e, at) (drop-append-add front others (line_end others));
@@ -55,11 +55,11 @@ spaces_only bs =
 no_end : (byte : ℕ) → (byte == 32) ≡ true → not (byte == 10) ≡ true
 no_end byte h = grind (arith, common_steps, h)
 
-words_behind : (front others : List ℕ) → list_all (λ byte. byte == 32) front ≡ true → words_of (front ++ others) ≡ words_of others
-words_behind [] others h = refl
-words_behind (b ∷ front) others h =
+words_after : (front others : List ℕ) → list_all (λ byte. byte == 32) front ≡ true → words_of (front ++ others) ≡ words_of others
+words_after [] others h = refl
+words_after (b ∷ front) others h =
     let parts = and_parts (b == 32) (list_all (λ byte. byte == 32) front) h in
-    words_from_space b (front ++ others) parts.0 ∙ words_behind front others parts.1
+    words_from_space b (front ++ others) parts.0 ∙ words_after front others parts.1
 
 line_begins : (bs : List ℕ) → (length bs ≡ 0) ⊎ (0 < word_end bs)
     → (length (first_line bs) ≡ 0) ⊎ (0 < word_end (first_line bs))
@@ -80,7 +80,7 @@ trimmed_text text rest e =
     let cut = cut_line text (spaces text)
     (list_all-implied (λ byte. byte == 32) (λ byte. not (byte == 10)) (take (spaces text) text) no_end only) in
     rw e (record {
-      words = sym (ap words_of cut.line ∙ words_behind (take (spaces text) text) (first_line (drop (spaces text) text)) only);
+      words = sym (ap words_of cut.line ∙ words_after (take (spaces text) text) (first_line (drop (spaces text) text)) only);
       begins = line_begins (drop (spaces text) text) (trimmed_begins text);
       others = sym cut.rest;
       within = omega (
@@ -124,7 +124,7 @@ word_end_in_line (b ∷ bs) = grind (arith, common_steps, word_end_in_line bs, n
 no_end_in_word : (byte : ℕ) → not (ends_word byte) ≡ true → not (byte == 10) ≡ true
 no_end_in_word byte h = grind (arith, common_steps, h)
 
--- a text cut behind its first word
+-- a text cut after its first word
 pub record WordCut (text : List ℕ) (count : ℕ) : Type 0 where
   pub word : first_word (first_line text) ≡ take count text
   pub rest : first_line (drop count text) ≡ after_first_word (first_line text)
@@ -155,7 +155,7 @@ digits_first text count within digits ends =
     let rest = drop count text in
     let before = list_all-implied is_ascii_digit (λ byte. not (ends_word byte)) (take count text) digit_ends_nothing digits in
     let none = word_end_in_line rest ∙ sym (length-prefix_len (λ byte. not (byte == 32)) (first_line rest)) ∙ ends in
-    let at = ap (position_or_len ends_word) (sym (take-append-drop count text)) ∙ found_behind ends_word (take count text) rest before in
+    let at = ap (position_or_len ends_word) (sym (take-append-drop count text)) ∙ found_after ends_word (take count text) rest before in
     word_cut text count within (omega (arith, at, none, length-take-le count text within))
 
 -- a text whose first line has no byte
@@ -169,8 +169,8 @@ pub record FirstOfLines (text others : List ℕ) : Type 0 where
 
 pub first_of_lines : (text others : List ℕ) → 0 < length text → others ≡ drop 1 (after_first_line text) → FirstOfLines text others
 first_of_lines text others some e =
-    let behind = e ∙ drop-drop 1 (line_end text) text in
+    let remainder = e ∙ drop-drop 1 (line_end text) text in
     record {
-      lines = lines_first text some ∙ ap (λ rest. first_line text ∷ lines_of rest) (sym behind);
-      shorter = omega (arith, ap length behind, length-drop (line_end text + 1) text);
+      lines = lines_first text some ∙ ap (λ rest. first_line text ∷ lines_of rest) (sym remainder);
+      shorter = omega (arith, ap length remainder, length-drop (line_end text + 1) text);
     }

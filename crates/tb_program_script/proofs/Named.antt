@@ -18,7 +18,7 @@ use Rattle.tb_program_script.specs.Event.{AreRowsOf, IsBare, Lies, after_word, a
 use Rattle.tb_program_script.specs.Number.{number_within}
 use Rattle.tb_program_script.specs.Steps.{◌>>=◌, look_up}
 use Rattle.tb_program_script.specs.Text.{words_of, first_word, after_first_word}
-use Rattle.tb_program_script.proofs.FirstLines.{found_behind}
+use Rattle.tb_program_script.proofs.FirstLines.{found_after}
 use Rattle.tb_program_script.proofs.Texts.{word_end, words_first, empty_words}
 use Rattle.tb_program_script.proofs.Tables.{AreOwn, found_row}
 
@@ -27,7 +27,7 @@ pub sides_of_named : (name digits : List ℕ) → list_all (λ byte. not (byte =
 sides_of_named name digits h =
     let inside : length name < length (name ++ 61 ∷ digits) = omega (arith, length-append name (61 ∷ digits)) in
     let up_to : position_or_len (λ byte. byte == 61) (name ++ 61 ∷ digits) ≡ length name =
-    found_behind (λ byte. byte == 61) name (61 ∷ digits) h ∙ omega arith in
+    found_after (λ byte. byte == 61) name (61 ∷ digits) h ∙ omega arith in
     rw (up_to, lt-ltb (length name) (length (name ++ 61 ∷ digits)) inside)
     (rw (take-append_seam name (61 ∷ digits), drop-append-add name (61 ∷ digits) 1) refl)
 
@@ -46,7 +46,7 @@ pub record NamedFirst (line name others : List ℕ) : Type 0 where
 
 pub named_first : (line name others : List ℕ) → IsBare name → line ≡ name ++ 61 ∷ others → NamedFirst line name others
 named_first line name others bare e =
-    let up_to = found_behind (λ byte. byte == 32) name (61 ∷ others) bare.1 in
+    let up_to = found_after (λ byte. byte == 32) name (61 ∷ others) bare.1 in
     let one : 1 + word_end others ≡ suc (word_end others) = omega arith in
     record {
       word = rw (e, up_to, one) (take-append-add name (61 ∷ others) (suc (word_end others)));

@@ -22,7 +22,7 @@ use Rattle.tb_program_script.specs.Number.{number_of, number_within, within}
 use Rattle.tb_program_script.specs.Script.{ParsedScript, after_line, is_text, line_max, may_stand, packet_numbers, with_bytes, with_event, with_line, with_words}
 use Rattle.tb_program_script.specs.Steps.{◌>>=◌}
 use Rattle.tb_program_script.specs.Text.{after_first_line, first_line, words_of}
-use Rattle.tb_program_script.proofs.FirstLines.{begins_line, found_behind, has_no_end}
+use Rattle.tb_program_script.proofs.FirstLines.{begins_line, found_after, has_no_end}
 use Rattle.tb_program_script.proofs.Named.{parts_of}
 use Rattle.tb_program_script.proofs.Tables.{found_row}
 use Rattle.tb_program_script.proofs.Texts.{all-implied, kept, line_end, list_all-implied, some_words, word_end, words_first, words_from_space}
@@ -30,7 +30,7 @@ use Rattle.tb_program_script.proofs.Texts.{all-implied, kept, line_end, list_all
 abbrev is_text_byte : ℕ → Bool
 is_text_byte byte = nat_le 32 byte && nat_le byte 126
 
--- what all elements pass, those behind some do
+-- what all elements pass, those after some do
 pub all_dropped : (passes : ℕ → Bool) (bytes : List ℕ) (count : ℕ) → list_all passes bytes ≡ true
     → list_all passes (drop count bytes) ≡ true
 all_dropped passes bytes count all =
@@ -215,7 +215,7 @@ keyword_first text name rest none bare some e =
     let one : 1 + line_end rest ≡ suc (line_end rest) = omega arith in
     let line : first_line text ≡ name ++ 32 ∷ first_line rest = begins.line ∙ ap (λ line. name ++ line) (rw one refl) in
     let at : word_end (name ++ 32 ∷ first_line rest) ≡ length name
-    = found_behind (λ byte. byte == 32) name (32 ∷ first_line rest) bare ∙ omega arith in
+    = found_after (λ byte. byte == 32) name (32 ∷ first_line rest) bare ∙ omega arith in
     let long : 0 < word_end (name ++ 32 ∷ first_line rest) = rw at some in
     record {
       line = line;
