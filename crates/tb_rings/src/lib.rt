@@ -11,10 +11,10 @@
 
 mod waiting;
 
-ghost use Rattle.std.specs.Prelude.{◌≡◌, ◌<◌, ◌≤◌, ◌+◌, [], ◌∷◌, ◌++◌, length, OnOk, IfOk, IfErr, IsOk, IfSome, IfNone, IsSomeAnd};
+ghost use Rattle.std.specs.Prelude.{◌≡◌, ◌<◌, ◌≤◌, ◌+◌, ◌↔◌, [], ◌∷◌, ◌++◌, length, IsTrue, OnOk, IfOk, IfErr, IsOk, IfSome, IfNone, IsSomeAnd};
 ghost use Rattle.tb_rings.specs.Ends.{given, taken, lies, slots, free, IsRing, SameOutlet, SameInlet};
 
-use rtrb::{Consumer, Producer, PushError, RingBuffer};
+use rtrb::{Consumer, Producer, RingBuffer};
 use std::alloc::Global;
 use std::sync::Wait;
 use tb_layout::NoMemory;
@@ -66,6 +66,7 @@ pub fn ring<T: Drop>(alloc: Global, capacity: usize) -> Result<(Outlet<T>, Inlet
 
 impl<T: Drop> Outlet<T> {
     /// Puts the value into a free slot, and wakes the thread that waits for one; if no free slot is seen, it is returned.
+    #[inline(always)]
     pub fn give(&mut self, value: T) -> Result<(), T>
         ensures ring { SameOutlet self.old self.new }
         ensures ok { OnOk result (given self.new ≡ given self.old ++ value ∷ []) }
@@ -74,28 +75,39 @@ impl<T: Drop> Outlet<T> {
         ensures none_free { IfErr result (λ _. free self.new ≡ 0) }
         ensures room { 0 < free self.old → IsOk result }
     {
-        match self.producer.push(value) {
-            Ok(()) => {
-                self.waker.wake();
-                Ok(())
-            }
-            Err(PushError::Full(back)) => Err(back),
+        if self.producer.is_full() {
+            return Err(value);
         }
+        self.producer.push_reserved(value);
+        self.waker.wake();
+        Ok(())
     }
 }
 
 impl<T: Drop> Inlet<T> {
     /// Takes the value that was given first; None if none is seen, and so never while some are known to be in the ring.
+    #[inline(always)]
     pub fn take(&mut self) -> Option<T>
         ensures ring { SameInlet self.old self.new }
         ensures some { IfSome result (λ value. taken self.new ≡ taken self.old ++ value ∷ []) }
         ensures none { IfNone result ((taken self.new ≡ taken self.old) × (lies self.new ≡ [])) }
         ensures known { 0 < length (lies self.old) → IsSomeAnd result (λ value. lies self.old ≡ value ∷ lies self.new) }
     {
-        if self.consumer.cached_slots() > 0 {
-            return Some(self.consumer.pop_known());
+        if !self.has_value() {
+            return None;
         }
-        self.consumer.pop().ok()
+        Some(self.consumer.pop_known())
+    }
+
+    /// Whether a value is seen. Looks into the ring only if none is known.
+    #[inline(always)]
+    fn has_value(&mut self) -> bool
+        ensures ring { SameInlet self.old self.new }
+        ensures taken { taken self.new ≡ taken self.old }
+        ensures value { IsTrue result ↔ (0 < length (lies self.new)) }
+        ensures known { 0 < length (lies self.old) → lies self.new ≡ lies self.old }
+    {
+        self.consumer.cached_slots() > 0 || self.consumer.slots() > 0
     }
 
     /// How many values are in the ring, with both ends in one thread: these and what was taken are all that was given.
