@@ -1,20 +1,20 @@
 //! A thread that has nothing to do sleeps until another wakes it.
 
-use crossbeam_utils::Backoff;
 use crossbeam_utils::sync::{Parker, Unparker};
 use std::alloc::Global;
 use std::cell::Cell;
 use std::sync::Wait;
+use std::thread;
 use tb_layout::NoMemory;
 
 /// How many times a thread yields before it sleeps: together some 30 microseconds, about what it takes to go to sleep and
 /// be woken.
 const YIELDS: u32 = 64;
 
-/// How long a thread has had nothing to do. It spins first, then yields, and then sleeps.
+/// How long a thread has had nothing to do. It yields first, and then sleeps. It doesn't spin, since what it waits for is the
+/// work of another thread, which may need this processor.
 #[derive(Drop)]
 pub struct SpinWait {
-    backoff: Backoff,
     yields: Cell<u32>,
 }
 
@@ -22,27 +22,23 @@ impl SpinWait {
     /// As if there had just been something to do. Takes no memory.
     pub fn new() -> SpinWait {
         SpinWait {
-            backoff: Backoff::new(),
             yields: Cell::new(0),
         }
     }
 
     /// Begins again, since there was something to do.
     pub fn reset(&self) {
-        self.backoff.reset();
         self.yields.set(0);
     }
 
-    /// Spins or yields once. False if it has yielded long enough.
+    /// Yields once. False if it has yielded long enough.
     fn pause(&self) -> bool {
         let yields = self.yields.get();
         if yields >= YIELDS {
             return false;
         }
-        if self.backoff.is_completed() {
-            self.yields.set(yields + 1);
-        }
-        self.backoff.snooze();
+        self.yields.set(yields + 1);
+        thread::yield_now();
         true
     }
 }
@@ -89,7 +85,7 @@ impl Sleeper {
         })
     }
 
-    /// Spins or yields once, or sleeps until a waker is used, once it has done so long enough. If a waker was used since the
+    /// Yields once, or sleeps until a waker is used, once it has yielded long enough. If a waker was used since the
     /// last sleep, it doesn't sleep. It may return early, so the caller looks again at what it waits for.
     ///
     /// What is changed before a call of `wake` is seen after the sleep, so no change is missed.

@@ -60,7 +60,7 @@ impl Intake {
         self.reader.take(rt)
     }
 
-    /// Waits for something to take: spins or yields once, or sleeps until a sender queues something, once it has done so long
+    /// Waits for something to take: yields once, or sleeps until a sender queues something, once it has yielded long
     /// enough. It may return early, so take again after it. Takes no memory.
     pub fn wait<R: Wait>(&self, rt: &R, spin: &SpinWait) {
         self.reader.wait(rt, spin);

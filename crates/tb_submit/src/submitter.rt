@@ -169,8 +169,8 @@ impl Submitter {
         Some(reply)
     }
 
-    /// Waits for a reply: spins or yields once, or sleeps until a reply is given or a waker of this submitter is used, once it
-    /// has done so long enough. It may return early, so read again after it. Takes no memory. With no packet in flight
+    /// Waits for a reply: yields once, or sleeps until a reply is given or a waker of this submitter is used, once it has
+    /// yielded long enough. It may return early, so read again after it. Takes no memory. With no packet in flight
     /// nothing but a waker ends the sleep.
     pub fn wait<R: Wait>(&self, rt: &R, spin: &SpinWait) {
         self.inlet.wait(rt, spin);
