@@ -38,6 +38,7 @@ impl Promise<Routed> for Routing {
 
 /// Puts a reply into its submitter's ring. There is room: the ring has as many slots as its submitter may have packets
 /// in flight, so no stage waits for a submitter. Were it full all the same, this would wait until the submitter reads.
+#[inline(always)]
 fn route<R: Wait>(rt: &R, outlets: &mut Vec<Outlet<Reply>>, reply: Reply)
     ensures same { SameOutlets outlets.old.items outlets.new.items }
     ensures more { AllMore (reply ∷ []) outlets.old.items outlets.new.items }

@@ -7,19 +7,33 @@ use crossbeam_utils::Backoff;
 use std::sync::Wait;
 use tb_rings::Outlet;
 
-/// Gives a value as soon as there is a free slot. While there is none it backs off: a few spins, then yields.
+/// Gives a value as soon as there is a free slot.
+#[inline(always)]
 pub(crate) fn give_waiting<T: Drop, R: Wait>(rt: &R, outlet: &mut Outlet<T>, value: T)
+    ensures ring { SameOutlet outlet.old outlet.new }
+    ensures given { given outlet.new ≡ given outlet.old ++ value ∷ [] }
+{
+    if let Err(back) = outlet.give(value) {
+        give_later(rt, outlet, back);
+    }
+}
+
+/// Gives a value for which no free slot was seen. While there is none it backs off: a few spins, then yields.
+///
+/// It is a call of its own because a loop copies the value that it keeps, and a ring is rarely full.
+#[inline(never)]
+fn give_later<T: Drop, R: Wait>(rt: &R, outlet: &mut Outlet<T>, value: T)
     ensures ring { SameOutlet outlet.old outlet.new }
     ensures given { given outlet.new ≡ given outlet.old ++ value ∷ [] }
 {
     let mut value = value;
     let backoff = Backoff::new();
     for _ in rt.forever() {
+        backoff.snooze();
         match outlet.give(value) {
             Ok(()) => return,
             Err(back) => value = back,
         }
-        backoff.snooze();
     }
     unreachable!()
 }
