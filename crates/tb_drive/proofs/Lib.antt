@@ -1,5 +1,6 @@
 pub mod Ahead
 mod Control
+pub mod Opened
 mod Pulsed
 mod Results
 mod Seen

@@ -1,7 +1,7 @@
 use Rattle.std.proofs.Common.{rules, ◌≡◌, ◌+◌, ◌∙◌, ◌∷◌, ◌++◌, [], All, length, ap, sym, subst, length-append}
+use Rattle.tb_drive.proofs.Opened.{all_with_driver}
 use Rattle.example_payments.specs.Desk.{IsNew}
 use Rattle.example_payments.specs.declared.desk.Desk.{Desk}
-use Rattle.example_payments.proofs.Ready.{more_new}
 use Rattle.example_payments.proofs.new_desks.Goals as goal
 
 pub loop-desk-preserved : goal.loop-desk-preserved
@@ -12,5 +12,5 @@ loop-desk-preserved g c =
     record {
       ready = c.in_ok-ahead.ensures;
       number = ap length pushed ∙ length-append desks (one ∷ []) ∙ ap (λ n. n + 1) c.loop-desk.invariant.number;
-      new = subst (All IsNew) (sym pushed) (more_new desks one c.loop-desk.invariant.new c.new.ensures);
+      new = subst (All IsNew) (sym pushed) (all_with_driver IsNew desks one c.loop-desk.invariant.new c.new.ensures);
     }
