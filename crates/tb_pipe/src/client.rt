@@ -1,21 +1,24 @@
-//! A submitter in a thread of the application's own.
+//! A submitter, or the control, in a thread of the application's own.
 
-ghost use Rattle.std.specs.Prelude.{◌≡◌, ◌<◌, ◌≤◌, [], ◌∷◌, ◌++◌, length, None, Err, OnOk, IfOk, IfErr, IfSome, IfNone, IsSomeAnd};
-ghost use Rattle.tb_layout.specs.inside.Limits.{queued_max};
-ghost use Rattle.tb_submit.specs.Ends.{ended_with, origin_of, with_item};
+ghost use Rattle.std.specs.Fn.{FnOnceReturnsAtMut};
+ghost use Rattle.std.specs.Prelude.{◌≡◌, ◌<◌, ◌≤◌, [], ◌∷◌, ◌++◌, length, true, false, None, Err, OnOk, IfOk, IfErr, IfSome, IfNone, IsSomeAnd};
+ghost use Rattle.tb_layout.specs.inside.Limits.{moment_max, queued_max};
+ghost use Rattle.tb_submit.specs.Ends.{SenderState, SubmitterState, end_origin, ended_with, origin_of, sender_with, with_item};
 ghost use Rattle.tb_submit.specs.Refusals.{IsSubmitRefusal, in_flight, submit_refusal};
 ghost use Rattle.tb_work.specs.Job.{numbered_packet};
 ghost use Rattle.tb_work.specs.declared.item.Item.TheVariants as item;
 ghost use Rattle.tb_work.specs.declared.refusal.Refusal.TheVariants as refusal;
 
+use crate::own_end::{OwnControlEnd, OwnEnd};
 use crate::stop::Stop;
 use crossbeam_utils::Backoff;
 use std::alloc::Global;
 use std::marker::Model;
 use std::sync::Wait;
+use std::thread::{PromisedHandle, Scope};
 use tb_layout::QUEUED_MAX;
 use tb_rings::SpinWait;
-use tb_submit::{Ended, Submitter};
+use tb_submit::{Control, ControlEnd, Ended, Submitter};
 use tb_work::{Packet, Refusal, Reply};
 
 /// A submitter in a thread of the application's own. Its calls wait until they are done or the run is given up. A
@@ -113,6 +116,34 @@ impl<'s> Client<'s> {
         unreachable!()
     }
 
+    /// Queues a packet as `submit` does, and then waits for the next reply as `receive` does. The reply is the packet's own
+    /// if no other packet was in flight. Returns `None` if the run is given up after the packet is queued.
+    ///
+    /// Errors: those of `submit`.
+    pub fn exchange<R: Wait>(
+        &mut self,
+        rt: &R,
+        alloc: Global,
+        packet: Packet,
+    ) -> Result<Option<Reply>, (Packet, Refusal)>
+        ensures own { origin_of self.new ≡ origin_of self.old }
+        ensures some { IfOk result (λ replied. IfSome replied (λ reply. self.new ≡ record (with_item self.old (item.Packet
+            (numbered_packet self.old.origin.seat.number (length self.old.queued) packet)))
+            { read = self.old.read ++ reply ∷ []; lying = self.new.lying })) }
+        ensures none { IfOk result (λ replied. IfNone replied (self.new ≡ with_item self.old (item.Packet
+            (numbered_packet self.old.origin.seat.number (length self.old.queued) packet)))) }
+        ensures admitted { OnOk result (submit_refusal self.old packet ≡ None) }
+        ensures back { IfErr result (λ refused. (refused.0 ≡ packet) × (self.new ≡ self.old)) }
+        ensures refusal { length self.old.queued < queued_max
+            → IfErr result (λ refused. IsSubmitRefusal self.old packet refused.1) }
+        ensures full { queued_max ≤ length self.old.queued → result ≡ Err (packet, refusal.Full) }
+    {
+        match self.submit(rt, alloc, packet) {
+            Ok(_number) => Ok(self.receive(rt)),
+            Err(refused) => Err(refused),
+        }
+    }
+
     /// Queues the submitter's end. While the queue is full it yields and tries again. Returns `None` if the run is
     /// given up. The end still returns the unread replies. Takes no memory.
     pub fn end<R: Wait>(self, rt: &R) -> Option<Ended>
@@ -134,5 +165,173 @@ impl<'s> Client<'s> {
             backoff.snooze();
         }
         unreachable!()
+    }
+
+    /// Starts a thread that does `work` with this client and then ends it, whatever came of the work, since `serve`
+    /// waits for each end. If the thread can't be started, gives the run up and returns `None`.
+    pub fn start<E, R: Wait + Sync, F: FnOnce(&mut Client<'_>) + Send + 's>(
+        self,
+        scope: &Scope<'s, E>,
+        rt: &'s R,
+        work: F,
+    ) -> Option<PromisedHandle<Option<Ended>, OwnEnd>>
+        requires callable { F.IsAlwaysCallable work }
+        requires own { (before : SubmitterState) (after : SubmitterState)
+            → FnOnceReturnsAtMut F.FnOnce work before tt after → origin_of after ≡ origin_of before }
+        ensures { IfSome result (λ thread. thread.promise.submitter.value ≡ self.entry) }
+    {
+        let client = self;
+        let stop = client.stop;
+        let started = scope.spawn_with(
+            OwnEnd::of(&client.submitter),
+            move || -> Option<Ended>
+                requires callable { F.IsAlwaysCallable work }
+                requires own { (before : SubmitterState) (after : SubmitterState)
+                    → FnOnceReturnsAtMut F.FnOnce work before tt after → origin_of after ≡ origin_of before }
+                ensures { IfSome result (λ end. end_origin end ≡ origin_of client.entry) }
+            {
+                let mut client = client;
+                work(&mut client);
+                client.end(rt)
+            },
+        );
+        if started.is_err() {
+            stop.ask();
+        }
+        started.ok()
+    }
+}
+
+/// The control in a thread of the application's own. Its calls wait until they are done or the run is given up. A
+/// contract sees it as its control.
+pub struct ControlClient<'s> {
+    control: Control,
+    stop: &'s Stop,
+}
+
+impl<'s> Drop for ControlClient<'s> {
+    /// Frees the control in one call, so that no owner's proof repeats it.
+    fn drop(self) {
+        let ControlClient { control, stop: _ } = self;
+        drop(control);
+    }
+}
+
+impl<'s> Model for ControlClient<'s> {
+    ghost use Rattle.tb_submit.specs.Ends.{SenderState};
+
+    ghost Value = { SenderState };
+
+    ghost view = { λ client. client.control };
+}
+
+impl<'s> ControlClient<'s> {
+    /// Returns a client of the control, whose calls stop waiting once `stop` is asked.
+    pub fn new(control: Control, stop: &'s Stop) -> ControlClient<'s>
+        ensures { result ≡ control }
+    {
+        ControlClient { control, stop }
+    }
+
+    /// Queues a pulse with this moment in nanoseconds, at most 2^62. While the queue is full it yields and tries again.
+    /// Takes no memory.
+    ///
+    /// Errors: `MomentTooLarge`, or `Full` if the run is given up or the control has queued 2^56 pulses. Nothing is
+    /// changed.
+    pub fn pulse<R: Wait>(&mut self, rt: &R, moment: u64) -> Result<(), Refusal>
+        ensures own { self.new.seat ≡ self.old.seat }
+        ensures ok { OnOk result (self.new ≡ sender_with self.old (item.Pulse moment)) }
+        ensures back { IfErr result (λ why. self.new ≡ self.old) }
+        ensures large { length self.old.queued < queued_max → moment_max < moment → result ≡ Err refusal.MomentTooLarge }
+        ensures refusal { moment ≤ moment_max → IfErr result (λ why. why ≡ refusal.Full) }
+        ensures full { queued_max ≤ length self.old.queued → result ≡ Err refusal.Full }
+    {
+        if self.control.queued() >= QUEUED_MAX {
+            return Err(Refusal::Full);
+        }
+        let backoff = Backoff::new();
+        for _ in rt.forever() {
+            match self.control.pulse(rt, moment) {
+                Err(Refusal::Full) if !self.stop.is_asked() => {}
+                pulsed => return pulsed,
+            }
+            backoff.snooze();
+        }
+        unreachable!()
+    }
+
+    /// Queues the control's end, so that all that is queued is committed. While the queue is full it yields and tries
+    /// again. Returns `None` if the run is given up. Takes no memory.
+    pub fn end<R: Wait>(self, rt: &R) -> Option<ControlEnd>
+        ensures { IfSome result (λ end. end ≡ sender_with self.entry item.End) }
+    {
+        self.finish(rt, false)
+    }
+
+    /// Queues the Close, so that packets behind it get `Shutdown`. While the queue is full it yields and tries again.
+    /// Returns `None` if the run is given up. Takes no memory.
+    pub fn shut<R: Wait>(self, rt: &R) -> Option<ControlEnd>
+        ensures { IfSome result (λ end. end ≡ sender_with self.entry item.Close) }
+    {
+        self.finish(rt, true)
+    }
+
+    /// Queues the Close or the control's end, as `shut` and `end` do.
+    fn finish<R: Wait>(self, rt: &R, shuts: bool) -> Option<ControlEnd>
+        ensures open { shuts ≡ false → IfSome result (λ end. end ≡ sender_with self.entry item.End) }
+        ensures shut { shuts ≡ true → IfSome result (λ end. end ≡ sender_with self.entry item.Close) }
+    {
+        let ControlClient { mut control, stop } = self;
+        let backoff = Backoff::new();
+        for _ in rt.forever() {
+            let ended = if shuts {
+                control.shut(rt)
+            } else {
+                control.end(rt)
+            };
+            match ended {
+                Ok(end) => return Some(end),
+                Err((back, _)) => control = back,
+            }
+            if stop.is_asked() {
+                return None;
+            }
+            backoff.snooze();
+        }
+        unreachable!()
+    }
+
+    /// Starts a thread that does `work` with the control and then ends it. If the thread can't be started, gives the
+    /// run up and returns `None`.
+    pub fn start<E, R: Wait + Sync, F: FnOnce(&mut ControlClient<'_>) + Send + 's>(
+        self,
+        scope: &Scope<'s, E>,
+        rt: &'s R,
+        work: F,
+    ) -> Option<PromisedHandle<Option<ControlEnd>, OwnControlEnd>>
+        requires callable { F.IsAlwaysCallable work }
+        requires own { (before : SenderState) (after : SenderState)
+            → FnOnceReturnsAtMut F.FnOnce work before tt after → after.seat ≡ before.seat }
+        ensures { IfSome result (λ thread. thread.promise.control.value ≡ self.entry) }
+    {
+        let control = self;
+        let stop = control.stop;
+        let started = scope.spawn_with(
+            OwnControlEnd::of(&control.control),
+            move || -> Option<ControlEnd>
+                requires callable { F.IsAlwaysCallable work }
+                requires own { (before : SenderState) (after : SenderState)
+                    → FnOnceReturnsAtMut F.FnOnce work before tt after → after.seat ≡ before.seat }
+                ensures { IfSome result (λ end. end.seat ≡ control.entry.seat) }
+            {
+                let mut control = control;
+                work(&mut control);
+                control.end(rt)
+            },
+        );
+        if started.is_err() {
+            stop.ask();
+        }
+        started.ok()
     }
 }

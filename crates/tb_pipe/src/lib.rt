@@ -15,8 +15,8 @@
 //!
 //! A `Gate` holds batches back: the committer gets a batch only after the gate said yes to its number (`through`).
 //!
-//! A `Client` is a submitter in a thread of the application's own, whose calls wait. They return if the run is given up by
-//! `Stop::ask`, as an application does if it can't start a thread.
+//! A `Client` is a submitter in a thread of the application's own, a `ControlClient` the control. Their calls wait, and return if
+//! the run is given up by `Stop::ask`, as an application does if it can't start a thread.
 //!
 //! `crates/example_own_threads` is an example that the gate compiles.
 #![tactic(auto)]
@@ -35,10 +35,10 @@ mod stages;
 mod stop;
 mod waiting;
 
-pub use client::Client;
+pub use client::{Client, ControlClient};
 pub use gate::{Gate, Open};
 pub use opening::{Opened, open, open_with};
-pub use own_end::OwnEnd;
+pub use own_end::{OwnControlEnd, OwnEnd};
 pub use serving::{Pipeline, Served};
 pub use settling::{Report, settle};
 pub use stop::Stop;

@@ -1,10 +1,10 @@
-//! The promise that a thread ends the submitter that was moved into it.
+//! The promises that a thread ends the submitter or the control that was moved into it.
 
 ghost use Rattle.std.specs.Prelude.{◌≡◌};
 
 use std::snapshot::Snapshot;
 use std::thread::Promise;
-use tb_submit::{Ended, Submitter};
+use tb_submit::{Control, ControlEnd, Ended, Submitter};
 
 /// Promises that the end that a thread returns, if it returns one, is that of this submitter. A thread is started under it
 /// by `spawn_with`, and `join` then returns an end that `settle` accepts at the submitter's index.
@@ -27,6 +27,30 @@ impl OwnEnd {
     {
         OwnEnd {
             submitter: Snapshot::of(submitter),
+        }
+    }
+}
+
+/// Promises that the end that a thread returns, if it returns one, is that of this control, as `OwnEnd` does for a
+/// submitter. `join` then returns an end that `settle` accepts as the control's.
+#[derive(Drop)]
+pub struct OwnControlEnd {
+    pub control: Snapshot<Control>,
+}
+
+impl Promise<Option<ControlEnd>> for OwnControlEnd {
+    ghost use Rattle.std.specs.Prelude.{◌≡◌, IfSome};
+
+    ghost kept_by = { λ p result. IfSome result (λ end. end.seat ≡ p.control.value.seat) };
+}
+
+impl OwnControlEnd {
+    /// Returns the promise for a control that is about to be moved into a thread.
+    pub fn of(control: &Control) -> OwnControlEnd
+        ensures { result.control.value ≡ control.now }
+    {
+        OwnControlEnd {
+            control: Snapshot::of(control),
         }
     }
 }
