@@ -15,7 +15,7 @@ use std::snapshot::Snapshot;
 use std::sync::Wait;
 use std::thread::Promise;
 use tb_layout::QUEUED_MAX;
-use tb_pipe::Stop;
+use tb_pipe::{ControlClient, Stop};
 use tb_submit::{Control, ControlEnd};
 use tb_work::Refusal;
 
@@ -131,24 +131,12 @@ fn follow<C: ControlDriver, R: Wait>(
 fn end<R: Wait>(rt: &R, control: Control, shuts: bool, stop: &Stop) -> Option<ControlEnd>
     ensures { IfSome result (λ end. end ≡ sender_with control (last_item shuts)) }
 {
-    let mut control = control;
-    let backoff = Backoff::new();
-    for _ in rt.forever() {
-        let ended = if shuts {
-            control.shut(rt)
-        } else {
-            control.end(rt)
-        };
-        match ended {
-            Ok(end) => return Some(end),
-            Err((back, _)) => control = back,
-        }
-        if stop.is_asked() {
-            return None;
-        }
-        backoff.snooze();
+    let control = ControlClient::new(control, stop);
+    if shuts {
+        control.shut(rt)
+    } else {
+        control.end(rt)
     }
-    unreachable!()
 }
 
 impl<C: ControlDriver> ControlTask<C> {
