@@ -1,42 +1,21 @@
-//! Two tellers in threads of the application's own, without drivers: each queues packets, waits for each reply, and
-//! ends, while the main thread serves. So an application uses `open`, `Client`, `serve` and `settle` by themselves.
+//! Two tellers and the control in threads of the application's own, without drivers, while the main thread serves. So an
+//! application uses `open`, `Client`, `serve` and `settle` by themselves.
 #![tactic(auto)]
 
 ghost use Rattle.std.specs.Prelude.{◌≡◌, [], ◌∷◌, IfSome};
-ghost use Rattle.tb_submit.specs.Ends.{control_seat, end_origin, origin_of};
+ghost use Rattle.tb_submit.specs.Ends.{control_seat, origin_of};
 
 use std::alloc::Global;
 use std::process::ExitCode;
 use std::sync::Wait;
 use std::thread;
-use std::thread::{PromisedHandle, Scope, Threads};
+use std::thread::Threads;
 use tb_layout::{Account, Transfer};
-use tb_pipe::{Client, Open, OwnEnd, Report, Stop, open, settle};
-use tb_submit::{Ended, Submitter};
+use tb_pipe::{Client, ControlClient, Open, Report, Stop, open, settle};
+use tb_submit::Submitter;
 use tb_work::{Packet, Reply};
 
-/// Queues a packet and waits for its reply. Returns `None` if the packet is refused or the run is given up.
-fn post<R: Wait>(rt: &R, alloc: Global, client: &mut Client<'_>, packet: Packet) -> Option<Reply>
-    ensures { origin_of client.new ≡ origin_of client.old }
-{
-    client.submit(rt, alloc, packet).ok()?;
-    client.receive(rt)
-}
-
-/// Returns a transfer in ledger 1, under the id of the account that it debits.
-fn transfer(debit_account_id: u128, credit_account_id: u128, amount: u128) -> Transfer {
-    Transfer {
-        id: debit_account_id,
-        debit_account_id,
-        credit_account_id,
-        amount,
-        ledger: 1,
-        code: 1,
-        ..Transfer::default()
-    }
-}
-
-/// Opens two accounts, and then posts a transfer between them and one back.
+/// Opens two accounts, and then posts a transfer between them and one back. Waits for each reply.
 fn trade<R: Wait>(rt: &R, alloc: Global, client: &mut Client<'_>, ids: [u128; 2]) -> Option<Reply>
     ensures { origin_of client.new ≡ origin_of client.old }
 {
@@ -47,35 +26,19 @@ fn trade<R: Wait>(rt: &R, alloc: Global, client: &mut Client<'_>, ids: [u128; 2]
         ..Account::default()
     });
     let packet = Packet::of_accounts(alloc, &accounts, 0).ok()?;
-    post(rt, alloc, client, packet)?;
+    client.exchange(rt, alloc, packet).ok()??;
     let [first, second] = ids;
-    let transfers = [transfer(first, second, 30), transfer(second, first, 10)];
+    let transfers = [(first, second, 30), (second, first, 10)].map(|(from, to, amount)| Transfer {
+        id: from,
+        debit_account_id: from,
+        credit_account_id: to,
+        amount,
+        ledger: 1,
+        code: 1,
+        ..Transfer::default()
+    });
     let packet = Packet::of_transfers(alloc, &transfers, 0).ok()?;
-    post(rt, alloc, client, packet)
-}
-
-/// Starts a teller's thread. It ends its submitter even if the trade failed, since `serve` waits for each end.
-fn start<'s, E, R: Wait + Sync>(
-    scope: &Scope<'s, E>,
-    rt: &'s R,
-    alloc: Global,
-    submitter: Submitter,
-    ids: [u128; 2],
-    stop: &'s Stop,
-) -> Option<PromisedHandle<Option<Ended>, OwnEnd>>
-    ensures { IfSome result (λ thread. thread.promise.submitter.value ≡ submitter) }
-{
-    let started = scope.spawn_with(
-        OwnEnd::of(&submitter),
-        move || -> Option<Ended>
-            ensures { IfSome result (λ end. end_origin end ≡ origin_of submitter) }
-        {
-            let mut client = Client::new(submitter, stop);
-            let _reply = trade(rt, alloc, &mut client, ids);
-            client.end(rt)
-        },
-    );
-    started.ok()
+    client.exchange(rt, alloc, packet).ok()?
 }
 
 /// Returns the submitters of a pipeline that was opened with two.
@@ -87,18 +50,16 @@ fn both(submitters: Vec<Submitter>) -> Option<(Submitter, Submitter)>
     rest.next().is_none().then_some(both)
 }
 
-/// Opens a pipeline, ends its control, starts both tellers, serves until all have ended, joins the tellers and settles.
-/// If a thread can't be started it gives the run up, so that the others end too.
+/// Opens a pipeline, starts the tellers and the control, serves until all have ended, joins them and settles. If a
+/// thread can't be started the run is given up, so that the others end too.
 fn run<R: Threads + Wait + Sync>(rt: &R, alloc: Global) -> Option<Report> {
     let Ok(opened) = open(alloc, 0, 100, 64, 8, 2) else {
         return None;
     };
     let stop = &Stop::of(alloc, &opened.submitters).ok()?;
-    let Ok(control) = opened.control.end(rt) else {
-        return None;
-    };
     let (first, second) = both(opened.submitters)?;
-    let pipeline = opened.pipeline;
+    let (first, second) = (Client::new(first, stop), Client::new(second, stop));
+    let (pipeline, control) = (opened.pipeline, ControlClient::new(opened.control, stop));
     thread::scope(
         thread::scope_env(),
         rt,
@@ -106,15 +67,20 @@ fn run<R: Threads + Wait + Sync>(rt: &R, alloc: Global) -> Option<Report> {
             requires own { origin_of first ∷ origin_of second ∷ [] ≡ pipeline.submitters }
             requires control { control.seat ≡ control_seat pipeline.intake }
         {
-            let first = start(scope, rt, alloc, first, [1, 2], stop)?;
-            let Some(second) = start(scope, rt, alloc, second, [11, 12], stop) else {
-                stop.ask();
-                return None;
-            };
+            let first = first.start(scope, rt, move |client| {
+                let _reply = trade(rt, alloc, client, [1, 2]);
+            })?;
+            let second = second.start(scope, rt, move |client| {
+                let _reply = trade(rt, alloc, client, [11, 12]);
+            })?;
+            let control = control.start(scope, rt, |control| {
+                let _queued = control.pulse(rt, 1);
+            })?;
             let Ok(served) = pipeline.serve(rt, &Open) else {
                 stop.ask();
                 return None;
             };
+            let control = control.join(rt)?;
             let ends = vec![in alloc; first.join(rt)?, second.join(rt)?].ok()?;
             Some(settle(served, ends, control))
         },
