@@ -11,6 +11,7 @@ use tb_pipe::open;
 use tb_submit::Ended;
 use tb_work::{Bytes, Outcome, Packet, Refusal, Reply};
 
+mod reading;
 mod replies;
 mod tellings;
 mod turns;
