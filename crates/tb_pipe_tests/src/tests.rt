@@ -18,6 +18,7 @@ use tb_submit::{Control, ControlEnd, Ended, Intake, Submitter};
 use tb_work::{Bytes, Outcome, Packet, Refusal, Reply};
 
 mod clients;
+mod controls;
 mod driven;
 mod gates;
 mod memory;
