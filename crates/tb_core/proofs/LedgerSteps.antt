@@ -15,6 +15,7 @@ use Rattle.tb_work.specs.declared.outcome.Outcome.TheVariants as outcome
 use Rattle.tb_core.specs.declared.parcel.Parcel.{Parcel}
 use Rattle.tb_core.specs.declared.parcel.Parcel.TheVariants as parcel
 use Rattle.tb_core.specs.declared.outcomes.Outcomes.TheVariants.{Cut}
+use Rattle.tb_core.specs.declared.journal.Entry.{Entry}
 use Rattle.tb_core.proofs.PacketAnswers.{answers_from}
 use Rattle.tb_core.specs.Due.{outcome_at, Ahead}
 use Rattle.tb_core.specs.inside.Decision.{outcome_of, inputs_in, replies_from, Decision, Admitted, Pulsed, Returned}
@@ -128,14 +129,14 @@ replies_from-answers clock place state journal before (job ∷ jobs) all place_i
 
 -- a batch that the machine took, and the journal has as one entry, is applied
 pub batch_applied : (ledger : LedgerState) (state : State) (places : ℕ) (groups : List (List Input))
-    (jobs batch : List Numbered) (replies : List ReplyValue) → IsLedger ledger places →
+    (entries : List Entry) (jobs batch : List Numbered) (replies : List ReplyValue) → IsLedger ledger entries places →
     groups ≡ ledger.groups ++ map input_of jobs ∷ [] → state ≡ fold after_input ledger.state (map input_of jobs)
     → jobs ≡ batch
     → replies ≡ replies_from ledger.opening (inputs ledger ++ map input_of jobs) places (map Admitted jobs)
     → must_stop false ledger (length batch) ≡ false →
     apply_result (record { opening = ledger.opening; groups = groups; state = state; stopped = ledger.stopped })
     (Cut replies) ≡ apply_step false ledger (parcel.Batch batch)
-batch_applied ledger state places groups jobs batch replies is groups_is state_is same replies_is goes =
+batch_applied ledger state places groups entries jobs batch replies is groups_is state_is same replies_is goes =
     rw (goes, groups_is, state_is, replies_is, is.counted, same, inputs-more ledger.groups (map input_of batch)) refl
 
 -- ---- a parcel more

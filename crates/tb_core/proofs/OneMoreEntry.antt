@@ -11,8 +11,9 @@ use Rattle.tb_work.specs.Packet.{Numbered, events_in, input_of}
 use Rattle.tb_batch.specs.Batch.{body_of}
 use Rattle.tb_batch.specs.declared.parts.Parts.{Parts}
 use Rattle.tb_core.specs.inside.BatchAnswer.{AreAnswered}
+use Rattle.tb_core.specs.declared.journal.Entry.{Entry}
 use Rattle.tb_core.specs.Journal.{LedgerState, inputs}
-use Rattle.tb_core.specs.Ledger.{IsLedger, must_stop}
+use Rattle.tb_core.specs.Ledger.{IsLedger, AreEntries, must_stop}
 use Rattle.tb_core.proofs.Batches.{JoinInvisibly, gives_each, gives_one}
 
 -- what holds of a call that succeeded
@@ -49,13 +50,13 @@ batch_state law state parts answered =
     by false is = (gives_each law 0 parts.operation state parts.jobs.items answered.in_range answered.lawful is).states
 
 pub batch_entered : (law : JoinInvisibly) (ledger : LedgerState) (next : State) (places : ℕ)
-    (groups : List (List Input)) (parts : Parts) (count : ℕ)
-    → IsLedger ledger places → AreAnswered ledger.state parts →
+    (groups : List (List Input)) (old entries : List Entry) (parts : Parts) (count : ℕ)
+    → IsLedger ledger old places → AreEntries entries → AreAnswered ledger.state parts →
     next ≡ after_packet ledger.state (events_of parts.operation parts.body.items)
     → groups ≡ ledger.groups ++ map input_of parts.jobs.items ∷ [] → count ≡ length parts.jobs.items
     → must_stop false ledger count ≡ false →
-    IsLedger (record ledger { groups = groups; state = next }) (places + count)
-batch_entered law ledger next places groups parts count is answered next_is groups_is count_is goes =
+    IsLedger (record ledger { groups = groups; state = next }) entries (places + count)
+batch_entered law ledger next places groups old entries parts count is whole answered next_is groups_is count_is goes =
     let group = map input_of parts.jobs.items in
     let all : flat_map (λ g. g) groups ≡ inputs ledger ++ group = ap (flat_map (λ g. g)) groups_is
     ∙ inputs-more ledger.groups group in
@@ -75,4 +76,5 @@ batch_entered law ledger next places groups parts count is answered next_is grou
       );
       few = omega (arith, is.counted, room);
       opening = is.opening;
+      whole = whole;
     }

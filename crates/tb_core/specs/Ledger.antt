@@ -1,7 +1,6 @@
 -- What a ledger makes of one parcel.
-use Rattle.std.specs.Prelude.{◌≡◌, ◌≤◌, ℕ, ◌+◌, ◌*◌, Bool, true, false, ◌||◌, fold, nat_lt, List, [], ◌∷◌, ◌++◌, length, map, take, drop, unwrap_or, Option, Some, None, IsSome, if◌then◌else◌, not}
+use Rattle.std.specs.Prelude.{◌≡◌, ◌≤◌, ℕ, ◌+◌, ◌*◌, Bool, true, false, ◌||◌, fold, nat_lt, List, [], ◌∷◌, ◌++◌, length, map, take, drop, unwrap_or, IsSome, if◌then◌else◌, not}
 use Rattle.std.specs.List.{sum_by, AllByRecursion}
-use Rattle.std.specs.declared.snapshot.Snapshot.{Snapshot}
 use Rattle.tb_layout.specs.Events.{events_of, Input, Packet, Pulse}
 use Rattle.tb_layout.specs.inside.Limits.{batch_max, places_max}
 use Rattle.tb_layout.specs.Limits.{clock_max}
@@ -55,20 +54,12 @@ IsEntry (entry.Pulse moment) = Unit {0}
 abbrev pub AreEntries : List Entry → Type 0
 AreEntries entries = AllByRecursion IsEntry entries
 
--- the groups of entries of which only clauses know
-abbrev pub groups_of : List (Snapshot Entry) → List (List Input)
-groups_of entries = map (λ (entry : Snapshot Entry). group_of entry.value) entries
-
--- its machine is what its journal gives from its opening clock, and its places are counted
-pub record IsLedger (ledger : LedgerState) (places : ℕ) : Type 0 where
+-- its machine is what its journal gives from its opening clock, its places are counted, and each entry is whole
+pub record IsLedger (ledger : LedgerState) (entries : List Entry) (places : ℕ) : Type 0 where
   pub machine : ledger.state ≡ replay ledger.opening (inputs ledger)
   pub counted : places ≡ length (inputs ledger)
   pub few : places ≤ places_max
   pub opening : ledger.opening ≤ clock_max
-
--- these entries are a ledger's journal, and each is whole
-pub record HasJournal (ledger : LedgerState) (entries : List Entry) : Type 0 where
-  pub groups : map group_of entries ≡ ledger.groups
   pub whole : AreEntries entries
 
 -- ---- one parcel
@@ -117,9 +108,3 @@ takes_memory ledger (parcel.Batch jobs) = not (must_stop false ledger (length jo
 takes_memory ledger (parcel.Pulse moment) = not (must_stop false ledger 1)
 takes_memory ledger (parcel.Return job cause) = false
 takes_memory ledger parcel.Last = false
-
--- the entry that a parcel adds to the journal: one if the parcel was committed, else none
-abbrev pub IsEntryOf : Parcel → LedgerState → Option Entry → LedgerState → Type 0
-IsEntryOf parcel before (Some entry) after =
-    (after.groups ≡ before.groups ++ group_of entry ∷ []) × (IsEntry entry × (takes_memory before parcel ≡ true))
-IsEntryOf parcel before None after = after.groups ≡ before.groups

@@ -20,7 +20,7 @@ use crate::unread::Unread;
 use arrayvec::ArrayVec;
 use std::alloc::Global;
 use std::marker::Model;
-use tb_core::{BareLedger, Front, Parcel, Seed};
+use tb_core::{Front, Ledger, Parcel, Seed};
 use tb_layout::{Account, MOMENT_MAX};
 use tb_work::{Item, Job, Moment, Packet, Refusal, Reply, Ticket};
 
@@ -30,7 +30,7 @@ pub struct Engine {
     submitters: u32,
     shut: bool,
     front: Front,
-    ledger: BareLedger,
+    ledger: Ledger,
     unread: Unread,
     numbers: [u64; 16],
 }
@@ -70,7 +70,7 @@ impl Model for Engine {
 }
 
 /// Applies parcels in order, for whose outcomes there is capacity.
-fn apply_all(ledger: &mut BareLedger, unread: &mut Unread, parcels: &mut ArrayVec<Parcel, 2>)
+fn apply_all(ledger: &mut Ledger, unread: &mut Unread, parcels: &mut ArrayVec<Parcel, 2>)
     requires room { length parcels.old.items ≤ unread.old.room }
     ensures commits { (clock : ℕ) (sent : List Decision) (read : List ReplyValue)
         → Commits clock sent ledger.old (read ++ unread.old.replies)
@@ -123,7 +123,7 @@ impl Engine {
             submitters,
             shut: false,
             front,
-            ledger: BareLedger::with_seed(alloc, clock, seed),
+            ledger: Ledger::with_seed(alloc, clock, seed),
             unread: Unread::new(alloc),
             numbers: [0; 16],
         })

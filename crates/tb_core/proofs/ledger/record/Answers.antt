@@ -1,0 +1,47 @@
+use Rattle.std.proofs.Common.{◌∙◌, ap, refl, sym, subst, map, ◌++◌, ◌∷◌, []}
+use Rattle.std.proofs.lemmas.List.{map-append}
+use Rattle.tb_machine.specs.Replay.{replay}
+use Rattle.tb_batch.specs.Batch.{body_of}
+use Rattle.tb_core.specs.Ledger.{group_of, packets_of, IsBatchEntry, IsEntry, AreEntries}
+use Rattle.tb_core.proofs.Batches.{JoinInvisibly, entry_has, entry_is}
+use Rattle.tb_core.proofs.LedgerSteps.{all-push, replies_from-answers}
+use Rattle.tb_core.proofs.RecordedBatch.{recorded}
+use Rattle.tb_core.proofs.ledger.record.Goals as goal
+
+pub new-requires : goal.new-requires
+new-requires c =
+    let answered = c.requires.answered in
+    rw c.answer-answer.ensures (recorded (record {
+      accounts = c.joining_is_invisible.ensures.accounts;
+      transfers = c.joining_is_invisible.ensures.transfers;
+    }) c.args.place answered.0 c.args.parts
+    c.requires.fits answered.1).fits
+
+pub returns-clause-entry : goal.returns-clause-entry
+returns-clause-entry c =
+    let answered = c.requires.answered.1 in
+    let parts = c.args.parts in
+    let packets = ap (λ body. packets_of parts.operation body parts.stubs.items) answered.body
+    ∙ ap (packets_of parts.operation _) answered.stubs
+    ∙ entry_has parts.operation parts.jobs.items answered.lawful in
+    rw c.push_reserved.ensures.items (map-append group_of c.args.entries.now.items _
+    ∙ ap (λ group. map group_of c.args.entries.now.items ++ group ∷ []) packets)
+
+pub returns-clause-whole : goal.returns-clause-whole
+returns-clause-whole c = λ before.
+    let answered = c.requires.answered.1 in
+    let parts = c.args.parts in
+    let entry = subst (λ body. IsBatchEntry parts.operation body parts.stubs.items) (sym answered.body)
+    (subst (IsBatchEntry parts.operation (body_of parts.jobs.items)) (sym answered.stubs)
+    (entry_is parts.operation parts.jobs.items answered.lawful)) in
+    subst AreEntries (sym c.push_reserved.ensures.items) (all-push IsEntry c.args.entries.now.items _ before entry)
+
+pub returns-clause-replies : goal.returns-clause-replies
+returns-clause-replies c = λ clock before at answered.
+    let law : JoinInvisibly = record {
+      accounts = c.joining_is_invisible.ensures.accounts;
+      transfers = c.joining_is_invisible.ensures.transfers;
+    } in
+    c.new.ensures ∙ rw c.answer-answer.ensures (recorded law c.args.place
+    (replay clock before) c.args.parts c.requires.fits answered).replies
+    ∙ replies_from-answers clock c.args.place (replay clock before) _ before c.args.parts.jobs.items refl at refl
