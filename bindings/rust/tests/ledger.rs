@@ -99,3 +99,38 @@ fn seed_and_reservations_change_no_reply() -> Result<(), Refusal> {
     assert_eq!(Ledger::open_seeded(0, 0, 1, [3, 5]).err(), Some(Refusal::BadLimit));
     Ok(())
 }
+
+/// The resident memory of this process, in bytes.
+#[cfg(target_os = "linux")]
+fn resident() -> usize {
+    let pages = std::fs::read_to_string("/proc/self/statm").unwrap();
+    4096 * pages.split(' ').nth(1).unwrap().parse::<usize>().unwrap()
+}
+
+/// Commits packets of 8,190 transfers that all fail, so that nothing is stored, and reads the replies.
+#[cfg(target_os = "linux")]
+fn commit_failing(ledger: &mut Ledger, packets: usize) -> Result<(), Refusal> {
+    let transfer = record([0, 1, 2, 5, 0, 0], 1, 0);
+    let data = transfer.repeat(8190);
+    let mut results = Vec::new();
+    for _ in 0..packets {
+        ledger.submit(0, CREATE_TRANSFERS, &data, 0)?;
+        ledger.flush()?;
+        assert!(matches!(ledger.reply(&mut results).unwrap().outcome(), Outcome::Committed(_)));
+        assert_eq!(results.len(), 8 * 8190);
+    }
+    Ok(())
+}
+
+/// A journal of these packets would have 200 MiB.
+#[cfg(target_os = "linux")]
+#[test]
+fn memory_does_not_grow_without_what_is_stored() -> Result<(), Refusal> {
+    let mut ledger = Ledger::open(0, 8190, 1)?;
+    commit_failing(&mut ledger, 10)?;
+    let before = resident();
+    commit_failing(&mut ledger, 200)?;
+    let grown = resident().saturating_sub(before);
+    assert!(grown < 32 << 20, "{grown} bytes more");
+    Ok(())
+}

@@ -1,5 +1,5 @@
 -- A batch's packets make a lawful group of the journal, and a ledger keeps its groups lawful.
-use Rattle.std.proofs.Common.{refl, sym, ap, subst, ◌∙◌, arith, ◌≡◌, ℕ, ◌+◌, Bool, true, List, [], ◌∷◌, ◌++◌, map, length}
+use Rattle.std.proofs.Common.{refl, sym, ap, subst, ◌∙◌, arith, ◌≡◌, ℕ, ◌+◌, Bool, true, List, [], ◌∷◌, ◌++◌, map, length, Option}
 use Rattle.std.specs.Prelude.{◌==◌, ◌&&◌, not, nat_le, IsOk}
 use Rattle.std.specs.List.{list_all}
 use Rattle.std.proofs.lemmas.List.{map-append, length-map}
@@ -18,7 +18,10 @@ use Rattle.tb_core.specs.declared.parcel.Parcel.{Parcel}
 use Rattle.tb_core.specs.declared.parcel.Parcel.TheVariants as parcel
 use Rattle.tb_core.specs.Grouping.{operation_of, can_join, can_stand_with, events_together, joins_group, join_one_by_one, IsJoined, AreJoined, IsJoinedParcel}
 use Rattle.tb_core.specs.Journal.{LedgerState}
-use Rattle.tb_core.specs.Ledger.{Applied, must_stop, apply_step}
+use Rattle.tb_core.specs.Ledger.{Applied, apply_result, must_stop, apply_step}
+use Rattle.tb_core.specs.BareLedger.{BareLedgerState, with_journal, groups_in, HasSent, Records}
+use Rattle.tb_core.specs.declared.journal.Entry.{Entry}
+use Rattle.tb_core.specs.declared.outcomes.Outcomes.{Outcomes}
 use Rattle.tb_core.specs.Front.{decisions_in}
 use Rattle.tb_core.specs.inside.Decision.{Decision}
 use Rattle.tb_core.specs.Run.{Commits, HasPackets, replies_in}
@@ -145,3 +148,21 @@ has_applied refused ledger handed next some is = subst (HasApplied ledger handed
       handed (has_jobs handed some);
   joined = λ limit. joined_more refused ledger handed limit some;
 })
+
+-- a bare ledger that applied a parcel
+pub sent_more : (refused : Bool) (bare : BareLedgerState) (handed : Parcel) (outcomes : Outcomes) (entry : Option Entry)
+    (next : BareLedgerState) → HasPackets handed → Records refused handed bare outcomes entry next →
+    (clock limit : ℕ) (decisions : List Decision) (replies : List ReplyValue) → IsJoinedParcel limit handed
+    → HasSent clock limit decisions bare replies
+    → HasSent clock limit (decisions ++ decisions_in handed) next (replies ++ replies_in outcomes)
+sent_more refused bare handed outcomes entry next some records clock limit decisions replies joined has =
+    let made = records has.groups has.committed in
+    let groups = has.groups ++ groups_in entry in
+    let applied = has_applied refused (with_journal bare has.groups) handed
+    (apply_result (with_journal next groups) outcomes) some made.1 in
+    record {
+      groups = groups;
+      committed = made.0;
+      commits = applied.commits clock decisions replies has.commits;
+      joined = applied.joined limit joined has.joined;
+    }

@@ -1,7 +1,7 @@
 -- What a ledger made of decisions, and of one parcel more.
 use Rattle.std.proofs.Common.{refl, sym, ap, ◌∙◌, arith, ◌≡◌, ◌<◌, ◌≤◌, ℕ, zero, suc, ◌+◌, Bool, true, false, List, [], ◌∷◌, ◌++◌, map, length, length-append, append_assoc, append-nil, Some}
 use Rattle.std.specs.Prelude.{fold, slice_get}
-use Rattle.std.specs.List.{AllByRecursion}
+use Rattle.std.specs.List.{AllByRecursion, flat_map}
 use Rattle.std.proofs.Math.Seq.{take-append_seam}
 use Rattle.std.proofs.lemmas.Bool.{cond_both, or_parts}
 use Rattle.std.proofs.lemmas.Grind.{fold-append}
@@ -15,15 +15,15 @@ use Rattle.tb_work.specs.declared.outcome.Outcome.TheVariants as outcome
 use Rattle.tb_core.specs.declared.parcel.Parcel.{Parcel}
 use Rattle.tb_core.specs.declared.parcel.Parcel.TheVariants as parcel
 use Rattle.tb_core.specs.declared.outcomes.Outcomes.TheVariants.{Cut}
-use Rattle.tb_core.specs.declared.journal.Entry.{Entry}
 use Rattle.tb_core.proofs.PacketAnswers.{answers_from}
 use Rattle.tb_core.specs.Due.{outcome_at, Ahead}
 use Rattle.tb_core.specs.inside.Decision.{outcome_of, inputs_in, replies_from, Decision, Admitted, Pulsed, Returned}
 use Rattle.tb_core.specs.Front.{decisions_in}
 use Rattle.tb_core.specs.Journal.{LedgerState, inputs}
-use Rattle.tb_core.specs.Ledger.{IsLedger, Applied, apply_result, must_stop, with_stop, with_entry, step_of_batch, apply_step}
+use Rattle.tb_core.specs.BareLedger.{BareLedgerState, with_journal, HasCommitted, halts}
+use Rattle.tb_core.specs.Ledger.{Applied, apply_result, must_stop, with_stop, with_entry, step_of_batch, apply_step}
 use Rattle.tb_core.specs.Run.{replies_in, Commits}
-use Rattle.tb_core.proofs.OneMoreEntry.{inputs-more}
+use Rattle.tb_core.proofs.OneMoreEntry.{inputs-more, must_stop_is}
 
 -- what is so of each is so with one more
 pub all-push : {X : Type 0} (P : X → Type 0) (xs : List X) (x : X) → AllByRecursion P xs → P x
@@ -127,17 +127,23 @@ replies_from-answers clock place state journal before (job ∷ jobs) all place_i
     (ap (λ s. after_packet s (events_in job.packet)) state_is
     ∙ sym (fold-append after_input (opening clock) before one)))
 
--- a batch that the machine took, and the journal has as one entry, is applied
-pub batch_applied : (ledger : LedgerState) (state : State) (places : ℕ) (groups : List (List Input))
-    (entries : List Entry) (jobs batch : List Numbered) (replies : List ReplyValue) → IsLedger ledger entries places →
-    groups ≡ ledger.groups ++ map input_of jobs ∷ [] → state ≡ fold after_input ledger.state (map input_of jobs)
-    → jobs ≡ batch
-    → replies ≡ replies_from ledger.opening (inputs ledger ++ map input_of jobs) places (map Admitted jobs)
-    → must_stop false ledger (length batch) ≡ false →
-    apply_result (record { opening = ledger.opening; groups = groups; state = state; stopped = ledger.stopped })
-    (Cut replies) ≡ apply_step false ledger (parcel.Batch batch)
-batch_applied ledger state places groups entries jobs batch replies is groups_is state_is same replies_is goes =
-    rw (goes, groups_is, state_is, replies_is, is.counted, same, inputs-more ledger.groups (map input_of batch)) refl
+-- a batch that the machine took, as one group more, is applied
+pub batch_applied : (bare : BareLedgerState) (groups : List (List Input)) (places : ℕ) (state : State)
+    (jobs batch : List Numbered) (replies : List ReplyValue) → HasCommitted bare groups →
+    state ≡ fold after_input bare.state (map input_of jobs) → jobs ≡ batch
+    → replies ≡ replies_from bare.opening (flat_map (λ group. group) groups ++ map input_of jobs) bare.places
+    (map Admitted jobs) → halts bare (length batch) ≡ false →
+    apply_result (with_journal (record bare { places = places; state = state }) (groups ++ map input_of jobs ∷ []))
+    (Cut replies) ≡ apply_step false (with_journal bare groups) (parcel.Batch batch)
+batch_applied bare groups places state jobs batch replies is state_is same replies_is goes =
+    rw (
+      must_stop_is bare groups (length batch) is ∙ goes,
+      state_is,
+      replies_is,
+      is.counted,
+      same,
+      inputs-more groups (map input_of batch),
+    ) refl
 
 -- ---- a parcel more
 

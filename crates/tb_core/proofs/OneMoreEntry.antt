@@ -1,19 +1,18 @@
 -- A ledger with one entry more.
 use Rattle.std.proofs.Common.{refl, sym, ap, ◌∙◌, arith, ◌≡◌, ℕ, ◌+◌, ◌^◌, Bool, true, false, List, [], ◌∷◌, ◌++◌, map, length, length-append, append-nil}
-use Rattle.std.specs.Prelude.{◌==◌, fold, Result, Ok, Err, is_err, OnOk}
+use Rattle.std.specs.Prelude.{◌==◌, ◌||◌, nat_lt, fold, Result, Ok, Err, is_err, OnOk}
 use Rattle.std.specs.List.{flat_map}
 use Rattle.std.proofs.lemmas.List.{length-map}
 use Rattle.std.proofs.lemmas.Grind.{flat_map-append, fold-append}
-use Rattle.std.proofs.lemmas.Bool.{eqb-true, ltb-false, or_parts}
+use Rattle.std.proofs.lemmas.Bool.{eqb-true}
 use Rattle.tb_layout.specs.Events.{events_of, Input}
 use Rattle.tb_machine.specs.Replay.{State, after_packet, after_input, opening}
 use Rattle.tb_work.specs.Packet.{Numbered, events_in, input_of}
 use Rattle.tb_batch.specs.Batch.{body_of}
 use Rattle.tb_batch.specs.declared.parts.Parts.{Parts}
 use Rattle.tb_core.specs.inside.BatchAnswer.{AreAnswered}
-use Rattle.tb_core.specs.declared.journal.Entry.{Entry}
-use Rattle.tb_core.specs.Journal.{LedgerState, inputs}
-use Rattle.tb_core.specs.Ledger.{IsLedger, AreEntries, must_stop}
+use Rattle.tb_core.specs.BareLedger.{BareLedgerState, with_journal, HasCommitted, halts}
+use Rattle.tb_core.specs.Ledger.{must_stop}
 use Rattle.tb_core.proofs.Batches.{JoinInvisibly, gives_each, gives_one}
 
 -- what holds of a call that succeeded
@@ -49,32 +48,33 @@ batch_state law state parts answered =
         ∙ (gives_one 0 parts.operation state parts.jobs.items answered.lawful is).states
     by false is = (gives_each law 0 parts.operation state parts.jobs.items answered.in_range answered.lawful is).states
 
-pub batch_entered : (law : JoinInvisibly) (ledger : LedgerState) (next : State) (places : ℕ)
-    (groups : List (List Input)) (old entries : List Entry) (parts : Parts) (count : ℕ)
-    → IsLedger ledger old places → AreEntries entries → AreAnswered ledger.state parts →
-    next ≡ after_packet ledger.state (events_of parts.operation parts.body.items)
-    → groups ≡ ledger.groups ++ map input_of parts.jobs.items ∷ [] → count ≡ length parts.jobs.items
-    → must_stop false ledger count ≡ false →
-    IsLedger (record ledger { groups = groups; state = next }) entries (places + count)
-batch_entered law ledger next places groups old entries parts count is whole answered next_is groups_is count_is goes =
+-- a bare is at its places what the ledger of the groups that it committed is at the end of its journal
+pub must_stop_is : (bare : BareLedgerState) (groups : List (List Input)) (count : ℕ) → HasCommitted bare groups
+    → must_stop false (with_journal bare groups) count ≡ halts bare count
+must_stop_is bare groups count is =
+    ap (λ places. bare.stopped || nat_lt (2 ^ 63) (places + count)) (sym is.counted)
+
+pub batch_entered : (law : JoinInvisibly) (bare : BareLedgerState) (groups : List (List Input)) (next : State)
+    (parts : Parts) (count : ℕ) → HasCommitted bare groups → AreAnswered bare.state parts →
+    next ≡ after_packet bare.state (events_of parts.operation parts.body.items)
+    → count ≡ length parts.jobs.items →
+    HasCommitted (record bare { places = bare.places + count; state = next })
+    (groups ++ map input_of parts.jobs.items ∷ [])
+batch_entered law bare groups next parts count is answered next_is count_is =
     let group = map input_of parts.jobs.items in
-    let all : flat_map (λ g. g) groups ≡ inputs ledger ++ group = ap (flat_map (λ g. g)) groups_is
-    ∙ inputs-more ledger.groups group in
-    let room = ltb-false (2 ^ 63) (length (inputs ledger) + count) (or_parts ledger.stopped _ goes).1 in
+    let before = flat_map (λ g. g) groups in
+    let all = inputs-more groups group in
     record {
-      machine = next_is ∙ batch_state law ledger.state parts answered ∙ ap (λ s. fold after_input s group) is.machine
-          ∙ sym (fold-append after_input (opening ledger.opening) (inputs ledger) group)
-          ∙ ap (fold after_input (opening ledger.opening)) (sym all);
+      machine = next_is ∙ batch_state law bare.state parts answered
+          ∙ ap (λ s. fold after_input s group) is.machine
+          ∙ sym (fold-append after_input (opening bare.opening) before group)
+          ∙ ap (fold after_input (opening bare.opening)) (sym all);
       counted = omega (
         arith,
         is.counted,
         count_is,
         ap length all,
-        length-append
-            (inputs ledger) group,
+        length-append before group,
         length-map parts.jobs.items input_of,
       );
-      few = omega (arith, is.counted, room);
-      opening = is.opening;
-      whole = whole;
     }

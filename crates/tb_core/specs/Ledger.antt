@@ -3,8 +3,7 @@ use Rattle.std.specs.Prelude.{◌≡◌, ◌≤◌, ℕ, ◌+◌, ◌*◌, Bool,
 use Rattle.std.specs.List.{sum_by, AllByRecursion}
 use Rattle.tb_layout.specs.Events.{events_of, Input, Packet, Pulse}
 use Rattle.tb_layout.specs.inside.Limits.{batch_max, places_max}
-use Rattle.tb_layout.specs.Limits.{clock_max}
-use Rattle.tb_machine.specs.Replay.{replay, after_input}
+use Rattle.tb_machine.specs.Replay.{after_input}
 use Rattle.tb_work.specs.Admission.{event_size}
 use Rattle.tb_work.specs.Packet.{Numbered, reply_with, input_of}
 use Rattle.tb_work.specs.declared.stub.Stub.{Stub}
@@ -53,14 +52,6 @@ IsEntry (entry.Pulse moment) = Unit {0}
 
 abbrev pub AreEntries : List Entry → Type 0
 AreEntries entries = AllByRecursion IsEntry entries
-
--- its machine is what its journal gives from its opening clock, its places are counted, and each entry is whole
-pub record IsLedger (ledger : LedgerState) (entries : List Entry) (places : ℕ) : Type 0 where
-  pub machine : ledger.state ≡ replay ledger.opening (inputs ledger)
-  pub counted : places ≡ length (inputs ledger)
-  pub few : places ≤ places_max
-  pub opening : ledger.opening ≤ clock_max
-  pub whole : AreEntries entries
 
 -- ---- one parcel
 

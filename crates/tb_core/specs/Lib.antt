@@ -6,4 +6,5 @@ pub mod Front
 pub mod Grouping
 pub mod Ledger
 pub mod Run
+pub mod BareLedger
 pub mod inside

@@ -16,13 +16,15 @@
 //!
 //! (`way_of_a_packet` in tb_core_tests is this caller, proved.) `run_list` does so with a list of items (`listed`, `ran`,
 //! `grouping`). The front loses, doubles and overtakes nothing (`accounted`, `took`, `passes`, `lawful`). The ledger keeps a
-//! batch as one entry of its journal, and answers each packet by its place (`applied`, `commits`, `joined`).
+//! batch as one entry of its journal, and answers each packet by its place (`applied`, `commits`, `joined`). A `BareLedger`
+//! does so without a journal.
 //!
 //! The report on any run is one record (`specs/Report.antt`), and the law `headline` says what it means for each submitter
 //! (`specs/Headline.antt`). `run_is_lawful` leads there from what a front and a ledger took, also if an allocation failed;
 //! `each_part_is_lawful` says what holds on the way.
 #![tactic(auto)]
 
+mod bare_ledger;
 mod front;
 mod journal;
 mod laws;
@@ -31,6 +33,7 @@ mod list;
 mod outcomes;
 mod parcel;
 
+pub use bare_ledger::BareLedger;
 pub use front::Front;
 pub use journal::Entry;
 pub use laws::{each_part_is_lawful, headline, run_is_lawful};

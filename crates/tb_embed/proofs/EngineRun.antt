@@ -9,6 +9,7 @@ use Rattle.tb_work.specs.declared.item.Ticket.{Ticket}
 use Rattle.tb_work.specs.declared.packet.Packet.{Packet}
 use Rattle.tb_core.specs.Front.{held_by}
 use Rattle.tb_core.specs.inside.Decision.{Admitted, AreDecisions}
+use Rattle.tb_core.specs.BareLedger.{with_journal}
 use Rattle.tb_core.specs.Run.{Commits, EachPartIsLawful, RunIsLawful}
 use Rattle.tb_embed.specs.Engine.{EngineState, HasTaken, Queues, sender_refusal, run_of, ServingIsLawful}
 use Rattle.tb_embed.specs.Queued.{AreQueued, packets_in, ticket_of, packet_ticket}
@@ -69,16 +70,20 @@ is_among engine submitter is = grind arith
 pub serving_is_lawful : EachPartIsLawful → RunIsLawful → ServingIsLawful
 serving_is_lawful each_part run clock queue read engine serves =
     let front = engine.front in
-    let ledger = engine.ledger in
     let taken = serves.taken in
+    let commits = taken.has_sent.commits in
+    let ledger = with_journal engine.ledger taken.has_sent.groups in
     let far = each_part clock (items_in queue) front.closed front.stopped taken.sent (held_by front) ledger
-    (read ++ engine.unread) taken.passed taken.commits in
+    (read ++ engine.unread) taken.passed commits in
     record {
+      ledger = ledger;
+      own = refl;
+      replayed = commits.state;
       committed = far.committed;
       due = far.due;
       replied = λ none. far.replied (ap (map Admitted) none);
       whole = far.whole;
-      report = λ none done. run (run_of clock queue read engine) read
+      report = λ none done. run (run_of clock queue read engine ledger) read
           (queue_ended front.submitters queue engine.numbers engine.shut serves.queued)
           (record {
             closed = front.closed;
@@ -88,7 +93,7 @@ serving_is_lawful each_part run clock queue read engine serves =
                 (subst (AreDecisions (items_in queue) front.closed front.stopped)
                 (ap (λ jobs. taken.sent ++ map Admitted jobs) none ∙ append-nil taken.sent) taken.passed);
             commits = subst (Commits clock taken.sent ledger)
-                (ap (λ replies. read ++ replies) done ∙ append-nil read) taken.commits;
+                (ap (λ replies. read ++ replies) done ∙ append-nil read) commits;
           })
           (λ submitter below. refl);
     }

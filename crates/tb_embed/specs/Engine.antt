@@ -1,7 +1,7 @@
 -- An engine: what was queued in it, which replies were read, and what follows. No batch is in it.
 use Rattle.std.specs.Prelude.{◌≡◌, ◌≤◌, ◌==◌, ◌⊎◌, ◌^◌, ◌-◌, ℕ, Bool, false, nat_lt, nat_le, if◌then◌else◌, List, [], ◌∷◌, ◌++◌, length, get_or, Option, Some, None, Result, Ok, Err}
 use Rattle.tb_layout.specs.inside.Limits.{batch_max, moment_max, submitters_max}
-use Rattle.tb_machine.specs.Replay.{State}
+use Rattle.tb_machine.specs.Replay.{State, replay}
 use Rattle.tb_work.specs.Admission.{admission_of}
 use Rattle.tb_work.specs.Queue.{part, ahead, items_in}
 use Rattle.tb_work.specs.Packet.{ReplyValue}
@@ -13,17 +13,16 @@ use Rattle.tb_work.specs.declared.refusal.Refusal.TheVariants.{BadSubmitters, Fu
 use Rattle.tb_core.specs.Due.{all_due, replies_to}
 use Rattle.tb_core.specs.inside.Decision.{inputs_in, Decision, AreDecisions}
 use Rattle.tb_core.specs.Front.{FrontState, held_by}
-use Rattle.tb_core.specs.Grouping.{AreJoined}
 use Rattle.tb_core.specs.Journal.{LedgerState, inputs}
 use Rattle.tb_core.specs.Report.{Run, IsPrefix, LawfulReport}
-use Rattle.tb_core.specs.Run.{Commits}
+use Rattle.tb_core.specs.BareLedger.{BareLedgerState, HasSent, with_journal}
 use Rattle.tb_embed.specs.Queued.{AreQueued, ended_queue}
 
--- the front, the ledger, the replies that are not read, of each submitter the number of its next packet, and whether
+-- the front, the bare ledger, the replies that are not read, of each submitter the number of its next packet, and whether
 -- the Close was queued
 pub record EngineState : Type 0 where
   pub front : FrontState
-  pub ledger : LedgerState
+  pub ledger : BareLedgerState
   pub unread : List ReplyValue
   pub numbers : List ℕ
   pub shut : Bool
@@ -44,11 +43,10 @@ state_of engine = engine.ledger.state
 
 -- from a clock on a front took these items and a ledger all that the front passed on; these are the replies
 pub record HasTaken (clock : ℕ) (items : List Item) (replies : List ReplyValue) (front : FrontState)
-    (ledger : LedgerState) : Type 0 where
+    (ledger : BareLedgerState) : Type 0 where
   pub sent : List Decision
   pub passed : AreDecisions items front.closed front.stopped (sent ++ held_by front)
-  pub commits : Commits clock sent ledger replies
-  pub joined : AreJoined front.limit ledger.groups
+  pub has_sent : HasSent clock front.limit sent ledger replies
 
 -- from a clock on this is what was queued in the engine, and these replies were read
 pub record Serves (clock : ℕ) (queue : List Ticket) (read : List ReplyValue) (engine : EngineState) : Type 0 where
@@ -108,9 +106,10 @@ IsRefusal first refusal = (first ≡ Some refusal) ⊎ ((first ≡ None) × (ref
 
 -- ---- what follows
 
--- the run that ends here: each sender's end is queued after all that it queued
-abbrev pub run_of : ℕ → List Ticket → List ReplyValue → EngineState → Run
-run_of clock queue read engine =
+-- the run that ends here, if this is the journal of what was committed: each sender's end is queued after all that it
+-- queued
+abbrev pub run_of : ℕ → List Ticket → List ReplyValue → EngineState → LedgerState → Run
+run_of clock queue read engine ledger =
     let whole = ended_queue engine.front.submitters engine.shut queue in
     record {
       clock = clock;
@@ -118,21 +117,23 @@ run_of clock queue read engine =
       submitters = engine.front.submitters;
       queue = whole;
       queued = λ sender. part sender whole;
-      ledger = engine.ledger;
+      ledger = ledger;
       replies = replies_to read;
     }
 
--- What was committed is a prefix of what was queued ahead of the Close, and the replies, read and unread, are a prefix of
--- those due. Unless something stopped, what is ahead is committed or held. When nothing is held and all replies are read,
--- the report on the run that ends here is lawful.
+-- The engine keeps no journal, but there is one whose replay is the engine's state: it is a prefix of what was queued ahead
+-- of the Close, and the replies, read and unread, are a prefix of those due by it. Unless something stopped, what is ahead
+-- is committed or held. When nothing is held and all replies are read, the report on the run that ends here is lawful.
 pub record IsServed (clock : ℕ) (queue : List Ticket) (read : List ReplyValue) (engine : EngineState) : Type 0 where
-  pub committed : IsPrefix (inputs engine.ledger) (ahead (items_in queue))
-  pub due : IsPrefix (read ++ engine.unread) (all_due clock (items_in queue) (inputs engine.ledger))
-  pub replied : engine.front.held ≡ [] → read ++ engine.unread ≡ all_due clock (items_in queue) (inputs engine.ledger)
-  pub whole : engine.front.stopped ≡ false → engine.ledger.stopped ≡ false
-      → inputs engine.ledger ++ inputs_in (held_by engine.front) ≡ ahead (items_in queue)
-  pub report : engine.front.held ≡ [] → engine.unread ≡ [] →
-      LawfulReport (run_of clock queue read engine)
+  pub ledger : LedgerState
+  pub own : ledger ≡ with_journal engine.ledger ledger.groups
+  pub replayed : state_of engine ≡ replay clock (inputs ledger)
+  pub committed : IsPrefix (inputs ledger) (ahead (items_in queue))
+  pub due : IsPrefix (read ++ engine.unread) (all_due clock (items_in queue) (inputs ledger))
+  pub replied : engine.front.held ≡ [] → read ++ engine.unread ≡ all_due clock (items_in queue) (inputs ledger)
+  pub whole : engine.front.stopped ≡ false → ledger.stopped ≡ false
+      → inputs ledger ++ inputs_in (held_by engine.front) ≡ ahead (items_in queue)
+  pub report : engine.front.held ≡ [] → engine.unread ≡ [] → LawfulReport (run_of clock queue read engine ledger)
 
 -- Whatever was queued and read, in any order of calls.
 abbrev pub ServingIsLawful : Type 0

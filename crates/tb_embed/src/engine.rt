@@ -10,9 +10,9 @@ ghost use Rattle.tb_work.specs.declared.item.Item.{Item as ItemValue};
 ghost use Rattle.tb_work.specs.declared.item.Item.TheVariants as item;
 ghost use Rattle.tb_work.specs.declared.refusal.Refusal.TheVariants.{NoMemory as NoMemoryRefusal};
 ghost use Rattle.tb_core.specs.Front.{opening_refusal, all_decisions_in};
-ghost use Rattle.tb_core.specs.Grouping.{AreJoined, AreJoinedParcels};
+ghost use Rattle.tb_core.specs.Grouping.{AreJoinedParcels};
 ghost use Rattle.tb_core.specs.inside.Decision.{Decision};
-ghost use Rattle.tb_core.specs.Run.{Commits};
+ghost use Rattle.tb_core.specs.BareLedger.{HasSent};
 ghost use Rattle.tb_embed.specs.Engine.{HasTaken, Serves, Queues, Reads, Continues, IsRefusal, sender_refusal, submit_refusal, pulse_refusal, shut_refusal, state_of};
 ghost use Rattle.tb_embed.specs.Queued.{ticket_of, packet_ticket};
 
@@ -20,17 +20,17 @@ use crate::unread::Unread;
 use arrayvec::ArrayVec;
 use std::alloc::Global;
 use std::marker::Model;
-use tb_core::{Front, Ledger, Parcel, Seed};
+use tb_core::{BareLedger, Front, Parcel, Seed};
 use tb_layout::{Account, MOMENT_MAX};
 use tb_work::{Item, Job, Moment, Packet, Refusal, Reply, Ticket};
 
-/// A ledger with its front and cutter, driven by its caller one call at a time.
+/// A ledger without a journal, with its front and cutter, driven by its caller one call at a time.
 pub struct Engine {
     limit: u32,
     submitters: u32,
     shut: bool,
     front: Front,
-    ledger: Ledger,
+    ledger: BareLedger,
     unread: Unread,
     numbers: [u64; 16],
 }
@@ -70,13 +70,12 @@ impl Model for Engine {
 }
 
 /// Applies parcels in order, for whose outcomes there is capacity.
-fn apply_all(ledger: &mut Ledger, unread: &mut Unread, parcels: &mut ArrayVec<Parcel, 2>)
+fn apply_all(ledger: &mut BareLedger, unread: &mut Unread, parcels: &mut ArrayVec<Parcel, 2>)
     requires room { length parcels.old.items ≤ unread.old.room }
-    ensures commits { (clock : ℕ) (sent : List Decision) (read : List ReplyValue)
-        → Commits clock sent ledger.old (read ++ unread.old.replies)
-        → Commits clock (sent ++ all_decisions_in parcels.old.items) ledger.new (read ++ unread.new.replies) }
-    ensures joined { (limit : ℕ) → AreJoinedParcels limit parcels.old.items → AreJoined limit ledger.old.groups
-        → AreJoined limit ledger.new.groups }
+    ensures { (clock limit : ℕ) (sent : List Decision) (read : List ReplyValue)
+        → AreJoinedParcels limit parcels.old.items
+        → HasSent clock limit sent ledger.old (read ++ unread.old.replies)
+        → HasSent clock limit (sent ++ all_decisions_in parcels.old.items) ledger.new (read ++ unread.new.replies) }
 {
     while let Some(parcel) = parcels.pop_at(0) {
         unread.push(ledger.apply(parcel));
@@ -123,7 +122,7 @@ impl Engine {
             submitters,
             shut: false,
             front,
-            ledger: Ledger::with_seed(alloc, clock, seed),
+            ledger: BareLedger::with_seed(alloc, clock, seed),
             unread: Unread::new(alloc),
             numbers: [0; 16],
         })

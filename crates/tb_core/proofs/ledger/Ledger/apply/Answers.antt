@@ -8,11 +8,11 @@ applied : (c : goal.In-Ok) → HasApplied c.args.self.now c.args.parcel
 applied c = has_applied false c.args.self.now c.args.parcel _ c.try_apply.ensures.some c.in-Ok.ensures.ok
 
 -- the parcel came back, with the ledger as it was
-applied_refused : (c : goal.After-refuse) → HasApplied c.args.self.now c.args.parcel
-    (apply_result c.refuse.new.self c.refuse.result)
+applied_refused : (c : goal.After-apply_as_refused) → HasApplied c.args.self.now c.args.parcel
+    (apply_result c.apply_as_refused.new.self c.apply_as_refused.result)
 applied_refused c =
     has_applied true c.args.self.now c.args.parcel _ c.try_apply.ensures.some
-    (cc (c.in-Err.ensures.err.0, c.in-Err.ensures.err.1, c.refuse.ensures.applied))
+    (cc (c.in-Err.ensures.err.0, c.in-Err.ensures.err.1, c.apply_as_refused.ensures.applied))
 
 pub returns-in-Ok-clause-commits : goal.returns-in-Ok-clause-commits
 returns-in-Ok-clause-commits c = (applied c).commits

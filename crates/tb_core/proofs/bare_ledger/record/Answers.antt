@@ -1,12 +1,11 @@
-use Rattle.std.proofs.Common.{◌∙◌, ap, refl, sym, subst, map, ◌++◌, ◌∷◌, []}
-use Rattle.std.proofs.lemmas.List.{map-append}
+use Rattle.std.proofs.Common.{◌∙◌, ap, refl, sym, subst}
 use Rattle.tb_machine.specs.Replay.{replay}
 use Rattle.tb_batch.specs.Batch.{body_of}
-use Rattle.tb_core.specs.Ledger.{group_of, packets_of, IsBatchEntry, IsEntry, AreEntries}
+use Rattle.tb_core.specs.Ledger.{packets_of, IsBatchEntry}
 use Rattle.tb_core.proofs.Batches.{JoinInvisibly, entry_has, entry_is}
-use Rattle.tb_core.proofs.LedgerSteps.{all-push, replies_from-answers}
+use Rattle.tb_core.proofs.LedgerSteps.{replies_from-answers}
 use Rattle.tb_core.proofs.RecordedBatch.{recorded}
-use Rattle.tb_core.proofs.ledger.record.Goals as goal
+use Rattle.tb_core.proofs.bare_ledger.record.Goals as goal
 
 pub new-requires : goal.new-requires
 new-requires c =
@@ -24,17 +23,10 @@ returns-clause-entry c =
     let packets = ap (λ body. packets_of parts.operation body parts.stubs.items) answered.body
     ∙ ap (packets_of parts.operation _) answered.stubs
     ∙ entry_has parts.operation parts.jobs.items answered.lawful in
-    rw c.push_reserved.ensures.items (map-append group_of c.args.entries.now.items _
-    ∙ ap (λ group. map group_of c.args.entries.now.items ++ group ∷ []) packets)
-
-pub returns-clause-whole : goal.returns-clause-whole
-returns-clause-whole c = λ before.
-    let answered = c.requires.answered.1 in
-    let parts = c.args.parts in
-    let entry = subst (λ body. IsBatchEntry parts.operation body parts.stubs.items) (sym answered.body)
+    let whole = subst (λ body. IsBatchEntry parts.operation body parts.stubs.items) (sym answered.body)
     (subst (IsBatchEntry parts.operation (body_of parts.jobs.items)) (sym answered.stubs)
     (entry_is parts.operation parts.jobs.items answered.lawful)) in
-    subst AreEntries (sym c.push_reserved.ensures.items) (all-push IsEntry c.args.entries.now.items _ before entry)
+    (packets, whole)
 
 pub returns-clause-replies : goal.returns-clause-replies
 returns-clause-replies c = λ clock before at answered.

@@ -1,0 +1,326 @@
+//! The ledger without its journal.
+
+ghost use Rattle.std.specs.Prelude.{◌≡◌, ◌<◌, ◌≤◌, ◌+◌, ◌++◌, [], ℕ, List, Bool, false, true, length, map, OnOk, OnErr, IfOk, IfErr, None};
+ghost use Rattle.tb_layout.specs.Events.{events_of, Input};
+ghost use Rattle.tb_layout.specs.Limits.{clock_max};
+ghost use Rattle.tb_layout.specs.inside.Limits.{places_max};
+ghost use Rattle.tb_machine.specs.Replay.{State, after_packet, replay};
+ghost use Rattle.tb_batch.specs.Batch.{AreAdmitted, AreParts};
+ghost use Rattle.tb_work.specs.Packet.{reply_with, input_of};
+ghost use Rattle.tb_work.specs.declared.outcome.Outcome.TheVariants.{Stopped as StoppedOutcome};
+ghost use Rattle.tb_core.specs.BareLedger.{grows};
+ghost use Rattle.tb_core.specs.Ledger.{group_of, IsEntry};
+ghost use Rattle.tb_core.specs.inside.BatchAnswer.{AreAnswered, answer_in};
+ghost use Rattle.tb_core.specs.inside.Decision.{outcome_of, replies_from, Admitted};
+
+use crate::journal::Entry;
+use crate::outcomes::Outcomes;
+use crate::parcel::{Cause, Parcel};
+use std::alloc::Global;
+use std::marker::Model;
+use tb_batch::{Batch, Parts};
+use tb_demux::Cutter;
+use tb_layout::{Account, Failure, LOOKUP_ACCOUNTS, NoMemory, PLACES_MAX};
+use tb_machine::{Machine, Seed, joining_is_invisible};
+use tb_work::{Accounts, Answer, Failures, Job, Moment, Outcome, Reply};
+
+/// Commits what the front yields, as `Ledger` does, and keeps no journal. Its memory grows by what is stored alone.
+#[derive(Drop)]
+pub struct BareLedger {
+    opening: u64,
+    machine: Machine,
+    places: u64,
+    stopped: bool,
+}
+
+impl Model for BareLedger {
+    ghost use Rattle.tb_core.specs.BareLedger.{BareLedgerState, IsBareLedger};
+
+    ghost Value = { BareLedgerState };
+
+    ghost view = { λ bare. record {
+      opening = bare.opening;
+      places = bare.places;
+      state = bare.machine;
+      stopped = bare.stopped;
+    } };
+
+    ghost invariant = { λ bare. IsBareLedger bare.opening bare.places };
+}
+
+/// Lets the machine take a batch. Where memory is refused, it and the parts are as before.
+fn take_batch(machine: &mut Machine, parts: &mut Parts) -> Result<(), NoMemory>
+    requires parts { AreParts parts.old }
+    ensures jobs { parts.new.jobs.items ≡ parts.old.jobs.items }
+    ensures answered { OnOk result (AreAnswered machine.old parts.new) }
+    ensures state { OnOk result (machine.new ≡ after_packet machine.old
+        (events_of parts.new.operation parts.new.body.items)) }
+    ensures same { OnErr result (machine.new ≡ machine.old) }
+    ensures back { OnErr result (AreParts parts.new) }
+{
+    if parts.operation == LOOKUP_ACCOUNTS {
+        machine.lookup(&parts.body, &mut parts.accounts);
+        Ok(())
+    } else {
+        machine.commit(parts.operation, &parts.body, &mut parts.failures)
+    }
+}
+
+/// The answer to a batch: accounts where it is a lookup, failures else.
+fn answer(operation: u8, failures: Vec<Failure>, accounts: Vec<Account>) -> Answer
+    ensures { result ≡ answer_in operation failures.items accounts.items }
+{
+    if operation == LOOKUP_ACCOUNTS {
+        Answer::Accounts(Accounts::from_vec(accounts))
+    } else {
+        Answer::Failures(Failures::from_vec(failures))
+    }
+}
+
+/// A batch that was committed: its replies, and its entry of the journal.
+#[derive(Drop)]
+struct Committed {
+    replies: Cutter,
+    entry: Entry,
+}
+
+/// Divides the answer to a batch that was committed at a place.
+fn record(place: u64, parts: Parts) -> Committed
+    requires answered { (state : State) × AreAnswered state parts }
+    requires fits { place + length parts.jobs.items ≤ places_max }
+    ensures entry { (group_of result.entry ≡ map input_of parts.jobs.items) × IsEntry result.entry }
+    ensures replies { (clock : ℕ) (before : List Input) → place ≡ length before → AreAnswered (replay clock before) parts
+        → result.replies ≡ replies_from clock (before ++ map input_of parts.jobs.items) place
+        (map Admitted parts.jobs.items) }
+{
+    let Parts {
+        operation,
+        body,
+        stubs,
+        jobs,
+        failures,
+        accounts,
+    } = parts;
+    // The law that each packet's part of the answer is its own.
+    joining_is_invisible();
+    let answer = answer(operation, failures, accounts);
+    Committed {
+        replies: Cutter::new(jobs, Outcome::Committed { place, answer }),
+        entry: Entry::Batch {
+            operation,
+            body,
+            stubs,
+        },
+    }
+}
+
+/// The replies to a batch that isn't committed.
+fn stopped(batch: Batch) -> Cutter
+    ensures replies { result ≡ map (reply_with StoppedOutcome) batch }
+    ensures some { (0 < length batch) × AreAdmitted batch }
+{
+    Cutter::new(batch.into_parts().jobs, Outcome::Stopped)
+}
+
+/// The reply to a packet that comes back.
+fn returned(job: Job, cause: Cause) -> Reply
+    ensures { result ≡ reply_with (outcome_of cause) job }
+{
+    match cause {
+        Cause::Shutdown => Reply::of(job, Outcome::Shutdown),
+        Cause::Stopped => Reply::of(job, Outcome::Stopped),
+    }
+}
+
+/// A parcel that was applied: its outcomes, and its entry of the journal if it was committed.
+#[derive(Drop)]
+pub(crate) struct Recorded {
+    pub(crate) outcomes: Outcomes,
+    pub(crate) entry: Option<Entry>,
+}
+
+/// The outcomes of a parcel that wasn't committed.
+fn without_entry(outcomes: Outcomes) -> Recorded
+    ensures { (result.outcomes ≡ outcomes) × (result.entry ≡ None) }
+{
+    Recorded {
+        outcomes,
+        entry: None,
+    }
+}
+
+impl BareLedger {
+    ghost use Rattle.tb_core.specs.declared.parcel.Parcel.TheVariants as parcel;
+    ghost use Rattle.tb_core.specs.declared.outcomes.Outcomes.TheVariants.{Nothing as NothingComes};
+    ghost use Rattle.tb_work.specs.Packet.{ReplyValue};
+    ghost use Rattle.tb_core.specs.Front.{decisions_in};
+    ghost use Rattle.tb_core.specs.Grouping.{IsJoinedParcel};
+    ghost use Rattle.tb_core.specs.inside.Decision.{Decision};
+    ghost use Rattle.tb_core.specs.Run.{HasPackets, replies_in};
+    ghost use Rattle.tb_core.specs.BareLedger.{new_bare_ledger, halts, HasSent, IsEntryIf, Records};
+
+    /// A ledger that has committed nothing, whose clock starts at a number of nanoseconds, 0 to `CLOCK_MAX`, and that
+    /// hashes ids with a seed, as `Ledger::with_seed` does. Takes no memory.
+    pub fn with_seed(alloc: Global, clock: u64, seed: Seed) -> BareLedger
+        requires { clock ≤ clock_max }
+        ensures new { result ≡ new_bare_ledger clock }
+        ensures sent { (limit : ℕ) → HasSent clock limit [] result [] }
+    {
+        BareLedger {
+            opening: clock,
+            machine: Machine::with_seed(alloc, clock, seed),
+            places: 0,
+            stopped: false,
+        }
+    }
+
+    /// Reserves capacity for accounts and transfers that are still to be made, as `Ledger::reserve` does.
+    pub fn reserve(&mut self, accounts: usize, transfers: usize) -> Result<(), NoMemory>
+        ensures { self.new ≡ self.old }
+    {
+        self.machine.reserve(accounts, transfers)
+    }
+
+    /// Where the clock started, in nanoseconds.
+    pub fn opening(&self) -> u64
+        ensures { result ≡ self.now.opening }
+    {
+        self.opening
+    }
+
+    /// Whether an allocation failed, or there were no places left.
+    pub fn stopped(&self) -> bool
+        ensures { result ≡ self.now.stopped }
+    {
+        self.stopped
+    }
+
+    /// How many packets and pulses were committed.
+    pub fn places(&self) -> u64
+        ensures { result ≡ self.now.places }
+    {
+        self.places
+    }
+
+    /// The machine, in the state that what was committed gives.
+    pub fn machine(&self) -> &Machine
+        ensures { result.now ≡ self.now.state }
+    {
+        &self.machine
+    }
+
+    /// Whether this number of packets or pulses isn't committed, however much memory there is.
+    fn halts_at(&self, count: usize) -> bool
+        ensures { result ≡ halts self.now count }
+    {
+        self.stopped || count as u64 > PLACES_MAX - self.places
+    }
+
+    /// Whether a parcel takes memory: what isn't committed, however much there is, takes none.
+    pub(crate) fn takes_memory(&self, parcel: &Parcel) -> bool
+        ensures { result ≡ grows self.now parcel.now }
+    {
+        match parcel {
+            Parcel::Batch(batch) => !self.halts_at(batch.jobs().len()),
+            Parcel::Pulse(_) => !self.halts_at(1),
+            Parcel::Return(..) | Parcel::Last => false,
+        }
+    }
+
+    /// Commits a batch as one, or answers Stopped if it stopped before or has no places left. If an allocation fails,
+    /// the batch comes back, and nothing has changed.
+    fn commit(&mut self, batch: Batch) -> Result<Recorded, Batch>
+        ensures ok { IfOk result (λ recorded. Records false (parcel.Batch batch) self.old recorded.outcomes
+            recorded.entry self.new) }
+        ensures entry { IfOk result (λ recorded. IsEntryIf (grows self.old (parcel.Batch batch)) recorded.entry) }
+        ensures err { IfErr result (λ back. (back ≡ batch) × (self.new ≡ self.old)) }
+        ensures memory { OnErr result (halts self.old (length batch) ≡ false) }
+        ensures some { (0 < length batch) × AreAdmitted batch }
+    {
+        let count = batch.jobs().len();
+        if self.halts_at(count) {
+            self.stopped = true;
+            return Ok(without_entry(Outcomes::Cut(stopped(batch))));
+        }
+        let mut parts = batch.into_parts();
+        if take_batch(&mut self.machine, &mut parts).is_err() {
+            return Err(Batch::whole(parts));
+        }
+        // The law that the machine is in the state to which the packets, one by one, bring it.
+        joining_is_invisible();
+        let Committed { replies, entry } = record(self.places, parts);
+        self.places += count as u64;
+        Ok(Recorded {
+            outcomes: Outcomes::Cut(replies),
+            entry: Some(entry),
+        })
+    }
+
+    /// Commits a pulse, unless it stopped before or has no place left. Takes no memory.
+    fn pulse(&mut self, moment: Moment) -> Option<Entry>
+        ensures ok { Records false (parcel.Pulse moment) self.old NothingComes result self.new }
+        ensures entry { IsEntryIf (grows self.old (parcel.Pulse moment)) result }
+    {
+        if self.halts_at(1) {
+            self.stopped = true;
+            return None;
+        }
+        self.machine.pulse(moment.get());
+        self.places += 1;
+        Some(Entry::Pulse { moment })
+    }
+
+    /// Applies one parcel, and returns its entry of the journal too. If an allocation fails, the parcel comes back, and
+    /// nothing has changed; what must be stopped anyway never comes back.
+    pub(crate) fn try_record(&mut self, parcel: Parcel) -> Result<Recorded, Parcel>
+        ensures ok { IfOk result (λ recorded. Records false parcel self.old recorded.outcomes recorded.entry self.new) }
+        ensures entry { IfOk result (λ recorded. IsEntryIf (grows self.old parcel) recorded.entry) }
+        ensures err { IfErr result (λ back. (back ≡ parcel) × (self.new ≡ self.old)) }
+        ensures memory { OnErr result (grows self.old parcel ≡ true) }
+        ensures some { HasPackets parcel }
+    {
+        match parcel {
+            Parcel::Batch(batch) => self.commit(batch).map_err(Parcel::Batch),
+            Parcel::Pulse(moment) => Ok(Recorded {
+                outcomes: Outcomes::Nothing,
+                entry: self.pulse(moment),
+            }),
+            Parcel::Return(job, cause) => Ok(without_entry(Outcomes::One(returned(job, cause)))),
+            Parcel::Last => Ok(without_entry(Outcomes::Last)),
+        }
+    }
+
+    /// Applies one parcel as `apply` does if its allocation fails. Takes no memory.
+    pub(crate) fn refuse(&mut self, parcel: Parcel) -> Outcomes
+        ensures applied { Records true parcel self.old result None self.new }
+        ensures some { HasPackets parcel }
+    {
+        match parcel {
+            Parcel::Batch(batch) => {
+                self.stopped = true;
+                Outcomes::Cut(stopped(batch))
+            }
+            Parcel::Pulse(_) => {
+                self.stopped = true;
+                Outcomes::Nothing
+            }
+            Parcel::Return(job, cause) => Outcomes::One(returned(job, cause)),
+            Parcel::Last => Outcomes::Last,
+        }
+    }
+
+    /// Applies one parcel, and returns its outcomes, as `Ledger::apply` does. It takes memory for the facts.
+    pub fn apply(&mut self, parcel: Parcel) -> Outcomes
+        ensures sent { (clock limit : ℕ) (decisions : List Decision) (replies : List ReplyValue)
+            → IsJoinedParcel limit parcel → HasSent clock limit decisions self.old replies
+            → HasSent clock limit (decisions ++ decisions_in parcel) self.new (replies ++ replies_in result) }
+    {
+        match self.try_record(parcel) {
+            Ok(Recorded { outcomes, entry }) => {
+                drop(entry);
+                outcomes
+            }
+            Err(parcel) => self.refuse(parcel),
+        }
+    }
+}
