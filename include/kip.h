@@ -128,7 +128,7 @@ uint32_t kip_open_seeded(kip_t *kip, uint64_t clock, uint32_t limit, uint32_t su
                          uint64_t seed_high);
 
 /* Reserves capacity for accounts and transfers that are still to be made. Until then no commit waits for their maps to
- * grow, which moves all that is stored; failed ids, expiries and the journal grow as needed. KIP_NO_MEMORY: the engine is
+ * grow, which moves all that is stored; failed ids and expiries grow as needed. KIP_NO_MEMORY: the engine is
  * as it was and can be used further. */
 uint32_t kip_reserve(kip_t *kip, size_t accounts, size_t transfers);
 
