@@ -1,5 +1,5 @@
 -- Chains of linked events: where they end, and the results of each and of a packet.
-use Rattle.std.specs.Prelude.{ℕ, ◌+◌, ◌-◌, ◌==◌, Bool, List, [], ◌∷◌, ◌++◌, length, replicate, Option, Some, None, if◌then◌else◌, min, nat_lt}
+use Rattle.std.specs.Prelude.{ℕ, ◌+◌, ◌-◌, ◌==◌, Bool, List, [], ◌∷◌, ◌++◌, length, take, replicate, Option, Some, None, if◌then◌else◌, min, nat_lt}
 use Rattle.tb_layout.specs.Events.{is_last_linked}
 use Rattle.tb_tables.specs.Facts.{Facts}
 use Rattle.tb_machine.specs.declared.fault.ChainFault.{ChainFault}
@@ -48,11 +48,6 @@ module _ {Event : Type 0} where
   chains_of is_linked (event ∷ events) =
       if is_linked event then before_chains event (chains_of is_linked events)
       else (event ∷ []) ∷ chains_of is_linked events
-
-  abbrev pub all_but_last : List Event → List Event
-  all_but_last [] = []
-  all_but_last (event ∷ []) = []
-  all_but_last (event ∷ next ∷ events) = event ∷ all_but_last (next ∷ events)
 
   -- the results of `count` events that fail together: the first fault has its own code
   abbrev pub failed_results : ℕ → Option (ChainFault Event) → List ℕ
@@ -110,8 +105,8 @@ module _ {Event : Type 0} (operation : Operation Event) where
 
   abbrev pub chain_outcome : ℕ → Facts → List Event → Outcome
   chain_outcome clock facts chain =
-      if is_last_linked operation.is_linked chain
-      then open_outcome facts (all_but_last chain) (first_fault 0 clock facts (all_but_last chain))
+      let front = take (length chain - 1) chain in
+      if is_last_linked operation.is_linked chain then open_outcome facts front (first_fault 0 clock facts front)
       else closed_outcome clock facts chain (first_fault 0 clock facts chain)
 
   -- chain by chain, each on the facts and at the clock that the one before left
