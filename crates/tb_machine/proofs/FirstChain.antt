@@ -5,8 +5,8 @@ use Rattle.std.proofs.lemmas.List.{length-map, take-map, get_or-map, take_rest, 
 use Rattle.tb_layout.specs.declared.failure.Failure.{Failure}
 use Rattle.tb_layout.specs.Events.{is_last_linked}
 use Rattle.tb_tables.specs.Facts.{Facts}
-use Rattle.tb_machine.specs.Chain.{Operation, Outcome, before_chains, chains_of, chain_outcome, chains_outcome, then_outcome, open_outcome, closed_outcome, first_fault, clock_after, events_outcome, failures_from}
-use Rattle.tb_machine.specs.Examining.{first_chain_length}
+use Rattle.tb_machine.specs.Chain.{Operation, Outcome, before_chains, chains_of, chain_outcome, chains_outcome, open_outcome, closed_outcome, first_fault, clock_after, events_outcome, failures_from}
+use Rattle.tb_machine.specs.Examining.{first_chain_length, then_outcome}
 use Rattle.tb_machine.proofs.Faults.{length-chain_outcome}
 use Rattle.tb_machine.proofs.Failures.{failures_from-append}
 

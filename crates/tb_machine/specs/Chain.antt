@@ -34,9 +34,6 @@ pub record Outcome : Type 0 where
   pub results : List ℕ
   pub facts : Facts
 
-abbrev pub then_outcome : Outcome → Outcome → Outcome
-then_outcome first next = record { results = first.results ++ next.results; facts = next.facts }
-
 module _ {Event : Type 0} where
   abbrev pub before_chains : Event → List (List Event) → List (List Event)
   before_chains event [] = (event ∷ []) ∷ []
@@ -114,7 +111,8 @@ module _ {Event : Type 0} (operation : Operation Event) where
   chains_outcome clock facts [] = record { results = []; facts = facts }
   chains_outcome clock facts (chain ∷ chains) =
       let first = chain_outcome clock facts chain in
-      then_outcome first (chains_outcome (clock_after clock (length chain)) first.facts chains)
+      let next = chains_outcome (clock_after clock (length chain)) first.facts chains in
+      record { results = first.results ++ next.results; facts = next.facts }
 
   abbrev pub events_outcome : ℕ → Facts → List Event → Outcome
   events_outcome clock facts events =
