@@ -1,12 +1,12 @@
 -- The first fault of events, and how many results a chain has.
-use Rattle.std.proofs.Common.{refl, ◌∙◌, arith, ◌≡◌, ◌≢◌, ℕ, suc, ◌+◌, ◌-◌, ◌<◌, ◌≤◌, Bool, true, false, List, [], ◌∷◌, length, replicate, eqb, Option, Some, None, map, length-append, ⊎_elim}
+use Rattle.std.proofs.Common.{refl, ◌∙◌, arith, ◌≡◌, ◌≢◌, ℕ, suc, ◌+◌, ◌-◌, ◌<◌, ◌≤◌, Bool, true, false, List, [], ◌∷◌, length, replicate, eqb, Option, Some, None, map, take, length-append, length-take-le, ⊎_elim}
 use Rattle.std.specs.Prelude.{if◌then◌else◌, ◌==◌, is_some}
 use Rattle.std.proofs.lemmas.List.{length-map, length-replicate}
 use Rattle.std.proofs.lemmas.Bool.Decides.{eqb_tells}
 use Rattle.tb_layout.specs.Events.{is_last_linked}
 use Rattle.tb_tables.specs.Facts.{Facts}
 use Rattle.tb_machine.specs.declared.fault.ChainFault.{ChainFault}
-use Rattle.tb_machine.specs.Chain.{next_timestamp, clock_after, Operation, Outcome, verdict_at, facts_with, first_fault, failed_results, closed_outcome, chain_outcome, all_but_last}
+use Rattle.tb_machine.specs.Chain.{next_timestamp, clock_after, Operation, Outcome, verdict_at, facts_with, first_fault, failed_results, closed_outcome, chain_outcome}
 use Rattle.tb_machine.specs.Examining.{LiesBelow, fault_as}
 
 pub eqb-false : (a b : ℕ) → a ≢ b → (a == b) ≡ false
@@ -64,11 +64,11 @@ length-failed_results count (Some fault) below =
           (count - fault.index - 1) 1,
     ) in e)
 
-length-all_but_last : {Event : Type 0} (is_linked : Event → Bool) (events : List Event)
-    → is_last_linked is_linked events ≡ true → length (all_but_last events) + 1 ≡ length events
-length-all_but_last is_linked [] h = cc
-length-all_but_last is_linked (event ∷ []) h = refl
-length-all_but_last is_linked (event ∷ next ∷ events) h = omega (arith, length-all_but_last is_linked (next ∷ events) h)
+length-front : {Event : Type 0} (is_linked : Event → Bool) (events : List Event)
+    → is_last_linked is_linked events ≡ true → length (take (length events - 1) events) + 1 ≡ length events
+length-front is_linked [] h = cc
+length-front is_linked (event ∷ events) h =
+    omega (arith, length-take-le (length (event ∷ events) - 1) (event ∷ events) (omega arith))
 
 length-closed : {Event : Type 0} (operation : Operation Event) (clock : ℕ) (facts : Facts) (chain : List Event)
     (fault : Option (ChainFault Event)) → LiesBelow (length chain) fault →
@@ -85,7 +85,7 @@ length-chosen false x y n h k = k refl
 pub length-chain_outcome : {Event : Type 0} (operation : Operation Event) (clock : ℕ) (facts : Facts)
     (chain : List Event) → length (chain_outcome operation clock facts chain).results ≡ length chain
 length-chain_outcome operation clock facts chain =
-    let front = all_but_last chain in
+    let front = take (length chain - 1) chain in
     let fault = first_fault operation 0 clock facts front in
     length-chosen (is_last_linked operation.is_linked chain) _ _ (length chain)
     (λ open_one. omega (
@@ -93,7 +93,7 @@ length-chain_outcome operation clock facts chain =
       length-append (failed_results (length front) fault) (2 ∷ []),
       length-failed_results
           (length front) fault (first_fault-below operation 0 clock facts front (length front) (omega arith)),
-      length-all_but_last operation.is_linked chain open_one,
+      length-front operation.is_linked chain open_one,
     ))
     (λ _. length-closed operation clock facts chain (first_fault operation 0 clock facts chain)
     (first_fault-below operation 0 clock facts chain (length chain) (omega arith)))

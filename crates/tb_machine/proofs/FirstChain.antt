@@ -5,8 +5,8 @@ use Rattle.std.proofs.lemmas.List.{length-map, take-map, get_or-map, take_rest, 
 use Rattle.tb_layout.specs.declared.failure.Failure.{Failure}
 use Rattle.tb_layout.specs.Events.{is_last_linked}
 use Rattle.tb_tables.specs.Facts.{Facts}
-use Rattle.tb_machine.specs.Chain.{Operation, Outcome, before_chains, chains_of, chain_outcome, chains_outcome, then_outcome, all_but_last, open_outcome, closed_outcome, first_fault, clock_after, events_outcome, failures_from}
-use Rattle.tb_machine.specs.Examining.{first_chain_length}
+use Rattle.tb_machine.specs.Chain.{Operation, Outcome, before_chains, chains_of, chain_outcome, chains_outcome, open_outcome, closed_outcome, first_fault, clock_after, events_outcome, failures_from}
+use Rattle.tb_machine.specs.Examining.{first_chain_length, then_outcome}
 use Rattle.tb_machine.proofs.Faults.{length-chain_outcome}
 use Rattle.tb_machine.proofs.Failures.{failures_from-append}
 
@@ -21,25 +21,15 @@ last_linked is_linked (event ∷ next ∷ events) d h =
     ∙ (let e : suc (length (next ∷ events) - 1) ≡ length (event ∷ next ∷ events) - 1 = omega arith in ap
     (λ k. is_linked (get_or (event ∷ next ∷ events) k d)) e)
 
-all_but_last-take : {Event : Type 0} (events : List Event) → all_but_last events ≡ take (length events - 1) events
-all_but_last-take [] = refl
-all_but_last-take (event ∷ []) = refl
-all_but_last-take (event ∷ next ∷ events) =
-    ap (λ rest. event ∷ rest) (all_but_last-take (next ∷ events))
-    ∙ (let e : suc (length (next ∷ events) - 1) ≡ length (event ∷ next ∷ events) - 1 = omega arith in ap
-    (λ k. take k (event ∷ next ∷ events)) e)
-
 chain_outcome-open : {Event : Type 0} (operation : Operation Event) (clock : ℕ) (facts : Facts) (chain : List Event)
     (d : Event) → 0 < length chain → operation.is_linked (get_or chain (length chain - 1) d) ≡ true →
     let front = take (length chain - 1) chain in chain_outcome operation clock facts chain
     ≡ open_outcome operation facts front (first_fault operation 0 clock facts front)
 chain_outcome-open operation clock facts chain d h linked =
-    ap (λ b. if b then open_outcome operation facts (all_but_last chain)
-    (first_fault operation 0 clock facts (all_but_last chain))
+    let front = take (length chain - 1) chain in
+    ap (λ b. if b then open_outcome operation facts front (first_fault operation 0 clock facts front)
     else closed_outcome operation clock facts chain (first_fault operation 0 clock facts chain))
     (last_linked operation.is_linked chain d h ∙ linked)
-    ∙ ap (λ front. open_outcome operation facts front (first_fault operation 0 clock facts front))
-    (all_but_last-take chain)
 
 chain_outcome-closed : {Event : Type 0} (operation : Operation Event) (clock : ℕ) (facts : Facts)
     (chain : List Event) (d : Event) → 0 < length chain
@@ -47,8 +37,8 @@ chain_outcome-closed : {Event : Type 0} (operation : Operation Event) (clock : �
     chain_outcome operation clock facts chain ≡ closed_outcome operation clock facts chain
     (first_fault operation 0 clock facts chain)
 chain_outcome-closed operation clock facts chain d h linked =
-    ap (λ b. if b then open_outcome operation facts (all_but_last chain)
-    (first_fault operation 0 clock facts (all_but_last chain))
+    let front = take (length chain - 1) chain in
+    ap (λ b. if b then open_outcome operation facts front (first_fault operation 0 clock facts front)
     else closed_outcome operation clock facts chain (first_fault operation 0 clock facts chain))
     (last_linked operation.is_linked chain d h ∙ linked)
 

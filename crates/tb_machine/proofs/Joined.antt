@@ -8,9 +8,10 @@ use Rattle.tb_layout.specs.Events.{Events, is_last_linked}
 use Rattle.tb_layout.specs.Failures.{RiseWithin, is_within, from_offset, failures_within}
 use Rattle.tb_tables.specs.Facts.{Facts}
 use Rattle.tb_layout.specs.Limits.{clock_max}
-use Rattle.tb_machine.specs.Chain.{clock_after, Operation, Outcome, before_chains, chains_of, chain_outcome, chains_outcome, then_outcome, events_outcome, failures_from}
+use Rattle.tb_machine.specs.Chain.{clock_after, Operation, Outcome, before_chains, chains_of, chain_outcome, chains_outcome, events_outcome, failures_from}
 use Rattle.tb_machine.specs.Replay.{State, outcome_of, after_events, after_packet, failures_of}
 use Rattle.tb_machine.specs.Joining.{events_in_turn, none_open, cuts, failures_each, GiveAsEach, JoiningIsInvisible}
+use Rattle.tb_machine.specs.Examining.{then_outcome}
 use Rattle.tb_machine.proofs.Faults.{length-chain_outcome}
 use Rattle.tb_machine.proofs.Failures.{failures_from-append, failing}
 

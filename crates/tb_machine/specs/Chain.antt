@@ -1,5 +1,5 @@
 -- Chains of linked events: where they end, and the results of each and of a packet.
-use Rattle.std.specs.Prelude.{ℕ, ◌+◌, ◌-◌, ◌==◌, Bool, List, [], ◌∷◌, ◌++◌, length, replicate, Option, Some, None, if◌then◌else◌, min, nat_lt}
+use Rattle.std.specs.Prelude.{ℕ, ◌+◌, ◌-◌, ◌==◌, Bool, List, [], ◌∷◌, ◌++◌, length, take, replicate, Option, Some, None, if◌then◌else◌, min, nat_lt}
 use Rattle.tb_layout.specs.Events.{is_last_linked}
 use Rattle.tb_tables.specs.Facts.{Facts}
 use Rattle.tb_machine.specs.declared.fault.ChainFault.{ChainFault}
@@ -29,99 +29,94 @@ pub record Operation (Event : Type 0) : Type 0 where
   pub stored : Facts → ℕ → Event → Facts
   pub remembered : Facts → ℕ → Event → Facts
 
-abbrev pub before_chains : {Event : Type 0} → Event → List (List Event) → List (List Event)
-before_chains event [] = (event ∷ []) ∷ []
-before_chains event (chain ∷ chains) = (event ∷ chain) ∷ chains
-
--- the events cut after each one that is not linked, and at their end
-abbrev pub chains_of : {Event : Type 0} → (Event → Bool) → List Event → List (List Event)
-chains_of is_linked [] = []
-chains_of is_linked (event ∷ events) =
-    if is_linked event then before_chains event (chains_of is_linked events)
-    else (event ∷ []) ∷ chains_of is_linked events
-
-abbrev pub all_but_last : {Event : Type 0} → List Event → List Event
-all_but_last [] = []
-all_but_last (event ∷ []) = []
-all_but_last (event ∷ next ∷ events) = event ∷ all_but_last (next ∷ events)
-
--- an event is examined only if it has a timestamp
-abbrev pub verdict_at : {Event : Type 0} → Operation Event → Facts → Option ℕ → Event → ℕ
-verdict_at operation facts (Some timestamp) event = operation.verdict facts timestamp event
-verdict_at operation facts None event = clock_exhausted
-
-abbrev pub facts_with : {Event : Type 0} → Operation Event → Facts → Option ℕ → Event → Facts
-facts_with operation facts (Some timestamp) event = operation.stored facts timestamp event
-facts_with operation facts None event = facts
-
-abbrev pub facts_with_all : {Event : Type 0} → Operation Event → ℕ → Facts → List Event → Facts
-facts_with_all operation clock facts [] = facts
-facts_with_all operation clock facts (event ∷ events) =
-    facts_with_all operation (clock_after clock 1) (facts_with operation facts (next_timestamp clock) event) events
-
--- the first event whose verdict, on the facts with those before it stored, is a fault; the first event has this index
-abbrev pub first_fault : {Event : Type 0} → Operation Event → ℕ → ℕ → Facts → List Event → Option (ChainFault Event)
-first_fault operation index clock facts [] = None
-first_fault operation index clock facts (event ∷ events) =
-    let code = verdict_at operation facts (next_timestamp clock) event in
-    if code == 0 then first_fault operation (index + 1) (clock_after clock 1)
-    (facts_with operation facts (next_timestamp clock) event) events
-    else Some (record { index = index; event = event; code = code })
-
--- the results of `count` events that fail together: the first fault has its own code
-abbrev pub failed_results : {Event : Type 0} → ℕ → Option (ChainFault Event) → List ℕ
-failed_results count None = replicate count linked_event_failed
-failed_results count (Some fault) =
-    replicate fault.index linked_event_failed ++ fault.code
-    ∷ replicate (count - fault.index - 1) linked_event_failed
-
-abbrev pub facts_after_failure : {Event : Type 0} → Operation Event → Facts → Option (ChainFault Event) → Facts
-facts_after_failure operation facts None = facts
-facts_after_failure operation facts (Some fault) = operation.remembered facts fault.code fault.event
-
 -- the results of events, one for each, and the facts after them
 pub record Outcome : Type 0 where
   pub results : List ℕ
   pub facts : Facts
 
--- a chain that is not open succeeds if it has no fault
-abbrev pub closed_outcome : {Event : Type 0} → Operation Event → ℕ → Facts → List Event
-    → Option (ChainFault Event) → Outcome
-closed_outcome operation clock facts chain None =
-    record { results = replicate (length chain) 0; facts = facts_with_all operation clock facts chain }
-closed_outcome operation clock facts chain (Some fault) =
-    record {
-      results = failed_results (length chain) (Some fault);
-      facts = facts_after_failure operation facts (Some fault);
-    }
+module _ {Event : Type 0} where
+  abbrev pub before_chains : Event → List (List Event) → List (List Event)
+  before_chains event [] = (event ∷ []) ∷ []
+  before_chains event (chain ∷ chains) = (event ∷ chain) ∷ chains
 
--- an open chain fails, and its last event is not examined
-abbrev pub open_outcome : {Event : Type 0} → Operation Event → Facts → List Event → Option (ChainFault Event) → Outcome
-open_outcome operation facts front fault =
-    record {
-      results = failed_results (length front) fault ++ linked_event_chain_open ∷ [];
-      facts = facts_after_failure operation facts fault;
-    }
+  -- the events cut after each one that is not linked, and at their end
+  abbrev pub chains_of : (Event → Bool) → List Event → List (List Event)
+  chains_of is_linked [] = []
+  chains_of is_linked (event ∷ events) =
+      if is_linked event then before_chains event (chains_of is_linked events)
+      else (event ∷ []) ∷ chains_of is_linked events
 
-abbrev pub chain_outcome : {Event : Type 0} → Operation Event → ℕ → Facts → List Event → Outcome
-chain_outcome operation clock facts chain =
-    if is_last_linked operation.is_linked chain
-    then open_outcome operation facts (all_but_last chain) (first_fault operation 0 clock facts (all_but_last chain))
-    else closed_outcome operation clock facts chain (first_fault operation 0 clock facts chain)
+  -- the results of `count` events that fail together: the first fault has its own code
+  abbrev pub failed_results : ℕ → Option (ChainFault Event) → List ℕ
+  failed_results count None = replicate count linked_event_failed
+  failed_results count (Some fault) =
+      replicate fault.index linked_event_failed ++ fault.code
+      ∷ replicate (count - fault.index - 1) linked_event_failed
 
-abbrev pub then_outcome : Outcome → Outcome → Outcome
-then_outcome first next = record { results = first.results ++ next.results; facts = next.facts }
+module _ {Event : Type 0} (operation : Operation Event) where
+  -- an event is examined only if it has a timestamp
+  abbrev pub verdict_at : Facts → Option ℕ → Event → ℕ
+  verdict_at facts (Some timestamp) event = operation.verdict facts timestamp event
+  verdict_at facts None event = clock_exhausted
 
--- chain by chain, each on the facts and at the clock that the one before left
-abbrev pub chains_outcome : {Event : Type 0} → Operation Event → ℕ → Facts → List (List Event) → Outcome
-chains_outcome operation clock facts [] = record { results = []; facts = facts }
-chains_outcome operation clock facts (chain ∷ chains) =
-    let first = chain_outcome operation clock facts chain in
-    then_outcome first (chains_outcome operation (clock_after clock (length chain)) first.facts chains)
+  abbrev pub facts_with : Facts → Option ℕ → Event → Facts
+  facts_with facts (Some timestamp) event = operation.stored facts timestamp event
+  facts_with facts None event = facts
 
-abbrev pub events_outcome : {Event : Type 0} → Operation Event → ℕ → Facts → List Event → Outcome
-events_outcome operation clock facts events =
-    chains_outcome operation clock facts (chains_of operation.is_linked events)
+  abbrev pub facts_with_all : ℕ → Facts → List Event → Facts
+  facts_with_all clock facts [] = facts
+  facts_with_all clock facts (event ∷ events) =
+      facts_with_all (clock_after clock 1) (facts_with facts (next_timestamp clock) event) events
+
+  -- the first event whose verdict, on the facts with those before it stored, is a fault; the first event has this index
+  abbrev pub first_fault : ℕ → ℕ → Facts → List Event → Option (ChainFault Event)
+  first_fault index clock facts [] = None
+  first_fault index clock facts (event ∷ events) =
+      let code = verdict_at facts (next_timestamp clock) event in
+      if code == 0 then first_fault (index + 1) (clock_after clock 1)
+      (facts_with facts (next_timestamp clock) event) events
+      else Some (record { index = index; event = event; code = code })
+
+  abbrev pub facts_after_failure : Facts → Option (ChainFault Event) → Facts
+  facts_after_failure facts None = facts
+  facts_after_failure facts (Some fault) = operation.remembered facts fault.code fault.event
+
+  -- a chain that is not open succeeds if it has no fault
+  abbrev pub closed_outcome : ℕ → Facts → List Event
+      → Option (ChainFault Event) → Outcome
+  closed_outcome clock facts chain None =
+      record { results = replicate (length chain) 0; facts = facts_with_all clock facts chain }
+  closed_outcome clock facts chain (Some fault) =
+      record {
+        results = failed_results (length chain) (Some fault);
+        facts = facts_after_failure facts (Some fault);
+      }
+
+  -- an open chain fails, and its last event is not examined
+  abbrev pub open_outcome : Facts → List Event → Option (ChainFault Event) → Outcome
+  open_outcome facts front fault =
+      record {
+        results = failed_results (length front) fault ++ linked_event_chain_open ∷ [];
+        facts = facts_after_failure facts fault;
+      }
+
+  abbrev pub chain_outcome : ℕ → Facts → List Event → Outcome
+  chain_outcome clock facts chain =
+      let front = take (length chain - 1) chain in
+      if is_last_linked operation.is_linked chain then open_outcome facts front (first_fault 0 clock facts front)
+      else closed_outcome clock facts chain (first_fault 0 clock facts chain)
+
+  -- chain by chain, each on the facts and at the clock that the one before left
+  abbrev pub chains_outcome : ℕ → Facts → List (List Event) → Outcome
+  chains_outcome clock facts [] = record { results = []; facts = facts }
+  chains_outcome clock facts (chain ∷ chains) =
+      let first = chain_outcome clock facts chain in
+      let next = chains_outcome (clock_after clock (length chain)) first.facts chains in
+      record { results = first.results ++ next.results; facts = next.facts }
+
+  abbrev pub events_outcome : ℕ → Facts → List Event → Outcome
+  events_outcome clock facts events =
+      chains_outcome clock facts (chains_of operation.is_linked events)
 
 -- the results that are not 0, with their indices from an index on
 abbrev pub failures_from : ℕ → List ℕ → List Failure

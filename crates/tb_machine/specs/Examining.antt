@@ -1,5 +1,5 @@
 -- Words of the functions that take a packet's chains one by one.
-use Rattle.std.specs.Prelude.{◌≢◌, ◌<◌, ℕ, suc, Bool, List, [], ◌∷◌, Option, Some, None, if◌then◌else◌}
+use Rattle.std.specs.Prelude.{◌≢◌, ◌<◌, ℕ, suc, Bool, List, [], ◌∷◌, ◌++◌, Option, Some, None, if◌then◌else◌}
 use Rattle.tb_tables.specs.Facts.{Facts}
 use Rattle.tb_machine.specs.declared.fault.ChainFault.{ChainFault}
 use Rattle.tb_machine.specs.Chain.{Operation, Outcome, closed_outcome, first_fault}
@@ -27,6 +27,10 @@ fault_as become (Some fault) = Some (record { index = fault.index; event = becom
 abbrev pub event_outcome : {Event : Type 0} → Operation Event → ℕ → Facts → Event → Outcome
 event_outcome operation clock facts event =
     closed_outcome operation clock facts (event ∷ []) (first_fault operation 0 clock facts (event ∷ []))
+
+-- the outcome of some events, and then of others on what they left
+abbrev pub then_outcome : Outcome → Outcome → Outcome
+then_outcome first next = record { results = first.results ++ next.results; facts = next.facts }
 
 -- the verdict on an event, if its id is new
 abbrev pub new_transfer_verdict : Facts → ℕ → Transfer → TransferCode

@@ -1,9 +1,8 @@
 -- What the two operations that change the facts make of their events.
-use Rattle.std.specs.Prelude.{ℕ, ◌==◌, Bool, List, [], ◌∷◌, if◌then◌else◌}
+use Rattle.std.specs.Prelude.{ℕ, ◌==◌, Bool, [], ◌∷◌, if◌then◌else◌}
 use Rattle.std.specs.List.{list_any}
 use Rattle.tb_layout.specs.declared.account.Account.{Account}
 use Rattle.tb_layout.specs.declared.transfer.Transfer.{Transfer}
-use Rattle.tb_layout.specs.declared.transfer_code.TransferCode.{TransferCode}
 use Rattle.tb_layout.specs.declared.transfer_code.TransferCode.TheVariants.{DebitAccountNotFound, CreditAccountNotFound, PendingTransferNotFound, ExceedsCredits, ExceedsDebits}
 use Rattle.tb_layout.specs.AccountCode.{number_of as account_number}
 use Rattle.tb_layout.specs.TransferCode.{number_of as transfer_number}
@@ -23,20 +22,17 @@ accounts_operation = record {
   remembered = λ facts code event. facts;
 }
 
--- the results that later events could change: an account or a pending transfer wasn't found, or a limit would be passed
-abbrev pub transient_codes : List TransferCode
-transient_codes =
-    DebitAccountNotFound ∷ CreditAccountNotFound ∷ PendingTransferNotFound ∷ ExceedsCredits ∷ ExceedsDebits ∷ []
-
--- whether a transfer that failed with this code leaves its id among the failed ones
+-- whether later events could change this result: an account or a pending transfer wasn't found, or a limit would be passed
 abbrev pub is_transient : ℕ → Bool
-is_transient code = list_any (λ transient. code == transfer_number transient) transient_codes
+is_transient code =
+    list_any (λ transient. code == transfer_number transient)
+    (DebitAccountNotFound ∷ CreditAccountNotFound ∷ PendingTransferNotFound ∷ ExceedsCredits ∷ ExceedsDebits ∷ [])
 
 -- the facts with an id among those that failed
 abbrev pub with_failed : Facts → ℕ → Facts
 with_failed facts id = if is_failed facts id then facts else add_failed facts id
 
--- a transfer is stored with its resolved fields, and some faults leave its id among the failed ones
+-- a transfer is stored with its resolved fields, and a transient fault leaves its id among the failed ones
 abbrev pub transfers_operation : Operation Transfer
 transfers_operation = record {
   is_linked = is_linked_transfer;

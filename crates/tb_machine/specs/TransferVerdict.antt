@@ -66,9 +66,6 @@ stored_checks stored event =
     (not (event.code == stored.code), ExistsWithDifferentCode) ∷
     []
 
-abbrev pub compare_with_stored : Transfer → Transfer → TransferCode
-compare_with_stored stored event = first_row (stored_checks stored event) Exists
-
 -- ---- a post or a void
 
 -- against the status of the transfer that it names, and whether that one is due
@@ -90,16 +87,6 @@ pending_checks pending event =
     (is_void event && nat_lt event.amount pending.amount, PendingTransferHasDifferentAmount) ∷
     []
 
-abbrev pub against_pending : Facts → ℕ → Transfer → Transfer → TransferCode
-against_pending facts timestamp pending event =
-    first_row (pending_checks pending event)
-    (against_status (status_of facts pending.id) (is_due timestamp pending))
-
-abbrev pub against_named : Facts → ℕ → Option Transfer → Transfer → TransferCode
-against_named facts timestamp None event = PendingTransferNotFound
-against_named facts timestamp (Some pending) event =
-    against_pending facts timestamp pending (resolved_transfer pending event)
-
 abbrev pub resolving_checks : Transfer → List (Bool × TransferCode)
 resolving_checks event =
     (event.pending_id == 0, PendingIdMustNotBeZero) ∷
@@ -107,10 +94,6 @@ resolving_checks event =
     (event.pending_id == event.id, PendingIdMustBeDifferent) ∷
     (not (event.timeout == 0), TimeoutReservedForPendingTransfer) ∷
     []
-
-abbrev pub resolving_verdict : Facts → ℕ → Transfer → TransferCode
-resolving_verdict facts timestamp event =
-    first_row (resolving_checks event) (against_named facts timestamp (transfer_with facts event.pending_id) event)
 
 -- ---- a plain or pending transfer
 
@@ -136,13 +119,11 @@ balance_checks timestamp debit credit event =
     (credits_must_not_exceed_debits credit && nat_lt credit.debits_posted (credits_with credit event.amount), ExceedsDebits) ∷
     []
 
-abbrev pub check_accounts : ℕ → Account → Account → Transfer → TransferCode
-check_accounts timestamp debit credit event = first_row (balance_checks timestamp debit credit event) Ok
-
 abbrev pub check_accounts_found : ℕ → Option Account → Option Account → Transfer → TransferCode
 check_accounts_found timestamp None credit event = DebitAccountNotFound
 check_accounts_found timestamp (Some debit) None event = CreditAccountNotFound
-check_accounts_found timestamp (Some debit) (Some credit) event = check_accounts timestamp debit credit event
+check_accounts_found timestamp (Some debit) (Some credit) event =
+    first_row (balance_checks timestamp debit credit event) Ok
 
 abbrev pub moving_checks : Transfer → List (Bool × TransferCode)
 moving_checks event =
@@ -156,12 +137,6 @@ moving_checks event =
     (event.ledger == 0, LedgerMustNotBeZero) ∷
     (event.code == 0, CodeMustNotBeZero) ∷
     []
-
-abbrev pub moving_verdict : Facts → ℕ → Transfer → TransferCode
-moving_verdict facts timestamp event =
-    first_row (moving_checks event)
-    (check_accounts_found timestamp (balanced_account facts event.debit_account_id)
-    (balanced_account facts event.credit_account_id) event)
 
 -- ---- any event
 
@@ -177,16 +152,6 @@ new_id_checks facts event =
     (has_exclusive_flags event, FlagsAreMutuallyExclusive) ∷
     []
 
-abbrev pub check_new_transfer : Facts → ℕ → Transfer → TransferCode
-check_new_transfer facts timestamp event =
-    first_row (new_id_checks facts event)
-    (if is_resolving event then resolving_verdict facts timestamp event else moving_verdict facts timestamp event)
-
-abbrev pub against_id : Facts → ℕ → Option Transfer → Transfer → TransferCode
-against_id facts timestamp (Some stored) event =
-    compare_with_stored stored (resolved_transfer_of (transfer_with facts stored.pending_id) event)
-against_id facts timestamp None event = check_new_transfer facts timestamp event
-
 abbrev pub event_checks : Transfer → List (Bool × TransferCode)
 event_checks event =
     (not (event.timestamp == 0), TimestampMustBeZero) ∷
@@ -195,6 +160,36 @@ event_checks event =
     (event.id == u128_max, IdMustNotBeIntMax) ∷
     []
 
-abbrev pub transfer_verdict : Facts → ℕ → Transfer → TransferCode
-transfer_verdict facts timestamp event =
-    first_row (event_checks event) (against_id facts timestamp (transfer_with facts event.id) event)
+-- ---- the verdicts, on the facts and at a timestamp
+
+module _ (facts : Facts) (timestamp : ℕ) where
+  -- against the transfer that a post or a void names
+  abbrev pub against_named : Option Transfer → Transfer → TransferCode
+  against_named None event = PendingTransferNotFound
+  against_named (Some pending) event =
+      first_row (pending_checks pending (resolved_transfer pending event))
+      (against_status (status_of facts pending.id) (is_due timestamp pending))
+
+  abbrev pub resolving_verdict : Transfer → TransferCode
+  resolving_verdict event =
+      first_row (resolving_checks event) (against_named (transfer_with facts event.pending_id) event)
+
+  abbrev pub moving_verdict : Transfer → TransferCode
+  moving_verdict event =
+      first_row (moving_checks event)
+      (check_accounts_found timestamp (balanced_account facts event.debit_account_id)
+      (balanced_account facts event.credit_account_id) event)
+
+  abbrev pub check_new_transfer : Transfer → TransferCode
+  check_new_transfer event =
+      first_row (new_id_checks facts event)
+      (if is_resolving event then resolving_verdict event else moving_verdict event)
+
+  -- against the transfer that has its id
+  abbrev pub against_id : Option Transfer → Transfer → TransferCode
+  against_id (Some stored) event =
+      first_row (stored_checks stored (resolved_transfer_of (transfer_with facts stored.pending_id) event)) Exists
+  against_id None event = check_new_transfer event
+
+  abbrev pub transfer_verdict : Transfer → TransferCode
+  transfer_verdict event = first_row (event_checks event) (against_id (transfer_with facts event.id) event)

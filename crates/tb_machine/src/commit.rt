@@ -37,7 +37,6 @@ fn examine_at<E: CreateEvent>(clock: u64, tables: &mut Tables, event: E) -> Resu
         ≡ facts_with E.operation tables.old.now (spec.next_timestamp clock) event }
     ensures same { result ≢ Ok 0 → tables.new ≡ tables.old }
 {
-    let mut event = event;
     match next_timestamp(clock) {
         Some(timestamp) => event.examine(tables, timestamp),
         None => Ok(CLOCK_EXHAUSTED),

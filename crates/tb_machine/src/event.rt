@@ -1,17 +1,15 @@
 //! What the two operations that change the facts make of their events.
 
-ghost use Rattle.std.specs.Prelude.{◌≡◌, ◌≢◌, ◌≤◌, ◌==◌, ◌&&◌, ◌||◌, ℕ, Bool, List, None, Ok, IfOk, OnOk, is_some, not, true};
+ghost use Rattle.std.specs.Prelude.{◌≡◌, ◌≢◌, ◌≤◌, ◌==◌, ◌&&◌, ◌||◌, ℕ, Bool, List, Ok, IfOk, is_some, not, true};
 ghost use Rattle.tb_layout.specs.Account.{account_of};
 ghost use Rattle.tb_layout.specs.Transfer.{transfer_of, is_resolving as is_resolving_event};
-ghost use Rattle.tb_layout.specs.AccountCode.{number_of as account_number};
 ghost use Rattle.tb_layout.specs.TransferCode.{number_of};
-ghost use Rattle.tb_tables.specs.Facts.{Facts, account_with, add_account, add_transfer, transfer_with};
+ghost use Rattle.tb_tables.specs.Facts.{Facts, account_with, add_transfer, transfer_with};
 ghost use Rattle.tb_tables.specs.History.{with_change, Extends};
 ghost use Rattle.tb_layout.specs.Limits.{clock_max};
 ghost use Rattle.tb_machine.specs.Chain.{Operation};
 ghost use Rattle.tb_machine.specs.TransferVerdict.{stored_transfer, transfer_verdict as verdict_of};
 ghost use Rattle.tb_machine.specs.Examining.{new_transfer_verdict as new_verdict_of};
-ghost use Rattle.tb_machine.specs.AccountVerdict.{verdict_given};
 ghost use Rattle.tb_machine.specs.Prefetch.{IsTarget};
 ghost use Rattle.tb_machine.specs.declared.prefetch.Target.TheVariants.{Between, Named};
 ghost use Rattle.tb_machine.specs.Operations as spec;
@@ -51,12 +49,12 @@ pub trait CreateEvent: Copy {
     fn has_accounts(&self, tables: &Tables) -> bool
         ensures { result ≡ has_accounts tables.now.now self.now };
 
-    /// Stores the event, which gets its timestamp, if its checks find nothing, and returns the number of its result.
-    fn examine(&mut self, tables: &mut Tables, timestamp: u64) -> Result<u32, NoMemory>
+    /// Stores the event with this timestamp if its checks find nothing, and returns the number of its result.
+    fn examine(&self, tables: &mut Tables, timestamp: u64) -> Result<u32, NoMemory>
         requires { timestamp ≤ clock_max }
-        ensures code { IfOk result (λ code. code ≡ operation.verdict tables.old.now timestamp self.old) }
+        ensures code { IfOk result (λ code. code ≡ operation.verdict tables.old.now timestamp self.now) }
         ensures stored { result ≡ Ok 0 → tables.new ≡ with_change tables.old
-            (operation.stored tables.old.now timestamp self.old) }
+            (operation.stored tables.old.now timestamp self.now) }
         ensures same { result ≢ Ok 0 → tables.new ≡ tables.old };
 
     /// Notes what the event's failing with this code leaves.
@@ -90,9 +88,9 @@ impl CreateEvent for Account {
         true
     }
 
-    fn examine(&mut self, tables: &mut Tables, timestamp: u64) -> Result<u32, NoMemory> {
+    fn examine(&self, tables: &mut Tables, timestamp: u64) -> Result<u32, NoMemory> {
         let code = new_account_verdict(self).number();
-        if code == 0 && store_new_account(tables, timestamp, self)? {
+        if code == 0 && tables.add_new_account(self, timestamp)? {
             return Ok(0);
         }
         Ok(account_verdict(tables, self).number())
@@ -132,7 +130,7 @@ impl CreateEvent for Transfer {
                 && tables.account_index(self.credit_account_id).is_some()
     }
 
-    fn examine(&mut self, tables: &mut Tables, timestamp: u64) -> Result<u32, NoMemory> {
+    fn examine(&self, tables: &mut Tables, timestamp: u64) -> Result<u32, NoMemory> {
         match Target::of(tables, self) {
             Target::Between(sides) => examine_moving(tables, sides, timestamp, self),
             Target::Named(pending) => examine_resolving(tables, pending, timestamp, self),
@@ -160,46 +158,22 @@ fn is_transient(code: u32) -> bool
         || code == TransferCode::ExceedsDebits.number()
 }
 
-/// Stores an account that passes the checks of one with a new id, if its id is new; whether it is. The timestamp is set
-/// in the event itself.
-#[inline(always)]
-fn store_new_account(
-    tables: &mut Tables,
-    timestamp: u64,
-    event: &mut Account,
-) -> Result<bool, NoMemory>
-    requires { account_number (verdict_given None event.old) ≡ 0 }
-    ensures new { IfOk result (λ added. added ≡ not (is_some (account_with tables.old.now event.old.id))) }
-    ensures added { result ≡ Ok true → tables.new
-        ≡ with_change tables.old (add_account tables.old.now (record event.old { timestamp = timestamp })) }
-    ensures same { result ≢ Ok true → tables.new ≡ tables.old }
-    ensures event { OnOk result (event.new ≡ event.old) }
-{
-    let own_timestamp = event.timestamp;
-    event.timestamp = timestamp;
-    let added = tables.add_new_account(event)?;
-    event.timestamp = own_timestamp;
-    Ok(added)
-}
-
-/// Stores a plain or pending transfer that passes the checks of one with a new id, if its id is new; whether it is. The
-/// timestamp is set in the event itself: a copy of it would cost more.
+/// Stores a plain or pending transfer that passes the checks of one with a new id, if its id is new; whether it is.
 #[inline(always)]
 fn store_new(
     tables: &mut Tables,
     sides: Sides,
     timestamp: u64,
-    event: &mut Transfer,
+    event: &Transfer,
 ) -> Result<bool, NoMemory>
-    requires target { IsTarget tables.old.now event.old (Between sides) }
+    requires target { IsTarget tables.old.now event.now (Between sides) }
     requires clock { timestamp ≤ clock_max }
-    requires ok { number_of (new_verdict_of tables.old.now timestamp event.old) ≡ 0 }
-    ensures new { IfOk result (λ added. added ≡ not (is_some (transfer_with tables.old.now event.old.id))) }
+    requires ok { number_of (new_verdict_of tables.old.now timestamp event.now) ≡ 0 }
+    ensures new { IfOk result (λ added. added ≡ not (is_some (transfer_with tables.old.now event.now.id))) }
     ensures added { result ≡ Ok true → tables.new
         ≡ with_change tables.old (add_transfer tables.old.now
-        (stored_transfer tables.old.now timestamp event.old)) }
+        (stored_transfer tables.old.now timestamp event.now)) }
     ensures same { result ≢ Ok true → tables.new ≡ tables.old }
-    ensures event { OnOk result (event.new ≡ event.old) }
 {
     let Some(debit) = sides.debit else {
         unreachable!()
@@ -207,11 +181,7 @@ fn store_new(
     let Some(credit) = sides.credit else {
         unreachable!()
     };
-    let own_timestamp = event.timestamp;
-    event.timestamp = timestamp;
-    let added = tables.add_new_between(event, debit, credit)?;
-    event.timestamp = own_timestamp;
-    Ok(added)
+    tables.add_new_between(event, timestamp, debit, credit)
 }
 
 /// Stores a plain or pending transfer if its checks find nothing, and returns the number of its result. Its id is
@@ -221,13 +191,13 @@ fn examine_moving(
     tables: &mut Tables,
     sides: Sides,
     timestamp: u64,
-    event: &mut Transfer,
+    event: &Transfer,
 ) -> Result<u32, NoMemory>
-    requires target { IsTarget tables.old.now event.old (Between sides) }
+    requires target { IsTarget tables.old.now event.now (Between sides) }
     requires clock { timestamp ≤ clock_max }
-    ensures code { IfOk result (λ code. code ≡ number_of (verdict_of tables.old.now timestamp event.old)) }
+    ensures code { IfOk result (λ code. code ≡ number_of (verdict_of tables.old.now timestamp event.now)) }
     ensures stored { result ≡ Ok 0 → tables.new ≡ with_change tables.old
-        (add_transfer tables.old.now (stored_transfer tables.old.now timestamp event.old)) }
+        (add_transfer tables.old.now (stored_transfer tables.old.now timestamp event.now)) }
     ensures same { result ≢ Ok 0 → tables.new ≡ tables.old }
 {
     let code = new_transfer_verdict(tables, Target::Between(sides), timestamp, event).number();

@@ -1,7 +1,9 @@
 //! The checks of a plain or pending transfer, in their order.
 
 ghost use Rattle.std.specs.Prelude.{◌≡◌, ◌+◌, nat_lt};
+ghost use Rattle.tb_layout.specs.declared.transfer_code.TransferCode.TheVariants.{Ok};
 ghost use Rattle.tb_tables.specs.Balances.{balanced_account};
+ghost use Rattle.tb_machine.specs.AccountVerdict.{first_row};
 ghost use Rattle.tb_machine.specs.Prefetch.{AreSides};
 ghost use Rattle.tb_machine.specs.TransferVerdict as spec;
 
@@ -58,7 +60,7 @@ fn check_accounts(
     credit: &Account,
     event: &Transfer,
 ) -> TransferCode
-    ensures { result ≡ spec.check_accounts timestamp debit.now credit.now event.now }
+    ensures { result ≡ first_row (spec.balance_checks timestamp debit.now credit.now event.now) Ok }
 {
     if debit.ledger != credit.ledger {
         return TransferCode::AccountsMustHaveTheSameLedger;

@@ -2,6 +2,7 @@
 
 ghost use Rattle.std.specs.Prelude.{◌≡◌, ◌≢◌, ℕ, Some, None, IfNone, IfSome, MatchOption};
 ghost use Rattle.tb_layout.specs.declared.transfer_code.TransferCode.{TransferCode as Code};
+ghost use Rattle.tb_layout.specs.declared.transfer_code.TransferCode.TheVariants.{Exists};
 ghost use Rattle.tb_layout.specs.TransferCode.{number_of};
 ghost use Rattle.tb_tables.specs.inside.Indices.{IsIndexOfTransfer};
 ghost use Rattle.tb_tables.specs.Facts.{transfer_with};
@@ -20,7 +21,7 @@ use tb_tables::Tables;
 
 /// How an event, with its fields resolved, differs from the stored transfer that has its id, or that it doesn't.
 fn compare_with_stored(stored: &Transfer, event: &Transfer) -> TransferCode
-    ensures { result ≡ spec.compare_with_stored stored.now event.now }
+    ensures { result ≡ first_row (spec.stored_checks stored.now event.now) Exists }
 {
     if event.flags != stored.flags {
         return TransferCode::ExistsWithDifferentFlags;

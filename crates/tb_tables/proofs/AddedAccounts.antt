@@ -77,6 +77,15 @@ held-failed facts failed held = record {
   sound = sound-with facts facts.accounts failed held.sound held.sound.grounded held.sound.made;
 }
 
+pub stamped-new : {account : AccountRecord} (timestamp : ℕ) → HasNoBalances account
+    → HasNoBalances (record account { timestamp = timestamp })
+stamped-new timestamp none = record {
+  debits_pending = none.debits_pending;
+  debits_posted = none.debits_posted;
+  credits_pending = none.credits_pending;
+  credits_posted = none.credits_posted;
+}
+
 module _ (old : Contents) (kept : AreConsistent old) where
   -- ---- one account more
 

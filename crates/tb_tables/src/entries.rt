@@ -11,21 +11,26 @@ use crate::status::Status;
 use indexmap::map::Entry;
 use tb_layout::{Account, NoMemory};
 
-/// Adds an account after the others, unless its id is there; whether it was added. It is written in place.
-pub fn push_account(accounts: &mut ById<Account>, account: &Account) -> Result<bool, NoMemory>
-    ensures new { IfOk result (λ added. added ≡ not (is_some (get nat_eq accounts.old account.now.id))) }
+/// Adds an account with this timestamp after the others, unless its id is there; whether it was added. It is written in
+/// place.
+pub fn push_account(
+    accounts: &mut ById<Account>,
+    event: &Account,
+    timestamp: u64,
+) -> Result<bool, NoMemory>
+    ensures new { IfOk result (λ added. added ≡ not (is_some (get nat_eq accounts.old event.now.id))) }
     ensures added { result ≡ Ok true → accounts.new.entries
-        ≡ accounts.old.entries ++ (account.now.id, account.now) ∷ [] }
+        ≡ accounts.old.entries ++ (event.now.id, record event.now { timestamp = timestamp }) ∷ [] }
     ensures same { result ≢ Ok true → accounts.new.entries ≡ accounts.old.entries }
 {
-    match accounts.entry(account.id)? {
+    match accounts.entry(event.id)? {
         Entry::Occupied(entry) => {
             entry.into_mut();
             Ok(false)
         }
         Entry::Vacant(entry) => {
             let stored = entry.insert(Account::default());
-            *stored = *account;
+            *stored = Account { timestamp, ..*event };
             Ok(true)
         }
     }

@@ -48,6 +48,7 @@ impl Maps {
     ghost use Rattle.tb_tables.specs.Balances.{with_balances as balanced, balanced_account};
     ghost use Rattle.tb_tables.specs.Expiries.{has_pair};
     ghost use Rattle.tb_tables.specs.Changes.{before};
+    ghost use Rattle.tb_tables.specs.Changing.{stamped};
     ghost use Rattle.tb_tables.specs.Conditions.{HasNoBalances, MayAdd, MayResolve};
     ghost use Rattle.tb_tables.specs.Contents.{MayStore, HaveIndices, IsSound, IsUndoable, KeepsPairs, NamesOne, is_resolved_at, is_spent};
 
@@ -73,16 +74,16 @@ impl Maps {
         Ok(())
     }
 
-    /// Adds an account, unless one with its id is there; whether it was added.
-    pub fn add_account(&mut self, account: &Account) -> Result<bool, NoMemory>
-        requires { HasNoBalances account.now }
-        ensures new { IfOk result (λ added. added ≡ not (is_some (account_with self.old.facts account.now.id))) }
+    /// Adds an account with this timestamp, unless one with its id is there; whether it was added.
+    pub fn add_account(&mut self, event: &Account, timestamp: u64) -> Result<bool, NoMemory>
+        requires { HasNoBalances event.now }
+        ensures new { IfOk result (λ added. added ≡ not (is_some (account_with self.old.facts event.now.id))) }
         ensures added { result ≡ Ok true → self.new ≡ record self.old
-            { facts = with_account self.old.facts account.now } }
+            { facts = with_account self.old.facts (record event.now { timestamp = timestamp }) } }
         ensures same { result ≢ Ok true → self.new ≡ self.old }
         ensures sound { IsSound (has_pair self.old.pairs) self.old.facts }
     {
-        if !push_account(&mut self.accounts, account)? {
+        if !push_account(&mut self.accounts, event, timestamp)? {
             return Ok(false);
         }
         Ok(true)
@@ -99,27 +100,34 @@ impl Maps {
         Ok(())
     }
 
-    /// Adds a transfer whose accounts, and whose pending transfer, have these indices, unless one with its id is
-    /// there; whether it was added. When it expires goes into the set first, and out again where it isn't added.
-    pub fn store(&mut self, transfer: &Transfer, indices: Indices) -> Result<bool, NoMemory>
-        requires at { HaveIndices self.old.facts transfer.now indices }
-        requires fits { is_pending transfer.now ≡ true → expires_at transfer.now < 2 ^ 64 }
-        requires may { transfer_with self.old.facts transfer.now.id ≡ None
-            → MayStore self.old.facts transfer.now indices.pending }
-        ensures new { IfOk result (λ added. added ≡ not (is_some (transfer_with self.old.facts transfer.now.id))) }
-        ensures added { result ≡ Ok true → self.new.facts ≡ with_transfer self.old.facts transfer.now }
+    /// Adds a transfer with this timestamp, whose accounts, and whose pending transfer, have these indices, unless one
+    /// with its id is there; whether it was added. When it expires goes into the set first, and out again where it isn't
+    /// added.
+    pub fn store(
+        &mut self,
+        event: &Transfer,
+        timestamp: u64,
+        indices: Indices,
+    ) -> Result<bool, NoMemory>
+        requires at { HaveIndices self.old.facts (stamped timestamp event.now) indices }
+        requires fits { is_pending event.now ≡ true → expires_at (stamped timestamp event.now) < 2 ^ 64 }
+        requires may { transfer_with self.old.facts event.now.id ≡ None
+            → MayStore self.old.facts (stamped timestamp event.now) indices.pending }
+        ensures new { IfOk result (λ added. added ≡ not (is_some (transfer_with self.old.facts event.now.id))) }
+        ensures added { result ≡ Ok true → self.new.facts
+            ≡ with_transfer self.old.facts (stamped timestamp event.now) }
         ensures same { result ≢ Ok true → self.new.facts ≡ self.old.facts }
         ensures pairs { KeepsPairs (length self.old.facts.transfers) (has_pair self.old.pairs)
             (has_pair self.new.pairs) }
         ensures sound { IsSound (has_pair self.old.pairs) self.old.facts }
     {
         let index = self.transfers.len();
-        insert_expiry(&mut self.expiries, transfer, index)?;
-        let added = self.transfers.push(transfer);
+        insert_expiry(&mut self.expiries, event, timestamp, index)?;
+        let added = self.transfers.push(event, timestamp);
         if added == Ok(true) {
-            apply(&mut self.accounts, &mut self.transfers, indices, *transfer);
+            apply(&mut self.accounts, &mut self.transfers, indices, event);
         } else {
-            remove_expiry(&mut self.expiries, transfer, index);
+            remove_expiry(&mut self.expiries, event, timestamp, index);
         }
         added
     }

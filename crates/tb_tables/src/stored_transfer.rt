@@ -25,24 +25,25 @@ const _: () = prove!(size_of::<StoredTransfer>() == 112);
 
 impl StoredTransfer {
     ghost use Rattle.tb_tables.specs.Columns.{transfer_under};
+    ghost use Rattle.tb_tables.specs.Changing.{stamped};
 
-    /// Copies the fields of a transfer, all but its id.
-    pub fn of(transfer: &Transfer) -> StoredTransfer
-        ensures { transfer_under transfer.now.id result ≡ transfer.now }
+    /// Copies the fields of an event, all but its id, with the timestamp at which it is stored.
+    pub fn of(event: &Transfer, timestamp: u64) -> StoredTransfer
+        ensures { transfer_under event.now.id result ≡ stamped timestamp event.now }
     {
         StoredTransfer {
-            debit_account_id: transfer.debit_account_id,
-            credit_account_id: transfer.credit_account_id,
-            amount: transfer.amount,
-            pending_id: transfer.pending_id,
-            user_data_128: transfer.user_data_128,
-            user_data_64: transfer.user_data_64,
-            timestamp: transfer.timestamp,
-            user_data_32: transfer.user_data_32,
-            timeout: transfer.timeout,
-            ledger: transfer.ledger,
-            code: transfer.code,
-            flags: transfer.flags,
+            debit_account_id: event.debit_account_id,
+            credit_account_id: event.credit_account_id,
+            amount: event.amount,
+            pending_id: event.pending_id,
+            user_data_128: event.user_data_128,
+            user_data_64: event.user_data_64,
+            timestamp,
+            user_data_32: event.user_data_32,
+            timeout: event.timeout,
+            ledger: event.ledger,
+            code: event.code,
+            flags: event.flags,
         }
     }
 

@@ -8,7 +8,7 @@ ghost use Rattle.tb_tables.specs.Facts.{Facts};
 ghost use Rattle.tb_tables.specs.Status.{expires_at as expires_at_of};
 ghost use Rattle.tb_tables.specs.Expiries.{is_in_expiries, same_pair};
 ghost use Rattle.tb_tables.specs.Contents.{is_timed as is_timed_of, named_by as named_by_of, resolves_at, is_resolved_at, is_spent as is_spent_at, Contain};
-ghost use Rattle.tb_tables.specs.Changing.{Step, IsBefore, IsAfter, IsStored, IsRemovable, CanRemove, is_open_status};
+ghost use Rattle.tb_tables.specs.Changing.{Step, IsBefore, IsAfter, IsStored, IsRemovable, CanRemove, is_open_status, stamped};
 
 use crate::amounts::{Phase, add_amount, phase_of, post_if, subtract_amount, unpost_if};
 use crate::by_id::ById;
@@ -28,64 +28,66 @@ fn is_timed(transfer: &Transfer) -> bool
     transfer.is_pending() && transfer.timeout != 0
 }
 
-/// When a timed transfer expires, in nanoseconds.
-fn expires_at(transfer: &Transfer) -> u64
-    requires { expires_at_of transfer.now < 2 ^ 64 }
-    ensures { result ≡ expires_at_of transfer.now }
+/// When a timed transfer with this timestamp expires, in nanoseconds.
+fn expires_at(transfer: &Transfer, timestamp: u64) -> u64
+    requires { expires_at_of (stamped timestamp transfer.now) < 2 ^ 64 }
+    ensures { result ≡ expires_at_of (stamped timestamp transfer.now) }
 {
-    transfer.timestamp + u64::from(transfer.timeout) * NANOSECONDS_PER_SECOND
+    timestamp + u64::from(transfer.timeout) * NANOSECONDS_PER_SECOND
 }
 
-/// Puts the pair of a transfer at an index into the set, where it has one.
+/// Puts the pair of a transfer with this timestamp, at an index, into the set, where it has one.
 pub fn insert_expiry(
     expiries: &mut Expiries,
     transfer: &Transfer,
+    timestamp: u64,
     index: usize,
 ) -> Result<(), NoMemory>
-    requires { is_pending transfer.now ≡ true → expires_at_of transfer.now < 2 ^ 64 }
+    requires { is_pending transfer.now ≡ true → expires_at_of (stamped timestamp transfer.now) < 2 ^ 64 }
     ensures ok { OnOk result ((m p : ℕ) → is_in_expiries expiries.new m p
-        ≡ ((is_timed_of transfer.now && same_pair (expires_at_of transfer.now) index m p)
+        ≡ ((is_timed_of transfer.now && same_pair (expires_at_of (stamped timestamp transfer.now)) index m p)
         || is_in_expiries expiries.old m p)) }
     ensures err { OnErr result (expiries.new.keys ≡ expiries.old.keys) }
 {
     if is_timed(transfer) {
-        insert_pair(expiries, expires_at(transfer), index)?;
+        insert_pair(expiries, expires_at(transfer, timestamp), index)?;
     }
     Ok(())
 }
 
-/// Takes the pair of a transfer at an index out of the set again.
-pub fn remove_expiry(expiries: &mut Expiries, transfer: &Transfer, index: usize)
-    requires { is_pending transfer.now ≡ true → expires_at_of transfer.now < 2 ^ 64 }
+/// Takes the pair of a transfer with this timestamp, at an index, out of the set again.
+pub fn remove_expiry(expiries: &mut Expiries, transfer: &Transfer, timestamp: u64, index: usize)
+    requires { is_pending transfer.now ≡ true → expires_at_of (stamped timestamp transfer.now) < 2 ^ 64 }
     ensures { (m p : ℕ) → is_in_expiries expiries.new m p
-        ≡ (not (is_timed_of transfer.now && same_pair (expires_at_of transfer.now) index m p)
+        ≡ (not (is_timed_of transfer.now && same_pair (expires_at_of (stamped timestamp transfer.now)) index m p)
         && is_in_expiries expiries.old m p) }
 {
     if is_timed(transfer) {
-        remove_pair(expiries, expires_at(transfer), index);
+        remove_pair(expiries, expires_at(transfer, timestamp), index);
     }
 }
 
-/// Adds a stored transfer's amounts to its accounts. A post or a void releases what was reserved, and sets the status of
+/// Adds a stored event's amounts to its accounts. A post or a void releases what was reserved, and sets the status of
 /// the transfer that it names.
 pub fn apply(
     accounts: &mut ById<Account>,
     transfers: &mut Transfers,
     indices: Indices,
-    transfer: Transfer,
+    event: &Transfer,
 )
-    requires { (step : Step transfer indices) × IsBefore step accounts.old.entries transfers.old }
-    ensures { (step : Step transfer indices) → IsBefore step accounts.old.entries transfers.old
-        → IsAfter step accounts.new.entries transfers.new }
+    requires { (timestamp : ℕ) × (step : Step (stamped timestamp event.now) indices)
+        × IsBefore step accounts.old.entries transfers.old }
+    ensures { (timestamp : ℕ) (step : Step (stamped timestamp event.now) indices)
+        → IsBefore step accounts.old.entries transfers.old → IsAfter step accounts.new.entries transfers.new }
 {
     match indices.pending {
-        None => add_amount(accounts, indices, phase_of(&transfer), transfer.amount),
+        None => add_amount(accounts, indices, phase_of(event), event.amount),
         Some(pending) => {
             let reserved = transfers
-                .set_status(pending, resolved_status(transfer.is_post()))
+                .set_status(pending, resolved_status(event.is_post()))
                 .amount;
             subtract_amount(accounts, indices, Phase::Pending, reserved);
-            post_if(accounts, indices, transfer.is_post(), transfer.amount);
+            post_if(accounts, indices, event.is_post(), event.amount);
         }
     }
 }
@@ -129,7 +131,7 @@ pub fn undo_transfer(
         && same_pair (expires_at_of transfer) (length facts.transfers) m p) && is_in_expiries expiries.old m p) }
 {
     let transfer = transfers.pop();
-    remove_expiry(expiries, &transfer, transfers.len());
+    remove_expiry(expiries, &transfer, transfer.timestamp, transfers.len());
     unapply(accounts, transfers, indices, transfer);
 }
 
@@ -160,7 +162,8 @@ fn remove_expiry_at(expiries: &mut Expiries, transfers: &Transfers, index: usize
 {
     let row = transfers.row_at(index);
     if is_spent(&row) {
-        remove_pair(expiries, expires_at(&row.transfer), index);
+        let moment = expires_at(&row.transfer, row.transfer.timestamp);
+        remove_pair(expiries, moment, index);
     }
 }
 

@@ -50,6 +50,7 @@ impl Tables {
     ghost use Rattle.tb_tables.specs.Balances.{with_balances as balanced, balanced_account};
     ghost use Rattle.tb_tables.specs.Conditions.{HasNoBalances, MayAdd, MayResolve};
     ghost use Rattle.tb_tables.specs.History.{with_change, mark_of, back_to, without_past};
+    ghost use Rattle.tb_tables.specs.Changing.{stamped};
     ghost use Rattle.tb_tables.specs.Contents.{MayStore, HaveIndices};
 
     /// Tables without facts. Takes no memory.
@@ -86,20 +87,21 @@ impl Tables {
         ensures ok { OnOk result (self.new ≡ with_change self.old (with_account self.old.now account)) }
         ensures err { OnErr result (self.new ≡ self.old) }
     {
-        self.add_new_account(&account)?;
+        self.add_new_account(&account, account.timestamp)?;
         Ok(())
     }
 
-    /// Adds an account after those that are there, with its timestamp and no balances of its own, unless one with its
+    /// Adds an account after those that are there, with this timestamp and no balances of its own, unless one with its
     /// id is there; whether it was added. The id is looked up once. If memory runs out nothing has changed.
-    pub fn add_new_account(&mut self, account: &Account) -> Result<bool, NoMemory>
-        requires { HasNoBalances account.now }
-        ensures new { IfOk result (λ added. added ≡ not (is_some (account_with self.old.now account.now.id))) }
-        ensures added { result ≡ Ok true → self.new ≡ with_change self.old (with_account self.old.now account.now) }
+    pub fn add_new_account(&mut self, event: &Account, timestamp: u64) -> Result<bool, NoMemory>
+        requires { HasNoBalances event.now }
+        ensures new { IfOk result (λ added. added ≡ not (is_some (account_with self.old.now event.now.id))) }
+        ensures added { result ≡ Ok true → self.new ≡ with_change self.old
+            (with_account self.old.now (record event.now { timestamp = timestamp })) }
         ensures same { result ≢ Ok true → self.new ≡ self.old }
     {
         self.changes.reserve(1)?;
-        if !self.maps.add_account(account)? {
+        if !self.maps.add_account(event, timestamp)? {
             return Ok(false);
         }
         note(&mut self.changes, Change::Account);
@@ -118,19 +120,25 @@ impl Tables {
         Ok(())
     }
 
-    /// Adds a transfer whose accounts, and whose pending transfer, have these indices, unless one with its id is
-    /// there; whether it was added.
-    fn store(&mut self, transfer: &Transfer, indices: Indices) -> Result<bool, NoMemory>
-        requires at { HaveIndices self.old.now transfer.now indices }
-        requires fits { is_pending transfer.now ≡ true → expires_at transfer.now < 2 ^ 64 }
-        requires may { transfer_with self.old.now transfer.now.id ≡ None
-            → MayStore self.old.now transfer.now indices.pending }
-        ensures new { IfOk result (λ added. added ≡ not (is_some (transfer_with self.old.now transfer.now.id))) }
-        ensures added { result ≡ Ok true → self.new ≡ with_change self.old (with_transfer self.old.now transfer.now) }
+    /// Adds a transfer with this timestamp, whose accounts, and whose pending transfer, have these indices, unless one
+    /// with its id is there; whether it was added.
+    fn store(
+        &mut self,
+        event: &Transfer,
+        timestamp: u64,
+        indices: Indices,
+    ) -> Result<bool, NoMemory>
+        requires at { HaveIndices self.old.now (stamped timestamp event.now) indices }
+        requires fits { is_pending event.now ≡ true → expires_at (stamped timestamp event.now) < 2 ^ 64 }
+        requires may { transfer_with self.old.now event.now.id ≡ None
+            → MayStore self.old.now (stamped timestamp event.now) indices.pending }
+        ensures new { IfOk result (λ added. added ≡ not (is_some (transfer_with self.old.now event.now.id))) }
+        ensures added { result ≡ Ok true → self.new ≡ with_change self.old
+            (with_transfer self.old.now (stamped timestamp event.now)) }
         ensures same { result ≢ Ok true → self.new ≡ self.old }
     {
         self.changes.reserve(1)?;
-        if !self.maps.store(transfer, indices)? {
+        if !self.maps.store(event, timestamp, indices)? {
             return Ok(false);
         }
         note(&mut self.changes, Change::Transfer(indices));
@@ -144,28 +152,33 @@ impl Tables {
         ensures err { OnErr result (self.new ≡ self.old) }
     {
         let indices = self.maps.indices_of(&transfer);
-        self.store(&transfer, indices)?;
+        self.store(&transfer, transfer.timestamp, indices)?;
         Ok(())
     }
 
-    /// Adds a plain or pending transfer after those that are there, between the accounts at two indices, unless one
-    /// with its id is there; whether it was added. The id is looked up once. If memory runs out nothing has changed.
+    /// Adds a plain or pending transfer after those that are there, with this timestamp, between the accounts at two
+    /// indices, unless one with its id is there; whether it was added. The id is looked up once. If memory runs out
+    /// nothing has changed.
     pub fn add_new_between(
         &mut self,
-        transfer: &Transfer,
+        event: &Transfer,
+        timestamp: u64,
         debit: usize,
         credit: usize,
     ) -> Result<bool, NoMemory>
-        requires fits { is_pending transfer.now ≡ true → expires_at transfer.now < 2 ^ 64 }
-        requires may { transfer_with self.old.now transfer.now.id ≡ None → MayAdd self.old.now transfer.now }
-        requires debit { IsIndexOf self.old.now transfer.now.debit_account_id (Some debit) }
-        requires credit { IsIndexOf self.old.now transfer.now.credit_account_id (Some credit) }
-        ensures new { IfOk result (λ added. added ≡ not (is_some (transfer_with self.old.now transfer.now.id))) }
-        ensures added { result ≡ Ok true → self.new ≡ with_change self.old (with_transfer self.old.now transfer.now) }
+        requires fits { is_pending event.now ≡ true → expires_at (stamped timestamp event.now) < 2 ^ 64 }
+        requires may { transfer_with self.old.now event.now.id ≡ None
+            → MayAdd self.old.now (stamped timestamp event.now) }
+        requires debit { IsIndexOf self.old.now event.now.debit_account_id (Some debit) }
+        requires credit { IsIndexOf self.old.now event.now.credit_account_id (Some credit) }
+        ensures new { IfOk result (λ added. added ≡ not (is_some (transfer_with self.old.now event.now.id))) }
+        ensures added { result ≡ Ok true → self.new ≡ with_change self.old
+            (with_transfer self.old.now (stamped timestamp event.now)) }
         ensures same { result ≢ Ok true → self.new ≡ self.old }
     {
         self.store(
-            transfer,
+            event,
+            timestamp,
             Indices {
                 debit,
                 credit,
@@ -200,7 +213,7 @@ impl Tables {
         ensures same { result ≢ Ok true → self.new ≡ self.old }
     {
         let indices = self.maps.resolved_indices(transfer, pending);
-        self.store(transfer, indices)
+        self.store(transfer, transfer.timestamp, indices)
     }
 
     /// The account with this id, with its balances.

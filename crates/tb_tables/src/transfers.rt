@@ -7,7 +7,7 @@ ghost use Rattle.std.specs.Option.{option_map};
 ghost use Rattle.indexmap.specs.IndexMap.{get, set_value_at};
 ghost use Rattle.tb_tables.specs.declared.row.Row.{Row as RowRecord};
 ghost use Rattle.tb_tables.specs.declared.stored_transfer.StoredTransfer.{StoredTransfer as StoredRecord};
-ghost use Rattle.tb_tables.specs.Changing.{new_row};
+ghost use Rattle.tb_tables.specs.Changing.{new_row, stamped};
 ghost use Rattle.tb_tables.specs.Columns.{transfer_under, status_found};
 
 use crate::by_id::ById;
@@ -40,22 +40,27 @@ impl Model for Transfers {
     ghost invariant = { λ columns. length columns.statuses.items ≡ length columns.rows.entries };
 }
 
-/// Adds a transfer's row after the others, unless its id is there; whether it was added. It is written in place: made
+/// Adds an event's row after the others, unless its id is there; whether it was added. It is written in place: made
 /// before, it would be moved there.
-fn push_row(rows: &mut ById<StoredTransfer>, transfer: &Transfer) -> Result<bool, NoMemory>
-    ensures new { IfOk result (λ added. added ≡ not (is_some (get nat_eq rows.old transfer.now.id))) }
-    ensures added { result ≡ Ok true → (stored : StoredRecord) × (transfer_under transfer.now.id stored ≡ transfer.now)
-        × (rows.new.entries ≡ rows.old.entries ++ (transfer.now.id, stored) ∷ []) }
+fn push_row(
+    rows: &mut ById<StoredTransfer>,
+    event: &Transfer,
+    timestamp: u64,
+) -> Result<bool, NoMemory>
+    ensures new { IfOk result (λ added. added ≡ not (is_some (get nat_eq rows.old event.now.id))) }
+    ensures added { result ≡ Ok true → (stored : StoredRecord)
+        × (transfer_under event.now.id stored ≡ stamped timestamp event.now)
+        × (rows.new.entries ≡ rows.old.entries ++ (event.now.id, stored) ∷ []) }
     ensures same { result ≢ Ok true → rows.new.entries ≡ rows.old.entries }
 {
-    match rows.entry(transfer.id)? {
+    match rows.entry(event.id)? {
         Entry::Occupied(entry) => {
             entry.into_mut();
             Ok(false)
         }
         Entry::Vacant(entry) => {
             let row = entry.insert(StoredTransfer::default());
-            *row = StoredTransfer::of(transfer);
+            *row = StoredTransfer::of(event, timestamp);
             Ok(true)
         }
     }
@@ -88,17 +93,18 @@ impl Transfers {
         self.rows.len()
     }
 
-    /// Adds a transfer after the others, unless its id is there; whether it was added. The id is looked up once.
-    pub fn push(&mut self, transfer: &Transfer) -> Result<bool, NoMemory>
-        ensures new { IfOk result (λ added. added ≡ not (is_some (lookup (nat_eq transfer.now.id) self.old))) }
-        ensures added { result ≡ Ok true → self.new ≡ self.old ++ (transfer.now.id, new_row transfer.now) ∷ [] }
+    /// Adds an event after the others, unless its id is there; whether it was added. The id is looked up once.
+    pub fn push(&mut self, event: &Transfer, timestamp: u64) -> Result<bool, NoMemory>
+        ensures new { IfOk result (λ added. added ≡ not (is_some (lookup (nat_eq event.now.id) self.old))) }
+        ensures added { result ≡ Ok true → self.new
+            ≡ self.old ++ (event.now.id, new_row (stamped timestamp event.now)) ∷ [] }
         ensures same { result ≢ Ok true → self.new ≡ self.old }
     {
         self.statuses.reserve(1)?;
-        if !push_row(&mut self.rows, transfer)? {
+        if !push_row(&mut self.rows, event, timestamp)? {
             return Ok(false);
         }
-        self.statuses.push_reserved(StoredStatus::first(transfer));
+        self.statuses.push_reserved(StoredStatus::first(event));
         Ok(true)
     }
 

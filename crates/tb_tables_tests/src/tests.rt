@@ -154,9 +154,9 @@ fn each_call_by_places(rt: HostRuntime) -> Result<(), Fail> {
 fn adds_a_new_account(tables: &mut Tables) -> Result<(), Fail>
     requires { tables.old ≡ record { now = no_facts; past = [] } }
 {
-    holds(tables.add_new_account(&account(1))?)?;
-    holds(!tables.add_new_account(&account(1))?)?;
-    holds(tables.accounts() == 1)
+    holds(tables.add_new_account(&account(1), 7)?)?;
+    holds(!tables.add_new_account(&account(1), 8)?)?;
+    holds(tables.account(1).map(|stored| stored.timestamp) == Some(7))
 }
 
 fn adds_a_new_transfer(tables: &mut Tables) -> Result<(), Fail>
@@ -164,8 +164,9 @@ fn adds_a_new_transfer(tables: &mut Tables) -> Result<(), Fail>
 {
     tables.add_account(account(1))?;
     tables.add_account(account(2))?;
-    holds(tables.add_new_between(&transfer(1, 100, 0, 0), 0, 1)?)?;
-    holds(!tables.add_new_between(&transfer(1, 100, 0, 0), 0, 1)?)?;
+    holds(tables.add_new_between(&transfer(1, 100, 0, 0), 7, 0, 1)?)?;
+    holds(!tables.add_new_between(&transfer(1, 100, 0, 0), 8, 0, 1)?)?;
+    holds(tables.transfer(1).map(|stored| stored.timestamp) == Some(7))?;
     holds(debits(tables) == Some((0, 100)))
 }
 

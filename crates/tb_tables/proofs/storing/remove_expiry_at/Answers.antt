@@ -5,8 +5,8 @@ use Rattle.tb_tables.proofs.storing.remove_expiry_at.Goals as goal
 pub row_at-row-requires : goal.row_at-row-requires
 row_at-row-requires c = rw (row-there c.requires.2) refl
 
-pub expires_at-requires : goal.expires_at-requires
-expires_at-requires c =
+pub expires_at-moment-requires : goal.expires_at-moment-requires
+expires_at-moment-requires c =
     let same = c.row_at-row.ensures _ _ (row-there c.requires.2) in
     grind (arith, fits c.requires.2, same, c.is_spent.ensures, c.if-is_spent.true)
 
@@ -19,7 +19,7 @@ returns-then-is_spent c =
           (row-there can),
       c.is_spent.ensures,
       c.if-is_spent.true,
-      c.expires_at.ensures,
+      c.expires_at-moment.ensures,
       c.remove_pair.ensures m p,
     )
 

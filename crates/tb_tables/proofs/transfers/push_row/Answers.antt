@@ -6,7 +6,7 @@ use Rattle.tb_tables.proofs.transfers.push_row.Goals as goal
 
 pub returns-in-Occupied-clause-same : goal.returns-in-Occupied-clause-same
 returns-in-Occupied-clause-same c = λ _.
-    let t = c.args.transfer.now in
+    let t = c.args.event.now in
     let old = c.args.rows.now in
     let found : get nat_eq old t.id ≡ Some c.into_mut.result.now = sym
     (rw c.in-Occupied.is at c.in_ok-entry.ensures.value) ∙ c.into_mut.ensures.value in
@@ -15,7 +15,7 @@ returns-in-Occupied-clause-same c = λ _.
 
 pub returns-in-Vacant-clause-added : goal.returns-in-Vacant-clause-added
 returns-in-Vacant-clause-added c = λ _.
-    let t = c.args.transfer.now in
+    let t = c.args.event.now in
     let old = c.args.rows.now in
     let none : get nat_eq old t.id ≡ None = rw c.in-Vacant.is at c.in_ok-entry.ensures.found in (
       c.of.result,

@@ -7,3 +7,6 @@ returns-clause-new c = search rules
 
 pub returns-clause-added : goal.returns-clause-added
 returns-clause-added c = search rules
+
+pub store-requires-clause-may : goal.store-requires-clause-may
+store-requires-clause-may c = rw (← c.self.view_is) c.resolved_indices-indices.ensures.may

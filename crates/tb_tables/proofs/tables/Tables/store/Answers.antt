@@ -1,5 +1,6 @@
 use Rattle.std.proofs.Common.{length, arith, ap, sym, ◌∙◌, ◌≡◌, None, Ok}
 use Rattle.tb_tables.proofs.Words.{has_pair, history_in, transfer_with, with_change}
+use Rattle.tb_tables.specs.Changing.{stamped}
 use Rattle.tb_tables.proofs.LookUps.{none-there}
 use Rattle.tb_tables.proofs.UndoList.{undoable-indexed, transfer-made}
 use Rattle.tb_tables.proofs.tables.Tables.store.Goals as goal
@@ -23,7 +24,7 @@ invariant_of-self-then-not-branch c =
 pub invariant_of-self-2 : goal.invariant_of-self-2
 invariant_of-self-2 c =
     let o = c.self.inside in
-    let t = c.args.transfer.now in
+    let t = stamped c.args.timestamp c.args.event.now in
     let r = rw (← c.self.view_is) at c.requires in
     let none : transfer_with o.maps.facts t.id ≡ None = none-there (transfer_with o.maps.facts t.id)
     (sym (sym c.if-not-branch.false ∙ c.in_ok-store.ensures.new)) in
@@ -34,7 +35,7 @@ invariant_of-self-2 c =
 pub returns-clause-added : goal.returns-clause-added
 returns-clause-added c = λ _.
     let o = c.self.inside in
-    let t = c.args.transfer.now in
+    let t = stamped c.args.timestamp c.args.event.now in
     let r = rw (← c.self.view_is) at c.requires in
     let none : transfer_with o.maps.facts t.id ≡ None = none-there (transfer_with o.maps.facts t.id)
     (sym (sym c.if-not-branch.false ∙ c.in_ok-store.ensures.new)) in

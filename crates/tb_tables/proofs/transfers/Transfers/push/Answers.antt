@@ -1,23 +1,24 @@
 use Rattle.std.proofs.Common.{◌∙◌, ap, ap₂, sym, not, Ok, ◌++◌, ◌∷◌, []}
 use Rattle.tb_tables.proofs.Words.{entries_of}
+use Rattle.tb_tables.specs.Changing.{stamped}
 use Rattle.tb_tables.proofs.Columns.{pushed-entry, told-found}
 use Rattle.tb_tables.proofs.transfers.Transfers.push.Goals as goal
 
 pub returns-then-not-branch-clause-new : goal.returns-then-not-branch-clause-new
 returns-then-not-branch-clause-new c =
     rw (← c.self.view_is) (sym c.if-not-branch.true ∙ c.in_ok-push_row.ensures.new
-    ∙ ap not (sym (told-found c.args.transfer.now.id c.self.inside.rows.entries c.self.inside.statuses.items
+    ∙ ap not (sym (told-found c.args.event.now.id c.self.inside.rows.entries c.self.inside.statuses.items
     c.self.invariant)))
 
 pub returns-clause-new : goal.returns-clause-new
 returns-clause-new c =
     rw (← c.self.view_is) (sym c.if-not-branch.false ∙ c.in_ok-push_row.ensures.new
-    ∙ ap not (sym (told-found c.args.transfer.now.id c.self.inside.rows.entries c.self.inside.statuses.items
+    ∙ ap not (sym (told-found c.args.event.now.id c.self.inside.rows.entries c.self.inside.statuses.items
     c.self.invariant)))
 
 pub returns-clause-added : goal.returns-clause-added
 returns-clause-added c = λ done.
-    let t = c.args.transfer.now in
+    let t = stamped c.args.timestamp c.args.event.now in
     let status = c.first.result in
     let pushed = c.in_ok-push_row.ensures.added (ap Ok c.if-not-branch.false) in
     let statuses = c.push_reserved.ensures.items ∙ ap (λ ss. ss ++ status ∷ []) c.in_ok-reserve.ensures.items in
