@@ -1,13 +1,22 @@
 //! Which packets are admitted.
 
-ghost use Rattle.std.specs.Prelude.{◌≡◌};
+ghost use Rattle.std.specs.Prelude.{◌≡◌, ◌≤◌, Ok, Err, IfOk, OnOk, IfErr, IsOk};
+ghost use Rattle.tb_layout.specs.inside.Limits.{batch_max};
 ghost use Rattle.tb_work.specs.Admission as spec;
 
 use crate::packet::{EVENT_SIZE, Packet};
 use crate::refusal::Refusal;
+use std::marker::Model;
 use tb_layout::{CREATE_ACCOUNTS, CREATE_TRANSFERS, LOOKUP_ACCOUNTS};
 
 const ID_SIZE: usize = 16;
+
+/// Whether packets of an operation are lookups.
+pub fn looks_up(operation: u8) -> bool
+    ensures { result ≡ spec.looks_up operation }
+{
+    operation == LOOKUP_ACCOUNTS
+}
 
 /// How many bytes an event of an operation has. None where there is no such operation.
 fn event_size(operation: u8) -> Option<usize>
@@ -17,7 +26,7 @@ fn event_size(operation: u8) -> Option<usize>
         Some(EVENT_SIZE)
     } else if operation == CREATE_TRANSFERS {
         Some(EVENT_SIZE)
-    } else if operation == LOOKUP_ACCOUNTS {
+    } else if looks_up(operation) {
         Some(ID_SIZE)
     } else {
         None
@@ -42,4 +51,68 @@ pub fn admit(limit: u32, packet: &Packet) -> Result<u32, Refusal>
         return Err(Refusal::TooMuchData);
     }
     Ok(count as u32)
+}
+
+/// A packet that was admitted, with its number of events. A contract sees it as its packet.
+#[derive(Drop)]
+pub struct AdmittedPacket {
+    packet: Packet,
+    count: u32,
+}
+
+impl Model for AdmittedPacket {
+    ghost use Rattle.std.specs.Prelude.{◌≡◌, Ok};
+    ghost use Rattle.tb_layout.specs.inside.Limits.{batch_max};
+    ghost use Rattle.tb_work.specs.Admission.{admission_of};
+    ghost use Rattle.tb_work.specs.declared.packet.Packet.{Packet};
+
+    ghost Value = { Packet };
+
+    ghost view = { λ admitted. admitted.packet };
+
+    ghost invariant = { λ admitted. admission_of batch_max admitted.packet ≡ Ok admitted.count };
+}
+
+impl AdmittedPacket {
+    /// Its number of events.
+    pub fn count(&self) -> u32
+        ensures { spec.admission_of batch_max self.now ≡ Ok result }
+    {
+        self.count
+    }
+
+    /// The packet as it was handed in.
+    pub fn packet(&self) -> &Packet
+        ensures packet { result.now ≡ self.now }
+        ensures admitted { IsOk (spec.admission_of batch_max self.now) }
+    {
+        &self.packet
+    }
+
+    /// The packet as it was handed in.
+    pub fn into_packet(self) -> Packet
+        ensures { result ≡ self }
+    {
+        let AdmittedPacket { packet, count: _ } = self;
+        packet
+    }
+}
+
+impl Packet {
+    /// The packet as one that `admit` admits under the limit, at most 8190 events. If it refuses it, the packet is returned
+    /// as it was.
+    pub fn admitted(self, limit: u32) -> Result<AdmittedPacket, (Packet, Refusal)>
+        requires { limit ≤ batch_max }
+        ensures packet { IfOk result (λ admitted. admitted ≡ self) }
+        ensures admitted { OnOk result (IsOk (spec.admission_of limit self)) }
+        ensures refused { IfErr result (λ refused. (refused.0 ≡ self) × (spec.admission_of limit self ≡ Err refused.1)) }
+    {
+        match admit(limit, &self) {
+            Ok(count) => Ok(AdmittedPacket {
+                packet: self,
+                count,
+            }),
+            Err(refusal) => Err((self, refusal)),
+        }
+    }
 }

@@ -23,7 +23,7 @@ mod refusal;
 mod reply;
 mod stub;
 
-pub use admission::admit;
+pub use admission::{AdmittedPacket, admit, looks_up};
 pub use bytes::Bytes;
 pub use item::{Item, Ticket};
 pub use job::Job;
