@@ -17,25 +17,6 @@ use Rattle.tb_submit.proofs.ReplyRefusals.{told_more}
 
 -- ---- a packet queued
 
-or_none : (first other : Option Refusal) → or_else first other ≡ None → other ≡ None
-or_none None other none = none
-or_none (Some refusal) other none = cc
-
-apart : (b : Bool) → (if b then Some InFlight else None) ≡ None → b ≡ false
-apart true none = cc
-apart false none = refl
-
--- where no refusal is due, the credit allows one packet more
-pub credit_left : (s : SubmitterState) (packet : PacketValue) → submit_refusal s packet ≡ None
-    → in_flight s ≤ s.credit → in_flight s < s.credit
-credit_left s packet none most =
-    let told = told_in s.read in
-    let refused = refusal_in (admission_of s.origin.seat.limit packet) in
-    let full = if in_flight s == s.credit then Some InFlight else None in
-    let other : in_flight s ≢ s.credit = eqb-false (in_flight s) s.credit
-    (apart (in_flight s == s.credit) (or_none refused full (or_none told (or_else refused full) none))) in
-    omega (arith, most, other)
-
 pub counts_packet : (seat : Seat) (queued : List Item) (count credit seen : ℕ) (first : Option Refusal)
     (read : List ReplyValue) (job : Numbered) → IsSubmitter seat queued count credit seen first read →
     job.submitter ≡ seat.number → job.number ≡ count → IsOk (admission_of seat.limit job.packet)

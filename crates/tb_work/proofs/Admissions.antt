@@ -1,5 +1,5 @@
 -- What admission says of a packet.
-use Rattle.std.proofs.Common.{◌≡◌, ◌≤◌, ℕ, ◌*◌, ◌/◌, ◌%◌, Bool, true, false, not, List, length, Option, Some, None, refl, arith, subst, sym}
+use Rattle.std.proofs.Common.{◌≡◌, ◌≤◌, ℕ, ◌*◌, ◌/◌, ◌%◌, Bool, true, false, not, List, length, Option, Some, None, refl, arith, subst}
 use Rattle.std.specs.Prelude.{◌==◌, nat_lt, Result, Ok, Err, IsOk, IsSome, unwrap_or, if◌then◌else◌, ⊤}
 use Rattle.std.proofs.lemmas.Nat.{div-add-mod'}
 use Rattle.std.proofs.lemmas.Bool.{eqb-true}

@@ -11,7 +11,7 @@ use tb_layout::{CREATE_ACCOUNTS, CREATE_TRANSFERS, LOOKUP_ACCOUNTS};
 
 const ID_SIZE: usize = 16;
 
-/// Whether packets of an operation are lookups.
+/// Says whether packets of an operation are lookups.
 pub fn looks_up(operation: u8) -> bool
     ensures { result ≡ spec.looks_up operation }
 {
@@ -74,22 +74,22 @@ impl Model for AdmittedPacket {
 }
 
 impl AdmittedPacket {
-    /// Its number of events.
-    pub fn count(&self) -> u32
+    /// Returns its number of events.
+    pub(crate) fn count(&self) -> u32
         ensures { spec.admission_of batch_max self.now ≡ Ok result }
     {
         self.count
     }
 
-    /// The packet as it was handed in.
-    pub fn packet(&self) -> &Packet
+    /// Reads the packet.
+    pub(crate) fn packet(&self) -> &Packet
         ensures packet { result.now ≡ self.now }
         ensures admitted { IsOk (spec.admission_of batch_max self.now) }
     {
         &self.packet
     }
 
-    /// The packet as it was handed in.
+    /// Returns the packet as it was handed in.
     pub fn into_packet(self) -> Packet
         ensures { result ≡ self }
     {
@@ -99,8 +99,9 @@ impl AdmittedPacket {
 }
 
 impl Packet {
-    /// The packet as one that `admit` admits under the limit, at most 8190 events. If it refuses it, the packet is returned
-    /// as it was.
+    /// Takes the packet as one that `admit` admits under a limit, at most 8190 events.
+    ///
+    /// Errors: the packet as it was, with the refusal of `admit`.
     pub fn admitted(self, limit: u32) -> Result<AdmittedPacket, (Packet, Refusal)>
         requires { limit ≤ batch_max }
         ensures packet { IfOk result (λ admitted. admitted ≡ self) }

@@ -76,9 +76,9 @@ impl Job {
     ghost use Rattle.tb_work.specs.Admission.{count_of};
     ghost use Rattle.tb_work.specs.Job.{stub_of, is_lookup, is_open, numbered_packet};
 
-    /// The packet as this submitter's packet of this number, with room for as many failures as it has events. If it
-    /// isn't admitted under the limit, at most 8190 events, or memory runs out, it is returned as it was. It costs that
-    /// room, which for up to two events is in the job itself, and which a lookup hasn't.
+    /// Makes a job of a packet that is admitted under the limit, at most 8190 events, as `of` does.
+    ///
+    /// Errors: the packet as it was, with the refusal of `admit` or of `of`.
     pub fn new(
         alloc: Global,
         submitter: u32,
@@ -98,11 +98,10 @@ impl Job {
         Job::of(alloc, submitter, number, packet.admitted(limit)?)
     }
 
-    /// The admitted packet as this submitter's packet of this number, with room for as many failures as it has events.
-    /// If memory runs out, the packet is returned as it was. The room for up to two events is in the job itself, and a
-    /// lookup has none.
+    /// Makes a submitter's job of this number, with room for as many failures as the packet has events. It costs that
+    /// room, which for up to two events is in the job itself, and which a lookup hasn't.
     ///
-    /// Errors: `NoMemory`.
+    /// Errors: the packet as it was, with `NoMemory`.
     pub fn of(
         alloc: Global,
         submitter: u32,

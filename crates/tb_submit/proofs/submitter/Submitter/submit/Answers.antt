@@ -1,5 +1,4 @@
-use Rattle.std.proofs.Common.{◌≡◌, ◌≢◌, ◌<◌, ◌-◌, ◌+◌, ap, arith, length, subst, sym, ◌∙◌}
-use Rattle.std.proofs.lemmas.Bool.{eqb-false}
+use Rattle.std.proofs.Common.{◌≡◌, ◌<◌, ◌-◌, ◌+◌, ap, arith, length, subst, sym, ◌∙◌}
 use Rattle.tb_work.specs.Admission.{admission_of}
 use Rattle.tb_work.specs.Packet.{Numbered}
 use Rattle.tb_rings.specs.Ends.{taken}
@@ -18,9 +17,8 @@ invariant_of-self g c =
     let packet = c.in_ok-admitted.ensures.packet in
     let flying : c.in_flight.result ≡ length before.sender.queued - length (taken before.inlet) =
     c.in_flight.ensures.value ∙ ap in_flight (sym c.self.view_is) in
-    let full : c.in_flight.result ≢ before.credit = eqb-false _ _ c.if-in_flight-self.false in
     let left : length before.sender.queued - length (taken before.inlet) < before.credit = omega
-    (arith, flying, full, c.self.invariant.credited) in
+    (arith, flying, c.if-in_flight-self.false, c.self.invariant.credited) in
     subst (λ (s : SenderState). IsSubmitter s.seat s.queued
     (before.queued + 1) before.credit before.read before.told (taken before.inlet)) (sym c.in-Ok.ensures.ok)
     (counts_packet _ _ _ _ _ _ _ job c.self.invariant (ap (λ (j : Numbered). j.submitter) made ∙ c.number.ensures)
