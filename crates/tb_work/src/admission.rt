@@ -1,6 +1,6 @@
 //! Which packets are admitted.
 
-ghost use Rattle.std.specs.Prelude.{◌≡◌, ◌≤◌, Ok, Err, IfOk, OnOk, IfErr, IsOk};
+ghost use Rattle.std.specs.Prelude.{◌≡◌, Ok, IsOk};
 ghost use Rattle.tb_layout.specs.inside.Limits.{batch_max};
 ghost use Rattle.tb_work.specs.Admission as spec;
 
@@ -56,8 +56,8 @@ pub fn admit(limit: u32, packet: &Packet) -> Result<u32, Refusal>
 /// A packet that was admitted, with its number of events. A contract sees it as its packet.
 #[derive(Drop)]
 pub struct AdmittedPacket {
-    packet: Packet,
-    count: u32,
+    pub(crate) packet: Packet,
+    pub(crate) count: u32,
 }
 
 impl Model for AdmittedPacket {
@@ -95,25 +95,5 @@ impl AdmittedPacket {
     {
         let AdmittedPacket { packet, count: _ } = self;
         packet
-    }
-}
-
-impl Packet {
-    /// Takes the packet as one that `admit` admits under a limit, at most 8190 events.
-    ///
-    /// Errors: the packet as it was, with the refusal of `admit`.
-    pub fn admitted(self, limit: u32) -> Result<AdmittedPacket, (Packet, Refusal)>
-        requires { limit ≤ batch_max }
-        ensures packet { IfOk result (λ admitted. admitted ≡ self) }
-        ensures admitted { OnOk result (IsOk (spec.admission_of limit self)) }
-        ensures refused { IfErr result (λ refused. (refused.0 ≡ self) × (spec.admission_of limit self ≡ Err refused.1)) }
-    {
-        match admit(limit, &self) {
-            Ok(count) => Ok(AdmittedPacket {
-                packet: self,
-                count,
-            }),
-            Err(refusal) => Err((self, refusal)),
-        }
     }
 }
