@@ -1,17 +1,14 @@
 -- A submitter's counts, one step after the other.
-use Rattle.std.proofs.Common.{◌≡◌, ◌≢◌, ◌<◌, ◌≤◌, ℕ, ◌+◌, ◌-◌, min, Bool, true, false, true≢false, List, [], ◌∷◌, ◌++◌, length, length-append, sym, refl, ap, ◌∙◌, arith, Some, None, Option, ◌==◌, is_some}
-use Rattle.std.specs.Prelude.{IsOk, if◌then◌else◌}
-use Rattle.std.proofs.lemmas.Bool.{eqb-false}
+use Rattle.std.proofs.Common.{◌≡◌, ◌<◌, ℕ, ◌+◌, ◌-◌, min, true, false, true≢false, List, [], ◌∷◌, ◌++◌, length, length-append, sym, refl, ap, ◌∙◌, arith, Some, None, Option, is_some}
+use Rattle.std.specs.Prelude.{IsOk}
 use Rattle.tb_work.specs.Admission.{admission_of}
 use Rattle.tb_work.specs.Packet.{Numbered, ReplyValue}
 use Rattle.tb_work.specs.declared.item.Item.{Item}
 use Rattle.tb_work.specs.declared.item.Item.TheVariants.{Packet}
-use Rattle.tb_work.specs.declared.packet.Packet.{Packet as PacketValue}
 use Rattle.tb_work.specs.declared.refusal.Refusal.{Refusal}
-use Rattle.tb_work.specs.declared.refusal.Refusal.TheVariants.{InFlight}
-use Rattle.tb_submit.specs.Ends.{Seat, SubmitterState}
+use Rattle.tb_submit.specs.Ends.{Seat}
 use Rattle.tb_submit.specs.Inside.{IsSubmitter}
-use Rattle.tb_submit.specs.Refusals.{in_flight, or_else, refusal_in, submit_refusal, told_by, told_in}
+use Rattle.tb_submit.specs.Refusals.{or_else, told_by}
 use Rattle.tb_submit.proofs.QueuedItems.{packets_more}
 use Rattle.tb_submit.proofs.ReplyRefusals.{told_more}
 

@@ -3,7 +3,7 @@ use Rattle.tb_work.specs.Admission.{admission_of}
 use Rattle.tb_work.specs.Packet.{Numbered}
 use Rattle.tb_rings.specs.Ends.{taken}
 use Rattle.std.specs.Prelude.{IsOk}
-use Rattle.tb_submit.specs.Ends.{SenderState, SubmitterState}
+use Rattle.tb_submit.specs.Ends.{SenderState}
 use Rattle.tb_submit.specs.Inside.{IsSubmitter}
 use Rattle.tb_submit.specs.Refusals.{in_flight}
 use Rattle.tb_submit.proofs.SubmitterCounts.{counts_packet}
