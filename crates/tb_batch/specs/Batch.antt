@@ -1,12 +1,11 @@
 -- A batch.
-use Rattle.std.specs.Prelude.{◌≡◌, ◌==◌, ◌<◌, ◌≤◌, ℕ, Bool, true, false, List, [], ◌∷◌, length, map, IsOk, Vec, vec_capacity}
+use Rattle.std.specs.Prelude.{◌≡◌, ◌<◌, ◌≤◌, ℕ, Bool, true, false, List, [], ◌∷◌, length, map, IsOk, Vec, vec_capacity}
 use Rattle.std.specs.List.{flat_map, list_all, AllByRecursion}
 use Rattle.std.specs.declared.alloc.Global.{Global}
 use Rattle.tb_layout.specs.inside.Limits.{batch_max}
-use Rattle.tb_layout.specs.inside.Events.{lookup_accounts}
 use Rattle.tb_layout.specs.declared.account.Account.{Account}
 use Rattle.tb_layout.specs.declared.failure.Failure.{Failure}
-use Rattle.tb_work.specs.Admission.{admission_of}
+use Rattle.tb_work.specs.Admission.{admission_of, looks_up}
 use Rattle.tb_work.specs.Packet.{Numbered}
 use Rattle.tb_work.specs.Job.{count_of_all, stub_of}
 use Rattle.tb_batch.specs.declared.parts.Parts.{Parts}
@@ -33,8 +32,8 @@ pub record IsLawful (operation : ℕ) (jobs : List Numbered) : Type 0 where
 pub record HasRoom (operation count : ℕ) (failures : Vec Failure Global) (accounts : Vec Account Global) : Type 0 where
   pub no_failures : failures.items ≡ []
   pub no_accounts : accounts.items ≡ []
-  pub for_failures : (operation == lookup_accounts) ≡ false → count ≤ vec_capacity failures
-  pub for_accounts : (operation == lookup_accounts) ≡ true → count ≤ vec_capacity accounts
+  pub for_failures : looks_up operation ≡ false → count ≤ vec_capacity failures
+  pub for_accounts : looks_up operation ≡ true → count ≤ vec_capacity accounts
 
 -- the parts of one batch: the stubs and the body are those of its jobs
 pub record AreParts (parts : Parts) : Type 0 where

@@ -12,8 +12,8 @@ use crate::parts::Parts;
 use crate::size::Size;
 use std::alloc::Global;
 use std::marker::Model;
-use tb_layout::{LOOKUP_ACCOUNTS, NoMemory};
-use tb_work::Job;
+use tb_layout::NoMemory;
+use tb_work::{Job, looks_up};
 
 /// A batch that packets may still join, seen as its jobs in order.
 #[derive(Drop)]
@@ -39,7 +39,7 @@ impl Model for Group {
 fn can_share(job: &Job) -> bool
     ensures { result ≡ can_share job.now }
 {
-    !job.is_open() && job.packet().operation != LOOKUP_ACCOUNTS
+    !job.is_open() && !looks_up(job.packet().operation)
 }
 
 impl Group {

@@ -1,15 +1,15 @@
 //! What a batch is made of.
 
-ghost use Rattle.std.specs.Prelude.{◌≡◌, ◌==◌, ◌+◌, ◌<◌, ◌≤◌, ◌++◌, ◌∷◌, [], true, false, length, vec_len, vec_capacity, IsOk, OnOk};
+ghost use Rattle.std.specs.Prelude.{◌≡◌, ◌+◌, ◌<◌, ◌≤◌, ◌++◌, ◌∷◌, [], true, false, length, vec_len, vec_capacity, IsOk, OnOk};
 ghost use Rattle.tb_layout.specs.inside.Limits.{batch_max};
-ghost use Rattle.tb_layout.specs.inside.Events.{lookup_accounts};
+ghost use Rattle.tb_work.specs.Admission as spec;
 ghost use Rattle.tb_work.specs.Admission.{admission_of};
 ghost use Rattle.tb_work.specs.Job.{stub_of};
 
 use crate::size::Size;
 use std::alloc::Global;
-use tb_layout::{Account, Failure, LOOKUP_ACCOUNTS, NoMemory};
-use tb_work::{Job, Stub};
+use tb_layout::{Account, Failure, NoMemory};
+use tb_work::{Job, Stub, looks_up};
 
 /// A group that others may join has room for at least these numbers of jobs and failures.
 const FIRST_PACKETS: usize = 16;
@@ -73,15 +73,15 @@ impl Parts {
         ensures room_for_job { OnOk result ((vec_len self.new.jobs < vec_capacity self.new.jobs)
             × (vec_len self.new.stubs < vec_capacity self.new.stubs)
             × (vec_len self.new.body + length job.now.packet.bytes ≤ vec_capacity self.new.body)) }
-        ensures room_for_failures { OnOk result ((self.old.operation == lookup_accounts) ≡ false
+        ensures room_for_failures { OnOk result (spec.looks_up self.old.operation ≡ false
             → events ≤ vec_capacity self.new.failures) }
-        ensures room_for_accounts { OnOk result ((self.old.operation == lookup_accounts) ≡ true
+        ensures room_for_accounts { OnOk result (spec.looks_up self.old.operation ≡ true
             → events ≤ vec_capacity self.new.accounts) }
     {
         self.jobs.reserve(1)?;
         self.stubs.reserve(1)?;
         self.body.reserve(job.packet().bytes.as_slice().len())?;
-        if self.operation == LOOKUP_ACCOUNTS {
+        if looks_up(self.operation) {
             self.accounts.reserve(events as usize)?;
         } else {
             self.failures.reserve(events as usize)?;

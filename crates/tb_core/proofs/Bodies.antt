@@ -1,18 +1,16 @@
 -- The events of a batch's body.
-use Rattle.std.proofs.Common.{refl, sym, ap, subst, ◌∙◌, arith, ◌≡◌, ◌≤◌, ℕ, zero, suc, ◌+◌, ◌*◌, ◌/◌, ◌%◌, Bool, true, false, not, List, [], ◌∷◌, ◌++◌, map, drop, length, length-append, Some}
-use Rattle.std.specs.Prelude.{◌==◌, IsOk, Result, Err, unwrap_or, if◌then◌else◌}
+use Rattle.std.proofs.Common.{refl, sym, ap, subst, ◌∙◌, arith, ◌≡◌, ◌≤◌, ℕ, zero, suc, ◌+◌, ◌*◌, ◌/◌, true, List, [], ◌∷◌, ◌++◌, map, drop, length, length-append, Some}
+use Rattle.std.specs.Prelude.{◌==◌, IsOk, unwrap_or}
 use Rattle.std.specs.Simd.{first_chunks}
-use Rattle.std.proofs.lemmas.Nat.{div-add-mod'}
 use Rattle.std.proofs.lemmas.List.{map-append, take-append-le, drop-append-le, length-drop}
 use Rattle.std.proofs.Math.Seq.{take-append_seam, drop-append_seam}
 use Rattle.std.proofs.lemmas.Bool.{eqb-true, and_parts}
 use Rattle.tb_layout.specs.Events.{chunks}
-use Rattle.tb_work.specs.Admission.{event_size, admission_of, admission_of_size, count_of, count_of_size}
+use Rattle.tb_work.proofs.Admissions.{admitted_are_whole}
+use Rattle.tb_work.specs.Admission.{event_size, admission_of, count_of, count_of_size}
 use Rattle.tb_work.specs.Packet.{Numbered, input_of}
 use Rattle.tb_work.specs.Job.{stub_of}
 use Rattle.tb_work.specs.declared.packet.Packet.{Packet}
-use Rattle.tb_work.specs.declared.refusal.Refusal.{Refusal}
-use Rattle.tb_work.specs.declared.refusal.Refusal.TheVariants.{InvalidDataSize}
 use Rattle.tb_batch.specs.Grouping.{are_of}
 use Rattle.tb_batch.specs.Batch.{body_of, AreAdmitted}
 use Rattle.tb_machine.specs.Joining.{events_in_turn}
@@ -46,20 +44,12 @@ chunks-append_128 xs ys whole =
 
 -- ---- packets that were admitted
 
-not_refused : (b : Bool) (refusal : Refusal) (rest : Result ℕ Refusal)
-    → IsOk (if not b then Err refusal else rest) → b ≡ true
-not_refused true refusal rest ok = refl
-not_refused false refusal rest ok = cc
-
 -- the data is whole events
 pub whole_events : (packet : Packet) (size : ℕ) → event_size packet.operation ≡ Some size
     → IsOk (admission_of 8190 packet) → length packet.bytes / size * size ≡ length packet.bytes
 whole_events packet size is ok =
-    let count = length packet.bytes in
-    let whole : count % size ≡ 0 = eqb-true (count % size) 0
-    (not_refused (count % size == 0) InvalidDataSize _
-    (subst (λ s. IsOk (admission_of_size 8190 packet.bytes s)) is ok)) in
-    omega (arith, whole, div-add-mod' count size)
+    subst (λ s. count_of_size packet.bytes s * unwrap_or s 0 ≡ length packet.bytes) is
+    (admitted_are_whole 8190 packet.bytes (event_size packet.operation) ok).whole
 
 -- its operation, of a batch's first packet
 pub first_is : (operation : ℕ) (job : Numbered) (jobs : List Numbered) → are_of operation (job ∷ jobs) ≡ true

@@ -1,8 +1,7 @@
 -- What a run that has ended did.
-use Rattle.std.proofs.Common.{refl, sym, ap, subst, ◌∙◌, arith, ◌≡◌, ◌<◌, ◌≤◌, ℕ, zero, suc, ◌/◌, Bool, true, false, true≢false, List, [], ◌∷◌, ◌++◌, append-nil, length, map, nat_lt, drop}
-use Rattle.std.specs.Prelude.{◌==◌, ◌%◌, not, IsOk, Result, Ok, Err, Some, None, if◌then◌else◌}
+use Rattle.std.proofs.Common.{refl, sym, ap, subst, ◌∙◌, arith, ◌≡◌, ◌<◌, ◌≤◌, ℕ, zero, suc, ◌/◌, Bool, true, false, true≢false, List, [], ◌∷◌, ◌++◌, append-nil, length, map, drop}
+use Rattle.std.specs.Prelude.{◌==◌, IsOk, Some, None, if◌then◌else◌}
 use Rattle.std.specs.Simd.{first_chunks}
-use Rattle.std.proofs.lemmas.Bool.Decides.{nat_tests}
 use Rattle.std.proofs.lemmas.List.{length-map}
 use Rattle.std.proofs.lemmas.Grind.{flat_map-append}
 use Rattle.tb_layout.specs.Events.{Input, Accounts, Transfers, Ids, accounts_of, transfers_of, ids_of, chunks}
@@ -10,6 +9,7 @@ use Rattle.tb_layout.specs.Account.{account_of}
 use Rattle.tb_layout.specs.Bytes.{little_endian}
 use Rattle.tb_layout.specs.Transfer.{transfer_of}
 use Rattle.tb_layout.specs.inside.Events.{count_of}
+use Rattle.tb_work.proofs.Admissions.{admitted_are_whole}
 use Rattle.tb_work.specs.Admission.{admission_of, admission_of_size}
 use Rattle.tb_work.specs.Packet.{events_in, ReplyValue}
 use Rattle.tb_work.specs.Queue.{ahead, ahead_of, items_in}
@@ -17,8 +17,6 @@ use Rattle.tb_work.specs.declared.item.Item.{Item}
 use Rattle.tb_work.specs.declared.item.Item.TheVariants as item
 use Rattle.tb_work.specs.declared.item.Ticket.{Ticket}
 use Rattle.tb_work.specs.declared.packet.Packet.{Packet}
-use Rattle.tb_work.specs.declared.refusal.Refusal.{Refusal}
-use Rattle.tb_work.specs.declared.refusal.Refusal.TheVariants.{InvalidDataSize, TooMuchData}
 use Rattle.tb_core.specs.declared.parcel.Parcel.{Parcel}
 use Rattle.tb_core.specs.declared.parcel.Parcel.TheVariants as parcel
 use Rattle.tb_core.specs.declared.outcomes.Outcomes.{Outcomes}
@@ -80,22 +78,11 @@ length-chunks : (size n : ℕ) (bytes : List ℕ) → length (first_chunks size 
 length-chunks size zero bytes = refl
 length-chunks size (suc n) bytes = ap suc (length-chunks size n (drop size bytes))
 
-abbrev result_of : Result ℕ Refusal → Result ℕ Refusal
-result_of result = result
-
 few : (limit : ℕ) (bytes : List ℕ) (size : ℕ) → IsOk (admission_of_size limit bytes (Some size))
     → length (chunks size bytes) ≤ limit
-few limit bytes size ok = by (not (length bytes % size == 0)) (nat_lt limit (length bytes / size)) refl ok
-  where
-    below : nat_lt limit (length bytes / size) ≡ false → length bytes / size ≤ limit
-    below is = grind (arith, nat_tests)
-
-    by : (odd above : Bool) → nat_lt limit (length bytes / size) ≡ above →
-        IsOk (result_of (if odd then Err InvalidDataSize else if above then Err TooMuchData
-        else Ok (length bytes / size))) → length (chunks size bytes) ≤ limit
-    by true above is ok = absurd (true≢false (sym ok))
-    by false true is ok = absurd (true≢false (sym ok))
-    by false false is ok = subst (λ n. n ≤ limit) (sym (length-chunks size (length bytes / size) bytes)) (below is)
+few limit bytes size ok =
+    subst (λ n. n ≤ limit) (sym (length-chunks size (length bytes / size) bytes))
+    (admitted_are_whole limit bytes (Some size) ok).few
 
 few_mapped : {A : Type 0} (limit : ℕ) (f : List ℕ → A) (all : List (List ℕ)) → length all ≤ limit
     → length (map f all) ≤ limit

@@ -1,8 +1,9 @@
 -- Why packets are refused.
 use Rattle.std.proofs.Common.{◌≡◌, ◌∙◌, ◌⊎◌, inl, inr, ⊎_elim, ℕ, Bool, true, false, List, [], ◌∷◌, ◌++◌, Option, Some, None, refl, sym, ap, subst}
-use Rattle.std.specs.Prelude.{◌==◌, ◌/◌, ◌%◌, not, nat_lt, length, Result, Ok, Err, IsOk, if◌then◌else◌}
+use Rattle.std.specs.Prelude.{Result, Ok, Err, IsOk}
 use Rattle.tb_submit.specs.Refusals.{IsRefusal, TakesMemory, or_else, refusal_in, told_by, told_in}
-use Rattle.tb_work.specs.Admission.{admission_of, admission_of_size, event_size}
+use Rattle.tb_work.proofs.Admissions.{IsOfAdmission, of_admission}
+use Rattle.tb_work.specs.Admission.{admission_of, event_size}
 use Rattle.tb_work.specs.Packet.{ReplyValue}
 use Rattle.tb_work.specs.declared.outcome.Outcome.{Outcome}
 use Rattle.tb_work.specs.declared.outcome.Outcome.TheVariants as outcome
@@ -48,35 +49,12 @@ told_longer (reply ∷ read) more refusal is =
 
 -- ---- what admission says
 
--- the three refusals of an admission
-data IsOfAdmission : Refusal → Type 0 where
-  OfOperation : IsOfAdmission refusals.InvalidOperation
-  OfSize : IsOfAdmission refusals.InvalidDataSize
-  OfCount : IsOfAdmission refusals.TooMuchData
-
-same_refusal : (result : Result ℕ Refusal) (one other : Refusal) → result ≡ Err one → result ≡ Err other → one ≡ other
-same_refusal result one other is also = cc
-
-of_admission : (limit : ℕ) (bytes : List ℕ) (size : Option ℕ) (refusal : Refusal)
-    → admission_of_size limit bytes size ≡ Err refusal → IsOfAdmission refusal
-of_admission limit bytes None refusal is =
-    subst IsOfAdmission (same_refusal (Err refusals.InvalidOperation) refusals.InvalidOperation refusal refl is) OfOperation
-of_admission limit bytes (Some size) refusal is =
-    by (length bytes % size == 0) (nat_lt limit (length bytes / size)) is
-  where
-    by : (whole much : Bool) → (if not whole then Err refusals.InvalidDataSize
-        else if much then Err refusals.TooMuchData else Ok (length bytes / size)) ≡ Err refusal → IsOfAdmission refusal
-    by false much is =
-        subst IsOfAdmission (same_refusal (Err refusals.InvalidDataSize) refusals.InvalidDataSize refusal refl is) OfSize
-    by true true is =
-        subst IsOfAdmission (same_refusal (Err refusals.TooMuchData) refusals.TooMuchData refusal refl is) OfCount
-    by true false is = cc
-
 not_admitted : (limit : ℕ) (read : List ReplyValue) (packet : Packet) (refusal : Refusal) → IsOfAdmission refusal
     → admission_of limit packet ≡ Err refusal → IsRefusedFor limit read packet refusal
-not_admitted limit read packet refusal OfOperation is = is
-not_admitted limit read packet refusal OfSize is = is
-not_admitted limit read packet refusal OfCount is = is
+not_admitted limit read packet refusals.NoMemory of_it is = absurd of_it
+not_admitted limit read packet refusals.Shutdown of_it is = absurd of_it
+not_admitted limit read packet refusals.Stopped of_it is = absurd of_it
+not_admitted limit read packet other of_it is = is
 
 -- ---- both
 

@@ -85,10 +85,11 @@ impl Sleeper {
         })
     }
 
-    /// Yields once, or sleeps until a waker is used, once it has yielded long enough. If a waker was used since the
-    /// last sleep, it doesn't sleep. It may return early, so the caller looks again at what it waits for.
+    /// Yields once, or sleeps until a waker is used, once it has yielded long enough. It may return early, so the caller
+    /// looks again at what it waits for.
     ///
-    /// What is changed before a call of `wake` is seen after the sleep, so no change is missed.
+    /// Tested, not proved: a waker that was used since the last sleep keeps the next from starting. What was changed before
+    /// the waker was used is then seen.
     pub fn wait<R: Wait>(&self, rt: &R, spin: &SpinWait) {
         if !spin.pause() {
             self.parker.park(rt);

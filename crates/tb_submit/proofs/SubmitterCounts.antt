@@ -1,40 +1,18 @@
 -- A submitter's counts, one step after the other.
-use Rattle.std.proofs.Common.{◌≡◌, ◌≢◌, ◌<◌, ◌≤◌, ℕ, ◌+◌, ◌-◌, min, Bool, true, false, true≢false, List, [], ◌∷◌, ◌++◌, length, length-append, sym, refl, ap, ◌∙◌, arith, Some, None, Option, ◌==◌, is_some}
-use Rattle.std.specs.Prelude.{IsOk, if◌then◌else◌}
-use Rattle.std.proofs.lemmas.Bool.{eqb-false}
+use Rattle.std.proofs.Common.{◌≡◌, ◌<◌, ℕ, ◌+◌, ◌-◌, min, true, false, true≢false, List, [], ◌∷◌, ◌++◌, length, length-append, sym, refl, ap, ◌∙◌, arith, Some, None, Option, is_some}
+use Rattle.std.specs.Prelude.{IsOk}
 use Rattle.tb_work.specs.Admission.{admission_of}
 use Rattle.tb_work.specs.Packet.{Numbered, ReplyValue}
 use Rattle.tb_work.specs.declared.item.Item.{Item}
 use Rattle.tb_work.specs.declared.item.Item.TheVariants.{Packet}
-use Rattle.tb_work.specs.declared.packet.Packet.{Packet as PacketValue}
 use Rattle.tb_work.specs.declared.refusal.Refusal.{Refusal}
-use Rattle.tb_work.specs.declared.refusal.Refusal.TheVariants.{InFlight}
-use Rattle.tb_submit.specs.Ends.{Seat, SubmitterState}
+use Rattle.tb_submit.specs.Ends.{Seat}
 use Rattle.tb_submit.specs.Inside.{IsSubmitter}
-use Rattle.tb_submit.specs.Refusals.{in_flight, or_else, refusal_in, submit_refusal, told_by, told_in}
+use Rattle.tb_submit.specs.Refusals.{or_else, told_by}
 use Rattle.tb_submit.proofs.QueuedItems.{packets_more}
 use Rattle.tb_submit.proofs.ReplyRefusals.{told_more}
 
 -- ---- a packet queued
-
-or_none : (first other : Option Refusal) → or_else first other ≡ None → other ≡ None
-or_none None other none = none
-or_none (Some refusal) other none = cc
-
-apart : (b : Bool) → (if b then Some InFlight else None) ≡ None → b ≡ false
-apart true none = cc
-apart false none = refl
-
--- where no refusal is due, the credit allows one packet more
-pub credit_left : (s : SubmitterState) (packet : PacketValue) → submit_refusal s packet ≡ None
-    → in_flight s ≤ s.credit → in_flight s < s.credit
-credit_left s packet none most =
-    let told = told_in s.read in
-    let refused = refusal_in (admission_of s.origin.seat.limit packet) in
-    let full = if in_flight s == s.credit then Some InFlight else None in
-    let other : in_flight s ≢ s.credit = eqb-false (in_flight s) s.credit
-    (apart (in_flight s == s.credit) (or_none refused full (or_none told (or_else refused full) none))) in
-    omega (arith, most, other)
 
 pub counts_packet : (seat : Seat) (queued : List Item) (count credit seen : ℕ) (first : Option Refusal)
     (read : List ReplyValue) (job : Numbered) → IsSubmitter seat queued count credit seen first read →

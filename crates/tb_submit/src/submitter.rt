@@ -18,7 +18,7 @@ use std::marker::Model;
 use std::sync::Wait;
 use tb_layout::NoMemory;
 use tb_rings::{Inlet, SpinWait, Waker};
-use tb_work::{Item, Job, Outcome, Packet, Refusal, Reply, admit};
+use tb_work::{Item, Job, Outcome, Packet, Refusal, Reply};
 
 /// Queues packets under its number, and reads their replies.
 #[derive(Drop)]
@@ -97,22 +97,6 @@ impl Submitter {
         self.queued.saturating_sub(self.read) as u32
     }
 
-    /// Why the packet is refused before any room is made for it.
-    fn refusal(&self, packet: &Packet) -> Option<Refusal>
-        ensures { result ≡ submit_refusal self.now packet.now }
-    {
-        if self.told.is_some() {
-            return self.told;
-        }
-        if let Err(refusal) = admit(self.sender.limit(), packet) {
-            return Some(refusal);
-        }
-        if self.in_flight() == self.credit {
-            return Some(Refusal::InFlight);
-        }
-        None
-    }
-
     /// Queues a packet; its number is the count of this submitter's packets before it, fewer than 2^56. A refused
     /// packet is returned as it was, and no number is used. It is refused 7 or 8 once a reply that was read said
     /// Shutdown or Stopped (whichever came first), then by what `admit` says of it, then InFlight if as many packets as
@@ -132,17 +116,15 @@ impl Submitter {
         ensures back { IfErr result (λ refused. (refused.0 ≡ packet) × (self.new ≡ self.old)) }
         ensures refusal { IfErr result (λ refused. IsSubmitRefusal self.old packet refused.1) }
     {
-        if let Some(refusal) = self.refusal(&packet) {
+        if let Some(refusal) = self.told {
             return Err((packet, refusal));
         }
+        let admitted = packet.admitted(self.sender.limit())?;
+        if self.in_flight() == self.credit {
+            return Err((admitted.into_packet(), Refusal::InFlight));
+        }
         let number = self.queued;
-        let job = Job::new(
-            alloc,
-            self.sender.number(),
-            number,
-            self.sender.limit(),
-            packet,
-        )?;
+        let job = Job::of(alloc, self.sender.number(), number, admitted)?;
         match self.sender.push(rt, Item::Packet(job)) {
             Ok(()) => {
                 self.queued += 1;

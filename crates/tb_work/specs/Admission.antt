@@ -1,16 +1,20 @@
 -- Which packets are admitted.
-use Rattle.std.specs.Prelude.{ℕ, ◌/◌, ◌%◌, ◌==◌, not, List, length, Option, Some, None, Result, Ok, Err, nat_lt, if◌then◌else◌}
+use Rattle.std.specs.Prelude.{ℕ, Bool, ◌/◌, ◌%◌, ◌==◌, not, List, length, Option, Some, None, Result, Ok, Err, nat_lt, if◌then◌else◌}
 use Rattle.tb_layout.specs.Events.{create_accounts, create_transfers}
 use Rattle.tb_layout.specs.inside.Events.{lookup_accounts}
 use Rattle.tb_work.specs.declared.packet.Packet.{Packet}
 use Rattle.tb_work.specs.declared.refusal.Refusal.{Refusal}
 use Rattle.tb_work.specs.declared.refusal.Refusal.TheVariants.{InvalidOperation, InvalidDataSize, TooMuchData}
 
+-- an operation that asks for what is stored
+abbrev pub looks_up : ℕ → Bool
+looks_up operation = operation == lookup_accounts
+
 -- the bytes of one event of an operation; a lookup's events are ids
 abbrev pub event_size : ℕ → Option ℕ
 event_size operation =
     if operation == create_accounts then Some 128 else if operation == create_transfers then Some 128
-    else if operation == lookup_accounts then Some 16 else None
+    else if looks_up operation then Some 16 else None
 
 abbrev pub admission_of_size : ℕ → List ℕ → Option ℕ → Result ℕ Refusal
 admission_of_size limit bytes None = Err InvalidOperation

@@ -1,15 +1,14 @@
 -- A packet that was admitted, with its number.
-use Rattle.std.specs.Prelude.{ℕ, ◌≡◌, ◌≤◌, ◌+◌, ◌==◌, Bool, false, List, [], ◌∷◌, Ok, if◌then◌else◌}
+use Rattle.std.specs.Prelude.{ℕ, ◌≡◌, ◌≤◌, ◌+◌, ◌==◌, Bool, false, List, [], ◌∷◌, if◌then◌else◌}
 use Rattle.smallvec.specs.SmallVec.{SmallVec}
-use Rattle.tb_layout.specs.inside.Limits.{batch_max}
 use Rattle.tb_layout.specs.Events.{create_accounts, create_transfers}
-use Rattle.tb_layout.specs.inside.Events.{lookup_accounts, is_open as is_open_events}
+use Rattle.tb_layout.specs.inside.Events.{is_open as is_open_events}
 use Rattle.tb_layout.specs.declared.failure.Failure.{Failure}
 use Rattle.tb_layout.specs.Account.{account_of, is_linked as is_linked_account}
 use Rattle.tb_layout.specs.Transfer.{transfer_of, is_linked as is_linked_transfer}
 use Rattle.tb_work.specs.declared.packet.Packet.{Packet}
 use Rattle.tb_work.specs.declared.stub.Stub.{Stub}
-use Rattle.tb_work.specs.Admission.{admission_of, count_of}
+use Rattle.tb_work.specs.Admission.{count_of, looks_up}
 use Rattle.tb_work.specs.Packet.{Numbered, events_in}
 
 abbrev pub stub_of : Numbered → Stub
@@ -25,7 +24,7 @@ abbrev pub is_open : Packet → Bool
 is_open packet = is_open_events (events_in packet)
 
 abbrev pub is_lookup : Packet → Bool
-is_lookup packet = packet.operation == lookup_accounts
+is_lookup packet = looks_up packet.operation
 
 abbrev pub numbered_packet : ℕ → ℕ → Packet → Numbered
 numbered_packet submitter number packet = record { submitter = submitter; number = number; packet = packet }
@@ -36,8 +35,7 @@ is_chunk_linked operation chunk =
     if operation == create_accounts then is_linked_account (account_of chunk)
     else if operation == create_transfers then is_linked_transfer (transfer_of chunk) else false
 
--- a packet is admitted, and this number of failures has room
-pub record IsJob (packet : Packet) (count : ℕ) (room : SmallVec Failure) : Type 0 where
-  pub admitted : admission_of batch_max packet ≡ Ok count
+-- the failures of a packet, none so far, have room
+pub record HasRoomFor (packet : Packet) (room : SmallVec Failure) : Type 0 where
   pub empty : room.items ≡ []
-  pub fits : is_lookup packet ≡ false → count ≤ room.capacity
+  pub fits : is_lookup packet ≡ false → count_of packet ≤ room.capacity

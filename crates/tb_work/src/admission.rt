@@ -1,13 +1,22 @@
 //! Which packets are admitted.
 
-ghost use Rattle.std.specs.Prelude.{◌≡◌};
+ghost use Rattle.std.specs.Prelude.{◌≡◌, Ok, IsOk};
+ghost use Rattle.tb_layout.specs.inside.Limits.{batch_max};
 ghost use Rattle.tb_work.specs.Admission as spec;
 
 use crate::packet::{EVENT_SIZE, Packet};
 use crate::refusal::Refusal;
+use std::marker::Model;
 use tb_layout::{CREATE_ACCOUNTS, CREATE_TRANSFERS, LOOKUP_ACCOUNTS};
 
 const ID_SIZE: usize = 16;
+
+/// Says whether packets of an operation are lookups.
+pub fn looks_up(operation: u8) -> bool
+    ensures { result ≡ spec.looks_up operation }
+{
+    operation == LOOKUP_ACCOUNTS
+}
 
 /// How many bytes an event of an operation has. None where there is no such operation.
 fn event_size(operation: u8) -> Option<usize>
@@ -17,7 +26,7 @@ fn event_size(operation: u8) -> Option<usize>
         Some(EVENT_SIZE)
     } else if operation == CREATE_TRANSFERS {
         Some(EVENT_SIZE)
-    } else if operation == LOOKUP_ACCOUNTS {
+    } else if looks_up(operation) {
         Some(ID_SIZE)
     } else {
         None
@@ -42,4 +51,49 @@ pub fn admit(limit: u32, packet: &Packet) -> Result<u32, Refusal>
         return Err(Refusal::TooMuchData);
     }
     Ok(count as u32)
+}
+
+/// A packet that was admitted, with its number of events. A contract sees it as its packet.
+#[derive(Drop)]
+pub struct AdmittedPacket {
+    pub(crate) packet: Packet,
+    pub(crate) count: u32,
+}
+
+impl Model for AdmittedPacket {
+    ghost use Rattle.std.specs.Prelude.{◌≡◌, Ok};
+    ghost use Rattle.tb_layout.specs.inside.Limits.{batch_max};
+    ghost use Rattle.tb_work.specs.Admission.{admission_of};
+    ghost use Rattle.tb_work.specs.declared.packet.Packet.{Packet};
+
+    ghost Value = { Packet };
+
+    ghost view = { λ admitted. admitted.packet };
+
+    ghost invariant = { λ admitted. admission_of batch_max admitted.packet ≡ Ok admitted.count };
+}
+
+impl AdmittedPacket {
+    /// Returns its number of events.
+    pub(crate) fn count(&self) -> u32
+        ensures { spec.admission_of batch_max self.now ≡ Ok result }
+    {
+        self.count
+    }
+
+    /// Reads the packet.
+    pub(crate) fn packet(&self) -> &Packet
+        ensures packet { result.now ≡ self.now }
+        ensures admitted { IsOk (spec.admission_of batch_max self.now) }
+    {
+        &self.packet
+    }
+
+    /// Returns the packet as it was handed in.
+    pub fn into_packet(self) -> Packet
+        ensures { result ≡ self }
+    {
+        let AdmittedPacket { packet, count: _ } = self;
+        packet
+    }
 }

@@ -2,25 +2,24 @@
 
 ghost use Rattle.std.specs.Prelude.{◌≡◌, ◌<◌, ◌≤◌, ◌==◌, ◌⊎◌, true, false, [], IfOk, OnOk, IfErr, OnErr, IsOk, Err};
 ghost use Rattle.tb_layout.specs.inside.Limits.{batch_max};
-ghost use Rattle.tb_layout.specs.inside.Events.{lookup_accounts};
+ghost use Rattle.tb_work.specs.Admission as spec;
 ghost use Rattle.tb_work.specs.Admission.{admission_of};
 ghost use Rattle.tb_work.specs.declared.refusal.Refusal.TheVariants.{NoMemory};
 ghost use Rattle.tb_work.specs.Job.{is_chunk_linked};
 
-use crate::admission::admit;
+use crate::admission::{AdmittedPacket, looks_up};
 use crate::packet::Packet;
 use crate::refusal::Refusal;
 use crate::stub::Stub;
 use std::alloc::{AllocError, Global};
 use std::marker::Model;
-use tb_layout::{CREATE_ACCOUNTS, CREATE_TRANSFERS, FailureRoom, LOOKUP_ACCOUNTS};
+use tb_layout::{CREATE_ACCOUNTS, CREATE_TRANSFERS, FailureRoom};
 
 /// An admitted packet of a submitter, with its number and with room for its failures.
 pub struct Job {
     pub(crate) number: u64,
     pub(crate) submitter: u32,
-    pub(crate) count: u32,
-    pub(crate) packet: Packet,
+    pub(crate) admitted: AdmittedPacket,
     pub(crate) room: FailureRoom,
 }
 
@@ -30,36 +29,35 @@ impl Drop for Job {
         let Job {
             number: _,
             submitter: _,
-            count: _,
-            packet,
+            admitted,
             room,
         } = self;
-        drop(packet);
+        drop(admitted);
         drop(room);
     }
 }
 
 impl Model for Job {
     ghost use Rattle.tb_work.specs.Packet.{Numbered};
-    ghost use Rattle.tb_work.specs.Job.{IsJob};
+    ghost use Rattle.tb_work.specs.Job.{HasRoomFor};
 
     ghost Value = { Numbered };
 
-    ghost view = { λ job. record { submitter = job.submitter; number = job.number; packet = job.packet } };
+    ghost view = { λ job. record { submitter = job.submitter; number = job.number; packet = job.admitted } };
 
-    ghost invariant = { λ job. IsJob job.packet job.count job.room };
+    ghost invariant = { λ job. HasRoomFor job.admitted job.room };
 }
 
 /// Room for the failures of a packet: none for a lookup, which has no failures, except the two slots that any room has.
 /// Up to two failures take no memory.
 fn room_for(alloc: Global, operation: u8, count: u32) -> Result<FailureRoom, AllocError>
     ensures empty { IfOk result (λ room. room.items ≡ []) }
-    ensures fits { IfOk result (λ room. (operation == lookup_accounts) ≡ false → count ≤ room.capacity) }
-    ensures none { IfOk result (λ room. (operation == lookup_accounts) ≡ true → room.capacity ≡ 2) }
-    ensures lookup { (operation == lookup_accounts) ≡ true → IsOk result }
+    ensures fits { IfOk result (λ room. spec.looks_up operation ≡ false → count ≤ room.capacity) }
+    ensures none { IfOk result (λ room. spec.looks_up operation ≡ true → room.capacity ≡ 2) }
+    ensures lookup { spec.looks_up operation ≡ true → IsOk result }
     ensures few { count ≤ 2 → IsOk result }
 {
-    if operation == LOOKUP_ACCOUNTS {
+    if looks_up(operation) {
         Ok(FailureRoom::new(alloc))
     } else {
         FailureRoom::with_capacity(alloc, count as usize)
@@ -78,9 +76,9 @@ impl Job {
     ghost use Rattle.tb_work.specs.Admission.{count_of};
     ghost use Rattle.tb_work.specs.Job.{stub_of, is_lookup, is_open, numbered_packet};
 
-    /// The packet as this submitter's packet of this number, with room for as many failures as it has events. If it
-    /// isn't admitted under the limit, at most 8190 events, or memory runs out, it is returned as it was. It costs that
-    /// room, which for up to two events is in the job itself, and which a lookup hasn't.
+    /// Makes a job of a packet that is admitted under the limit, at most 8190 events, as `of` does.
+    ///
+    /// Errors: the packet as it was, with the refusal of `admit` or of `of`.
     pub fn new(
         alloc: Global,
         submitter: u32,
@@ -97,19 +95,31 @@ impl Job {
         ensures refusal { IfErr result (λ refused. (admission_of limit packet ≡ Err refused.1)
             ⊎ ((refused.1 ≡ NoMemory) × IsOk (admission_of limit packet))) }
     {
-        let count = match admit(limit, &packet) {
-            Ok(count) => count,
-            Err(refusal) => return Err((packet, refusal)),
-        };
-        match room_for(alloc, packet.operation, count) {
+        Job::of(alloc, submitter, number, packet.admitted(limit)?)
+    }
+
+    /// Makes a submitter's job of this number, with room for as many failures as the packet has events. It costs that
+    /// room, which for up to two events is in the job itself, and which a lookup hasn't.
+    ///
+    /// Errors: the packet as it was, with `NoMemory`.
+    pub fn of(
+        alloc: Global,
+        submitter: u32,
+        number: u64,
+        admitted: AdmittedPacket,
+    ) -> Result<Job, (Packet, Refusal)>
+        ensures job { IfOk result (λ job. job ≡ numbered_packet submitter number admitted) }
+        ensures back { IfErr result (λ refused. refused ≡ (admitted, NoMemory)) }
+        ensures few { OnErr result ((is_lookup admitted ≡ false) × (2 < count_of admitted)) }
+    {
+        match room_for(alloc, admitted.packet().operation, admitted.count()) {
             Ok(room) => Ok(Job {
                 number,
                 submitter,
-                count,
-                packet,
+                admitted,
                 room,
             }),
-            Err(_) => Err((packet, Refusal::NoMemory)),
+            Err(_) => Err((admitted.into_packet(), Refusal::NoMemory)),
         }
     }
 
@@ -121,7 +131,7 @@ impl Job {
         Stub {
             submitter: self.submitter,
             number: self.number,
-            count: self.count,
+            count: self.admitted.count(),
         }
     }
 
@@ -130,7 +140,7 @@ impl Job {
         ensures packet { result.now ≡ self.now.packet }
         ensures admitted { IsOk (admission_of batch_max self.now.packet) }
     {
-        &self.packet
+        self.admitted.packet()
     }
 
     /// The packet as it was handed in. The room for its failures is freed.
@@ -151,21 +161,20 @@ impl Job {
         let Job {
             number: _,
             submitter: _,
-            count: _,
-            packet,
+            admitted,
             room,
         } = self;
-        (packet, room)
+        (admitted.into_packet(), room)
     }
 
     /// Whether its last event is linked, so that nothing may be joined to it. A lookup never is.
     pub fn is_open(&self) -> bool
         ensures { result ≡ is_open self.now.packet }
     {
-        let operation = self.packet.operation;
-        let (chunks, _) = self.packet.bytes.as_slice().as_chunks::<128>();
+        let packet = self.packet();
+        let (chunks, _) = packet.bytes.as_slice().as_chunks::<128>();
         match chunks.last() {
-            Some(chunk) => is_last_linked(operation, chunk),
+            Some(chunk) => is_last_linked(packet.operation, chunk),
             None => false,
         }
     }

@@ -2,12 +2,13 @@
 //!
 //! - `Packet::of_accounts` and `Packet::of_transfers` lay out exactly the given events (`bytes`, `events`);
 //! - `admit` returns the number of a packet's events, or the first refusal that applies;
-//! - `Job::new` makes a job of an admitted packet, with capacity for its failures, or returns the packet unchanged (`back`,
-//!   `refusal`); memory is an excuse only for more than two events of no lookup (`few`);
+//! - `Packet::admitted` returns the packet as an `AdmittedPacket`, or unchanged with that refusal (`refused`);
+//! - `Job::of` makes a job of it, with capacity for its failures, or returns the packet unchanged (`back`); memory is an
+//!   excuse only for more than two events of no lookup (`few`). `Job::new` does both;
 //! - `Reply::of` and `Reply::committed` return the packet unchanged with its outcome, and allocate nothing;
 //! - `Moment`, `Item`, `Ticket`, `Stub`, `Outcome` and `Refusal` are what queue, rings and journal carry.
 //!
-//! The types keep what they promise: a job's packet is admitted, failures rise and are below the packet's count, a moment is in range.
+//! The types keep what they promise: an `AdmittedPacket` and a job's packet are admitted, failures rise and are below the packet's count, a moment is in range.
 //!
 //! `a_packet_of_two_accounts` and `a_job_and_its_packet` in tb_work_tests are examples that the gate compiles.
 #![tactic(auto)]
@@ -23,7 +24,7 @@ mod refusal;
 mod reply;
 mod stub;
 
-pub use admission::admit;
+pub use admission::{AdmittedPacket, admit, looks_up};
 pub use bytes::Bytes;
 pub use item::{Item, Ticket};
 pub use job::Job;

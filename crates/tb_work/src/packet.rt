@@ -1,6 +1,6 @@
 //! Packets.
 
-ghost use Rattle.std.specs.Prelude.{◌≡◌, ◌+◌, ◌++◌, length, IfOk, OnOk};
+ghost use Rattle.std.specs.Prelude.{◌≡◌, ◌≤◌, ◌+◌, ◌++◌, length, Err, IfOk, OnOk, IfErr, IsOk};
 ghost use Rattle.std.specs.List.{flat_map};
 ghost use Rattle.tb_layout.specs.inside.Records.{account_bytes, transfer_bytes};
 ghost use Rattle.tb_layout.specs.Account.{account_of};
@@ -9,8 +9,12 @@ ghost use Rattle.tb_layout.specs.Bytes.{little_endian};
 ghost use Rattle.tb_layout.specs.Events.{accounts_of, ids_of, transfers_of, create_accounts, create_transfers};
 ghost use Rattle.tb_layout.specs.inside.Events.{lookup_accounts};
 ghost use Rattle.tb_layout.specs.Transfer.{transfer_of};
+ghost use Rattle.tb_layout.specs.inside.Limits.{batch_max};
+ghost use Rattle.tb_work.specs.Admission.{admission_of};
 
+use crate::admission::{AdmittedPacket, admit};
 use crate::bytes::Bytes;
+use crate::refusal::Refusal;
 use std::alloc::Global;
 use tb_layout::{
     Account, CREATE_ACCOUNTS, CREATE_TRANSFERS, LOOKUP_ACCOUNTS, NoMemory, Transfer, write_account,
@@ -149,5 +153,23 @@ impl Packet {
             bytes: Bytes::from_vec(lay_ids(alloc, ids)?),
             user,
         })
+    }
+
+    /// Takes the packet as one that `admit` admits under a limit, at most 8190 events.
+    ///
+    /// Errors: the packet as it was, with the refusal of `admit`.
+    pub fn admitted(self, limit: u32) -> Result<AdmittedPacket, (Packet, Refusal)>
+        requires { limit ≤ batch_max }
+        ensures packet { IfOk result (λ admitted. admitted ≡ self) }
+        ensures admitted { OnOk result (IsOk (admission_of limit self)) }
+        ensures refused { IfErr result (λ refused. (refused.0 ≡ self) × (admission_of limit self ≡ Err refused.1)) }
+    {
+        match admit(limit, &self) {
+            Ok(count) => Ok(AdmittedPacket {
+                packet: self,
+                count,
+            }),
+            Err(refusal) => Err((self, refusal)),
+        }
     }
 }

@@ -2,5 +2,5 @@
 use Rattle.std.proofs.Common.{rules}
 use Rattle.tb_work.proofs.admission.event_size.Goals as goal
 
-pub returns-then-operation-eq-LOOKUP_ACCOUNTS : goal.returns-then-operation-eq-LOOKUP_ACCOUNTS
-returns-then-operation-eq-LOOKUP_ACCOUNTS c = search rules
+pub returns-then-looks_up : goal.returns-then-looks_up
+returns-then-looks_up c = search rules
