@@ -8,7 +8,7 @@ use super::told::{Noted, Told, assert_noted, first_reply, told_by};
 use std::alloc::Global;
 use std::process::Abort;
 use tb_batch::{Batch, Batcher, Offered};
-use tb_core::{Cause, Front, Ledger, Outcomes, Parcel, Seed};
+use tb_core::{BareLedger, Cause, Front, Ledger, Outcomes, Parcel, Seed};
 use tb_demux::Cutter;
 use tb_layout::Account;
 use tb_work::{Answer, Job, Moment, Outcome, Reply, Ticket};
@@ -238,4 +238,41 @@ fn refuse_commit(rt: &(impl Abort + Alloc<A = Global>), ledger: &mut Ledger, tol
     // Last yields Last.
     let last = ledger.apply(Parcel::Last);
     assert!(rt; matches!(&last, Outcomes::Last));
+}
+
+/// Commits two batches with a pulse between them, and sends a packet back.
+fn commit_bare(
+    rt: &(impl Abort + Alloc<A = Global>),
+    ledger: &mut BareLedger,
+    told: &mut Vec<Told>,
+) {
+    tell(rt, ledger.apply(batch_of(rt, 1)), told);
+    tell(rt, ledger.apply(Parcel::Pulse(Moment::new(9))), told);
+    tell(rt, ledger.apply(batch_of(rt, 2)), told);
+    let returned = Parcel::Return(creating_one(rt, 1, 3), Cause::Shutdown);
+    tell(rt, ledger.apply(returned), told);
+    tell(rt, ledger.apply(Parcel::Last), told);
+}
+
+fn assert_two_accounts(rt: &impl Abort, ledger: &BareLedger) {
+    assert!(rt; ledger.opening() == 3);
+    assert!(rt; ledger.places() == 3);
+    assert!(rt; ledger.machine().clock() == 10);
+    assert!(rt; ledger.machine().accounts() == 2);
+    assert!(rt; !ledger.stopped());
+}
+
+const WITHOUT_A_JOURNAL: [Told; 3] = [Told::Committed(0), Told::Committed(2), Told::Shutdown];
+
+#[test]
+fn committed_without_a_journal(rt: HostRuntime) {
+    let mut ledger = BareLedger::with_seed(rt.alloc(), 3, Seed::default());
+    let mut told = Vec::new(rt.alloc());
+    assert!(rt; ledger.reserve(10, 10).is_ok());
+    assert!(rt; ledger.reserve(usize::MAX, 0).is_err());
+    commit_bare(&rt, &mut ledger, &mut told);
+    assert_two_accounts(&rt, &ledger);
+    assert!(rt; told.as_slice() == WITHOUT_A_JOURNAL.as_slice());
+    drop(told);
+    drop(ledger);
 }
