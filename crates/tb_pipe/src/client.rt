@@ -132,6 +132,8 @@ impl<'s> Client<'s> {
             { read = self.old.read ++ reply ∷ []; lying = self.new.lying })) }
         ensures none { IfOk result (λ replied. IfNone replied (self.new ≡ with_item self.old (item.Packet
             (numbered_packet self.old.origin.seat.number (length self.old.queued) packet)))) }
+        ensures known { length self.old.read ≤ length self.old.queued → 0 < length self.old.lying
+            → IfOk result (λ replied. IsSomeAnd replied (λ reply. self.old.lying ≡ reply ∷ self.new.lying)) }
         ensures admitted { OnOk result (submit_refusal self.old packet ≡ None) }
         ensures back { IfErr result (λ refused. (refused.0 ≡ packet) × (self.new ≡ self.old)) }
         ensures refusal { length self.old.queued < queued_max

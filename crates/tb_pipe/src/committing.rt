@@ -56,9 +56,7 @@ fn give_on<R: Wait>(rt: &R, outlet: &mut Outlet<Outcomes>, outcomes: Outcomes)
 {
     match outcomes {
         Outcomes::Nothing => {}
-        Outcomes::Cut(cutter) => give_waiting(rt, outlet, Outcomes::Cut(cutter)),
-        Outcomes::One(reply) => give_waiting(rt, outlet, Outcomes::One(reply)),
-        Outcomes::Last => give_waiting(rt, outlet, Outcomes::Last),
+        outcomes => give_waiting(rt, outlet, outcomes),
     }
 }
 

@@ -1,5 +1,5 @@
 -- Why packets are refused.
-use Rattle.std.proofs.Common.{◌≡◌, ◌∙◌, ◌⊎◌, inl, inr, ⊎_elim, ℕ, Bool, true, false, List, [], ◌∷◌, ◌++◌, Option, Some, None, refl, sym, ap, subst}
+use Rattle.std.proofs.Common.{◌≡◌, ◌∙◌, ◌⊎◌, inl, inr, ⊎_elim, ℕ, List, [], ◌∷◌, ◌++◌, Option, Some, None, refl, sym, ap, subst}
 use Rattle.std.specs.Prelude.{Result, Ok, Err, IsOk}
 use Rattle.tb_submit.specs.Refusals.{IsRefusal, TakesMemory, or_else, refusal_in, told_by, told_in}
 use Rattle.tb_work.proofs.Admissions.{IsOfAdmission, of_admission}
