@@ -14,10 +14,6 @@ use Rattle.tb_tables.specs.declared.row.Row.{Row}
 use Rattle.tb_tables.specs.declared.status.Status.{Status}
 use Rattle.tb_tables.specs.declared.status.Status.TheVariants.{Pending, Posted, Voided, Expired}
 
--- a transfer with this timestamp in place of its own
-abbrev pub stamped : ℕ → Transfer → Transfer
-stamped timestamp transfer = record transfer { timestamp = timestamp }
-
 -- the status of a transfer that nothing resolved, and its row
 abbrev pub status_first : Transfer → Option Status
 status_first transfer = if is_pending transfer then Some Pending else None

@@ -1,5 +1,5 @@
 -- What a caller of the tables owes.
-use Rattle.std.specs.Prelude.{◌≡◌, ◌+◌, ◌<◌, ◌≤◌, ◌^◌, false, true, not, Some, None, IsSome}
+use Rattle.std.specs.Prelude.{◌≡◌, ℕ, ◌+◌, ◌<◌, ◌≤◌, ◌^◌, false, true, not, Some, None, IsSome}
 use Rattle.tb_layout.specs.declared.account.Account.{Account}
 use Rattle.tb_layout.specs.declared.transfer.Transfer.{Transfer}
 use Rattle.tb_layout.specs.Transfer.{is_pending, is_post, is_void}
@@ -7,6 +7,10 @@ use Rattle.tb_tables.specs.Facts.{Facts, account_with, transfer_with}
 use Rattle.tb_tables.specs.Status.{status_of, expires_at}
 use Rattle.tb_tables.specs.inside.Balances.{debits, credits}
 use Rattle.tb_tables.specs.declared.status.Status.TheVariants.{Pending}
+
+-- a transfer with this timestamp in place of its own
+abbrev pub stamped : ℕ → Transfer → Transfer
+stamped timestamp transfer = record transfer { timestamp = timestamp }
 
 -- a new account has no balances of its own: they are sums over the transfers
 pub record HasNoBalances (account : Account) : Type 0 where

@@ -48,8 +48,7 @@ impl Maps {
     ghost use Rattle.tb_tables.specs.Balances.{with_balances as balanced, balanced_account};
     ghost use Rattle.tb_tables.specs.Expiries.{has_pair};
     ghost use Rattle.tb_tables.specs.Changes.{before};
-    ghost use Rattle.tb_tables.specs.Changing.{stamped};
-    ghost use Rattle.tb_tables.specs.Conditions.{HasNoBalances, MayAdd, MayResolve};
+    ghost use Rattle.tb_tables.specs.Conditions.{HasNoBalances, MayAdd, MayResolve, stamped};
     ghost use Rattle.tb_tables.specs.Contents.{MayStore, HaveIndices, IsSound, IsUndoable, KeepsPairs, NamesOne, is_resolved_at, is_spent};
 
     /// Maps without facts, whose ids are hashed with a seed. Takes no memory.

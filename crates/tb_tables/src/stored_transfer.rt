@@ -25,7 +25,7 @@ const _: () = prove!(size_of::<StoredTransfer>() == 112);
 
 impl StoredTransfer {
     ghost use Rattle.tb_tables.specs.Columns.{transfer_under};
-    ghost use Rattle.tb_tables.specs.Changing.{stamped};
+    ghost use Rattle.tb_tables.specs.Conditions.{stamped};
 
     /// Copies the fields of an event, all but its id, with the timestamp at which it is stored.
     pub fn of(event: &Transfer, timestamp: u64) -> StoredTransfer

@@ -48,9 +48,8 @@ impl Tables {
     ghost use Rattle.tb_tables.specs.Status.{expires_at, expire_due as with_due_expired};
     ghost use Rattle.tb_tables.specs.inside.Status.{status_with, status_if_pending};
     ghost use Rattle.tb_tables.specs.Balances.{with_balances as balanced, balanced_account};
-    ghost use Rattle.tb_tables.specs.Conditions.{HasNoBalances, MayAdd, MayResolve};
+    ghost use Rattle.tb_tables.specs.Conditions.{HasNoBalances, MayAdd, MayResolve, stamped};
     ghost use Rattle.tb_tables.specs.History.{with_change, mark_of, back_to, without_past};
-    ghost use Rattle.tb_tables.specs.Changing.{stamped};
     ghost use Rattle.tb_tables.specs.Contents.{MayStore, HaveIndices};
 
     /// Tables without facts. Takes no memory.

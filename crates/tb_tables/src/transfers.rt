@@ -7,8 +7,9 @@ ghost use Rattle.std.specs.Option.{option_map};
 ghost use Rattle.indexmap.specs.IndexMap.{get, set_value_at};
 ghost use Rattle.tb_tables.specs.declared.row.Row.{Row as RowRecord};
 ghost use Rattle.tb_tables.specs.declared.stored_transfer.StoredTransfer.{StoredTransfer as StoredRecord};
-ghost use Rattle.tb_tables.specs.Changing.{new_row, stamped};
+ghost use Rattle.tb_tables.specs.Changing.{new_row};
 ghost use Rattle.tb_tables.specs.Columns.{transfer_under, status_found};
+ghost use Rattle.tb_tables.specs.Conditions.{stamped};
 
 use crate::by_id::ById;
 use crate::hashing::IdHasher;

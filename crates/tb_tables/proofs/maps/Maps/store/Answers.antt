@@ -1,6 +1,6 @@
 use Rattle.std.proofs.Common.{◌∙◌, sym, ap, not, ◌&&◌}
 use Rattle.tb_tables.proofs.Words.{facts_of, its_pair, contents_in, transfer_with}
-use Rattle.tb_tables.specs.Changing.{stamped}
+use Rattle.tb_tables.specs.Conditions.{stamped}
 use Rattle.tb_tables.proofs.LookUps.{is-done, isn't-done, none-there, told-new, transfers-length}
 use Rattle.tb_tables.proofs.StoredTransfers as stepping
 use Rattle.tb_tables.proofs.maps.Maps.store.Goals as goal
