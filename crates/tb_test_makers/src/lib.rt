@@ -35,14 +35,24 @@ pub fn transfer(id: u128, accounts: [u128; 2], amount: u128, flags: u16) -> Tran
     }
 }
 
+/// Returns a packet that creates accounts, with user word 7. Its contract is empty, so that proofs of tests are short.
+pub fn accounts_packet(alloc: Global, accounts: &[Account]) -> Result<Packet, NoMemory> {
+    Packet::of_accounts(alloc, accounts, 7)
+}
+
+/// Returns a packet that creates transfers, in the same way.
+pub fn transfers_packet(alloc: Global, transfers: &[Transfer]) -> Result<Packet, NoMemory> {
+    Packet::of_transfers(alloc, transfers, 7)
+}
+
 /// Returns the events of accounts as bytes.
 pub fn account_bytes(alloc: Global, accounts: &[Account]) -> Result<Vec<u8>, NoMemory> {
-    Ok(Packet::of_accounts(alloc, accounts, 0)?.bytes.into_vec())
+    Ok(accounts_packet(alloc, accounts)?.bytes.into_vec())
 }
 
 /// Returns the events of transfers as bytes.
 pub fn transfer_bytes(alloc: Global, transfers: &[Transfer]) -> Result<Vec<u8>, NoMemory> {
-    Ok(Packet::of_transfers(alloc, transfers, 0)?.bytes.into_vec())
+    Ok(transfers_packet(alloc, transfers)?.bytes.into_vec())
 }
 
 /// Returns a packet of `length` zeros with user word 7.

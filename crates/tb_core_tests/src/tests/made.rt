@@ -2,7 +2,7 @@
 
 use std::alloc::Global;
 use tb_layout::{Account, LOOKUP_ACCOUNTS, MOMENT_MAX, NoMemory, Transfer};
-use tb_test_makers::{account, job, zeros};
+use tb_test_makers::{account, accounts_packet, job, transfers_packet, zeros};
 use tb_work::{Item, Job, Moment, Packet, Refusal};
 
 /// What a sender queues, before it is made.
@@ -44,8 +44,7 @@ pub(super) fn creating(
     number: u64,
     accounts: &[Account],
 ) -> Result<Job, Refusal> {
-    let packet = Packet::of_accounts(alloc, accounts, 7);
-    job_of(alloc, submitter, number, packet)
+    job_of(alloc, submitter, number, accounts_packet(alloc, accounts))
 }
 
 /// A packet of submitter 0 that creates transfers.
@@ -54,7 +53,7 @@ pub(super) fn transferring(
     number: u64,
     transfers: &[Transfer],
 ) -> Result<Job, Refusal> {
-    job_of(alloc, 0, number, Packet::of_transfers(alloc, transfers, 7))
+    job_of(alloc, 0, number, transfers_packet(alloc, transfers))
 }
 
 /// Returns the job of a packet of zeros.

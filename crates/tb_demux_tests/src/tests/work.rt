@@ -2,7 +2,7 @@
 
 use std::alloc::Global;
 use std::process::Abort;
-use tb_test_makers::account;
+use tb_test_makers::{account, accounts_packet};
 use tb_work::Packet;
 
 mod admission;
@@ -17,5 +17,5 @@ fn packet_of_accounts(rt: &(impl Abort + Alloc<A = Global>), events: &[(u128, u1
     for (id, flags) in events {
         accounts.push(account(*id, *flags)).expect(rt, "memory");
     }
-    Packet::of_accounts(rt.alloc(), accounts.as_slice(), 7).expect(rt, "memory")
+    accounts_packet(rt.alloc(), accounts.as_slice()).expect(rt, "memory")
 }

@@ -3,17 +3,17 @@
 use std::alloc::Global;
 use std::process::Abort;
 use tb_layout::{Account, AccountCode, Transfer, TransferCode, read_account, read_transfer};
-use tb_test_makers::account;
+use tb_test_makers::{account, accounts_packet, transfers_packet};
 use tb_work::{Packet, Refusal, admit};
 
 /// A packet of these accounts, with user word 7.
 fn of_accounts(rt: &(impl Abort + Alloc<A = Global>), accounts: &[Account]) -> Packet {
-    Packet::of_accounts(rt.alloc(), accounts, 7).expect(rt, "memory")
+    accounts_packet(rt.alloc(), accounts).expect(rt, "memory")
 }
 
 /// A packet of these transfers, with user word 7.
 fn of_transfers(rt: &(impl Abort + Alloc<A = Global>), transfers: &[Transfer]) -> Packet {
-    Packet::of_transfers(rt.alloc(), transfers, 7).expect(rt, "memory")
+    transfers_packet(rt.alloc(), transfers).expect(rt, "memory")
 }
 
 /// The number of events admitted of a packet of `count` accounts.
