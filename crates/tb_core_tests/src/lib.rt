@@ -1,4 +1,4 @@
-//! The tests of tb_core, in a crate of their own, so that tb_core isn't proved again with them.
+//! The tests of tb_core, tb_world and tb_embed, in a crate of their own, so that those aren't proved again with them.
 #![tactic(auto)]
 
 #[cfg(test)]

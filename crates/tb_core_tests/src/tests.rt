@@ -1,5 +1,6 @@
 //! What no clause of tb_core says: worked examples by name, and allocations that fail.
 
+mod embed;
 mod front;
 mod ledger;
 mod list;

@@ -1,4 +1,5 @@
-//! The tests of tb_demux, in a crate of their own: so tb_demux is proved once, and not again with its tests.
+//! The tests of tb_work, tb_batch and tb_demux, in a crate of their own: so those are proved once, and not again with
+//! their tests.
 #![tactic(auto)]
 
 #[cfg(test)]

@@ -1,60 +1,22 @@
-//! What no clause says: the worked example by name, and each outcome once.
+//! What no clause says: worked examples by name, and each call once with ample memory.
 
-ghost use Rattle.std.specs.Prelude.{◌≡◌, not, true, length};
-ghost use Rattle.std.specs.List.{list_all};
-ghost use Rattle.tb_work.specs.Admission.{count_of};
-ghost use Rattle.tb_work.specs.Job.{count_of_all, is_lookup};
+ghost use Rattle.std.specs.Prelude.{◌≡◌};
 
 use std::alloc::Global;
 use std::process::Abort;
-use tb_demux::Cutter;
-use tb_layout::{CREATE_ACCOUNTS, Failure, LOOKUP_ACCOUNTS, read_account};
-use tb_work::{Accounts, Answer, Bytes, Failures, Job, Outcome, Packet, Reply};
+use tb_layout::Failure;
+use tb_test_makers::zeros;
+use tb_work::{Answer, Outcome, Packet};
 
-/// What packets say of the submitter that queued them.
-fn user_word_of(submitter: u32) -> u64 {
-    40 + u64::from(submitter)
-}
+mod batch;
+mod demux;
+mod work;
 
-/// A submitter's packet of `count` events of zeros; no event is linked.
-fn job_of(
-    rt: &(impl Abort + Alloc<A = Global>),
-    submitter: u32,
-    operation: u8,
-    count: u32,
-    event_size: usize,
-) -> Job
-    ensures operation { result.packet.operation ≡ operation }
-    ensures count { count_of result.packet ≡ count }
+/// A packet of `length` zeros, with ample memory.
+fn packet_of(rt: &(impl Abort + Alloc<A = Global>), operation: u8, length: usize) -> Packet
+    ensures { result.operation ≡ operation }
 {
-    let mut bytes = Vec::new(rt.alloc());
-    bytes
-        .resize(event_size.saturating_mul(count as usize), 0)
-        .expect(rt, "memory");
-    let packet = Packet {
-        operation,
-        bytes: Bytes::from_vec(bytes),
-        user: user_word_of(submitter),
-    };
-    let job = Job::new(rt.alloc(), submitter, 0, 4, packet)
-        .ok()
-        .expect(rt, "the packet is admitted");
-    assert!(rt; job.stub().count == count);
-    job
-}
-
-/// Two packets of two accounts, of submitters 0 and 1.
-fn two_jobs(rt: &(impl Abort + Alloc<A = Global>)) -> Vec<Job>
-    ensures number { length result.items ≡ 2 }
-    ensures events { count_of_all result.items ≡ 4 }
-    ensures no_lookup { list_all (λ job. not (is_lookup job.packet)) result.items ≡ true }
-{
-    let mut jobs = Vec::new(rt.alloc());
-    jobs.push(job_of(rt, 0, CREATE_ACCOUNTS, 2, 128))
-        .expect(rt, "memory");
-    jobs.push(job_of(rt, 1, CREATE_ACCOUNTS, 2, 128))
-        .expect(rt, "memory");
-    jobs
+    zeros(rt.alloc(), operation, length).expect(rt, "memory")
 }
 
 /// The failures of a packet that was committed at a place.
@@ -66,77 +28,4 @@ fn failures_at(outcome: &Outcome, at: u64) -> Option<&[Failure]> {
         } if *place == at => Some(failures.as_slice()),
         _ => None,
     }
-}
-
-/// How many accounts were found by a lookup that was committed at a place.
-fn found_at(outcome: &Outcome, at: u64) -> Option<usize> {
-    match outcome {
-        Outcome::Committed {
-            place,
-            answer: Answer::Accounts(accounts),
-        } if *place == at => Some(accounts.as_slice().len()),
-        _ => None,
-    }
-}
-
-/// The next reply, which is to this submitter's packet.
-fn next_of(rt: &impl Abort, cutter: &mut Cutter, submitter: u32) -> Reply {
-    let reply = cutter.next().expect(rt, "a reply is left");
-    assert!(rt; reply.submitter == submitter);
-    assert!(rt; reply.packet.user == user_word_of(submitter));
-    reply
-}
-
-#[test]
-fn two_submitters_joined(rt: HostRuntime) {
-    let mut failures = Vec::new(rt.alloc());
-    failures
-        .push(Failure { index: 2, code: 21 })
-        .expect(&rt, "memory");
-    failures
-        .push(Failure { index: 3, code: 13 })
-        .expect(&rt, "memory");
-    let answer = Answer::Failures(Failures::from_vec(failures));
-    let mut cutter = Cutter::new(two_jobs(&rt), Outcome::Committed { place: 0, answer });
-    let first = next_of(&rt, &mut cutter, 0);
-    assert!(rt; failures_at(&first.outcome, 0) == Some([].as_slice()));
-    let second = next_of(&rt, &mut cutter, 1);
-    let own = [
-        Failure { index: 0, code: 21 },
-        Failure { index: 1, code: 13 },
-    ];
-    assert!(rt; failures_at(&second.outcome, 1) == Some(own.as_slice()));
-    assert!(rt; cutter.next().is_none());
-    assert!(rt; cutter.next().is_none());
-}
-
-#[test]
-fn packets_that_were_stopped(rt: HostRuntime) {
-    let mut cutter = Cutter::new(two_jobs(&rt), Outcome::Stopped);
-    for submitter in 0..2 {
-        let reply = next_of(&rt, &mut cutter, submitter);
-        assert!(rt; matches!(&reply.outcome, Outcome::Stopped));
-    }
-    assert!(rt; cutter.next().is_none());
-}
-
-#[test]
-fn packets_behind_the_close(rt: HostRuntime) {
-    let mut cutter = Cutter::new(two_jobs(&rt), Outcome::Shutdown);
-    let reply = next_of(&rt, &mut cutter, 0);
-    assert!(rt; matches!(&reply.outcome, Outcome::Shutdown));
-}
-
-#[test]
-fn a_lookup_whole(rt: HostRuntime) {
-    let mut jobs = Vec::new(rt.alloc());
-    jobs.push(job_of(&rt, 1, LOOKUP_ACCOUNTS, 1, 16))
-        .expect(&rt, "memory");
-    let mut found = Vec::new(rt.alloc());
-    found.push(read_account(&[1; 128])).expect(&rt, "memory");
-    let answer = Answer::Accounts(Accounts::from_vec(found));
-    let mut cutter = Cutter::new(jobs, Outcome::Committed { place: 5, answer });
-    let reply = next_of(&rt, &mut cutter, 1);
-    assert!(rt; found_at(&reply.outcome, 5) == Some(1));
-    assert!(rt; cutter.next().is_none());
 }

@@ -1,1 +1,3 @@
+pub mod OnePacket
 pub mod Reading
+pub mod Together

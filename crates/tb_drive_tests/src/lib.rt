@@ -1,5 +1,5 @@
-//! Tests of `tb_drive`, whole runs with drivers that note all that they see, in a crate of their own so that it isn't
-//! proved twice.
+//! The tests of tb_pipe and tb_drive, whole runs whose senders note all that they see, in a crate of their own so that
+//! those aren't proved twice.
 #![tactic(auto)]
 
 #[cfg(test)]

@@ -7,17 +7,18 @@ use std::test::Fail;
 use std::thread;
 use std::thread::Threads;
 use tb_drive::{Action, ControlPlan, Driver, Finished, PlanDriver, drive_all};
+use tb_layout::{CREATE_ACCOUNTS, NoMemory};
 use tb_pipe::open;
 use tb_submit::Ended;
-use tb_work::{Bytes, Outcome, Packet, Refusal, Reply};
+use tb_test_makers::zeros;
+use tb_work::{Outcome, Packet, Refusal, Reply};
 
+mod pipe;
 mod reading;
 mod replies;
 mod tellings;
 mod turns;
 mod waking;
-
-const CREATE_ACCOUNTS: u8 = 129;
 
 /// More replies than a submitter of these tests has packets.
 const MOST_REPLIES: u32 = 100;
@@ -56,15 +57,11 @@ fn given_by(reply: &Reply) -> Option<Saw> {
     }
 }
 
-/// A packet of an operation with this number of bytes.
-fn packet_of(alloc: Global, operation: u8, size: usize, user: u64) -> Result<Packet, AllocError> {
-    let mut bytes = Vec::new(alloc);
-    bytes.resize(size, 0)?;
-    Ok(Packet {
-        operation,
-        bytes: Bytes::from_vec(bytes),
-        user,
-    })
+/// A packet of an operation with this number of zeros.
+fn packet_of(alloc: Global, operation: u8, size: usize, user: u64) -> Result<Packet, NoMemory> {
+    let mut packet = zeros(alloc, operation, size)?;
+    packet.user = user;
+    Ok(packet)
 }
 
 /// Takes its steps in turn and then ends, and notes what it sees. The user word of its packets is its own. It may give way

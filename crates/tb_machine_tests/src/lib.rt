@@ -1,5 +1,9 @@
-//! The tests of tb_machine, in a crate of their own: so tb_machine is proved once, and not again with its tests.
+//! The tests of tb_tables and tb_machine, among them plain lists with the contract of `Tables` but for its calls by
+//! indices, in a crate of their own so that these aren't proved twice.
+//!
+//! `change` is outside the tests since specs/ speaks of it, which a check reads without the tests too.
 #![tactic(auto)]
 
+mod change;
 #[cfg(test)]
 mod tests;

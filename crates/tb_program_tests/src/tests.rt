@@ -7,14 +7,13 @@ use std::sync::Wait;
 use std::thread::Threads;
 use tb_program::{run_script, run_threads};
 
+mod cases;
 mod codes;
 mod examples;
 mod faults;
-mod lookups;
 mod running;
 mod streams;
 mod submitters;
-mod transfers;
 
 /// What `list` writes for a script.
 fn listed(rt: &(impl Abort + Alloc<A = Global>), script: &str) -> String {

@@ -1,4 +1,5 @@
-//! The tests of tb_submit, in a crate of their own: so tb_submit is proved once, and not again with its tests.
+//! The tests of tb_rings and tb_submit, in a crate of their own: so those are proved once, and not again with their
+//! tests.
 #![tactic(auto)]
 
 #[cfg(test)]

@@ -1,27 +1,23 @@
 //! What no clause says: worked examples by name, each refusal once, senders in threads of their own.
 
-use std::alloc::Global;
+use std::alloc::{AllocError, Global};
 use std::process::Abort;
 use std::sync::Wait;
 use tb_submit::{Control, Ends, Intake, Submitter, open_queue};
-use tb_work::{Answer, Bytes, Failures, Item, Job, Outcome, Packet, Refusal, Reply, Ticket};
+use tb_test_makers::packet_of;
+use tb_work::{Answer, Failures, Item, Job, Outcome, Packet, Refusal, Reply, Ticket};
 
 mod calls;
 mod memory;
 mod openings;
 mod refusals;
+mod rings;
 mod rounds;
 mod threads;
 
 /// A packet of this number of bytes, each of them 7.
-fn packet_of(rt: &(impl Abort + Alloc<A = Global>), operation: u8, length: usize) -> Packet {
-    let mut bytes = Vec::new(rt.alloc());
-    bytes.resize(length, 7).expect(rt, "memory");
-    Packet {
-        operation,
-        bytes: Bytes::from_vec(bytes),
-        user: 1000,
-    }
+fn sevens(alloc: Global, operation: u8, length: usize) -> Result<Packet, AllocError> {
+    Ok(packet_of(operation, Vec::from_elem(alloc, 7u8, length)?))
 }
 
 /// A packet's operation, the number of its bytes, their sum, and its user word.
@@ -34,9 +30,9 @@ fn look_of(packet: &Packet) -> (u8, usize, u64, u64) {
     (packet.operation, bytes.len(), sum, packet.user)
 }
 
-/// What `look_of` returns for a packet as `packet_of` makes it.
+/// What `look_of` returns for a packet of sevens.
 fn made_look(operation: u8, length: usize) -> (u8, usize, u64, u64) {
-    (operation, length, (length as u64).wrapping_mul(7), 1000)
+    (operation, length, (length as u64).wrapping_mul(7), 7)
 }
 
 /// A queue of this limit, capacity and credit: its one submitter, and its other ends.
@@ -59,7 +55,8 @@ fn submit(
     length: usize,
 ) -> Result<u64, Refusal> {
     assert!(rt; submitter.queued() < 1 << 56);
-    match submitter.submit(rt, rt.alloc(), packet_of(rt, operation, length)) {
+    let packet = sevens(rt.alloc(), operation, length).expect(rt, "memory");
+    match submitter.submit(rt, rt.alloc(), packet) {
         Ok(number) => Ok(number),
         Err((back, refusal)) => {
             assert!(rt; look_of(&back) == made_look(operation, length));

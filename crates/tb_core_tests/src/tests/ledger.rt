@@ -3,15 +3,16 @@
 ghost use Rattle.std.specs.Prelude.{◌≡◌, ◌≤◌};
 
 use super::front::{small_front, ticket_of};
-use super::made::{Made, account, creating, looking_up};
-use super::told::{Noted, Told, assert_noted, first_reply, told_by};
+use super::made::{Made, creating};
+use super::told::{Noted, SIX_PLACES, Told, assert_noted, first_reply, told_by};
 use std::alloc::Global;
 use std::process::Abort;
 use tb_batch::{Batch, Batcher, Offered};
 use tb_core::{BareLedger, Cause, Front, Ledger, Outcomes, Parcel, Seed};
 use tb_demux::Cutter;
 use tb_layout::Account;
-use tb_work::{Answer, Job, Moment, Outcome, Reply, Ticket};
+use tb_test_makers::{account, job};
+use tb_work::{Answer, Job, Moment, Outcome, Packet, Reply, Ticket};
 
 /// Adds what a reply says to the text.
 fn tell_reply(rt: &impl Abort, reply: &Reply, told: &mut Vec<Told>) {
@@ -96,15 +97,6 @@ fn pulse_between(
     feed_packets(rt, front, ledger, &[3, 4, 5, 6], told);
 }
 
-const PULSE_BETWEEN_BATCHES: [Told; 6] = [
-    Told::Committed(0),
-    Told::Committed(1),
-    Told::Committed(3),
-    Told::Committed(4),
-    Told::Committed(5),
-    Told::Committed(6),
-];
-
 /// Feeds two packets, a pulse and four packets more, and then the group held, and asserts the outcomes.
 fn feed_all(rt: &(impl Abort + Alloc<A = Global>), front: &mut Front, ledger: &mut Ledger)
     requires { front.old.submitters ≡ 1 }
@@ -114,7 +106,7 @@ fn feed_all(rt: &(impl Abort + Alloc<A = Global>), front: &mut Front, ledger: &m
     // Nobody has ended.
     assert!(rt; !front.finished());
     feed_group(rt, front, ledger, &mut told);
-    assert!(rt; told.as_slice() == PULSE_BETWEEN_BATCHES.as_slice());
+    assert!(rt; told.as_slice() == SIX_PLACES.as_slice());
 }
 
 #[test]
@@ -166,7 +158,7 @@ fn alone(rt: &(impl Abort + Alloc<A = Global>), job: Job) -> Batch {
 
 /// A packet that creates the account of an id.
 fn creating_one(rt: &(impl Abort + Alloc<A = Global>), number: u64, id: u128) -> Job {
-    creating(rt.alloc(), 0, number, &[account(id)]).expect(rt, "the packet is admitted")
+    creating(rt.alloc(), 0, number, &[account(id, 0)]).expect(rt, "the packet is admitted")
 }
 
 /// A batch of one packet, which creates the account of an id.
@@ -198,11 +190,13 @@ fn found_by_a_lookup(rt: HostRuntime) {
 
 /// A lookup of accounts 1 and 2; only the first exists.
 fn assert_found(rt: &(impl Abort + Alloc<A = Global>), ledger: &mut Ledger) {
-    let asked = alone(rt, looking_up(rt, 0, 1, &[1, 2]));
+    let ids = Packet::of_ids(rt.alloc(), &[1, 2], 7).expect(rt, "memory");
+    let asked = job(rt.alloc(), 0, 1, ids).expect(rt, "the packet is admitted");
+    let asked = alone(rt, asked);
     let reply = first_reply(ledger.apply(Parcel::Batch(asked))).expect(rt, "a reply");
     let made = Account {
         timestamp: 4,
-        ..account(1)
+        ..account(1, 0)
     };
     assert!(rt; found(&reply) == Some((1, 1, made)));
     assert!(rt; ledger.machine().clock() == 4);

@@ -1,11 +1,12 @@
 //! A list of items, by worked examples.
 
-use super::made::{Made, account, creating, item, transfer, transferring};
-use super::told::{Noted, Told, assert_failures, assert_noted, assert_told};
+use super::made::{Made, creating, item, transferring};
+use super::told::{Noted, SIX_PLACES, Told, assert_failures, assert_noted, assert_told};
 use std::alloc::Global;
 use std::process::Abort;
 use tb_core::{Listed, run_list};
 use tb_layout::{Account, BATCH_MAX, Transfer};
+use tb_test_makers::{account, transfer};
 use tb_work::Item;
 
 /// Items of submitter 0.
@@ -41,16 +42,8 @@ const PULSE_BETWEEN_BATCHES: [Made; 8] = [
 fn pulse_between_batches(rt: HostRuntime) {
     let items = items_of(&rt, &PULSE_BETWEEN_BATCHES);
     let listed = run_list(rt.alloc(), 0, 4, items).expect(&rt, "memory");
-    let told = [
-        Told::Committed(0),
-        Told::Committed(1),
-        Told::Committed(3),
-        Told::Committed(4),
-        Told::Committed(5),
-        Told::Committed(6),
-    ];
     let noted = [Noted::Batch(2), Noted::Pulse(5), Noted::Batch(4)];
-    assert_listed(&rt, &listed, &told, &noted, 9);
+    assert_listed(&rt, &listed, &SIX_PLACES, &noted, 9);
     drop(listed);
 }
 
@@ -75,7 +68,7 @@ fn packet_behind_shut(rt: HostRuntime) {
 fn accounts(rt: &(impl Abort + Alloc<A = Global>), first_id: u128, count: u32) -> Vec<Account> {
     let mut accounts = Vec::new(rt.alloc());
     for place in 0..count {
-        let account = account(first_id.saturating_add(u128::from(place)));
+        let account = account(first_id.saturating_add(u128::from(place)), 0);
         accounts.push(account).expect(rt, "memory");
     }
     accounts
@@ -85,7 +78,7 @@ fn accounts(rt: &(impl Abort + Alloc<A = Global>), first_id: u128, count: u32) -
 fn transfers(rt: &(impl Abort + Alloc<A = Global>), count: u32) -> Vec<Transfer> {
     let mut transfers = Vec::new(rt.alloc());
     for place in 0..count {
-        let transfer = transfer(u128::from(place) + 1, 1, 2, 1);
+        let transfer = transfer(u128::from(place) + 1, [1, 2], 1, 0);
         transfers.push(transfer).expect(rt, "memory");
     }
     transfers
@@ -106,7 +99,7 @@ fn packet_of_accounts(
 /// A packet of submitter 0 that creates `count` transfers.
 fn packet_of_transfers(rt: &(impl Abort + Alloc<A = Global>), number: u64, count: u32) -> Item {
     let transfers = transfers(rt, count);
-    let job = transferring(rt.alloc(), 0, number, &transfers).expect(rt, "the packet is admitted");
+    let job = transferring(rt.alloc(), number, &transfers).expect(rt, "the packet is admitted");
     Item::Packet(job)
 }
 
@@ -157,7 +150,7 @@ fn assert_largest(rt: &impl Abort, listed: &Listed) {
     let debtor = Account {
         debits_posted: 8190,
         timestamp: 1,
-        ..account(1)
+        ..account(1, 0)
     };
     assert!(rt; machine.account(1) == Some(debtor));
 }

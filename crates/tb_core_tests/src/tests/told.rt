@@ -23,6 +23,16 @@ pub(super) enum Noted {
     Pulse(u64),
 }
 
+/// The places of two packets before a pulse and of four after it.
+pub(super) const SIX_PLACES: [Told; 6] = [
+    Told::Committed(0),
+    Told::Committed(1),
+    Told::Committed(3),
+    Told::Committed(4),
+    Told::Committed(5),
+    Told::Committed(6),
+];
+
 /// The first reply of a batch.
 pub(super) fn first_reply(outcomes: Outcomes) -> Option<Reply> {
     match outcomes {

@@ -52,14 +52,68 @@ fn answer(rt: &(impl Abort + Alloc<A = Global>), world: &mut World, step: Step) 
     world.step(event).ok().expect(rt, "memory")
 }
 
+/// The steps of the stages by name.
+const STAGES: [(&str, Step); 8] = [
+    ("pop", Step::Pop),
+    ("pop-refused", Step::PopRefused),
+    ("batch-push", Step::BatchPush),
+    ("batch-pop", Step::BatchPop),
+    ("batch-pop-refused", Step::BatchPopRefused),
+    ("outcome-push", Step::OutcomePush),
+    ("outcome-pop", Step::OutcomePop),
+    ("reply-push", Step::ReplyPush),
+];
+
+fn number_of(rt: &impl Abort, digits: &str) -> u64 {
+    digits.parse::<u64>().ok().expect(rt, "a number")
+}
+
+/// What a sender pushes: `close`, `end`, `pulse5` at moment 5, or `packet0=1`, number 0, which creates account 1.
+fn made_of(rt: &impl Abort, pushed: &str) -> Made {
+    match pushed {
+        "close" => return Made::Close,
+        "end" => return Made::End,
+        _ => {}
+    }
+    if let Some(moment) = pushed.strip_prefix("pulse") {
+        return Made::Pulse(number_of(rt, moment));
+    }
+    let packet = pushed.strip_prefix("packet").expect(rt, "a packet");
+    let (number, id) = packet.split_once('=').expect(rt, "a number and an id");
+    Made::Packet {
+        number: number_of(rt, number),
+        id: u128::from(number_of(rt, id)),
+    }
+}
+
+/// The step of a word: the name of a stage's step, or a sender's number, a colon, and `reply` or what it pushes.
+fn step_of(rt: &impl Abort, word: &str) -> Step {
+    for (name, step) in STAGES.iter() {
+        if word == *name {
+            return *step;
+        }
+    }
+    let (sender, act) = word.split_once(':').expect(rt, "a sender");
+    let sender = sender.parse::<u32>().ok().expect(rt, "a number");
+    match act {
+        "reply" => Step::ReplyPop(sender),
+        pushed => Step::Push(sender, made_of(rt, pushed)),
+    }
+}
+
+/// The step of a word, and what the World answers to it: false after a `!`, and else true.
+fn answered_step(rt: &impl Abort, word: &str) -> (Step, bool) {
+    match word.strip_prefix('!') {
+        Some(refused) => (step_of(rt, refused), false),
+        None => (step_of(rt, word), true),
+    }
+}
+
 /// Takes steps, and asserts what the World answers to each.
-fn play(rt: &(impl Abort + Alloc<A = Global>), world: &mut World, steps: &[(Step, bool)]) {
-    for (place, (step, wanted)) in steps.iter().enumerate() {
-        let moves = answer(rt, world, *step);
-        assert!(rt;
-            moves == *wanted,
-            "the answer to step {place}, counted from 0"
-        );
+fn play(rt: &(impl Abort + Alloc<A = Global>), world: &mut World, steps: &str) {
+    for word in steps.split_whitespace() {
+        let (step, wanted) = answered_step(rt, word);
+        assert!(rt; answer(rt, world, step) == wanted, "{word}");
     }
 }
 
@@ -72,10 +126,11 @@ fn assert_world(rt: &impl Abort, world: &World, told: &[Told], noted: &[Noted], 
 }
 
 /// Returns the events of steps.
-fn events_of(rt: &(impl Abort + Alloc<A = Global>), steps: &[(Step, bool)]) -> Vec<Event> {
+fn events_of(rt: &(impl Abort + Alloc<A = Global>), steps: &str) -> Vec<Event> {
     let mut events = Vec::new(rt.alloc());
-    for (step, _) in steps {
-        let event = event(rt.alloc(), *step).expect(rt, "memory");
+    for word in steps.split_whitespace() {
+        let (step, _) = answered_step(rt, word);
+        let event = event(rt.alloc(), step).expect(rt, "memory");
         events.push(event).ok().expect(rt, "memory");
     }
     events
@@ -85,7 +140,7 @@ fn events_of(rt: &(impl Abort + Alloc<A = Global>), steps: &[(Step, bool)]) -> V
 /// returns to each and the state at the end, and that the same events as a list come to this state.
 fn assert_steps(
     rt: &(impl Abort + Alloc<A = Global>),
-    steps: &[(Step, bool)],
+    steps: &str,
     told: &[Told],
     noted: &[Noted],
     clock: u64,

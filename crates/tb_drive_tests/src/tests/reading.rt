@@ -4,12 +4,13 @@ ghost use Rattle.std.specs.Prelude.{◌≡◌, IfSome, true};
 ghost use Rattle.tb_drive_tests.specs.Reading.{HaveReadAll};
 ghost use Rattle.tb_submit.specs.Ends.{SenderState};
 
-use super::{CREATE_ACCOUNTS, packet_of};
+use super::packet_of;
 use std::alloc::Global;
 use std::sync::Wait;
 use std::test::Fail;
 use std::thread::Threads;
 use tb_drive::{Action, ControlPlan, Driver, Finished, PlanDriver, drive_all};
+use tb_layout::CREATE_ACCOUNTS;
 use tb_pipe::open;
 use tb_work::{Refusal, Reply};
 

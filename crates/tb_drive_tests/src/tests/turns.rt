@@ -1,12 +1,13 @@
 //! A control whose driver decides by itself when to pulse.
 
-use super::{CREATE_ACCOUNTS, packet_of};
+use super::packet_of;
 use std::alloc::Global;
 use std::sync::Wait;
 use std::sync::atomic::{AtomicU32, Ordering};
 use std::test::Fail;
 use std::thread;
 use tb_drive::{Action, ControlAction, ControlDriver, Driver, drive_all};
+use tb_layout::CREATE_ACCOUNTS;
 use tb_pipe::open;
 use tb_work::{Outcome, Refusal, Reply};
 

@@ -1,6 +1,6 @@
 //! Threads that sleep are woken: a wake-up that is lost ends no test, since its thread sleeps for ever.
 
-use super::{CREATE_ACCOUNTS, packet_of};
+use super::packet_of;
 use std::alloc::Global;
 use std::sync::Wait;
 use std::test::Fail;

@@ -5,26 +5,6 @@ use super::{assert_run, ran};
 use std::alloc::Global;
 use std::process::Abort;
 
-#[test]
-fn run_with_refusals(rt: HostRuntime) {
-    assert_run(
-        &rt,
-        "limit 4
-packet 0 129
-account id=1 ledger=1 code=1
-account id=1 ledger=1 code=1
-packet 0 200
-pulse 4611686018427387905
-",
-        "packet 0 0 committed 0 1:21
-packet 0 refused 1 InvalidOperation
-pulse refused 12 MomentTooLarge
-clock 2
-account 1 1 0 0 0 0
-",
-    );
-}
-
 /// The Close is no line of its own, and neither are the settings.
 const WITHOUT_PACKETS: [(&str, &str); 5] = [
     ("shut\n", "clock 0\n"),

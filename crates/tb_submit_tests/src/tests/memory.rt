@@ -1,19 +1,9 @@
-use super::{look_of, made_look};
-use std::alloc::{AllocError, Global};
+use super::{look_of, made_look, sevens};
+use std::alloc::Global;
 use std::process::Abort;
 use std::sync::Wait;
 use tb_submit::{Submitter, open_queue};
-use tb_work::{Bytes, Packet, Refusal};
-
-fn packet(alloc: Global) -> Result<Packet, AllocError> {
-    let mut bytes = Vec::new(alloc);
-    bytes.resize(512, 7)?;
-    Ok(Packet {
-        operation: 129,
-        bytes: Bytes::from_vec(bytes),
-        user: 1000,
-    })
-}
+use tb_work::{Packet, Refusal};
 
 /// The packet is queued as number 0, or comes back as it was and none is queued.
 fn submit_or_not(
@@ -39,7 +29,7 @@ fn submit_refused_memory(rt: HostRuntime) {
     match open_queue(rt.alloc(), 4, 4, 4, 2) {
         Ok(mut ends) => {
             assert!(rt; ends.submitters.len() == 2);
-            if let Ok(packet) = packet(rt.alloc()) {
+            if let Ok(packet) = sevens(rt.alloc(), 129, 512) {
                 submit_or_not(&rt, rt.alloc(), &mut ends.submitters[0], packet);
             }
             drop(ends);
@@ -76,7 +66,7 @@ fn credit_used_up_refused_memory(rt: HostRuntime) {
     };
     assert!(rt; ends.submitters.len() == 1);
     let submitter = &mut ends.submitters[0];
-    if let (Ok(first), Ok(second)) = (packet(rt.alloc()), packet(rt.alloc())) {
+    if let (Ok(first), Ok(second)) = (sevens(rt.alloc(), 129, 512), sevens(rt.alloc(), 129, 512)) {
         assert!(rt; submitter.queued() == 0);
         if submitter.submit(&rt, rt.alloc(), first).is_ok() {
             try_again(&rt, rt.alloc(), submitter, second);

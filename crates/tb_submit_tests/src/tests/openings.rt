@@ -1,9 +1,10 @@
-use super::{Says, packet_of, queue_of, reply_to};
+use super::{Says, queue_of, reply_to, sevens};
 use std::alloc::Global;
 use std::process::Abort;
 use tb_rings::Outlet;
 use tb_submit::open_queue;
-use tb_work::{Job, Refusal, Reply};
+use tb_test_makers::job;
+use tb_work::{Refusal, Reply};
 
 /// Limit, capacity, credit and submitters, and why such a queue is refused.
 const OPENINGS: [((u32, u32, u32, u32), Option<Refusal>); 19] = [
@@ -48,8 +49,8 @@ fn as_many_ends_as_submitters(rt: HostRuntime) {
 
 /// Gives a reply to a packet that was not queued; whether it is taken.
 fn takes_reply(rt: &(impl Abort + Alloc<A = Global>), outlet: &mut Outlet<Reply>) -> bool {
-    let job = Job::new(rt.alloc(), 0, 0, 4, packet_of(rt, 129, 128)).ok();
-    let job = job.expect(rt, "memory");
+    let packet = sevens(rt.alloc(), 129, 128).expect(rt, "memory");
+    let job = job(rt.alloc(), 0, 0, packet).expect(rt, "memory");
     let given = outlet.give(reply_to(rt.alloc(), job, Says::Stopped));
     given.is_ok()
 }

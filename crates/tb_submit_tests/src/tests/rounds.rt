@@ -1,4 +1,4 @@
-use super::{Says, answer, packet_of, pulse, queue_of};
+use super::{Says, answer, pulse, queue_of, sevens};
 use std::alloc::Global;
 use std::process::Abort;
 use std::sync::Wait;
@@ -28,7 +28,7 @@ fn round(
 /// Credit and slots are free again with each reply: one packet goes round this number of times.
 fn rounds(rt: &(impl Abort + Wait + Alloc<A = Global>), count: u64) {
     let (mut submitter, mut ends) = queue_of(rt, 4, 1, 1);
-    let mut packet = packet_of(rt, 129, 512);
+    let mut packet = sevens(rt.alloc(), 129, 512).expect(rt, "memory");
     for place in 0..count {
         let (number, back) = round(rt, &mut submitter, &mut ends, packet);
         assert_eq!(rt; number, place);

@@ -1,41 +1,27 @@
 //! Each event answered false, for each of its reasons.
 
-use super::{Step, assert_steps};
-use crate::tests::made::{Made, account, creating};
+use super::assert_steps;
+use crate::tests::made::creating;
 use crate::tests::told::Noted;
 use std::alloc::Global;
 use std::process::Abort;
 use tb_layout::Account;
+use tb_test_makers::account;
 use tb_work::{Item, Job, Ticket};
 use tb_world::{Event, World};
 
-const PUSHES: [(Step, bool); 15] = [
-    // A stranger.
-    (Step::Push(3, Made::Packet { number: 0, id: 1 }), false),
-    (Step::Push(3, Made::End), false),
-    // A packet by the control.
-    (Step::Push(2, Made::Packet { number: 0, id: 1 }), false),
-    // A number out of order, before the first packet and after it.
-    (Step::Push(0, Made::Packet { number: 1, id: 1 }), false),
-    (Step::Push(0, Made::Packet { number: 0, id: 1 }), true),
-    (Step::Push(0, Made::Packet { number: 0, id: 1 }), false),
-    // A pulse and a Close by a submitter.
-    (Step::Push(0, Made::Pulse(5)), false),
-    (Step::Push(1, Made::Close), false),
-    // A submitter that ended.
-    (Step::Push(1, Made::End), true),
-    (Step::Push(1, Made::Packet { number: 0, id: 2 }), false),
-    (Step::Push(1, Made::End), false),
-    // The control, which ended by its Close.
-    (Step::Push(2, Made::Close), true),
-    (Step::Push(2, Made::Pulse(5)), false),
-    (Step::Push(2, Made::End), false),
-    (Step::Push(2, Made::Close), false),
-];
+/// Pushes by a stranger and by the control, numbers out of order, a pulse and a Close by a submitter, then by a submitter
+/// that ended, and by the control, which ended by its Close.
+const PUSHES: &str = "!3:packet0=1 !3:end
+!2:packet0=1
+!0:packet1=1 0:packet0=1 !0:packet0=1
+!0:pulse5 !1:close
+1:end !1:packet0=2 !1:end
+2:close !2:pulse5 !2:end !2:close";
 
 #[test]
 fn pushes_that_answer_false(rt: HostRuntime) {
-    assert_steps(&rt, &PUSHES, &[], &[], 0);
+    assert_steps(&rt, PUSHES, &[], &[], 0);
 }
 
 /// What a new World of two submitters answers to the push of a packet.
@@ -55,74 +41,37 @@ fn first_job(rt: &(impl Abort + Alloc<A = Global>), accounts: &[Account]) -> Job
 #[test]
 fn jobs_of_others(rt: HostRuntime) {
     // Submitter 1 pushes the job of submitter 0.
-    let job = first_job(&rt, &[account(1)]);
+    let job = first_job(&rt, &[account(1, 0)]);
     assert!(rt; !answer_to(&rt, 4, 1, job));
 }
 
 #[test]
 fn jobs_over_the_limit(rt: HostRuntime) {
     // The limit is one account.
-    let two = first_job(&rt, &[account(1), account(2)]);
+    let two = first_job(&rt, &[account(1, 0), account(2, 0)]);
     assert!(rt; !answer_to(&rt, 1, 0, two));
-    let one = first_job(&rt, &[account(1)]);
+    let one = first_job(&rt, &[account(1, 0)]);
     assert!(rt; answer_to(&rt, 1, 0, one));
 }
 
-const STAGES_WITH_NOTHING: [(Step, bool); 10] = [
-    (Step::Pop, false),
-    (Step::PopRefused, false),
-    (Step::BatchPush, false),
-    (Step::BatchPop, false),
-    (Step::BatchPopRefused, false),
-    (Step::OutcomePush, false),
-    (Step::OutcomePop, false),
-    (Step::ReplyPush, false),
-    (Step::ReplyPop(0), false),
-    (Step::ReplyPop(2), false),
-];
+const STAGES_WITH_NOTHING: &str =
+    "!pop !pop-refused !batch-push !batch-pop !batch-pop-refused !outcome-push !outcome-pop !reply-push
+!0:reply !2:reply";
 
 #[test]
 fn stages_that_have_nothing(rt: HostRuntime) {
-    assert_steps(&rt, &STAGES_WITH_NOTHING, &[], &[], 0);
+    assert_steps(&rt, STAGES_WITH_NOTHING, &[], &[], 0);
 }
 
-const STAGES_WITH_SOMETHING: [(Step, bool); 28] = [
-    // Two packets, a pulse, which seals them, and a packet.
-    (Step::Push(0, Made::Packet { number: 0, id: 1 }), true),
-    (Step::Push(1, Made::Packet { number: 0, id: 2 }), true),
-    (Step::Push(2, Made::Pulse(5)), true),
-    (Step::Push(0, Made::Packet { number: 1, id: 3 }), true),
-    (Step::Pop, true),
-    (Step::Pop, true),
-    (Step::Pop, true),
-    // The batch and the pulse have to be pushed first.
-    (Step::Pop, false),
-    (Step::PopRefused, false),
-    (Step::BatchPush, true),
-    (Step::BatchPush, true),
-    (Step::BatchPush, false),
-    (Step::Pop, true),
-    (Step::BatchPush, true),
-    // The batch's outcome has to be pushed first; the pulse has none.
-    (Step::BatchPop, true),
-    (Step::BatchPop, false),
-    (Step::OutcomePush, true),
-    (Step::OutcomePush, false),
-    (Step::BatchPop, true),
-    (Step::OutcomePush, false),
-    (Step::BatchPop, true),
-    (Step::OutcomePush, true),
-    // The replies of both packets have to be pushed first.
-    (Step::OutcomePop, true),
-    (Step::OutcomePop, false),
-    (Step::ReplyPush, true),
-    (Step::OutcomePop, false),
-    (Step::ReplyPush, true),
-    (Step::OutcomePop, true),
-];
+/// Two packets, a pulse, which seals them, and a packet. Each batch, outcome and reply has to be pushed before the next
+/// comes; the pulse has no outcome.
+const STAGES_WITH_SOMETHING: &str = "0:packet0=1 1:packet0=2 2:pulse5 0:packet1=3 pop pop pop
+!pop !pop-refused batch-push batch-push !batch-push pop batch-push
+batch-pop !batch-pop outcome-push !outcome-push batch-pop !outcome-push batch-pop outcome-push
+outcome-pop !outcome-pop reply-push !outcome-pop reply-push outcome-pop";
 
 #[test]
 fn stages_that_have_to_push_first(rt: HostRuntime) {
     let noted = [Noted::Batch(2), Noted::Pulse(5), Noted::Batch(1)];
-    assert_steps(&rt, &STAGES_WITH_SOMETHING, &[], &noted, 6);
+    assert_steps(&rt, STAGES_WITH_SOMETHING, &[], &noted, 6);
 }

@@ -1,162 +1,66 @@
 //! Worked examples, step by step.
 
-use super::{Step, assert_steps};
-use crate::tests::made::Made;
+use super::assert_steps;
 use crate::tests::told::{Noted, Told};
 use std::alloc::Global;
 use std::process::Abort;
 use tb_work::Refusal;
 use tb_world::World;
 
-const FIRST: Step = Step::Push(0, Made::Packet { number: 0, id: 1 });
-
-const SECOND: Step = Step::Push(0, Made::Packet { number: 1, id: 2 });
-
-const THIRD: Step = Step::Push(0, Made::Packet { number: 2, id: 3 });
-
-const PULSE: Step = Step::Push(2, Made::Pulse(5));
-
-const ONE_PACKET: [(Step, bool); 9] = [
-    (FIRST, true),
-    (Step::Pop, true),
-    (Step::BatchPush, true),
-    (Step::BatchPop, true),
-    (Step::OutcomePush, true),
-    (Step::OutcomePop, true),
-    (Step::ReplyPush, true),
-    (Step::ReplyPop(0), true),
-    (Step::ReplyPop(0), false),
-];
+const ONE_PACKET: &str =
+    "0:packet0=1 pop batch-push batch-pop outcome-push outcome-pop reply-push 0:reply !0:reply";
 
 #[test]
 fn world_one_packet(rt: HostRuntime) {
     let told = [Told::Committed(0)];
     let noted = [Noted::Batch(1)];
-    assert_steps(&rt, &ONE_PACKET, &told, &noted, 1);
+    assert_steps(&rt, ONE_PACKET, &told, &noted, 1);
 }
 
-const REFUSED_COMMIT: [(Step, bool); 9] = [
-    (FIRST, true),
-    (Step::Pop, true),
-    (Step::BatchPush, true),
-    (Step::BatchPopRefused, true),
-    (Step::OutcomePush, true),
-    (Step::OutcomePop, true),
-    (Step::ReplyPush, true),
-    (Step::ReplyPop(0), true),
-    (Step::ReplyPop(0), false),
-];
+const REFUSED_COMMIT: &str =
+    "0:packet0=1 pop batch-push batch-pop-refused outcome-push outcome-pop reply-push 0:reply !0:reply";
 
 #[test]
 fn world_refused_commit(rt: HostRuntime) {
-    assert_steps(&rt, &REFUSED_COMMIT, &[Told::Stopped], &[], 0);
+    assert_steps(&rt, REFUSED_COMMIT, &[Told::Stopped], &[], 0);
 }
 
-const REFUSED_SECOND_COMMIT: [(Step, bool); 20] = [
-    (FIRST, true),
-    (PULSE, true),
-    (SECOND, true),
-    (Step::Pop, true),
-    (Step::Pop, true),
-    (Step::BatchPush, true),
-    (Step::BatchPush, true),
-    (Step::Pop, true),
-    (Step::BatchPush, true),
-    (Step::BatchPop, true),
-    (Step::OutcomePush, true),
-    (Step::BatchPopRefused, true),
-    (Step::BatchPop, true),
-    (Step::OutcomePush, true),
-    (Step::OutcomePop, true),
-    (Step::ReplyPush, true),
-    (Step::OutcomePop, true),
-    (Step::ReplyPush, true),
-    (Step::ReplyPop(0), true),
-    (Step::ReplyPop(0), true),
-];
+const REFUSED_SECOND_COMMIT: &str =
+    "0:packet0=1 2:pulse5 0:packet1=2 pop pop batch-push batch-push pop batch-push batch-pop outcome-push
+batch-pop-refused batch-pop outcome-push outcome-pop reply-push outcome-pop reply-push 0:reply
+0:reply";
 
 #[test]
 fn world_refused_second_commit(rt: HostRuntime) {
     let told = [Told::Committed(0), Told::Stopped];
     let noted = [Noted::Batch(1)];
-    assert_steps(&rt, &REFUSED_SECOND_COMMIT, &told, &noted, 1);
+    assert_steps(&rt, REFUSED_SECOND_COMMIT, &told, &noted, 1);
 }
 
-const REFUSED_JOIN: [(Step, bool); 24] = [
-    (FIRST, true),
-    (SECOND, true),
-    (THIRD, true),
-    (Step::Pop, true),
-    (Step::PopRefused, true),
-    (Step::BatchPush, true),
-    (Step::BatchPush, true),
-    (Step::Pop, true),
-    (Step::BatchPush, true),
-    (Step::BatchPop, true),
-    (Step::OutcomePush, true),
-    (Step::OutcomePop, true),
-    (Step::ReplyPush, true),
-    (Step::ReplyPop(0), true),
-    (Step::BatchPop, true),
-    (Step::OutcomePush, true),
-    (Step::OutcomePop, true),
-    (Step::ReplyPush, true),
-    (Step::ReplyPop(0), true),
-    (Step::BatchPop, true),
-    (Step::OutcomePush, true),
-    (Step::OutcomePop, true),
-    (Step::ReplyPush, true),
-    (Step::ReplyPop(0), true),
-];
+const REFUSED_JOIN: &str =
+    "0:packet0=1 0:packet1=2 0:packet2=3 pop pop-refused batch-push batch-push pop batch-push batch-pop
+outcome-push outcome-pop reply-push 0:reply batch-pop outcome-push outcome-pop reply-push 0:reply
+batch-pop outcome-push outcome-pop reply-push 0:reply";
 
 #[test]
 fn world_refused_join(rt: HostRuntime) {
     let told = [Told::Committed(0), Told::Stopped, Told::Stopped];
     let noted = [Noted::Batch(1)];
-    assert_steps(&rt, &REFUSED_JOIN, &told, &noted, 1);
+    assert_steps(&rt, REFUSED_JOIN, &told, &noted, 1);
 }
 
 /// The events of the example, and what they answer.
-const WITH_CLOSE: [(Step, bool); 31] = [
-    (FIRST, true),
-    (Step::Push(2, Made::Close), true),
-    (SECOND, true),
-    (Step::Push(0, Made::End), true),
-    (Step::Push(1, Made::End), true),
-    (PULSE, false),
-    (Step::Pop, true),
-    (Step::Pop, true),
-    (Step::Pop, false),
-    (Step::BatchPush, true),
-    (Step::Pop, true),
-    (Step::BatchPush, true),
-    (Step::Pop, true),
-    (Step::Pop, true),
-    (Step::BatchPush, true),
-    (Step::BatchPush, false),
-    (Step::BatchPop, true),
-    (Step::OutcomePush, true),
-    (Step::BatchPop, true),
-    (Step::OutcomePush, true),
-    (Step::BatchPop, true),
-    (Step::OutcomePush, true),
-    (Step::OutcomePop, true),
-    (Step::ReplyPush, true),
-    (Step::OutcomePop, true),
-    (Step::ReplyPush, true),
-    (Step::OutcomePop, true),
-    (Step::ReplyPush, false),
-    (Step::ReplyPop(0), true),
-    (Step::ReplyPop(0), true),
-    (Step::ReplyPop(0), false),
-];
+const WITH_CLOSE: &str =
+    "0:packet0=1 2:close 0:packet1=2 0:end 1:end !2:pulse5 pop pop !pop batch-push pop batch-push pop pop
+batch-push !batch-push batch-pop outcome-push batch-pop outcome-push batch-pop outcome-push
+outcome-pop reply-push outcome-pop reply-push outcome-pop !reply-push 0:reply 0:reply !0:reply";
 
 const WITH_CLOSE_TOLD: [Told; 2] = [Told::Committed(0), Told::Shutdown];
 
 #[test]
 fn world_with_close(rt: HostRuntime) {
     let noted = [Noted::Batch(1)];
-    assert_steps(&rt, &WITH_CLOSE, &WITH_CLOSE_TOLD, &noted, 1);
+    assert_steps(&rt, WITH_CLOSE, &WITH_CLOSE_TOLD, &noted, 1);
 }
 
 /// Why a World isn't opened.

@@ -1,12 +1,15 @@
 //! Lists of events whose whole answers are known; two of them also with each allocation refused in turn.
 
-use super::{Step, event};
-use crate::tests::made::{Made, account, creating, transfer, transferring};
-use crate::tests::told::{Noted, Told, assert_failures, assert_noted, assert_told, told_by};
+use super::{Step, event, step_of};
+use crate::tests::made::{Made, creating, transferring};
+use crate::tests::told::{
+    Noted, SIX_PLACES, Told, assert_failures, assert_noted, assert_told, told_by,
+};
 use std::alloc::Global;
 use std::process::Abort;
 use std::slice;
 use tb_layout::{Account, Failure, Transfer};
+use tb_test_makers::{account, transfer};
 use tb_work::{Item, Job, Refusal, Ticket};
 use tb_world::{Event, World, run_world};
 
@@ -18,10 +21,15 @@ fn add(events: &mut Vec<Event>, event: Event) -> Result<(), Refusal> {
     }
 }
 
-/// Puts the events of steps after the others.
-fn add_all(alloc: Global, events: &mut Vec<Event>, steps: &[Step]) -> Result<(), Refusal> {
-    for step in steps {
-        add(events, event(alloc, *step)?)?;
+/// Puts the events of steps in words after the others.
+fn add_words(
+    rt: &impl Abort,
+    alloc: Global,
+    events: &mut Vec<Event>,
+    steps: &str,
+) -> Result<(), Refusal> {
+    for word in steps.split_whitespace() {
+        add(events, event(alloc, step_of(rt, word))?)?;
     }
     Ok(())
 }
@@ -34,63 +42,28 @@ fn run(alloc: Global, events: Vec<Event>) -> Result<World, Refusal> {
     }
 }
 
-const PULSE_BETWEEN_BATCHES: [Step; 18] = [
-    Step::Push(0, Made::Packet { number: 0, id: 1 }),
-    Step::Push(0, Made::Packet { number: 1, id: 2 }),
-    Step::Push(1, Made::Pulse(5)),
-    Step::Push(0, Made::Packet { number: 2, id: 3 }),
-    Step::Push(0, Made::Packet { number: 3, id: 4 }),
-    Step::Push(0, Made::Packet { number: 4, id: 5 }),
-    Step::Push(0, Made::Packet { number: 5, id: 6 }),
-    Step::Push(0, Made::End),
-    Step::Pop,
-    Step::Pop,
-    Step::Pop,
-    Step::BatchPush,
-    Step::BatchPush,
-    Step::Pop,
-    Step::Pop,
-    Step::Pop,
-    Step::Pop,
-    Step::BatchPush,
-];
+const PULSE_BETWEEN_BATCHES: &str =
+    "0:packet0=1 0:packet1=2 1:pulse5 0:packet2=3 0:packet3=4 0:packet4=5 0:packet5=6 0:end pop pop pop
+batch-push batch-push pop pop pop pop batch-push";
 
 /// Commits a parcel and takes up to four replies.
-const THROUGH: [Step; 11] = [
-    Step::BatchPop,
-    Step::OutcomePush,
-    Step::OutcomePop,
-    Step::ReplyPush,
-    Step::ReplyPush,
-    Step::ReplyPush,
-    Step::ReplyPush,
-    Step::ReplyPop(0),
-    Step::ReplyPop(0),
-    Step::ReplyPop(0),
-    Step::ReplyPop(0),
-];
+const THROUGH: &str =
+    "batch-pop outcome-push outcome-pop reply-push reply-push reply-push reply-push 0:reply 0:reply
+0:reply 0:reply";
 
 /// The events of the example.
-fn pulsed_events(alloc: Global) -> Result<Vec<Event>, Refusal> {
+fn pulsed_events(rt: &impl Abort, alloc: Global) -> Result<Vec<Event>, Refusal> {
     let mut events = Vec::new(alloc);
-    add_all(alloc, &mut events, &PULSE_BETWEEN_BATCHES)?;
+    add_words(rt, alloc, &mut events, PULSE_BETWEEN_BATCHES)?;
     for _ in 0..3 {
-        add_all(alloc, &mut events, &THROUGH)?;
+        add_words(rt, alloc, &mut events, THROUGH)?;
     }
     Ok(events)
 }
 
 /// Asserts what the example says.
 fn assert_pulsed(rt: &impl Abort, world: &World) {
-    let told = [
-        Told::Committed(0),
-        Told::Committed(1),
-        Told::Committed(3),
-        Told::Committed(4),
-        Told::Committed(5),
-        Told::Committed(6),
-    ];
-    assert_told(rt, world.received(0), &told);
+    assert_told(rt, world.received(0), &SIX_PLACES);
     let noted = [Noted::Batch(2), Noted::Pulse(5), Noted::Batch(4)];
     assert_noted(rt, world.ledger().journal(), &noted);
     assert!(rt; world.ledger().machine().clock() == 9);
@@ -98,7 +71,7 @@ fn assert_pulsed(rt: &impl Abort, world: &World) {
 
 /// Runs the example, and asserts its result.
 fn run_pulsed(rt: &impl Abort, alloc: Global) -> Result<(), Refusal> {
-    let world = run(alloc, pulsed_events(alloc)?)?;
+    let world = run(alloc, pulsed_events(rt, alloc)?)?;
     assert_pulsed(rt, &world);
     drop(world);
     Ok(())
@@ -118,30 +91,17 @@ fn pulse_between_batches_refused_memory(rt: HostRuntime) {
 
 /// Three accounts; the second may not owe more than it is owed.
 fn accounts() -> [Account; 3] {
-    [
-        account(1),
-        Account {
-            flags: 2,
-            ..account(2)
-        },
-        account(3),
-    ]
+    [account(1, 0), account(2, 2), account(3, 0)]
 }
 
 /// A chain of three transfers; the last is in ledger 0.
 fn chain() -> [Transfer; 3] {
     [
-        Transfer {
-            flags: 1,
-            ..transfer(1, 1, 2, 10)
-        },
-        Transfer {
-            flags: 1,
-            ..transfer(2, 2, 3, 10)
-        },
+        transfer(1, [1, 2], 10, 1),
+        transfer(2, [2, 3], 10, 1),
         Transfer {
             ledger: 0,
-            ..transfer(3, 1, 3, 10)
+            ..transfer(3, [1, 3], 10, 0)
         },
     ]
 }
@@ -155,25 +115,19 @@ fn add_push(events: &mut Vec<Event>, job: Result<Job, Refusal>) -> Result<(), Re
 /// The packets of the example.
 fn add_packets(alloc: Global, events: &mut Vec<Event>) -> Result<(), Refusal> {
     add_push(events, creating(alloc, 0, 0, &accounts()))?;
-    add_push(events, transferring(alloc, 0, 1, &chain()))?;
-    let last = transfer(2, 2, 3, 10);
-    add_push(events, transferring(alloc, 0, 2, &[last]))
+    add_push(events, transferring(alloc, 1, &chain()))?;
+    let last = transfer(2, [2, 3], 10, 0);
+    add_push(events, transferring(alloc, 2, &[last]))
 }
 
-const JOINED: [Step; 5] = [
-    Step::Pop,
-    Step::Pop,
-    Step::BatchPush,
-    Step::Pop,
-    Step::BatchPush,
-];
+const JOINED: &str = "pop pop batch-push pop batch-push";
 
 /// The events of the example.
-fn joined_events(alloc: Global) -> Result<Vec<Event>, Refusal> {
+fn joined_events(rt: &impl Abort, alloc: Global) -> Result<Vec<Event>, Refusal> {
     let mut events = Vec::new(alloc);
     add_packets(alloc, &mut events)?;
-    for steps in [JOINED.as_slice(), THROUGH.as_slice(), THROUGH.as_slice()] {
-        add_all(alloc, &mut events, steps)?;
+    for steps in [JOINED, THROUGH, THROUGH] {
+        add_words(rt, alloc, &mut events, steps)?;
     }
     Ok(events)
 }
@@ -212,7 +166,7 @@ fn assert_untouched(rt: &impl Abort, world: &World) {
 
 /// Runs the example, and asserts its result.
 fn run_joined(rt: &impl Abort, alloc: Global) -> Result<(), Refusal> {
-    let world = run(alloc, joined_events(alloc)?)?;
+    let world = run(alloc, joined_events(rt, alloc)?)?;
     assert_joined(rt, &world);
     drop(world);
     Ok(())
@@ -231,20 +185,9 @@ fn chains_of_transfers_joined_refused_memory(rt: HostRuntime) {
 }
 
 /// Joins four packets to a batch, commits it and takes its replies.
-const FOUR: [Step; 12] = [
-    Step::Pop,
-    Step::Pop,
-    Step::Pop,
-    Step::Pop,
-    Step::BatchPush,
-    Step::BatchPop,
-    Step::OutcomePush,
-    Step::OutcomePop,
-    Step::ReplyPush,
-    Step::ReplyPush,
-    Step::ReplyPush,
-    Step::ReplyPush,
-];
+const FOUR: &str =
+    "pop pop pop pop batch-push batch-pop outcome-push outcome-pop reply-push reply-push reply-push
+reply-push";
 
 /// A packet of each of 16 submitters, and what becomes of them.
 fn sixteen_events(rt: &(impl Abort + Alloc<A = Global>)) -> Vec<Event> {
@@ -252,13 +195,13 @@ fn sixteen_events(rt: &(impl Abort + Alloc<A = Global>)) -> Vec<Event> {
     for sender in 0..16 {
         let id = u128::from(sender) + 1;
         let push = Step::Push(sender, Made::Packet { number: 0, id });
-        add_all(rt.alloc(), &mut events, &[push]).expect(rt, "memory");
+        add_times(rt, &mut events, push, 1);
     }
     for _ in 0..4 {
-        add_all(rt.alloc(), &mut events, &FOUR).expect(rt, "memory");
+        add_words(rt, rt.alloc(), &mut events, FOUR).expect(rt, "memory");
     }
     for sender in 0..16 {
-        add_all(rt.alloc(), &mut events, &[Step::ReplyPop(sender)]).expect(rt, "memory");
+        add_times(rt, &mut events, Step::ReplyPop(sender), 1);
     }
     events
 }
@@ -295,7 +238,8 @@ fn add_times(
     times: u64,
 ) {
     for _ in 0..times {
-        add_all(rt.alloc(), events, &[step]).expect(rt, "memory");
+        let event = event(rt.alloc(), step).expect(rt, "memory");
+        add(events, event).expect(rt, "memory");
     }
 }
 
@@ -310,13 +254,8 @@ fn many_replies(rt: &(impl Abort + Alloc<A = Global>), events: &mut Vec<Event>) 
         add_times(rt, events, Step::Push(0, packet), 1);
     }
     add_times(rt, events, Step::Pop, EMPTY);
-    let through = [
-        Step::BatchPush,
-        Step::BatchPop,
-        Step::OutcomePush,
-        Step::OutcomePop,
-    ];
-    add_all(rt.alloc(), events, &through).expect(rt, "memory");
+    let through = "batch-push batch-pop outcome-push outcome-pop";
+    add_words(rt, rt.alloc(), events, through).expect(rt, "memory");
     add_times(rt, events, Step::ReplyPush, EMPTY);
     add_times(rt, events, Step::ReplyPop(0), EMPTY);
 }
@@ -324,13 +263,8 @@ fn many_replies(rt: &(impl Abort + Alloc<A = Global>), events: &mut Vec<Event>) 
 /// Adds the pulses, each committed before the next is pushed.
 fn many_pulses(rt: &(impl Abort + Alloc<A = Global>), events: &mut Vec<Event>) {
     for moment in 0..PULSES {
-        let through = [
-            Step::Push(1, Made::Pulse(moment)),
-            Step::Pop,
-            Step::BatchPush,
-            Step::BatchPop,
-        ];
-        add_all(rt.alloc(), events, &through).expect(rt, "memory");
+        add_times(rt, events, Step::Push(1, Made::Pulse(moment)), 1);
+        add_words(rt, rt.alloc(), events, "pop batch-push batch-pop").expect(rt, "memory");
     }
 }
 

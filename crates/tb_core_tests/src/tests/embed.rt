@@ -1,0 +1,167 @@
+//! An engine: calls in a row, each with the result that the rules give it.
+
+use std::alloc::Global;
+use std::process::Abort;
+use tb_embed::{Engine, Seed};
+use tb_layout::{CREATE_ACCOUNTS, CREATE_TRANSFERS, LOOKUP_ACCOUNTS, MOMENT_MAX};
+use tb_test_makers::zeros;
+use tb_work::{Outcome, Packet, Refusal, Reply};
+
+#[derive(Clone, Copy)]
+enum Call {
+    /// A submitter's packet: an operation with `size` zeros as its data.
+    Submit(u32, u8, usize),
+    Pulse(u64),
+    Shut,
+    Flush,
+    Read,
+}
+
+#[derive(Clone, Copy, PartialEq, Eq)]
+enum Got {
+    Number(u64),
+    Done,
+    Refused(Refusal),
+    /// A submitter's packet of this number at this place.
+    Committed(u32, u64, u64),
+    Shutdown(u32, u64),
+    Stopped,
+    Nothing,
+}
+
+/// A limit of two events and three submitters.
+const ROWS: [(Call, Got); 26] = [
+    (Call::Read, Got::Nothing),
+    // Accounts of two submitters join; a third event doesn't.
+    (Call::Submit(0, CREATE_ACCOUNTS, 128), Got::Number(0)),
+    (Call::Submit(2, CREATE_ACCOUNTS, 128), Got::Number(0)),
+    (Call::Read, Got::Nothing),
+    (Call::Submit(0, CREATE_ACCOUNTS, 128), Got::Number(1)),
+    (Call::Read, Got::Committed(0, 0, 0)),
+    (Call::Read, Got::Committed(2, 0, 1)),
+    (Call::Read, Got::Nothing),
+    // What is refused uses no number.
+    (
+        Call::Submit(3, CREATE_ACCOUNTS, 128),
+        Got::Refused(Refusal::BadSubmitters),
+    ),
+    (
+        Call::Submit(0, 0, 128),
+        Got::Refused(Refusal::InvalidOperation),
+    ),
+    (
+        Call::Submit(0, CREATE_TRANSFERS, 127),
+        Got::Refused(Refusal::InvalidDataSize),
+    ),
+    (
+        Call::Submit(0, CREATE_TRANSFERS, 384),
+        Got::Refused(Refusal::TooMuchData),
+    ),
+    (
+        Call::Pulse(MOMENT_MAX + 1),
+        Got::Refused(Refusal::MomentTooLarge),
+    ),
+    (Call::Submit(0, CREATE_TRANSFERS, 0), Got::Number(2)),
+    // The pulse has place 4.
+    (Call::Pulse(MOMENT_MAX), Got::Done),
+    (Call::Submit(1, LOOKUP_ACCOUNTS, 16), Got::Number(0)),
+    (Call::Flush, Got::Done),
+    (Call::Read, Got::Committed(0, 1, 2)),
+    (Call::Read, Got::Committed(0, 2, 3)),
+    (Call::Read, Got::Committed(1, 0, 5)),
+    (Call::Shut, Got::Done),
+    (Call::Shut, Got::Refused(Refusal::Shutdown)),
+    (Call::Pulse(1), Got::Refused(Refusal::Shutdown)),
+    (Call::Submit(1, CREATE_ACCOUNTS, 128), Got::Number(1)),
+    (Call::Read, Got::Shutdown(1, 1)),
+    (Call::Read, Got::Nothing),
+];
+
+fn submitted(engine: &mut Engine, alloc: Global, submitter: u32, packet: Packet) -> Got {
+    match engine.submit(alloc, submitter, packet) {
+        Ok(number) => Got::Number(number),
+        Err((packet, refusal)) => {
+            drop(packet);
+            Got::Refused(refusal)
+        }
+    }
+}
+
+fn got_of(done: Result<(), Refusal>) -> Got {
+    match done {
+        Ok(()) => Got::Done,
+        Err(refusal) => Got::Refused(refusal),
+    }
+}
+
+fn told_by(reply: &Reply) -> Got {
+    match &reply.outcome {
+        Outcome::Committed { place, answer: _ } => {
+            Got::Committed(reply.submitter, reply.number, *place)
+        }
+        Outcome::Shutdown => Got::Shutdown(reply.submitter, reply.number),
+        Outcome::Stopped => Got::Stopped,
+    }
+}
+
+fn read(engine: &mut Engine) -> Got {
+    let Some(reply) = engine.reply() else {
+        return Got::Nothing;
+    };
+    let got = told_by(&reply);
+    drop(reply);
+    got
+}
+
+fn got_by(engine: &mut Engine, alloc: Global, call: Call) -> Got {
+    match call {
+        Call::Submit(submitter, operation, size) => match zeros(alloc, operation, size) {
+            Ok(packet) => submitted(engine, alloc, submitter, packet),
+            Err(_) => Got::Refused(Refusal::NoMemory),
+        },
+        Call::Pulse(moment) => got_of(engine.pulse(moment)),
+        Call::Shut => got_of(engine.shut()),
+        Call::Flush => got_of(engine.flush()),
+        Call::Read => read(engine),
+    }
+}
+
+fn rows_hold(engine: &mut Engine, alloc: Global) -> bool {
+    for (step, want) in ROWS.iter() {
+        if got_by(engine, alloc, *step) != *want {
+            return false;
+        }
+    }
+    true
+}
+
+#[test]
+fn calls_in_a_row(rt: HostRuntime) {
+    let mut engine = Engine::new(rt.alloc(), 0, 2, 3)
+        .ok()
+        .expect(&rt, "settings");
+    let hold = rows_hold(&mut engine, rt.alloc());
+    let clock = engine.clock();
+    let found = engine.lookup_account(0).is_some();
+    drop(engine);
+    assert!(&rt; hold && clock == MOMENT_MAX && !found);
+}
+
+/// Reserves capacity, then more than memory has.
+fn reserves(engine: &mut Engine) -> bool {
+    let refused = Got::Refused(Refusal::NoMemory);
+    got_of(engine.reserve(10, 10)) == Got::Done
+        && got_of(engine.reserve(0, 1 << 60)) == refused
+        && got_of(engine.reserve(usize::MAX, 0)) == refused
+}
+
+#[test]
+fn calls_in_a_row_with_a_seed_after_refused_reservations(rt: HostRuntime) {
+    let seed = Seed { low: 3, high: 5 };
+    let mut engine = Engine::with_seed(rt.alloc(), 0, 2, 3, seed)
+        .ok()
+        .expect(&rt, "settings");
+    let hold = reserves(&mut engine) && rows_hold(&mut engine, rt.alloc());
+    drop(engine);
+    assert!(&rt; hold);
+}

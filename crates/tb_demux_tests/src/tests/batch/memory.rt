@@ -1,0 +1,50 @@
+use std::alloc::Global;
+use std::process::Abort;
+use tb_batch::{Batcher, Offered};
+use tb_test_makers::zeros;
+use tb_work::Job;
+
+/// The job of a packet of an account of zeros, or None if memory runs out.
+fn job_of(alloc: Global, number: u64) -> Option<Job> {
+    let packet = zeros(alloc, 129, 128).ok()?;
+    Job::new(alloc, 0, number, 4, packet).ok()
+}
+
+/// Whether a job is joined. One that is refused comes back as it was.
+fn is_joined(rt: &impl Abort, batcher: &mut Batcher, job: Job, number: u64) -> bool {
+    match batcher.offer(job) {
+        Offered::Joined => true,
+        Offered::Sealed(_batch) => panic!(rt; "sealed"),
+        Offered::Refused(job, _refused) => {
+            assert!(rt; job.stub().number == number);
+            assert!(rt; job.packet().bytes.as_slice().len() == 128);
+            false
+        }
+    }
+}
+
+/// How many of three jobs are joined, as far as memory lasts.
+fn offer_three(rt: &(impl Abort + Alloc<A = Global>), batcher: &mut Batcher) -> usize {
+    for number in 0..3 {
+        let joined = match job_of(rt.alloc(), number) {
+            Some(job) => is_joined(rt, batcher, job, number),
+            None => false,
+        };
+        if !joined {
+            return number as usize;
+        }
+    }
+    3
+}
+
+/// What is tried with each allocation refused in turn, by `tools/refuse-each-growth`.
+#[test]
+fn offer_refused_memory(rt: HostRuntime) {
+    let mut batcher = Batcher::new(rt.alloc(), 4).ok().expect(&rt, "a batcher");
+    let joined = offer_three(&rt, &mut batcher);
+    let held = match batcher.seal() {
+        Some(batch) => batch.jobs().len(),
+        None => 0,
+    };
+    assert!(rt; held == joined);
+}

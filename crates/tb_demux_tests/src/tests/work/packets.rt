@@ -1,0 +1,110 @@
+//! Packets made of accounts and of transfers.
+
+use std::alloc::Global;
+use std::process::Abort;
+use tb_layout::{Account, AccountCode, Transfer, TransferCode, read_account, read_transfer};
+use tb_test_makers::{account, accounts_packet, transfers_packet};
+use tb_work::{Packet, Refusal, admit};
+
+/// A packet of these accounts, with user word 7.
+fn of_accounts(rt: &(impl Abort + Alloc<A = Global>), accounts: &[Account]) -> Packet {
+    accounts_packet(rt.alloc(), accounts).expect(rt, "memory")
+}
+
+/// A packet of these transfers, with user word 7.
+fn of_transfers(rt: &(impl Abort + Alloc<A = Global>), transfers: &[Transfer]) -> Packet {
+    transfers_packet(rt.alloc(), transfers).expect(rt, "memory")
+}
+
+/// The number of events admitted of a packet of `count` accounts.
+fn admitted_accounts(rt: &(impl Abort + Alloc<A = Global>), count: usize) -> Result<u32, Refusal> {
+    let mut accounts = Vec::new(rt.alloc());
+    accounts.resize(count, account(1, 0)).expect(rt, "memory");
+    admit(8190, &of_accounts(rt, accounts.as_slice()))
+}
+
+/// The number of events admitted of a packet of `count` transfers.
+fn admitted_transfers(rt: &(impl Abort + Alloc<A = Global>), count: usize) -> Result<u32, Refusal> {
+    let mut transfers = Vec::new(rt.alloc());
+    transfers
+        .resize(count, Transfer::default())
+        .expect(rt, "memory");
+    admit(8190, &of_transfers(rt, transfers.as_slice()))
+}
+
+#[test]
+fn a_packet_of_two_accounts(rt: HostRuntime) {
+    let packet = of_accounts(&rt, &[account(258, 1), account(2, 0)]);
+    assert!(rt; packet.operation == 129 && packet.user == 7);
+    let bytes = packet.bytes.as_slice();
+    assert!(rt; bytes.len() == 256);
+    assert!(rt; &bytes[0..3] == [2, 1, 0].as_slice());
+    assert!(rt; &bytes[112..120] == [1, 0, 0, 0, 1, 0, 1, 0].as_slice());
+    assert!(rt; &bytes[128..130] == [2, 0].as_slice());
+    let (chunks, _) = bytes.as_chunks::<128>();
+    assert!(rt; read_account(&chunks[0]) == account(258, 1));
+    assert!(rt; read_account(&chunks[1]) == account(2, 0));
+}
+
+#[test]
+fn a_packet_of_one_transfer(rt: HostRuntime) {
+    let transfer = Transfer {
+        id: 1,
+        debit_account_id: 2,
+        credit_account_id: 3,
+        amount: 4,
+        timeout: 5,
+        ..Transfer::default()
+    };
+    let packet = of_transfers(&rt, &[transfer]);
+    assert!(rt; packet.operation == 130 && packet.user == 7);
+    let (chunks, _) = packet.bytes.as_slice().as_chunks::<128>();
+    assert!(rt; chunks.len() == 1);
+    let chunk = &chunks[0];
+    let fields = [chunk[0], chunk[16], chunk[32], chunk[48], chunk[108]];
+    assert!(rt; fields == [1, 2, 3, 4, 5]);
+    assert!(rt; read_transfer(chunk) == transfer);
+}
+
+/// The lowest byte of each id comes first, and ids of 128 bits are whole.
+#[test]
+fn a_packet_of_two_ids(rt: HostRuntime) {
+    let Ok(packet) = Packet::of_ids(
+        rt.alloc(),
+        &[1, 0x0f0e_0d0c_0b0a_0908_0706_0504_0302_0100],
+        7,
+    ) else {
+        rt.abort()
+    };
+    assert!(rt; packet.operation == 131 && packet.user == 7);
+    let bytes = packet.bytes.as_slice();
+    assert!(rt; bytes.len() == 32 && bytes[0] == 1);
+    assert!(rt; bytes[1..16].iter().all(|&byte| byte == 0));
+    for number in 0..16u8 {
+        assert!(rt; bytes[16 + usize::from(number)] == number);
+    }
+}
+
+/// Codes by TigerBeetle's numbers and names.
+#[test]
+fn codes_by_number(rt: HostRuntime) {
+    assert!(rt; TransferCode::of_number(55).map(TransferCode::name) == Some("exceeds_debits"));
+    assert!(rt; TransferCode::of_number(46) == Some(TransferCode::Exists));
+    assert!(rt; TransferCode::of_number(18).is_none());
+    assert!(rt; AccountCode::of_number(21).map(AccountCode::name) == Some("exists"));
+    assert!(rt; AccountCode::of_number(22).is_none());
+}
+
+#[test]
+fn largest_packets_of_accounts(rt: HostRuntime) {
+    assert!(rt; admitted_accounts(&rt, 0) == Ok(0));
+    assert!(rt; admitted_accounts(&rt, 8190) == Ok(8190));
+    assert!(rt; admitted_accounts(&rt, 8191) == Err(Refusal::TooMuchData));
+}
+
+#[test]
+fn largest_packets_of_transfers(rt: HostRuntime) {
+    assert!(rt; admitted_transfers(&rt, 0) == Ok(0));
+    assert!(rt; admitted_transfers(&rt, 8190) == Ok(8190));
+    assert!(rt; admitted_transfers(&rt, 8191) == Err(Refusal::TooMuchData));
+}

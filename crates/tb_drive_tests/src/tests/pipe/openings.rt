@@ -1,0 +1,85 @@
+//! Openings and submissions that are refused, before anything is served.
+
+use super::{answer_to, look_of, open_lone, packet_of, queue_pulse, submit};
+use std::alloc::Global;
+use std::process::Abort;
+use std::sync::Wait;
+use tb_layout::CREATE_ACCOUNTS;
+use tb_pipe::open;
+use tb_submit::{Control, Submitter};
+use tb_work::Refusal;
+
+/// Why an opening with a credit of 4 is refused.
+fn refusal_of(alloc: Global, limit: u32, capacity: u32, submitters: u32) -> Option<Refusal> {
+    open(alloc, 0, limit, capacity, 4, submitters).err()
+}
+
+#[test]
+fn bad_openings(rt: HostRuntime) {
+    for (limit, capacity, submitters, wanted) in [
+        (0, 0, 1, Some(Refusal::BadLimit)),
+        (8191, 4, 1, Some(Refusal::BadLimit)),
+        (4, 0, 1, Some(Refusal::BadCapacity)),
+        (4, 4, 0, Some(Refusal::BadSubmitters)),
+        (4, 4, 17, Some(Refusal::BadSubmitters)),
+        (4, 4, 3, None),
+    ] {
+        assert_eq!(rt; refusal_of(rt.alloc(), limit, capacity, submitters), wanted);
+    }
+}
+
+/// A packet of accounts is refused, since there is no place, and comes back.
+fn assert_full<R: Wait + Abort>(rt: &R, alloc: Global, submitter: &mut Submitter, id: u8) {
+    let packet = packet_of(alloc, CREATE_ACCOUNTS, id).expect(rt, "memory");
+    let (back, refusal) = submit(rt, alloc, submitter, packet).expect_err(rt, "the queue is full");
+    assert_eq!(rt; refusal, Refusal::Full);
+    assert_eq!(rt; look_of(&back), (CREATE_ACCOUNTS, 128, u64::from(id)));
+    drop(back);
+}
+
+/// Of two packets the second is refused, since there is one place.
+#[test]
+fn full_queue_of_one(rt: HostRuntime) {
+    let mut lone = open_lone(&rt, rt.alloc(), 1, 4);
+    let submitter = &mut lone.submitter;
+    assert_eq!(rt;
+        answer_to(&rt, rt.alloc(), submitter, CREATE_ACCOUNTS, 1),
+        Ok(0)
+    );
+    assert_full(&rt, rt.alloc(), submitter, 2);
+    drop(lone);
+}
+
+/// So many pulses are queued, and one more is refused.
+fn fill<R: Wait + Abort>(rt: &R, control: &mut Control, places: u32) {
+    for moment in 0..places {
+        queue_pulse(rt, control, u64::from(moment));
+    }
+    assert!(rt; control.queued() < 1 << 56);
+    assert!(rt; control.pulse(rt, 0) == Err(Refusal::Full));
+}
+
+/// The queue has as many places as the capacity that was asked for.
+#[test]
+fn full_queues(rt: HostRuntime) {
+    for capacity in [1, 3, 100, 65_536] {
+        let mut lone = open_lone(&rt, rt.alloc(), capacity, 4);
+        fill(&rt, &mut lone.control, capacity);
+        drop(lone);
+    }
+}
+
+/// The credit is looked at after the packet's operation.
+#[test]
+fn credit_used_up(rt: HostRuntime) {
+    let mut lone = open_lone(&rt, rt.alloc(), 4, 1);
+    for (operation, id, wanted) in [
+        (CREATE_ACCOUNTS, 1, Ok(0)),
+        (CREATE_ACCOUNTS, 2, Err(Refusal::InFlight)),
+        (200, 1, Err(Refusal::InvalidOperation)),
+    ] {
+        let answer = answer_to(&rt, rt.alloc(), &mut lone.submitter, operation, id);
+        assert_eq!(rt; answer, wanted);
+    }
+    drop(lone);
+}

@@ -1,0 +1,73 @@
+//! The machine: each call once with ample memory, and commits with each allocation refused.
+
+ghost use Rattle.std.specs.Prelude.{◌≡◌, ◌==◌, ◌||◌, ◌/◌, ◌%◌, ◌≤◌, true, length};
+ghost use Rattle.tb_layout.specs.inside.Limits.{batch_max};
+ghost use Rattle.tb_layout.specs.Events.{create_accounts, create_transfers};
+
+use std::alloc::Global;
+use std::process::Abort;
+use tb_layout::{Account, BATCH_MAX, CREATE_ACCOUNTS, CREATE_TRANSFERS, Transfer};
+use tb_machine::Machine;
+use tb_test_makers::{account_bytes, transfer, transfer_bytes};
+
+mod calls;
+mod chains;
+mod full;
+mod late;
+mod memory;
+mod running;
+
+const MOST: u128 = u128::MAX;
+
+/// A post's or void's event, which leaves all else to the transfer that it names.
+fn resolving(id: u128, pending_id: u128, amount: u128, flags: u16) -> Transfer {
+    Transfer {
+        pending_id,
+        ledger: 0,
+        code: 0,
+        ..transfer(id, [0, 0], amount, flags)
+    }
+}
+
+/// Whether an operation makes accounts or transfers, and a body has a whole number of events, no more than a
+/// batch may have.
+fn is_packet(operation: u8, body: &[u8]) -> bool
+    ensures operation { result ≡ true → operation == create_accounts || operation == create_transfers ≡ true }
+    ensures whole { result ≡ true → length body.now % 128 ≡ 0 }
+    ensures limit { result ≡ true → length body.now / 128 ≤ batch_max }
+{
+    (operation == CREATE_ACCOUNTS || operation == CREATE_TRANSFERS)
+        && body.len() % 128 == 0
+        && body.len() / 128 <= BATCH_MAX as usize
+}
+
+/// Whether a packet was committed and each of its events succeeded, as they do unless memory runs out.
+fn commits(rt: &impl Alloc<A = Global>, machine: &mut Machine, operation: u8, body: &[u8]) -> bool {
+    if !is_packet(operation, body) {
+        return false;
+    }
+    let Ok(mut out) = Vec::with_capacity(rt.alloc(), body.len() / 128) else {
+        return false;
+    };
+    machine.commit(operation, body, &mut out).is_ok() && out.is_empty()
+}
+
+/// Makes accounts; none fails.
+fn make_accounts(
+    rt: &(impl Abort + Alloc<A = Global>),
+    machine: &mut Machine,
+    accounts: &[Account],
+) {
+    let body = account_bytes(rt.alloc(), accounts).expect(rt, "memory");
+    assert!(rt; commits(rt, machine, CREATE_ACCOUNTS, &body));
+}
+
+/// Makes transfers; none fails.
+fn make_transfers(
+    rt: &(impl Abort + Alloc<A = Global>),
+    machine: &mut Machine,
+    transfers: &[Transfer],
+) {
+    let body = transfer_bytes(rt.alloc(), transfers).expect(rt, "memory");
+    assert!(rt; commits(rt, machine, CREATE_TRANSFERS, &body));
+}

@@ -1,2 +1,0 @@
-pub mod OnePacket
-pub mod Together
