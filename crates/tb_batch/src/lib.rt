@@ -7,7 +7,7 @@
 //! A `Batch` keeps that its body is its packets' data in order and its stubs are theirs, with at most 8,190 events of one operation;
 //! an open packet and a lookup are alone in theirs. `specs/Grouping.antt` defines what may join.
 //!
-//! `two_submitters_joined` in tb_batch_tests is an example that the gate compiles.
+//! `two_submitters_joined` in tb_demux_tests is an example that the gate compiles.
 #![tactic(auto)]
 
 mod batch;

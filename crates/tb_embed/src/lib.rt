@@ -4,7 +4,7 @@
 //! packet. Each call's clause says which ticket or which reply it adds to the run so far (`specs/Engine.antt`), and
 //! `serving_is_lawful` leads from any sequence of calls to the lawful report of that run.
 //!
-//! `calls_in_a_row` in tb_embed_tests is an example that the gate compiles.
+//! `calls_in_a_row` in tb_core_tests is an example that the gate compiles.
 #![tactic(auto)]
 
 mod engine;
