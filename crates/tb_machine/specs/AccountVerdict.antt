@@ -28,7 +28,6 @@ compare_with_existing existing event =
     []
     ) Exists
 
--- an event with a new id
 abbrev pub check_new_account : Account → AccountCode
 check_new_account event =
     first_row (

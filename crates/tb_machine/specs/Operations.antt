@@ -28,7 +28,6 @@ is_transient code =
     list_any (λ transient. code == transfer_number transient)
     (DebitAccountNotFound ∷ CreditAccountNotFound ∷ PendingTransferNotFound ∷ ExceedsCredits ∷ ExceedsDebits ∷ [])
 
--- the facts with an id among those that failed
 abbrev pub with_failed : Facts → ℕ → Facts
 with_failed facts id = if is_failed facts id then facts else add_failed facts id
 

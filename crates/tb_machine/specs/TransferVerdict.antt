@@ -17,7 +17,6 @@ use Rattle.tb_layout.specs.Limits.{clock_max}
 
 -- ---- what a post or a void leaves to the transfer that it names
 
--- a field, or the pending transfer's if it is 0
 abbrev pub unless_zero : ℕ → ℕ → ℕ
 unless_zero field otherwise = if field == 0 then otherwise else field
 
@@ -140,12 +139,10 @@ moving_checks event =
 
 -- ---- any event
 
--- whether more than one of pending, post and void is set
 abbrev pub has_exclusive_flags : Transfer → Bool
 has_exclusive_flags event =
     (is_pending event && is_post event) || (is_pending event && is_void event) || (is_post event && is_void event)
 
--- an event with a new id
 abbrev pub new_id_checks : Facts → Transfer → List (Bool × TransferCode)
 new_id_checks facts event =
     (is_failed facts event.id, IdAlreadyFailed) ∷
