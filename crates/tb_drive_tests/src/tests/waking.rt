@@ -7,6 +7,7 @@ use std::test::Fail;
 use std::thread;
 use std::thread::Threads;
 use tb_drive::{Action, ControlPlan, Driver, Finished, PlanDriver, drive_all};
+use tb_layout::CREATE_ACCOUNTS;
 use tb_pipe::open;
 use tb_work::{Refusal, Reply};
 

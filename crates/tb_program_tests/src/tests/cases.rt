@@ -7,8 +7,8 @@ use std::sync::Wait;
 use std::thread::Threads;
 
 /// Each case is a line with who runs it (`list`, `run`, or `both` if the schedule decides nothing) and its name, then its
-/// script, a line `--` and the output.
-const CASES: [&str; 19] = [
+/// script, `--` and the end of its line, and the output.
+const CASES: [&str; 33] = [
     "both empty_script\n--\nclock 0\n",
     "both first_run\npacket 0 129\naccount id=1 ledger=1 code=1\naccount id=2 ledger=1 code=1\n--\npacket 0 0 committed 0\nclock 2\naccount 1 1 0 0 0 0\naccount 2 2 0 0 0 0\n",
     "list two_submitters_joined\nlimit 4\npacket 0 129\naccount id=1 ledger=1 code=1\naccount id=2 ledger=1 code=1\npacket 1 129\naccount id=1 ledger=1 code=1\naccount id=3 code=1\n--\npacket 0 0 committed 0\npacket 1 0 committed 1 0:21 1:13\nclock 4\naccount 1 1 0 0 0 0\naccount 2 2 0 0 0 0\n",
@@ -160,6 +160,22 @@ pulse refused 12 MomentTooLarge
 clock 2
 account 1 1 0 0 0 0
 ",
+    // The Close is no line of its own, and neither are the settings.
+    "run shut_alone\nshut\n--\nclock 0\n",
+    "run shut_after_settings\ncapacity 1\ncredit 1\nsubmitters 16\nshut\n--\nclock 0\n",
+    "run settings_without_items\nclock 7\nsubmitters 1\n--\nclock 7\n",
+    "run pulses_and_shut\npulse 5\npulse 4\nshut\n--\npulse 0\npulse 1\nclock 5\n",
+    "run pulses_one_at_a_time\ncapacity 1\npulse 1\npulse 4611686018427387905\npulse 2\npulse 18446744073709551615\npulse 3\n--\npulse 0\npulse 1\npulse 2\npulse refused 12 MomentTooLarge\npulse refused 12 MomentTooLarge\nclock 3\n",
+    // A fault's line is all that is written.
+    "run fault_of_a_number\nsubmitters 1\npacket 1 129\n--\nfault 2 bad number\n",
+    "run fault_of_a_field\npacket 0 129\naccount id=1 id=1\n--\nfault 2 bad field\n",
+    "run fault_of_a_place\nshut\npulse 1\n--\nfault 2 out of place\n",
+    "run fault_of_a_submitter\npacket 15 129\n--\nfault 1 bad number\n",
+    "list submitter_out_of_bounds\nsubmitters 1\npacket 1 129\n--\nfault 2 bad number\n",
+    "list most_digits\nclock 000000000000000000000000000000000000007--\nclock 7\n",
+    "list too_many_digits\nclock 0000000000000000000000000000000000000007--\nfault 1 bad number\n",
+    "list spaces_and_cases\n  clock   7  \n packet  1   200 \n account \n\n# between\nhex 0aFf--\npacket 1 refused 1 InvalidOperation\nclock 7\n",
+    "list greatest_submitter\nclock 0\nsubmitters 16\npacket 15 255\n--\npacket 15 refused 1 InvalidOperation\nclock 0\n",
 ];
 
 /// The packet of accounts 1 and 2, which have ledger and code 1.

@@ -76,11 +76,6 @@ fn first_faults(rt: HostRuntime) {
     assert_faults(&rt, FIRST_FAULTS);
 }
 
-#[test]
-fn submitter_out_of_bounds(rt: HostRuntime) {
-    assert_list(&rt, "submitters 1\npacket 1 129\n", "fault 2 bad number\n");
-}
-
 /// A setting doesn't come twice, nor after a packet.
 const MISPLACED_SETTINGS: &str = "2 out of place: clock 1|clock 1|
 2 out of place: limit 1|limit 1|
@@ -120,11 +115,6 @@ const BOUNDS: &str = "1 bad number: clock 9223372036854775808|
 #[test]
 fn bounds(rt: HostRuntime) {
     assert_faults(&rt, BOUNDS);
-    assert_list(
-        &rt,
-        "clock 0\nsubmitters 16\npacket 15 255\n",
-        "packet 15 refused 1 InvalidOperation\nclock 0\n",
-    );
 }
 
 /// Fields with the greatest number, and that above.
@@ -160,20 +150,6 @@ fn field_bounds(rt: HostRuntime) {
     }
 }
 
-#[test]
-fn digits(rt: HostRuntime) {
-    assert_list(
-        &rt,
-        "clock 000000000000000000000000000000000000007",
-        "clock 7\n",
-    );
-    assert_list(
-        &rt,
-        "clock 0000000000000000000000000000000000000007",
-        "fault 1 bad number\n",
-    );
-}
-
 /// Asserts that a line may be as long as this one, and no longer.
 fn assert_longest(rt: &(impl Abort + Alloc<A = Global>), line: &str) {
     let lawful = format!(in rt.alloc(); "{line}\nclock 3").expect(rt, "memory");
@@ -186,13 +162,4 @@ fn assert_longest(rt: &(impl Abort + Alloc<A = Global>), line: &str) {
 fn line_lengths(rt: HostRuntime) {
     let line = "#".repeat(rt.alloc(), 65536).expect(&rt, "memory");
     assert_longest(&rt, line.as_str());
-}
-
-#[test]
-fn spaces_and_cases(rt: HostRuntime) {
-    assert_list(
-        &rt,
-        "  clock   7  \n packet  1   200 \n account \n\n# between\nhex 0aFf",
-        "packet 1 refused 1 InvalidOperation\nclock 7\n",
-    );
 }

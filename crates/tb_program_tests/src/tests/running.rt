@@ -1,43 +1,9 @@
-//! What `run` prints.
+//! What `run` prints of many packets.
 
 use super::submitters::numbers_in;
 use super::{assert_run, ran};
 use std::alloc::Global;
 use std::process::Abort;
-
-/// The Close is no line of its own, and neither are the settings.
-const WITHOUT_PACKETS: [(&str, &str); 5] = [
-    ("shut\n", "clock 0\n"),
-    ("capacity 1\ncredit 1\nsubmitters 16\nshut\n", "clock 0\n"),
-    ("clock 7\nsubmitters 1\n", "clock 7\n"),
-    ("pulse 5\npulse 4\nshut\n", "pulse 0\npulse 1\nclock 5\n"),
-    (
-        "capacity 1\npulse 1\npulse 4611686018427387905\npulse 2\npulse 18446744073709551615\npulse 3\n",
-        "pulse 0\npulse 1\npulse 2\npulse refused 12 MomentTooLarge\npulse refused 12 MomentTooLarge\nclock 3\n",
-    ),
-];
-
-#[test]
-fn shut_alone(rt: HostRuntime) {
-    for (script, output) in WITHOUT_PACKETS.iter() {
-        assert_run(&rt, script, output);
-    }
-}
-
-/// A fault's line is all that is written.
-const FAULTS: [(&str, &str); 4] = [
-    ("submitters 1\npacket 1 129\n", "fault 2 bad number\n"),
-    ("packet 0 129\naccount id=1 id=1\n", "fault 2 bad field\n"),
-    ("shut\npulse 1\n", "fault 2 out of place\n"),
-    ("packet 15 129\n", "fault 1 bad number\n"),
-];
-
-#[test]
-fn faults_of_a_run(rt: HostRuntime) {
-    for (script, output) in FAULTS.iter() {
-        assert_run(&rt, script, output);
-    }
-}
 
 /// 50 packets of an account each, for a queue of one place and a credit of one.
 fn of_one_place(rt: &(impl Abort + Alloc<A = Global>)) -> String {

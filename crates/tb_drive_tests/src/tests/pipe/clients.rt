@@ -4,7 +4,9 @@ ghost use Rattle.std.specs.Prelude.{◌≡◌, ◌∷◌, []};
 ghost use Rattle.tb_submit.specs.Ends.{control_seat, origin_of};
 ghost use Rattle.tb_drive_tests.specs.Together.{AreTogether};
 
-use super::{Lone, Told, assert_run, end_control, lone_of, opened, packet_of, put, room_for_ends, told_by};
+use super::{
+    Lone, Told, assert_run, end_control, lone_of, opened, packet_of, put, room_for_ends, told_by,
+};
 use std::alloc::Global;
 use std::process::Abort;
 use std::sync::Wait;

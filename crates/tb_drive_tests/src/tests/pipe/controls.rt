@@ -5,7 +5,10 @@ ghost use Rattle.tb_submit.specs.Ends.{control_seat, end_origin};
 ghost use Rattle.tb_drive_tests.specs.Together.{AreTogether};
 
 use super::clients::open_narrow;
-use super::{Ends, Lone, Told, assert_entries, assert_run, end_one, finish_started, open_lone, queue, room_for_ends};
+use super::{
+    Ends, Lone, Told, assert_entries, assert_run, end_one, finish_started, open_lone, queue,
+    room_for_ends,
+};
 use std::alloc::Global;
 use std::process::Abort;
 use std::sync::Wait;

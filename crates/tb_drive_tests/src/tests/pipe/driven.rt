@@ -5,7 +5,9 @@ ghost use Rattle.tb_submit.specs.Ends.{origin_of, end_origin, control_seat};
 ghost use Rattle.tb_drive_tests.specs.Together.{AreTogether, IsRun};
 
 use super::gates::Counted;
-use super::{Lone, MOST_TURNS, Told, clock, end_all, opened, packet_of, put, queue, submit, told_by};
+use super::{
+    Lone, MOST_TURNS, Told, clock, end_all, opened, packet_of, put, queue, submit, told_by,
+};
 use std::alloc::Global;
 use std::process::Abort;
 use std::snapshot::Snapshot;

@@ -8,7 +8,10 @@ ghost use Rattle.tb_drive_tests.specs.Together.{AreTogether};
 
 use super::driven::{Course, Driving, Saw, drive_lone, run};
 use super::gates::Counted;
-use super::{Ends, Lone, Told, clock, end_control, end_one, finish, next_told, opened_lone, packet_of, queue_pulse, room_for_ends, submit};
+use super::{
+    Ends, Lone, Told, clock, end_control, end_one, finish, next_told, opened_lone, packet_of,
+    queue_pulse, room_for_ends, submit,
+};
 use std::alloc::Global;
 use std::process::Abort;
 use std::sync::Wait;

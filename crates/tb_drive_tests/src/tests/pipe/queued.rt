@@ -4,7 +4,10 @@ ghost use Rattle.std.specs.Prelude.{◌≡◌, map};
 ghost use Rattle.tb_submit.specs.Ends.{end_origin, origin_of};
 ghost use Rattle.tb_drive_tests.specs.Together.{AreTogether, IsRun};
 
-use super::{Ends, Told, answer_to, assert_entries, assert_report, assert_run, end_all, end_control, finish_lone, finish_started, open_lone, opened, queue, queue_pulse};
+use super::{
+    Ends, Told, answer_to, assert_entries, assert_report, assert_run, end_all, end_control,
+    finish_lone, finish_started, open_lone, opened, queue, queue_pulse,
+};
 use std::alloc::Global;
 use std::process::Abort;
 use std::sync::Wait;
