@@ -30,7 +30,10 @@ pub fn push_account(
         }
         Entry::Vacant(entry) => {
             let stored = entry.insert(Account::default());
-            *stored = Account { timestamp, ..*event };
+            *stored = Account {
+                timestamp,
+                ..*event
+            };
             Ok(true)
         }
     }
