@@ -9,7 +9,7 @@ use Rattle.tb_work.specs.declared.item.Item.TheVariants as item
 use Rattle.tb_work.specs.declared.item.Ticket.{Ticket}
 use Rattle.tb_work.specs.Packet.{Numbered, ReplyValue, input_of}
 use Rattle.tb_work.specs.Job.{numbered_packet}
-use Rattle.tb_work.specs.Queue.{ahead}
+use Rattle.tb_work.specs.Ahead.{ahead}
 use Rattle.tb_machine.specs.Replay.{replay}
 use Rattle.tb_core.specs.Due.{due}
 

@@ -5,7 +5,7 @@ use Rattle.std.proofs.lemmas.Bool.{le-leb, lt-leb}
 use Rattle.tb_layout.specs.Events.{Input}
 use Rattle.tb_layout.specs.Events as input
 use Rattle.tb_work.specs.Packet.{Numbered, input_of}
-use Rattle.tb_work.specs.Queue.{ahead}
+use Rattle.tb_work.specs.Ahead.{ahead}
 use Rattle.tb_work.specs.declared.item.Item.{Item}
 use Rattle.tb_work.specs.declared.item.Item.TheVariants as item
 use Rattle.tb_core.specs.declared.parcel.Cause.TheVariants.{Shutdown}

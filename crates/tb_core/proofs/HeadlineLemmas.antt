@@ -8,15 +8,18 @@ use Rattle.tb_layout.specs.declared.answer.Answer.{Answer}
 use Rattle.tb_layout.specs.Events.{Input, Packet, Pulse}
 use Rattle.tb_machine.specs.Replay.{replay, answer_of, answer_to}
 use Rattle.tb_work.specs.Packet.{Numbered, events_in, ReplyValue, reply_with, input_of}
-use Rattle.tb_work.specs.Queue.{ahead, items_in, part, AreSubmitted, IsSubmitted}
+use Rattle.tb_work.specs.Ahead.{ahead, items_in}
+use Rattle.tb_work.specs.Queue.{part, AreSubmitted, IsSubmitted}
 use Rattle.tb_work.specs.declared.outcome.Outcome.{Outcome}
 use Rattle.tb_work.specs.declared.outcome.Outcome.TheVariants.{Committed, Stopped}
 use Rattle.tb_work.specs.declared.item.Item.{Item}
 use Rattle.tb_work.specs.declared.item.Item.TheVariants as item
 use Rattle.tb_work.specs.declared.item.Ticket.{Ticket}
 use Rattle.tb_core.specs.Due.{outcome_at, outcome_with, all_due_from, replies_to, Place, Ahead, Behind, next_place}
-use Rattle.tb_core.specs.Headline.{is_packet_of, packets_of, moments_in, packets_queued, moments_queued, packet_of, ReportsHeadline}
-use Rattle.tb_core.specs.Report.{Run, committed_in, ahead_in, IsPrefix, LawfulReport}
+use Rattle.tb_core.specs.Report.{ReportsHeadline}
+use Rattle.tb_core.specs.Headline.{is_packet_of, packets_of, moments_in, packets_queued, moments_queued, packet_of}
+use Rattle.tb_core.specs.EndedRun.{Run, committed_in, ahead_in, IsPrefix}
+use Rattle.tb_core.specs.Report.{LawfulReport}
 
 -- ---- prefixes
 

@@ -8,7 +8,8 @@ use Rattle.std.proofs.lemmas.List.Folds.{list_any-append}
 use Rattle.tb_layout.specs.Events.{Input}
 use Rattle.tb_layout.specs.Events as input
 use Rattle.tb_machine.specs.Replay.{replay}
-use Rattle.tb_work.specs.Queue.{ahead, items_in, IsSubmitted, AreSubmitted}
+use Rattle.tb_work.specs.Ahead.{ahead, items_in}
+use Rattle.tb_work.specs.Queue.{IsSubmitted, AreSubmitted}
 use Rattle.tb_work.specs.Packet.{ReplyValue, reply_with, input_of}
 use Rattle.tb_work.specs.declared.outcome.Outcome.TheVariants as outcome
 use Rattle.tb_work.specs.declared.item.Item.{Item}
@@ -17,7 +18,7 @@ use Rattle.tb_work.specs.declared.item.Ticket.{Ticket}
 use Rattle.tb_core.specs.Due.{outcome_at, reply_due, all_due_from, all_due, replies_to, Place, Ahead, Behind, next_place}
 use Rattle.tb_core.specs.inside.Decision.{inputs_in, replies_from, Decision, decisions_from, decisions_of, IsPacket, AreDecisions}
 use Rattle.tb_core.specs.Journal.{LedgerState, inputs}
-use Rattle.tb_core.specs.Report.{is_stopped, any_stopped, committed_in}
+use Rattle.tb_core.specs.EndedRun.{is_stopped, any_stopped, committed_in}
 use Rattle.tb_core.specs.Run.{IsListed, Commits, Ran, RunIsLawful}
 use Rattle.tb_core.proofs.LedgerSteps.{outcome_past, outcome_here, inputs_in-append, replies_from-append, replies_from-longer}
 use Rattle.tb_core.proofs.FrontDecisions.{never_stops}

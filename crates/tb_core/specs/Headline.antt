@@ -1,4 +1,4 @@
--- The headline: what a lawful report says of each submitter, in the words of the README.
+-- The headline: what is so of each submitter once a run has ended, in the words of the README.
 use Rattle.std.specs.Prelude.{◌≡◌, ◌<◌, ℕ, ◌==◌, Bool, false, List, [], ◌∷◌, map, filter, take, slice_get, Some}
 use Rattle.tb_layout.specs.declared.answer.Answer.{Answer}
 use Rattle.tb_layout.specs.Events.{Input, Packet, Pulse}
@@ -7,7 +7,7 @@ use Rattle.tb_work.specs.Packet.{Numbered, events_in, ReplyValue, input_of}
 use Rattle.tb_work.specs.declared.item.Item.{Item}
 use Rattle.tb_work.specs.declared.item.Item.TheVariants as item
 use Rattle.tb_work.specs.declared.outcome.Outcome.TheVariants.{Committed}
-use Rattle.tb_core.specs.Report.{Run, committed_in, ahead_in, IsPrefix, NothingStopped, LawfulReport}
+use Rattle.tb_core.specs.EndedRun.{Run, committed_in, ahead_in, IsPrefix, NothingStopped}
 
 -- ---- the packets and the pulses of a list
 
@@ -70,7 +70,3 @@ pub record Headline (run : Run) : Type 0 where
       → slice_get (run.replies submitter) index ≡ Some reply → reply.outcome ≡ Committed place answer
       → IsAnsweredAt run place reply answer
   pub pulses : IsPrefix (moments_in (committed_in run)) (moments_queued (run.queued run.submitters))
-
--- a lawful report has all that the headline says
-abbrev pub ReportsHeadline : Type 0
-ReportsHeadline = (run : Run) → LawfulReport run → Headline run

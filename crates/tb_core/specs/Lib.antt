@@ -1,5 +1,6 @@
 pub mod Due
 pub mod Journal
+pub mod EndedRun
 pub mod Report
 pub mod Headline
 pub mod Front

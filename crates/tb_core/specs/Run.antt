@@ -2,7 +2,8 @@
 use Rattle.std.specs.Prelude.{◌≡◌, ◌<◌, ℕ, Bool, false, List, [], ◌∷◌, ◌++◌, length}
 use Rattle.tb_layout.specs.Events.{Input}
 use Rattle.tb_machine.specs.Replay.{replay}
-use Rattle.tb_work.specs.Queue.{IsQueueOf, ahead, items_in}
+use Rattle.tb_work.specs.Ahead.{ahead, items_in}
+use Rattle.tb_work.specs.Queue.{IsQueueOf}
 use Rattle.tb_work.specs.Packet.{ReplyValue}
 use Rattle.tb_work.specs.declared.item.Item.{Item}
 use Rattle.tb_batch.specs.Batch.{AreAdmitted}
@@ -15,7 +16,8 @@ use Rattle.tb_core.specs.Due.{all_due, replies_to}
 use Rattle.tb_core.specs.Front.{FrontState, held_by}
 use Rattle.tb_core.specs.Grouping.{AreJoined}
 use Rattle.tb_core.specs.Journal.{LedgerState, inputs}
-use Rattle.tb_core.specs.Report.{Run, IsPrefix, LawfulReport}
+use Rattle.tb_core.specs.EndedRun.{Run, IsPrefix}
+use Rattle.tb_core.specs.Report.{LawfulReport}
 
 -- the replies that a parcel's outcomes contain
 abbrev pub replies_in : Outcomes → List ReplyValue

@@ -1,7 +1,7 @@
 //! Laws on what a run reports, each the clause of a function that does nothing: a crate above knows a law once it called
 //! the function.
 
-ghost use Rattle.tb_core.specs.Headline.{ReportsHeadline};
+ghost use Rattle.tb_core.specs.Report.{ReportsHeadline};
 ghost use Rattle.tb_core.specs.Run.{EachPartIsLawful, RunIsLawful};
 
 /// Establishes that the report on a run is lawful, also if an allocation failed: a front and a ledger took all of its

@@ -3,7 +3,7 @@
 ghost use Rattle.std.specs.Prelude.{◌≡◌, ◌≤◌, ◌++◌, ◌∷◌, [], ℕ, List, IfOk, OnOk};
 ghost use Rattle.tb_layout.specs.inside.Limits.{batch_max};
 ghost use Rattle.tb_layout.specs.Limits.{clock_max};
-ghost use Rattle.tb_work.specs.Queue.{ahead};
+ghost use Rattle.tb_work.specs.Ahead.{ahead};
 ghost use Rattle.tb_work.specs.declared.item.Item.{Item as ItemValue};
 ghost use Rattle.tb_core.specs.Front.{all_decisions_in, decisions_in};
 ghost use Rattle.tb_core.specs.Grouping.{AreWithin, IsGrouping, IsJoinedParcel, AreJoinedParcels};

@@ -3,7 +3,8 @@ use Rattle.std.specs.Prelude.{◌≡◌, ℕ, true, List, Some, map, length, sli
 use Rattle.tb_core.specs.Grouping.{IsGrouping}
 use Rattle.tb_core.specs.Headline.{moments_in, moments_queued}
 use Rattle.tb_core.specs.Journal.{LedgerState, inputs}
-use Rattle.tb_core.specs.Report.{IsPrefix, LawfulReport}
+use Rattle.tb_core.specs.EndedRun.{IsPrefix}
+use Rattle.tb_core.specs.Report.{LawfulReport}
 use Rattle.tb_submit.specs.Ends.{EndedState, IntakeState, SubmitterState, SenderState, control_seat, end_origin, origin_of, queued_by, replies_of}
 use Rattle.tb_work.specs.Packet.{Numbered, ReplyValue}
 use Rattle.tb_work.specs.declared.item.Item.{Item}

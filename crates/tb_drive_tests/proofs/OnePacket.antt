@@ -5,7 +5,8 @@ use Rattle.std.specs.List.{AllByRecursion}
 use Rattle.std.proofs.lemmas.Bool.{eq-eqb, ne_eqb}
 use Rattle.tb_layout.specs.Events.{Input}
 use Rattle.tb_work.specs.Job.{numbered_packet}
-use Rattle.tb_work.specs.Queue.{part, items_in, ahead, ahead_of}
+use Rattle.tb_work.specs.Ahead.{items_in, ahead, ahead_of}
+use Rattle.tb_work.specs.Queue.{part}
 use Rattle.tb_work.specs.Packet.{ReplyValue, reply_with, input_of}
 use Rattle.tb_work.specs.declared.item.Item.{Item}
 use Rattle.tb_work.specs.declared.item.Item.TheVariants as item

@@ -2,7 +2,8 @@
 use Rattle.std.specs.Prelude.{◌≡◌, ℕ, List, map}
 use Rattle.tb_core.specs.Grouping.{IsGrouping}
 use Rattle.tb_core.specs.Journal.{LedgerState}
-use Rattle.tb_core.specs.Report.{Run, LawfulReport}
+use Rattle.tb_core.specs.EndedRun.{Run}
+use Rattle.tb_core.specs.Report.{LawfulReport}
 use Rattle.tb_submit.specs.Ends.{EndedState, SubmitterState, SenderState, origin_of, control_seat, replies_of}
 use Rattle.tb_work.specs.declared.item.Item.{Item}
 use Rattle.tb_work.specs.declared.item.Ticket.{Ticket}

@@ -2,7 +2,8 @@
 use Rattle.std.proofs.Common.{◌≡◌, refl, sym, ap, ◌∙◌, subst, ℕ, ◌+◌, Bool, if◌then◌else◌, List, [], ◌∷◌, ◌++◌, append-nil, map, length, get_or, ◌<◌, ◌≤◌, false, None, arith}
 use Rattle.std.specs.Prelude.{slice_set}
 use Rattle.std.proofs.lemmas.List.{map-append}
-use Rattle.tb_work.specs.Queue.{is_end, items_in, IsSubmitted}
+use Rattle.tb_work.specs.Ahead.{items_in}
+use Rattle.tb_work.specs.Queue.{is_end, IsSubmitted}
 use Rattle.tb_work.specs.Packet.{ReplyValue}
 use Rattle.tb_work.specs.declared.item.Item.{Item}
 use Rattle.tb_work.specs.declared.item.Ticket.{Ticket}

@@ -3,7 +3,8 @@ use Rattle.std.specs.Prelude.{◌≡◌, ◌≤◌, ◌==◌, ◌⊎◌, ◌^◌
 use Rattle.tb_layout.specs.inside.Limits.{batch_max, moment_max, submitters_max}
 use Rattle.tb_machine.specs.Replay.{State, replay}
 use Rattle.tb_work.specs.Admission.{admission_of}
-use Rattle.tb_work.specs.Queue.{part, ahead, items_in}
+use Rattle.tb_work.specs.Ahead.{ahead, items_in}
+use Rattle.tb_work.specs.Queue.{part}
 use Rattle.tb_work.specs.Packet.{ReplyValue}
 use Rattle.tb_work.specs.declared.item.Item.{Item}
 use Rattle.tb_work.specs.declared.item.Ticket.{Ticket}
@@ -14,7 +15,8 @@ use Rattle.tb_core.specs.Due.{all_due, replies_to}
 use Rattle.tb_core.specs.inside.Decision.{inputs_in, Decision, AreDecisions}
 use Rattle.tb_core.specs.Front.{FrontState, held_by}
 use Rattle.tb_core.specs.Journal.{LedgerState, inputs}
-use Rattle.tb_core.specs.Report.{Run, IsPrefix, LawfulReport}
+use Rattle.tb_core.specs.EndedRun.{Run, IsPrefix}
+use Rattle.tb_core.specs.Report.{LawfulReport}
 use Rattle.tb_core.specs.BareLedger.{BareLedgerState, HasSent, with_journal}
 use Rattle.tb_embed.specs.Queued.{AreQueued, ended_queue}
 

@@ -4,7 +4,7 @@ use Rattle.std.specs.Prelude.{◌||◌}
 use Rattle.std.proofs.lemmas.List.{map-append}
 use Rattle.std.proofs.lemmas.Grind.{flat_map-append}
 use Rattle.tb_work.specs.Packet.{Numbered}
-use Rattle.tb_work.specs.Queue.{items_in}
+use Rattle.tb_work.specs.Ahead.{items_in}
 use Rattle.tb_work.specs.declared.item.Item.{Item}
 use Rattle.tb_work.specs.declared.item.Item.TheVariants as item
 use Rattle.tb_work.specs.declared.item.Ticket.{Ticket}

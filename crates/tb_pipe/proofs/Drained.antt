@@ -12,7 +12,7 @@ use Rattle.tb_layout.specs.inside.Events.{count_of}
 use Rattle.tb_work.proofs.Admissions.{admitted_are_whole}
 use Rattle.tb_work.specs.Admission.{admission_of, admission_of_size}
 use Rattle.tb_work.specs.Packet.{events_in, ReplyValue}
-use Rattle.tb_work.specs.Queue.{ahead, ahead_of, items_in}
+use Rattle.tb_work.specs.Ahead.{ahead, ahead_of, items_in}
 use Rattle.tb_work.specs.declared.item.Item.{Item}
 use Rattle.tb_work.specs.declared.item.Item.TheVariants as item
 use Rattle.tb_work.specs.declared.item.Ticket.{Ticket}

@@ -1,7 +1,7 @@
 -- Stages that took nothing.
 use Rattle.std.proofs.Common.{refl, sym, ap, subst, ◌∙◌, ◌≡◌, ℕ, List, [], ◌∷◌, ◌++◌, All}
 use Rattle.tb_work.specs.Packet.{Numbered, ReplyValue}
-use Rattle.tb_work.specs.Queue.{items_in}
+use Rattle.tb_work.specs.Ahead.{items_in}
 use Rattle.tb_core.specs.declared.parcel.Parcel.{Parcel}
 use Rattle.tb_core.specs.declared.parcel.Parcel.TheVariants as parcel
 use Rattle.tb_core.specs.declared.outcomes.Outcomes.{Outcomes}

@@ -1,7 +1,7 @@
 -- What the rings between the stages carry.
 use Rattle.std.specs.Prelude.{◌≡◌, ℕ, ◌+◌, ◌%◌, ◌^◌, ◌⊎◌, Bool, true, false, List, [], ◌∷◌, ◌++◌, length, if◌then◌else◌, Contains, ⊤}
 use Rattle.std.specs.List.{flat_map, list_any}
-use Rattle.tb_work.specs.Queue.{ahead, items_in}
+use Rattle.tb_work.specs.Ahead.{ahead, items_in}
 use Rattle.tb_work.specs.Packet.{Numbered, ReplyValue}
 use Rattle.tb_work.specs.declared.item.Ticket.{Ticket}
 use Rattle.tb_batch.specs.Grouping.{is_taken}

@@ -1,7 +1,7 @@
 -- What callers see of a pipeline before it runs, and after.
 use Rattle.std.specs.Prelude.{◌≡◌, ℕ, List, length}
 use Rattle.tb_core.specs.Journal.{LedgerState}
-use Rattle.tb_core.specs.Report.{Run}
+use Rattle.tb_core.specs.EndedRun.{Run}
 use Rattle.tb_rings.specs.Ends.{given, taken, IsRing}
 use Rattle.tb_submit.specs.Ends.{EndedState, IntakeState, Origin, SenderState, origins, queued_by, replies_of}
 use Rattle.tb_pipe.specs.Carried.{AllBatched, AllCommitted}

@@ -4,7 +4,8 @@ ghost use Rattle.std.specs.Prelude.{◌≡◌, ◌<◌, ℕ, true, map, length, 
 ghost use Rattle.tb_core.specs.Grouping.{IsGrouping};
 ghost use Rattle.tb_core.specs.Headline.{Headline, moments_in, moments_queued};
 ghost use Rattle.tb_core.specs.Journal.{inputs};
-ghost use Rattle.tb_core.specs.Report.{IsPrefix, LawfulReport};
+ghost use Rattle.tb_core.specs.EndedRun.{IsPrefix};
+ghost use Rattle.tb_core.specs.Report.{LawfulReport};
 ghost use Rattle.tb_submit.specs.Ends.{EndedState, control_seat, end_origin, origins, seat_at};
 ghost use Rattle.tb_pipe.specs.Run.{IsServed, run_of};
 

@@ -2,7 +2,8 @@
 use Rattle.std.specs.Prelude.{◌≡◌, ℕ, ◌+◌, zero, suc, List, [], ◌∷◌, ◌++◌, Ok, Some, length, slice_get}
 use Rattle.tb_core.specs.Grouping.{IsGrouping}
 use Rattle.tb_core.specs.Headline.{moments_in as moments_committed, moments_queued}
-use Rattle.tb_core.specs.Report.{Run, committed_in, IsPrefix, LawfulReport}
+use Rattle.tb_core.specs.EndedRun.{Run, committed_in, IsPrefix}
+use Rattle.tb_core.specs.Report.{LawfulReport}
 use Rattle.tb_layout.specs.Events.{Input, Packet, Pulse}
 use Rattle.tb_machine.specs.Replay.{State}
 use Rattle.tb_work.specs.Packet.{ReplyValue}

@@ -3,7 +3,7 @@ use Rattle.std.proofs.Common.{◌≡◌, ℕ, ◌+◌, List, [], ◌∷◌, ◌+
 use Rattle.std.specs.Prelude.{Result, Ok, Err, OnOk, IsOk, codes}
 use Rattle.tb_machine.specs.Replay.{State, replay}
 use Rattle.tb_work.specs.Job.{numbered_packet}
-use Rattle.tb_work.specs.Queue.{ahead}
+use Rattle.tb_work.specs.Ahead.{ahead}
 use Rattle.tb_work.specs.Packet.{ReplyValue, reply_with}
 use Rattle.tb_layout.specs.Events.{Input}
 use Rattle.tb_work.specs.declared.item.Item as work

@@ -5,7 +5,7 @@ use Rattle.tb_layout.specs.declared.account.Account.{Account}
 use Rattle.tb_layout.specs.declared.failure.Failure.{Failure}
 use Rattle.tb_machine.specs.Replay.{State, replay}
 use Rattle.tb_machine.specs.inside.Accounts.{balanced_accounts}
-use Rattle.tb_work.specs.Queue.{ahead}
+use Rattle.tb_work.specs.Ahead.{ahead}
 use Rattle.tb_work.specs.Refusal.{number_of, name_of}
 use Rattle.tb_work.specs.Packet.{ReplyValue, reply_with}
 use Rattle.tb_layout.specs.Events.{Input}

@@ -3,4 +3,5 @@ pub mod Admission
 pub mod Packet
 pub mod Job
 pub mod Answer
+pub mod Ahead
 pub mod Queue

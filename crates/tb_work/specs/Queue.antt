@@ -1,27 +1,13 @@
--- Queues of tickets: each sender's part, and what is ahead of the Close.
+-- Queues of tickets, as their senders fill them.
 use Rattle.std.specs.Prelude.{◌≡◌, ◌<◌, ◌≤◌, ℕ, ◌+◌, ◌==◌, Bool, true, false, not, List, [], ◌∷◌, ◌++◌, map, filter}
 use Rattle.std.specs.List.{list_all, AllByRecursion}
 use Rattle.tb_work.specs.declared.item.Item.{Item}
 use Rattle.tb_work.specs.declared.item.Item.TheVariants.{Packet, Pulse, End, Close}
 use Rattle.tb_work.specs.declared.item.Ticket.{Ticket}
-use Rattle.tb_layout.specs.Events.{Input}
-use Rattle.tb_work.specs.Packet.{input_of}
-use Rattle.tb_layout.specs.Events as input
 
 -- what a sender has in a queue, in order
 abbrev pub part : ℕ → List Ticket → List Item
 part sender queue = map (λ (ticket : Ticket). ticket.item) (filter (λ (ticket : Ticket). ticket.sender == sender) queue)
-
-abbrev pub ahead_of : Item → List Input → List Input
-ahead_of (Packet job) others = input_of job ∷ others
-ahead_of (Pulse moment) others = input.Pulse moment ∷ others
-ahead_of End others = others
-ahead_of Close others = []
-
--- the packets and pulses ahead of the first Close
-abbrev pub ahead : List Item → List Input
-ahead [] = []
-ahead (item ∷ items) = ahead_of item (ahead items)
 
 -- whether an item is its sender's last
 abbrev pub is_end : Item → Bool
@@ -40,10 +26,6 @@ pub record IsEnded (items : List Item) : Type 0 where
   pub parts : items ≡ body ++ last ∷ []
   pub unended : IsUnended body
   pub ends : is_end last ≡ true
-
--- the items of a queue, without their senders
-abbrev pub items_in : List Ticket → List Item
-items_in queue = map (λ (ticket : Ticket). ticket.item) queue
 
 -- packets are their submitters' own; pulses and the Close are the control's, the sender after the last submitter
 abbrev pub IsSubmitted : ℕ → ℕ → Item → Type 0

@@ -1,14 +1,16 @@
 -- Every order of pushes and pops.
 use Rattle.std.specs.Prelude.{◌≡◌, ◌<◌, ◌≤◌, ℕ, Bool, true, false, if◌then◌else◌, List, [], ◌∷◌, ◌++◌, None}
 use Rattle.std.specs.List.{list_any}
-use Rattle.tb_work.specs.Queue.{part, ahead, items_in, AreSubmitted, AreNumbered}
+use Rattle.tb_work.specs.Ahead.{ahead, items_in}
+use Rattle.tb_work.specs.Queue.{part, AreSubmitted, AreNumbered}
 use Rattle.tb_work.specs.declared.item.Ticket.{Ticket}
 use Rattle.tb_world.specs.declared.event.Event.{Event}
 use Rattle.tb_world.specs.declared.event.Event.TheVariants.{Push, Pop, BatchPush, BatchPop, OutcomePush, OutcomePop, ReplyPush, ReplyPop}
 use Rattle.tb_core.specs.Due.{due}
 use Rattle.tb_core.specs.Front.{HaveAllEnded}
 use Rattle.tb_core.specs.Journal.{inputs}
-use Rattle.tb_core.specs.Report.{IsPrefix, LawfulReport, any_stopped}
+use Rattle.tb_core.specs.EndedRun.{IsPrefix, any_stopped}
+use Rattle.tb_core.specs.Report.{LawfulReport}
 use Rattle.tb_world.specs.World.{WorldState, is_lawful, received_of, moved, after_event, run, new_world}
 
 -- the ticket that an event pushes

@@ -5,4 +5,5 @@ pub mod World
 pub mod EveryOrder
 pub use Rattle.tb_core.specs.Front
 pub use Rattle.tb_core.specs.Ledger
+pub use Rattle.tb_core.specs.EndedRun
 pub use Rattle.tb_core.specs.Report

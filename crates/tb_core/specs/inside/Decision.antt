@@ -3,7 +3,7 @@ use Rattle.std.specs.Prelude.{◌≡◌, ℕ, ◌+◌, Bool, true, false, ◌||�
 use Rattle.tb_layout.specs.Events.{Input}
 use Rattle.tb_layout.specs.Events as input
 use Rattle.tb_work.specs.Packet.{Numbered, ReplyValue, reply_with, input_of}
-use Rattle.tb_work.specs.Queue.{ahead}
+use Rattle.tb_work.specs.Ahead.{ahead}
 use Rattle.tb_work.specs.declared.item.Item.{Item}
 use Rattle.tb_work.specs.declared.item.Item.TheVariants as item
 use Rattle.tb_work.specs.declared.outcome.Outcome.{Outcome}

@@ -4,7 +4,7 @@ use Rattle.std.specs.Prelude.{if◌then◌else◌}
 use Rattle.std.specs.List.{list_any}
 use Rattle.std.proofs.lemmas.List.{get_or-replicate, length-replicate, length-map}
 use Rattle.std.proofs.lemmas.Bool.{le-ltb, or_parts}
-use Rattle.tb_work.specs.Queue.{ahead, items_in}
+use Rattle.tb_work.specs.Ahead.{ahead, items_in}
 use Rattle.tb_work.specs.Packet.{input_of}
 use Rattle.tb_work.specs.declared.item.Item.{Item}
 use Rattle.tb_work.specs.declared.item.Item.TheVariants as item

@@ -4,7 +4,7 @@ use Rattle.std.specs.List.{list_any}
 use Rattle.std.proofs.lemmas.List.{map-append}
 use Rattle.tb_layout.specs.Events.{Input}
 use Rattle.tb_work.specs.Packet.{Numbered, ReplyValue}
-use Rattle.tb_work.specs.Queue.{ahead, items_in}
+use Rattle.tb_work.specs.Ahead.{ahead, items_in}
 use Rattle.tb_work.specs.declared.item.Item.{Item}
 use Rattle.tb_work.specs.declared.item.Ticket.{Ticket}
 use Rattle.tb_core.specs.declared.outcomes.Outcomes.{Outcomes}
@@ -18,7 +18,7 @@ use Rattle.tb_core.specs.Journal.{inputs}
 use Rattle.tb_core.specs.Run.{Ran}
 use Rattle.tb_world.specs.Mailbox.{Mailbox, mailbox_at, after_pop_of}
 use Rattle.tb_world.specs.World.{WorldState, pop, batch_push, batch_pop, outcome_push, outcome_pop, reply_push, reply_pop, received_of, run, new_world}
-use Rattle.tb_core.specs.Report.{IsPrefix}
+use Rattle.tb_core.specs.EndedRun.{IsPrefix}
 use Rattle.tb_world.specs.EveryOrder.{history, is_refused, IsAtRest, IsLawfulSoFar, NoneStopped, IsLawfulAtRest, HasRun}
 use Rattle.tb_core.proofs.HeadlineLemmas.{is-prefix-trans, prefix-filter}
 use Rattle.tb_core.proofs.FrontDecisions.{ahead-first}

@@ -1,7 +1,8 @@
 use Rattle.std.proofs.Common.{◌≡◌, ◌∙◌, sym, ap, subst, arith, ◌<◌, ℕ, zero, suc, List, [], ◌∷◌, ◌++◌, length}
 use Rattle.tb_core.specs.Headline.{moments_in, moments_queued}
 use Rattle.tb_core.specs.Journal.{inputs}
-use Rattle.tb_core.specs.Report.{IsPrefix, LawfulReport}
+use Rattle.tb_core.specs.EndedRun.{IsPrefix}
+use Rattle.tb_core.specs.Report.{LawfulReport}
 use Rattle.tb_rings.specs.Ends.{given, taken, lies}
 use Rattle.std.proofs.lemmas.List.{length-map}
 use Rattle.tb_submit.specs.Ends.{EndedState, SenderState, end_origin, queued_by, seat_at}

@@ -4,7 +4,7 @@ use Rattle.std.specs.Prelude.{ℕ, Vec}
 use Rattle.std.specs.declared.alloc.Global.{Global}
 use Rattle.tb_core.specs.Journal.{inputs}
 use Rattle.tb_core.specs.Headline.{moments_in, moments_queued}
-use Rattle.tb_core.specs.Report.{IsPrefix}
+use Rattle.tb_core.specs.EndedRun.{IsPrefix}
 use Rattle.tb_drive.specs.Plan.{planned_items, refused_of, with_items}
 use Rattle.tb_drive.specs.Seen.{jobs_in}
 use Rattle.tb_submit.specs.Ends.{queued_by, replies_of}
