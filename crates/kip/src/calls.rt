@@ -4,7 +4,7 @@ ghost use Rattle.std.specs.Prelude.{◌≡◌, ◌⊎◌, [], IfOk, IfErr, OnOk,
 ghost use Rattle.tb_work.specs.Refusal.{number_of};
 ghost use Rattle.tb_work.specs.declared.item.Item.TheVariants as item;
 ghost use Rattle.tb_work.specs.declared.refusal.Refusal.TheVariants.{NoMemory as NoMemoryRefusal};
-ghost use Rattle.tb_embed.specs.Engine.{EngineState, Serves, Queues, Continues, IsRefusal, submit_refusal, pulse_refusal, shut_refusal, state_of};
+ghost use Rattle.tb_embed.specs.Engine.{EngineState, IsOpened, Queues, Continues, IsRefusal, submit_refusal, pulse_refusal, shut_refusal, state_of};
 ghost use Rattle.tb_embed.specs.Queued.{packet_ticket, ticket_of};
 ghost use Rattle.kip.specs.Handle.{Moves, IsOpen, IsStatus, IsStatusOf, IsSubmitStatus, IsOpeningStatus, IsClosingStatus, IsPeek, IsReading, IsReadingOf, IsLookup, IsLookupIn, IsClockOf, id_of, open_refusal, packet_with};
 
@@ -63,7 +63,7 @@ fn open(
     submitters: u32,
     seed: Seed,
 ) -> Result<Box<Engine>, Refusal>
-    ensures serves { IfOk result (λ engine. Serves clock [] [] engine.value) }
+    ensures opened { IfOk result (λ engine. IsOpened clock limit submitters engine.value) }
     ensures opens { OnOk result (open_refusal clock limit submitters ≡ None) }
     ensures refusal { IfErr result (λ refusal. IsRefusal (open_refusal clock limit submitters) refusal) }
 {
@@ -86,7 +86,7 @@ fn open_handle(
     submitters: u32,
     seed: Seed,
 ) -> u32
-    ensures ok { result ≡ 0 → IsOpen (Serves clock [] []) kip.new.held.engine }
+    ensures ok { result ≡ 0 → IsOpen (IsOpened clock limit submitters) kip.new.held.engine }
     ensures status { IsOpeningStatus clock limit submitters kip.old.held.engine result }
     ensures same { (result ≡ 0 → ⊥) → kip.new.held.engine ≡ kip.old.held.engine }
 {
@@ -111,7 +111,7 @@ pub extern "C" fn kip_open(
     limit: u32,
     submitters: u32,
 ) -> u32
-    ensures ok { result ≡ 0 → IsOpen (Serves clock [] []) kip.new.held.engine }
+    ensures ok { result ≡ 0 → IsOpen (IsOpened clock limit submitters) kip.new.held.engine }
     ensures status { IsOpeningStatus clock limit submitters kip.old.held.engine result }
     ensures same { (result ≡ 0 → ⊥) → kip.new.held.engine ≡ kip.old.held.engine }
 {
@@ -129,7 +129,7 @@ pub extern "C" fn kip_open_seeded(
     seed_low: u64,
     seed_high: u64,
 ) -> u32
-    ensures ok { result ≡ 0 → IsOpen (Serves clock [] []) kip.new.held.engine }
+    ensures ok { result ≡ 0 → IsOpen (IsOpened clock limit submitters) kip.new.held.engine }
     ensures status { IsOpeningStatus clock limit submitters kip.old.held.engine result }
     ensures same { (result ≡ 0 → ⊥) → kip.new.held.engine ≡ kip.old.held.engine }
 {

@@ -13,7 +13,7 @@ use Rattle.tb_work.specs.declared.refusal.Refusal.{Refusal}
 use Rattle.tb_work.specs.declared.refusal.Refusal.TheVariants.{BadSubmitters, Full, MomentTooLarge, NoMemory, Shutdown}
 use Rattle.tb_core.specs.Due.{all_due, replies_to}
 use Rattle.tb_core.specs.inside.Decision.{inputs_in, Decision, AreDecisions}
-use Rattle.tb_core.specs.Front.{FrontState, held_by}
+use Rattle.tb_core.specs.Front.{FrontState, held_by, take_step, with_group}
 use Rattle.tb_core.specs.Journal.{LedgerState, inputs}
 use Rattle.tb_core.specs.EndedRun.{Run, IsPrefix}
 use Rattle.tb_core.specs.Report.{LawfulReport}
@@ -55,22 +55,33 @@ pub record Serves (clock : ℕ) (queue : List Ticket) (read : List ReplyValue) (
   pub taken : HasTaken clock (items_in queue) (read ++ engine.unread) engine.front engine.ledger
   pub queued : AreQueued engine.front.submitters queue engine.numbers engine.shut
 
--- the call added this ticket to what was queued
-abbrev pub Queues : EngineState → Ticket → EngineState → Type 0
-Queues old ticket new =
-    (clock : ℕ) (queue : List Ticket) (read : List ReplyValue) → Serves clock queue read old
-    → Serves clock (queue ++ ticket ∷ []) read new
+-- an engine that was opened with these, in which nothing was queued
+pub record IsOpened (clock limit submitters : ℕ) (engine : EngineState) : Type 0 where
+  pub serves : Serves clock [] [] engine
+  pub limited : engine.front.limit ≡ limit
+  pub counted : engine.front.submitters ≡ submitters
 
--- the call added this reply to those that were read
-abbrev pub Reads : EngineState → ReplyValue → EngineState → Type 0
-Reads old reply new =
-    (clock : ℕ) (queue : List Ticket) (read : List ReplyValue) → Serves clock queue read old
-    → Serves clock queue (read ++ reply ∷ []) new
+-- a front took a ticket; memory may have run out
+abbrev pub Steps : FrontState → Ticket → FrontState → Type 0
+Steps old ticket new = (refused : Bool) × (new ≡ (take_step refused old ticket.sender ticket.item).front)
 
--- the call added nothing
-abbrev pub Continues : EngineState → EngineState → Type 0
-Continues old new =
-    (clock : ℕ) (queue : List Ticket) (read : List ReplyValue) → Serves clock queue read old → Serves clock queue read new
+-- the call added this ticket to what was queued, and the front took it
+pub record Queues (old : EngineState) (ticket : Ticket) (new : EngineState) : Type 0 where
+  pub adds : (clock : ℕ) (queue : List Ticket) (read : List ReplyValue) → Serves clock queue read old
+      → Serves clock (queue ++ ticket ∷ []) read new
+  pub steps : Steps old.front ticket new.front
+
+-- the call added this reply to those that were read, and committed nothing
+pub record Reads (old : EngineState) (reply : ReplyValue) (new : EngineState) : Type 0 where
+  pub adds : (clock : ℕ) (queue : List Ticket) (read : List ReplyValue) → Serves clock queue read old
+      → Serves clock queue (read ++ reply ∷ []) new
+  pub stays : new.front ≡ old.front
+
+-- the call added nothing, and the group held was sealed
+pub record Continues (old new : EngineState) : Type 0 where
+  pub adds : (clock : ℕ) (queue : List Ticket) (read : List ReplyValue) → Serves clock queue read old
+      → Serves clock queue read new
+  pub seals : new.front ≡ with_group old.front []
 
 -- ---- refusals
 

@@ -13,7 +13,7 @@ ghost use Rattle.tb_core.specs.Front.{opening_refusal, all_decisions_in};
 ghost use Rattle.tb_core.specs.Grouping.{AreJoinedParcels};
 ghost use Rattle.tb_core.specs.inside.Decision.{Decision};
 ghost use Rattle.tb_core.specs.BareLedger.{HasSent};
-ghost use Rattle.tb_embed.specs.Engine.{HasTaken, Serves, Queues, Reads, Continues, IsRefusal, sender_refusal, submit_refusal, pulse_refusal, shut_refusal, state_of};
+ghost use Rattle.tb_embed.specs.Engine.{HasTaken, IsOpened, Steps, Queues, Reads, Continues, IsRefusal, sender_refusal, submit_refusal, pulse_refusal, shut_refusal, state_of};
 ghost use Rattle.tb_embed.specs.Queued.{ticket_of, packet_ticket};
 
 use crate::unread::Unread;
@@ -91,7 +91,7 @@ impl Engine {
     /// `BadLimit` unless `limit` is 1 to 8190 events, else `BadSubmitters` unless there are 1 to 16 submitters.
     pub fn new(alloc: Global, clock: u64, limit: u32, submitters: u32) -> Result<Engine, Refusal>
         requires { clock ≤ clock_max }
-        ensures serves { IfOk result (λ engine. Serves clock [] [] engine) }
+        ensures opened { IfOk result (λ engine. IsOpened clock limit submitters engine) }
         ensures opens { OnOk result (opening_refusal limit submitters ≡ None) }
         ensures refusal { IfErr result (λ refusal. opening_refusal limit submitters ≡ Some refusal) }
     {
@@ -112,7 +112,7 @@ impl Engine {
         seed: Seed,
     ) -> Result<Engine, Refusal>
         requires { clock ≤ clock_max }
-        ensures serves { IfOk result (λ engine. Serves clock [] [] engine) }
+        ensures opened { IfOk result (λ engine. IsOpened clock limit submitters engine) }
         ensures opens { OnOk result (opening_refusal limit submitters ≡ None) }
         ensures refusal { IfErr result (λ refusal. opening_refusal limit submitters ≡ Some refusal) }
     {
@@ -151,6 +151,7 @@ impl Engine {
         ensures taken { OnOk result ((clock : ℕ) (items : List ItemValue) (read : List ReplyValue)
             → HasTaken clock items (read ++ self.old.unread) self.old.front self.old.ledger
             → HasTaken clock (items ++ ticket.item ∷ []) (read ++ self.new.unread) self.new.front self.new.ledger) }
+        ensures steps { OnOk result (Steps self.old.front ticket self.new.front) }
         ensures same { (self.new.numbers ≡ self.old.numbers) × (self.new.shut ≡ self.old.shut)
             × (self.new.front.limit ≡ self.old.front.limit)
             × (self.new.front.submitters ≡ self.old.front.submitters) }
@@ -172,6 +173,7 @@ impl Engine {
         ensures taken { OnOk result ((clock : ℕ) (items : List ItemValue) (read : List ReplyValue)
             → HasTaken clock items (read ++ self.old.unread) self.old.front self.old.ledger
             → HasTaken clock (items ++ item ∷ []) (read ++ self.new.unread) self.new.front self.new.ledger) }
+        ensures steps { OnOk result (Steps self.old.front (ticket_of self.old.front.submitters item) self.new.front) }
         ensures same { (self.new.numbers ≡ self.old.numbers) × (self.new.shut ≡ self.old.shut)
             × (self.new.front.limit ≡ self.old.front.limit)
             × (self.new.front.submitters ≡ self.old.front.submitters) }

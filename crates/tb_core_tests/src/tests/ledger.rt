@@ -241,11 +241,13 @@ fn commit_bare(
     told: &mut Vec<Told>,
 ) {
     tell(rt, ledger.apply(batch_of(rt, 1)), told);
-    tell(rt, ledger.apply(Parcel::Pulse(Moment::new(9))), told);
+    let pulsed = ledger.apply(Parcel::Pulse(Moment::new(9)));
+    assert!(rt; matches!(&pulsed, Outcomes::Nothing));
     tell(rt, ledger.apply(batch_of(rt, 2)), told);
     let returned = Parcel::Return(creating_one(rt, 1, 3), Cause::Shutdown);
     tell(rt, ledger.apply(returned), told);
-    tell(rt, ledger.apply(Parcel::Last), told);
+    let last = ledger.apply(Parcel::Last);
+    assert!(rt; matches!(&last, Outcomes::Last));
 }
 
 fn assert_two_accounts(rt: &impl Abort, ledger: &BareLedger) {

@@ -1,6 +1,6 @@
 use Rattle.std.proofs.Common.{refl, sym, subst, ap, ◌∙◌}
 use Rattle.tb_work.specs.declared.item.Item.TheVariants as item
-use Rattle.tb_embed.specs.Engine.{EngineState, Queues}
+use Rattle.tb_embed.specs.Engine.{EngineState, Queues, Steps}
 use Rattle.tb_embed.specs.Queued.{ticket_of}
 use Rattle.tb_embed.proofs.EngineRun.{Takes, control_serves}
 use Rattle.tb_embed.proofs.engine.Engine.pulse.Goals as goal
@@ -14,4 +14,6 @@ returns-clause-ok c =
     let open_yet = ap (λ (e : EngineState). e.shut) (sym c.self.view_is) ∙ c.if-self.false in
     subst (λ b. Queues old (ticket_of old.front.submitters x) (record new { shut = b })) (sym (same.1 ∙ open_yet))
     (control_serves old new x
-    (subst (λ moment. Takes old (item.Pulse moment) new) c.new.ensures c.in_ok-take_control.ensures.taken) same.0 same.3 refl tt refl open_yet)
+    (subst (λ moment. Takes old (item.Pulse moment) new) c.new.ensures c.in_ok-take_control.ensures.taken)
+    (subst (λ moment. Steps old.front (ticket_of old.front.submitters (item.Pulse moment)) new.front) c.new.ensures
+    c.in_ok-take_control.ensures.steps) same.0 same.3 refl tt refl open_yet)

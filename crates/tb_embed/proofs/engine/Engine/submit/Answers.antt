@@ -2,8 +2,8 @@ use Rattle.std.proofs.Common.{sym, subst, ap, ◌∙◌, arith, ◌+◌, ◌≤�
 use Rattle.std.specs.Prelude.{slice_set}
 use Rattle.tb_work.specs.Packet.{Numbered}
 use Rattle.tb_work.specs.declared.item.Item.TheVariants as item
-use Rattle.tb_embed.specs.Engine.{EngineState, Queues}
-use Rattle.tb_embed.specs.Queued.{packet_ticket}
+use Rattle.tb_embed.specs.Engine.{EngineState, Queues, Steps}
+use Rattle.tb_embed.specs.Queued.{packet_ticket, ticket_of}
 use Rattle.tb_embed.proofs.EngineRun.{Takes, packet_serves, is_among}
 use Rattle.tb_embed.proofs.engine.Engine.submit.Goals as goal
 
@@ -21,6 +21,8 @@ returns-in-Ok-clause-ok c =
     (packet_serves old new submitter number c.args.packet
     (ap (λ (s : EngineState). get_or s.numbers submitter 0) (sym c.self.view_is))
     (subst (λ (job : Numbered). Takes old (item.Packet job) new) c.in_ok-job.ensures.job c.in-Ok.ensures.taken)
+    (subst (λ (job : Numbered). Steps old.front (ticket_of submitter (item.Packet job)) new.front)
+    c.in_ok-job.ensures.job c.in-Ok.ensures.steps)
     same.0 same.1 same.3
     (is_among old submitter (sym c.refusal.ensures ∙ c.in_default.is))
     (subst (λ (s : EngineState). s.front.submitters ≤ length s.numbers) c.self.view_is
