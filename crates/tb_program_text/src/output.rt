@@ -2,17 +2,17 @@
 
 ghost use Rattle.std.specs.Io.KnownBytes.{Appends};
 ghost use Rattle.std.specs.Prelude.{◌≡◌, ◌++◌, OnOk, IfErr, codes, string_bytes};
-ghost use Rattle.tb_program_command.specs.declared.program_fault.ProgramFault.TheVariants.{Write as WriteFault};
+ghost use Rattle.tb_program_text.specs.declared.program_fault.ProgramFault.TheVariants.{Write as WriteFault};
 ghost use Rattle.std.specs.List.{flat_map};
 ghost use Rattle.tb_program_text.specs.Output.{fault_line, refused_line, failure_text, found_debits, found_credits, found_text, answer_text, outcome_text, packet_front, reply_line, pulse_line, refused_pulse_line, clock_line, account_front, balances_text, account_line, state_text};
 ghost use Rattle.tb_machine.specs.inside.Accounts.{balanced_accounts};
 
+use crate::program_fault::ProgramFault;
 use itoa::{Buffer, Integer};
 use std::alloc::AllocError;
 use std::io::Write;
 use tb_layout::{Account, Failure};
 use tb_machine::Machine;
-use tb_program_command::ProgramFault;
 use tb_work::{Answer, Outcome, Refusal, Reply};
 
 /// Adds a number in decimal. This takes fewer instructions than `write!`.

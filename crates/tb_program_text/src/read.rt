@@ -3,9 +3,9 @@
 ghost use Rattle.std.specs.Prelude.{◌≢◌, IfOk, IfErr, IfSome};
 ghost use Rattle.tb_program_text.specs.Output.{IsWhole};
 
+use crate::program_fault::ProgramFault;
 use std::alloc::Global;
 use std::io::Read;
-use tb_program_command::ProgramFault;
 
 /// The most bytes of a script.
 const SCRIPT_MAX: usize = 16_777_216;

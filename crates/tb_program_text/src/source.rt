@@ -6,11 +6,11 @@ ghost use Rattle.tb_program_text.specs.Output.{IsWhole};
 ghost use Rattle.tb_program_text.specs.Source.{IsSource, IsTold, IsFaultAt};
 
 use crate::output::put_fault;
+use crate::program_fault::ProgramFault;
 use crate::read::read_script;
 use std::alloc::Global;
 use std::io::Read;
 use tb_layout::NoMemory;
-use tb_program_command::ProgramFault;
 use tb_program_script::{Script, ScriptError, parse};
 
 /// What a reader has: a script, or the one line that is printed of a faulty one.

@@ -1,2 +1,0 @@
-pub mod SplitPlan
-pub mod Printing

@@ -1,0 +1,34 @@
+-- The exit status of each outcome, and the line that is printed of it.
+use Rattle.std.specs.Prelude.{ℕ, Bool, true, false, List, [], Result, Ok, Err, codes}
+use Rattle.tb_program_text.specs.declared.program_fault.ProgramFault.{ProgramFault}
+use Rattle.tb_program_text.specs.declared.program_fault.ProgramFault.TheVariants.{Read, Write, NoMemory, NoThread}
+use Rattle.tb_program_text.specs.declared.ending.Ending.{Ending}
+use Rattle.tb_program_text.specs.declared.ending.Ending.TheVariants.{Done, FaultyScript, Help, Version, Usage, Failed}
+
+abbrev pub ending_of : Result Bool ProgramFault → Ending
+ending_of (Ok true) = Done
+ending_of (Ok false) = FaultyScript
+ending_of (Err fault) = Failed fault
+
+abbrev pub status_of : Ending → ℕ
+status_of Done = 0
+status_of FaultyScript = 1
+status_of Help = 0
+status_of Version = 0
+status_of Usage = 1
+status_of (Failed fault) = 2
+
+abbrev pub fault_text : ProgramFault → List ℕ
+fault_text Read = codes "fault read failed\n"
+fault_text Write = []
+fault_text NoMemory = codes "fault no memory\n"
+fault_text NoThread = codes "fault no thread\n"
+
+abbrev pub text_of : Ending → List ℕ
+text_of Done = []
+text_of FaultyScript = []
+text_of Help = codes
+    "usage: tbpipe list|run < SCRIPT\n\nCommits the packets of a script to a ledger in memory, and prints what becomes of each.\n\n  list       in one thread\n  run        in a pipeline with a thread for each submitter\n  --help     prints this\n  --version  prints the version and the kit that proved it\n\nScripts and output: docs/FORMATS.md. The exit status is 0, or 1 for a faulty script or other arguments, or 2 if the program failed.\n"
+text_of Version = codes "tbpipe 0.1.0\nrattle-kit-13f logic dac8208d650f15bf\n"
+text_of Usage = codes "usage: tbpipe list|run\n"
+text_of (Failed fault) = fault_text fault

@@ -1,0 +1,62 @@
+//! How the program ends.
+
+ghost use Rattle.std.specs.Prelude.{◌≡◌};
+ghost use Rattle.tb_program_text.specs.Ending.{ending_of, status_of, text_of};
+
+use crate::program_fault::ProgramFault;
+
+const HELP: &str =
+    "usage: tbpipe list|run < SCRIPT\n\nCommits the packets of a script to a ledger in memory, and prints what becomes of each.\n\n  list       in one thread\n  run        in a pipeline with a thread for each submitter\n  --help     prints this\n  --version  prints the version and the kit that proved it\n\nScripts and output: docs/FORMATS.md. The exit status is 0, or 1 for a faulty script or other arguments, or 2 if the program failed.\n";
+
+const VERSION: &str = "tbpipe 0.1.0\nrattle-kit-13f logic dac8208d650f15bf\n";
+
+/// How the program ends, once what is to be written of a script is written.
+#[derive(Drop)]
+pub enum Ending {
+    Done,
+    FaultyScript,
+    Help,
+    Version,
+    Usage,
+    Failed(ProgramFault),
+}
+
+/// How it ends after a script.
+pub fn ending_of(outcome: Result<bool, ProgramFault>) -> Ending
+    ensures { result ≡ ending_of outcome }
+{
+    match outcome {
+        Ok(true) => Ending::Done,
+        Ok(false) => Ending::FaultyScript,
+        Err(fault) => Ending::Failed(fault),
+    }
+}
+
+impl Ending {
+    /// The exit status.
+    pub fn status(&self) -> u8
+        ensures { result ≡ status_of self.now }
+    {
+        match self {
+            Ending::Done | Ending::Help | Ending::Version => 0,
+            Ending::FaultyScript | Ending::Usage => 1,
+            Ending::Failed(_) => 2,
+        }
+    }
+
+    /// What is printed last. Of a failed write nothing is, since nothing more can be written.
+    pub fn text(&self) -> &'static str
+        ensures { result.now ≡ text_of self.now }
+    {
+        match self {
+            Ending::Done | Ending::FaultyScript => "",
+            Ending::Help => HELP,
+            Ending::Version => VERSION,
+            Ending::Usage => "usage: tbpipe list|run\n",
+            Ending::Failed(ProgramFault::Read) => "fault read failed\n",
+            Ending::Failed(ProgramFault::Write) => "",
+            Ending::Failed(ProgramFault::NoMemory) => "fault no memory\n",
+            Ending::Failed(ProgramFault::NoThread) => "fault no thread\n",
+        }
+    }
+}
