@@ -1,8 +1,8 @@
 -- Why the program gives up where the threads did.
 use Rattle.tb_drive.specs.declared.driving.DriveFault.{DriveFault}
 use Rattle.tb_drive.specs.declared.driving.DriveFault.TheVariants as drive
-use Rattle.tb_program_command.specs.declared.program_fault.ProgramFault.{ProgramFault}
-use Rattle.tb_program_command.specs.declared.program_fault.ProgramFault.TheVariants as program
+use Rattle.tb_program_text.specs.declared.program_fault.ProgramFault.{ProgramFault}
+use Rattle.tb_program_text.specs.declared.program_fault.ProgramFault.TheVariants as program
 
 abbrev pub program_fault_of : DriveFault → ProgramFault
 program_fault_of drive.NoMemory = program.NoMemory

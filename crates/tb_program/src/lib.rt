@@ -7,5 +7,4 @@
 mod run;
 
 pub use run::run_threads;
-pub use tb_program_command::ProgramFault;
-pub use tb_program_list::run_script;
+pub use tb_program_text::{ProgramFault, run_script};

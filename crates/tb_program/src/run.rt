@@ -28,9 +28,8 @@ use std::thread::Threads;
 use tb_drive::{ControlPlan, drive_all};
 use tb_layout::NoMemory;
 use tb_pipe::{Opened, open};
-use tb_program_command::ProgramFault;
 use tb_program_script::{Script, Settings};
-use tb_program_text::{Source, read_source, write_out};
+use tb_program_text::{ProgramFault, Source, read_source, write_out};
 use tb_work::{Packet, Refusal};
 
 /// The pipeline that a script's settings open. They are all in range, so only NoMemory refuses it.

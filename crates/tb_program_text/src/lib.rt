@@ -1,10 +1,11 @@
 //! The command line, the text that the program reads, the lines that it prints, and a script in one thread.
 //!
-//! `request_of` is what the arguments ask for, `ending_of`, `Ending::status` and `Ending::text` the exit status and the last line.
-//! `read_script` reads the bytes of a script, `source_of` says what they are: a script, or the line of its fault. `put_reply` and its
-//! like append exactly the line that `specs/Output.antt` defines, and `write_out` writes a whole text.
-//! `run_script` takes a script through front and ledger and writes the output that is defined for the bytes read, whatever these are
-//! (`written`). If reading fails or memory runs out, it writes nothing (`read`, `memory`).
+//! `request_of` is what the arguments ask for; `ending_of`, `Ending::status` and `Ending::text` give the exit status and the
+//! last line. `read_script` reads the bytes of a script, `source_of` says what they are: a script, or the line of its fault.
+//! `put_reply` and its like append exactly the line that `specs/Output.antt` defines, and `write_out` writes a whole text.
+//!
+//! `run_script` takes a script through front and ledger, and writes the output that is defined for the bytes read, whatever
+//! these are (`written`). If reading fails or memory runs out, it writes nothing (`read`, `memory`).
 #![tactic(auto)]
 
 mod ending;

@@ -2,7 +2,7 @@
 //!
 //! `list` takes the script through the stages in one thread, `run` through the pipeline with a thread for each sender.
 //! What the arguments ask for, the exit status of each outcome and the lines that the program prints itself are
-//! functions of `tb_program_command`; the rest is `tb_program`.
+//! functions of `tb_program_text`; the rest is `tb_program`.
 #![tactic(auto)]
 
 use std::alloc::Global;
@@ -10,7 +10,7 @@ use std::process::ExitCode;
 use std::rt::Env;
 use std::{env, io};
 use tb_program::{run_script, run_threads};
-use tb_program_command::{Ending, ProgramFault, Request, ending_of, request_of};
+use tb_program_text::{Ending, ProgramFault, Request, ending_of, request_of};
 
 /// What the arguments ask for. One that isn't text asks for nothing that there is.
 fn read_arguments(rt: &(impl Env + Alloc<A = Global>)) -> Result<Request, ProgramFault> {
