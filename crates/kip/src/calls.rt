@@ -1,6 +1,6 @@
 //! The exported functions.
 
-ghost use Rattle.std.specs.Prelude.{◌≡◌, ◌⊎◌, [], IfOk, IfErr, OnOk, OnErr, IsOk, None};
+ghost use Rattle.std.specs.Prelude.{◌≡◌, ◌<◌, ◌⊎◌, [], length, IfOk, IfErr, OnOk, OnErr, IsOk, None};
 ghost use Rattle.tb_work.specs.Refusal.{number_of};
 ghost use Rattle.tb_work.specs.declared.item.Item.TheVariants as item;
 ghost use Rattle.tb_work.specs.declared.refusal.Refusal.TheVariants.{NoMemory as NoMemoryRefusal};
@@ -279,6 +279,7 @@ pub extern "C" fn kip_shut(alloc: Global, kip: &mut Kip) -> u32
 pub extern "C" fn kip_flush(alloc: Global, kip: &mut Kip) -> u32
     ensures ok { result ≡ 0 → Moves (λ old new. Continues old new) kip.old.held.engine kip.new.held.engine }
     ensures held { result ≡ 0 → IsOpen (λ engine. engine.front.held ≡ []) kip.new.held.engine }
+    ensures needed { result ≡ number_of NoMemoryRefusal → IsOpen (λ engine. 0 < length engine.front.held) kip.old.held.engine }
     ensures status { IsStatusOf (λ engine. None) kip.old.held.engine result }
     ensures same { (result ≡ 0 → ⊥) → kip.new.held.engine ≡ kip.old.held.engine }
 {

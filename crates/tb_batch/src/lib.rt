@@ -4,8 +4,8 @@
 //! packet begins the next one. `seal` returns the group held, and `None` only if there is none. All memory of a batch is allocated in
 //! `offer`, capacity for its answer included, before anything changes: a rejected packet leaves everything as it was.
 //!
-//! A `Batch` keeps that its body is its packets' data in order and its stubs are theirs, with at most 8,190 events of one operation;
-//! an open packet and a lookup are alone in theirs. `specs/Grouping.antt` defines what may join.
+//! A `Batch` keeps that its body is its packets' data in order and its stubs are theirs. It has at most 8,190 events of one
+//! operation, and an open packet or a lookup is alone in its own. `specs/Grouping.antt` defines what may join.
 //!
 //! `two_submitters_joined` in tb_demux_tests is an example that the gate compiles.
 #![tactic(auto)]

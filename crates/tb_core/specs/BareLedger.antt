@@ -1,4 +1,4 @@
--- A bare ledger: one that keeps no journal. What it has committed is known to clauses alone.
+-- A bare ledger: one that keeps no journal. What it has committed is known only to clauses.
 use Rattle.std.specs.Prelude.{◌≡◌, ◌≤◌, ℕ, ◌+◌, Bool, true, false, ◌||◌, not, nat_lt, List, ◌++◌, length, map, Option, Some, None, option_to_list}
 use Rattle.std.specs.List.{flat_map}
 use Rattle.tb_layout.specs.Events.{Input}
@@ -76,6 +76,18 @@ Records refused handed old outcomes entry new =
     HasCommitted new (groups ++ groups_in entry)
     × (apply_result (with_journal new (groups ++ groups_in entry)) outcomes
     ≡ apply_step refused (with_journal old groups) handed)
+
+-- a batch: nothing else can lack memory, since without a journal a pulse allocates nothing
+abbrev pub IsBatch : Parcel → Type 0
+IsBatch (parcel.Batch jobs) = Unit {0}
+IsBatch (parcel.Pulse moment) = ⊥
+IsBatch (parcel.Return job cause) = ⊥
+IsBatch parcel.Last = ⊥
+
+-- A parcel was applied, whatever was committed before. If memory ran out, it was a batch.
+abbrev pub Applies : Parcel → BareLedgerState → Outcomes → BareLedgerState → Type 0
+Applies handed old outcomes new =
+    (refused : Bool) × (entry : Option Entry) × (refused ≡ true → IsBatch handed) × Records refused handed old outcomes entry new
 
 -- from a clock on a bare ledger took these decisions, in groups lawful under a limit; these are the replies
 pub record HasSent (clock limit : ℕ) (decisions : List Decision) (bare : BareLedgerState)

@@ -54,7 +54,7 @@ pub record IsAnsweredAt (run : Run) (place : ℕ) (reply : ReplyValue) (answer :
 -- ---- the headline
 
 -- The packets committed of each submitter are a prefix of those ahead of the Close, which are a prefix of what it
--- queued; they are all of them unless something stopped. Its replies are one per queued packet, in order. Each
+-- queued. They are all of them unless something stopped. Its replies are one per queued packet, in order. Each
 -- committed reply is what the state machine gives that packet alone at its place. Committed pulses are a prefix of the
 -- control's.
 pub record Headline (run : Run) : Type 0 where

@@ -24,7 +24,7 @@ use tb_layout::{Account, Failure, LOOKUP_ACCOUNTS, NoMemory, PLACES_MAX};
 use tb_machine::{Machine, Seed, joining_is_invisible};
 use tb_work::{Accounts, Answer, Failures, Job, Moment, Outcome, Reply};
 
-/// Commits what the front yields, as `Ledger` does, and keeps no journal. Its memory grows by what is stored alone.
+/// Commits what the front yields, as `Ledger` does, and keeps no journal. Its memory grows only by what is stored.
 #[derive(Drop)]
 pub struct BareLedger {
     opening: u64,
@@ -157,7 +157,7 @@ impl BareLedger {
     ghost use Rattle.tb_core.specs.Grouping.{IsJoinedParcel};
     ghost use Rattle.tb_core.specs.inside.Decision.{Decision};
     ghost use Rattle.tb_core.specs.Run.{HasPackets, replies_in};
-    ghost use Rattle.tb_core.specs.BareLedger.{new_bare_ledger, halts, HasSent, IsEntryIf, Records};
+    ghost use Rattle.tb_core.specs.BareLedger.{new_bare_ledger, halts, Applies, HasSent, IsBatch, IsEntryIf, Records};
 
     /// A ledger that has committed nothing, whose clock starts at a number of nanoseconds, 0 to `CLOCK_MAX`, and that
     /// hashes ids with a seed, as `Ledger::with_seed` does. Takes no memory.
@@ -277,6 +277,7 @@ impl BareLedger {
         ensures entry { IfOk result (λ recorded. IsEntryIf (grows self.old parcel) recorded.entry) }
         ensures err { IfErr result (λ back. (back ≡ parcel) × (self.new ≡ self.old)) }
         ensures memory { OnErr result (grows self.old parcel ≡ true) }
+        ensures batch { IfErr result (λ back. IsBatch back) }
         ensures some { HasPackets parcel }
     {
         match parcel {
@@ -311,6 +312,7 @@ impl BareLedger {
 
     /// Applies one parcel, and returns its outcomes, as `Ledger::apply` does. It takes memory for the facts.
     pub fn apply(&mut self, parcel: Parcel) -> Outcomes
+        ensures applied { Applies parcel self.old result self.new }
         ensures sent { (clock limit : ℕ) (decisions : List Decision) (replies : List ReplyValue)
             → IsJoinedParcel limit parcel → HasSent clock limit decisions self.old replies
             → HasSent clock limit (decisions ++ decisions_in parcel) self.new (replies ++ replies_in result) }

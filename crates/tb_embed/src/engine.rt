@@ -295,12 +295,16 @@ impl Engine {
     ///
     /// # Errors
     ///
-    /// `NoMemory`, and nothing has changed.
+    /// `NoMemory`, only if a packet is held, and nothing has changed.
     pub fn flush(&mut self) -> Result<(), Refusal>
         ensures ok { OnOk result (Continues self.old self.new) }
         ensures held { OnOk result (self.new.front.held ≡ []) }
         ensures err { IfErr result (λ refusal. (refusal ≡ NoMemoryRefusal) × (self.new ≡ self.old)) }
+        ensures needed { OnErr result (0 < length self.old.front.held) }
     {
+        if !self.front.is_holding() {
+            return Ok(());
+        }
         if self.unread.reserve(1).is_err() {
             return Err(Refusal::NoMemory);
         }

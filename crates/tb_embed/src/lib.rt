@@ -1,7 +1,7 @@
 //! The pipeline in one value and one thread, for callers that bring no queue and no threads.
 //!
 //! An `Engine` takes packets, pulses and a Close, joins neighbouring packets, commits them, and has a reply for each
-//! packet. Each call's clause says which ticket or which reply it adds to the run so far (`specs/Engine.antt`), and
+//! packet. Each call's clause says which ticket or which reply it adds to the run so far (`specs/Engine.antt`).
 //! `serving_is_lawful` leads from any sequence of calls to the lawful report of that run.
 //!
 //! `calls_in_a_row` in tb_core_tests is an example that the gate compiles.

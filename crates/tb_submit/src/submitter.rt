@@ -99,8 +99,8 @@ impl Submitter {
 
     /// Queues a packet; its number is the count of this submitter's packets before it, fewer than 2^56. A refused
     /// packet is returned as it was, and no number is used. It is refused 7 or 8 once a reply that was read said
-    /// Shutdown or Stopped (whichever came first), then by what `admit` says of it, then InFlight if as many packets as
-    /// the credit are in flight, then NoMemory, then Full. Room for its failures is made here, and not before the
+    /// Shutdown or Stopped (whichever came first), then by what `admit` says of it. InFlight follows if as many packets
+    /// as the credit are in flight, then NoMemory, then Full. Room for its failures is made here, and not before the
     /// credit allows it: for a packet of more than two events it takes an allocation, and for a lookup none.
     pub fn submit<R: Wait>(
         &mut self,

@@ -156,8 +156,8 @@ impl Tables {
     }
 
     /// Adds a plain or pending transfer after those that are there, with this timestamp, between the accounts at two
-    /// indices, unless one with its id is there; whether it was added. The id is looked up once. If memory runs out
-    /// nothing has changed.
+    /// indices. It isn't added if one with its id is there; whether it was added. The id is looked up once. If memory
+    /// runs out nothing has changed.
     pub fn add_new_between(
         &mut self,
         event: &Transfer,

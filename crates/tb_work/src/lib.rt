@@ -3,12 +3,13 @@
 //! - `Packet::of_accounts` and `Packet::of_transfers` lay out exactly the given events (`bytes`, `events`);
 //! - `admit` returns the number of a packet's events, or the first refusal that applies;
 //! - `Packet::admitted` returns the packet as an `AdmittedPacket`, or unchanged with that refusal (`refused`);
-//! - `Job::of` makes a job of it, with capacity for its failures, or returns the packet unchanged (`back`); memory is an
+//! - `Job::of` makes a job of it, with capacity for its failures, or returns the packet unchanged (`back`). Memory is an
 //!   excuse only for more than two events of no lookup (`few`). `Job::new` does both;
 //! - `Reply::of` and `Reply::committed` return the packet unchanged with its outcome, and allocate nothing;
 //! - `Moment`, `Item`, `Ticket`, `Stub`, `Outcome` and `Refusal` are what queue, rings and journal carry.
 //!
-//! The types keep what they promise: an `AdmittedPacket` and a job's packet are admitted, failures rise and are below the packet's count, a moment is in range.
+//! The types keep what they promise: an `AdmittedPacket` and a job's packet are admitted, failures rise and are below the
+//! packet's count, a moment is in range.
 //!
 //! `a_packet_of_two_accounts` and `a_job_and_its_packet` in tb_demux_tests are examples that the gate compiles.
 #![tactic(auto)]

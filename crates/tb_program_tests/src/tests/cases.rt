@@ -6,8 +6,8 @@ use std::process::Abort;
 use std::sync::Wait;
 use std::thread::Threads;
 
-/// Each case is a line with who runs it (`list`, `run`, or `both` if the schedule decides nothing) and its name, then its
-/// script, `--` and the end of its line, and the output.
+/// Each case is a line with who runs it and its name, then its script, `--` and the end of its line, and the output. `list`
+/// or `run` runs it, or `both` if the schedule decides nothing.
 const CASES: [&str; 33] = [
     "both empty_script\n--\nclock 0\n",
     "both first_run\npacket 0 129\naccount id=1 ledger=1 code=1\naccount id=2 ledger=1 code=1\n--\npacket 0 0 committed 0\nclock 2\naccount 1 1 0 0 0 0\naccount 2 2 0 0 0 0\n",

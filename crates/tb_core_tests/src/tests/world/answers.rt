@@ -10,8 +10,8 @@ use tb_test_makers::account;
 use tb_work::{Item, Job, Ticket};
 use tb_world::{Event, World};
 
-/// Pushes by a stranger and by the control, numbers out of order, a pulse and a Close by a submitter, then by a submitter
-/// that ended, and by the control, which ended by its Close.
+/// Pushes by a stranger and by the control, numbers out of order, a pulse and a Close by a submitter. Then pushes by a
+/// submitter that ended, and by the control, which ended by its Close.
 const PUSHES: &str = "!3:packet0=1 !3:end
 !2:packet0=1
 !0:packet1=1 0:packet0=1 !0:packet0=1
