@@ -11,8 +11,8 @@ from collections import namedtuple
 # What one run of a program took, in seconds, and what it printed.
 Run = namedtuple("Run", "wall processor output")
 
-# The medians of two programs that ran in turn, in seconds, and of their ratio pair by pair, with its quartiles; the
-# quartiles of both programs' times stand beside them.
+# The medians of two programs that ran in turn, in seconds, and of their ratio pair by pair. The quartiles of the ratio and of both
+# programs' times are next to them.
 Pair = namedtuple("Pair", "ours peers low ratio high our_spread peers_spread")
 
 

@@ -3,9 +3,9 @@
 //!     bench_pipeline run EVENTS PACKETS SUBMITTERS CREDIT CAPACITY LIMIT
 //!     bench_pipeline live SUBMITTERS LOADS
 //!
-//! `run`: each submitter makes a thousand accounts and sends PACKETS packets of EVENTS plain transfers between them, with at
-//! most CREDIT of them unanswered, over a queue of CAPACITY slots and in batches of at most LIMIT events. Prints sums
-//! over the replies and the balances, which are the same in every order.
+//! `run`: each submitter makes a thousand accounts and sends PACKETS packets of EVENTS plain transfers between them, with
+//! at most CREDIT of them unanswered. The queue has CAPACITY slots, and a batch at most LIMIT events. Prints sums over the
+//! replies and the balances, which are the same in every order.
 //!
 //! `live`: the first submitter sends a packet of one event for each byte of the standard input, and writes a byte when it
 //! has the reply. LOADS others send packets of one event at credit 16 until the input ends, the rest sleep until then.

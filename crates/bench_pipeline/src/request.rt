@@ -25,8 +25,8 @@ pub struct Request {
     pub load: Load,
 }
 
-/// A pipeline in which the first submitter sends a packet for each byte of the input, `loads` others send packets of
-/// one event until the input ends, and the rest sleep until then.
+/// A pipeline in which the first submitter sends a packet for each byte of the input. Until the input ends, `loads`
+/// others send packets of one event, and the rest sleep.
 #[derive(Clone, Copy)]
 pub struct LiveRequest {
     pub submitters: u32,

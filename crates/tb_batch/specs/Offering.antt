@@ -9,8 +9,8 @@ use Rattle.tb_batch.specs.Grouping.{is_taken}
 abbrev pub with_group : Held → List Numbered → Held
 with_group held jobs = record { limit = held.limit; jobs = jobs }
 
--- if nothing is held, a packet begins the group; otherwise it joins the group, or the group is sealed and the packet
--- begins the next one; a refused packet is returned, and nothing changed
+-- If nothing is held, a packet begins the group. Otherwise it joins the group, or the group is sealed and the packet
+-- begins the next one. A refused packet is returned, and nothing changed.
 abbrev pub Offers : Held → Numbered → Offered → Held → Type 0
 Offers old job Joined new = (new ≡ with_group old (old.jobs ++ job ∷ [])) × (is_taken old.limit old.jobs job ≡ true)
 Offers old job (Sealed batch) new =

@@ -55,8 +55,8 @@ all_ended front = list_all (λ ended. ended) (take (front.submitters + 1) front.
 abbrev pub with_end : FrontState → ℕ → FrontState
 with_end front sender = record front { ended = slice_set front.ended sender true }
 
--- a packet behind a Close, or after a stop, is returned; one whose allocation fails stops the front; any other joins
--- the group held, or the group is sealed and the packet begins the next one
+-- A packet behind a Close, or after a stop, is returned. One whose allocation fails stops the front. Any other joins
+-- the group held, or the group is sealed and the packet begins the next one.
 abbrev pub step_of_packet : Bool → FrontState → Numbered → Taken
 step_of_packet refused front job =
     if front.closed then take_result front (Return job Shutdown ∷ [])

@@ -299,7 +299,7 @@ impl Front {
     }
 
     /// Takes one ticket, of a submitter or of the control, whose number comes after theirs, and returns the parcels
-    /// that it yields. A packet joins the group held, or the group is sealed and the packet begins the next one; a
+    /// that it yields. A packet joins the group held, or the group is sealed and the packet begins the next one. A
     /// pulse, a Close and the End that makes all ended seal it (batching of tb_client, here only of neighbours). A
     /// packet behind a Close is returned; so is one whose allocation fails, and each after that. It takes memory only
     /// for a packet, as `Batcher::offer` does.

@@ -1,4 +1,4 @@
--- Submitters, for one of which a packet is queued ahead of a run.
+-- Submitters, and a packet of one of them that is queued ahead of a run.
 use Rattle.std.proofs.Common.{◌≡◌, ◌∙◌, ◌<◌, ℕ, List, Some, All, length, set, slice_get, inl, inr, ap, sym, subst, arith}
 use Rattle.std.proofs.lemmas.List.{length-set}
 use Rattle.std.proofs.lemmas.List.Elements.{All-set}

@@ -21,7 +21,7 @@ all_one : {D : Type 0} (Is : D → Type 0) (driver : D) → Is driver → All Is
 all_one Is driver is zero d within = is
 all_one Is driver is (suc k) d within = absurd (omega arith)
 
--- what is so of each driver is so after one more, of which it is so too
+-- what holds of each driver, and of one more, holds of all of them
 pub all_with_driver : {D : Type 0} (Is : D → Type 0) (drivers : List D) (driver : D) → All Is drivers → Is driver
     → All Is (drivers ++ driver ∷ [])
 all_with_driver Is drivers driver all is = All-append Is drivers (driver ∷ []) all (all_one Is driver is)

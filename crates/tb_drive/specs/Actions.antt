@@ -8,15 +8,15 @@ use Rattle.tb_drive.specs.declared.control_driver.ControlAction.TheVariants as c
 use Rattle.tb_drive.specs.declared.driver.Action.{Action}
 use Rattle.tb_drive.specs.declared.driver.Action.TheVariants.{Submit, Receive, End}
 
--- the claim that holds after an action: one of the packet to be queued, one if there is none, and at the end one
--- besides
+-- the claim that holds after an action: one of the packet to be queued, one if there is none, and another at
+-- the end
 abbrev pub GoesOn : Action → (packets.Packet → Type 0) → Type 0 → Type 0 → Type 0
 GoesOn (Submit packet) asks keeps ends = asks packet
 GoesOn Receive asks keeps ends = keeps
 GoesOn End asks keeps ends = keeps × ends
 
 -- the claim that holds after an action of the control: one of the pulse's moment, one if it waits, and one of the item
--- by which it ends
+-- that ends it
 abbrev pub ControlsOn : ControlAction → (ℕ → Type 0) → Type 0 → (Item → Type 0) → Type 0
 ControlsOn (control.Pulse moment) asks keeps ends = asks moment
 ControlsOn control.Wait asks keeps ends = keeps

@@ -33,7 +33,7 @@ pub enum ControlAction {
 /// Its implementor says what is known of a driver after a run, by three relations, which hold of anything unless they
 /// are given. Each is between a driver as it was when the run began, the same driver later, and what it has had queued
 /// in the run. `has_queued` is of a driver that has the results of all that it asked for. `has_asked` is of one that
-/// besides asked for a pulse at a moment and has no result yet. `has_ended` is of one that ended: the last item is its
+/// has also asked for a pulse at a moment and has no result yet. `has_ended` is of one that ended: the last item is its
 /// Close or its End.
 pub trait ControlDriver: Drop {
     ghost has_queued: { Self → Self → List ItemValue → Type 0 } = { λ _ _ _. ⊤ };

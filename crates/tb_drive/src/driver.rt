@@ -32,10 +32,10 @@ pub enum Action {
 /// is none.
 ///
 /// Its implementor says what is known of a driver after a run, by three relations, which hold of anything unless they
-/// are given. `has_seen` is between a driver, the most events of a packet, the packets that are queued by what it was
-/// told, and the replies that it received, both in their order. `has_asked` is the same of a driver that besides asked
-/// for a packet to be queued and has no result yet. `has_ended` is of one that returned `End`: a driver is asked until
-/// it does. `share` is what a driver was made to queue, as its implementor defines it; no call changes it, so that a
+/// are given. `has_seen` is between a driver, the most events of a packet, the packets queued by the results that it
+/// received, and its replies, both in their order. `has_asked` is the same of a driver that has also asked for a packet
+/// to be queued and has no result yet. `has_ended` is of one that returned `End`: a driver is asked until it does.
+/// `share` is what a driver was made to queue, as its implementor defines it; no call changes it, so that a
 /// caller knows its own drivers again.
 pub trait Driver: Drop {
     ghost has_seen: { Self → ℕ → List Numbered → List ReplyValue → Type 0 } = { λ _ _ _ _. ⊤ };

@@ -132,7 +132,7 @@ fn read<D: Driver>(submitter: &mut Submitter, driver: &mut D) -> bool
     }
 }
 
-/// Submits a packet. While the credit is used up it waits for a reply, while the queue is full it yields; then it reads
+/// Submits a packet. While the credit is used up it waits for a reply, while the queue is full it yields. Then it reads
 /// a reply and tries again, unless the run is given up. The driver receives the result.
 fn submit<D: Driver, R: Wait>(
     rt: &R,

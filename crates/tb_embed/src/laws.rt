@@ -5,7 +5,7 @@ ghost use Rattle.tb_embed.specs.Engine.{ServingIsLawful};
 use tb_core::{each_part_is_lawful, run_is_lawful};
 
 /// Establishes, for any sequence of calls, that what an engine committed is a prefix of what was queued ahead of the
-/// Close, that its replies are a prefix of those due, and that the report is lawful once nothing is held or unread.
+/// Close, and its replies a prefix of those due. Once nothing is held or unread, the report is lawful.
 pub fn serving_is_lawful()
     ensures { ServingIsLawful }
 {

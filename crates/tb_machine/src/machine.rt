@@ -143,9 +143,9 @@ impl Machine {
         }
     }
 
-    /// Raises the clock to a moment, in nanoseconds up to `MOMENT_MAX`, unless it is there already, and lets each
-    /// pending transfer expire that nothing resolved and whose timeout is over then. Costs as much as what expires, and
-    /// takes no memory.
+    /// Raises the clock to a moment, in nanoseconds up to `MOMENT_MAX`, unless it is there already. Each pending
+    /// transfer that nothing resolved, and whose timeout is over then, expires. Costs as much as what expires, and takes
+    /// no memory.
     pub fn pulse(&mut self, moment: u64)
         requires { moment ≤ moment_max }
         ensures { self.new ≡ after_pulse self.old moment }

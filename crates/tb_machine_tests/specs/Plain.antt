@@ -42,7 +42,7 @@ cut_back Account lists = record lists { accounts = without_last lists.accounts }
 cut_back Transfer lists = record lists { rows = without_last lists.rows }
 cut_back Failed lists = record lists { failed = without_last lists.failed }
 
--- the lists before all of the changes, the newest of which is at the end
+-- the lists before all of the changes; the newest change is at the end
 abbrev pub oldest : List Change → Lists → Lists
 oldest [] lists = lists
 oldest (change ∷ changes) lists = cut_back change (oldest changes lists)

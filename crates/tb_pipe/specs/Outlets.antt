@@ -18,13 +18,13 @@ abbrev pub AllGiven : List ReplyValue → List (Outlet ReplyValue) → Type 0
 AllGiven answers outlets =
     (k : ℕ) (d : Outlet ReplyValue) → k < length outlets → given (slice_index_or outlets k d) ≡ replies_to answers k
 
--- each ring was given, besides, those of these replies that are its submitter's
+-- each ring was also given those of these replies that are its submitter's
 abbrev pub AllMore : List ReplyValue → List (Outlet ReplyValue) → List (Outlet ReplyValue) → Type 0
 AllMore answers old new =
     (k : ℕ) (d : Outlet ReplyValue) → k < length old
     → given (slice_index_or new k d) ≡ given (slice_index_or old k d) ++ replies_to answers k
 
--- each ring will have been given, besides, those of its submitter once the remaining replies are given too
+-- each ring will also have been given those of its submitter once the remaining replies are given too
 abbrev pub AllLeft : List ReplyValue → List (Outlet ReplyValue) → List ReplyValue → List (Outlet ReplyValue) → Type 0
 AllLeft answers old left new =
     (k : ℕ) (d : Outlet ReplyValue) → k < length old

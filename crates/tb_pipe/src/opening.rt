@@ -58,8 +58,8 @@ fn open_rings(alloc: Global) -> Option<Rings>
 }
 
 /// Makes a pipeline whose clock starts at a number of nanoseconds, 0 to `CLOCK_MAX`. The limit is the most events of a
-/// batch, the capacity the slots of the submission queue, and the credit how many packets each submitter may have in
-/// flight; each submitter's reply ring has as many slots. It is refused for the limit (1 to 8190), then the capacity or
+/// batch, the capacity the slots of the submission queue. The credit is how many packets each submitter may have in
+/// flight, and the slots of its reply ring. It is refused for the limit (1 to 8190), then the capacity or
 /// the credit (1 to 65,536), then the number of submitters (1 to 16), then memory. All rings and the queue are made
 /// here; packets, batches and the state machine take their memory later. It waits for nobody.
 pub fn open(
@@ -94,8 +94,8 @@ pub fn open(
     )
 }
 
-/// The same over a new ledger that the caller made, with its clock: one with a seed (`Ledger::with_seed`) if ids come
-/// from someone who may choose them to make commits slow, or one with reserved capacity (`Ledger::reserve`), so that no
+/// The same over a new ledger that the caller made, with its clock. It may have a seed (`Ledger::with_seed`), if ids come
+/// from someone who may choose them to make commits slow. It may have reserved capacity (`Ledger::reserve`), so that no
 /// commit waits for a map to grow.
 pub fn open_with(
     alloc: Global,

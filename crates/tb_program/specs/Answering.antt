@@ -7,7 +7,7 @@ use Rattle.tb_program.specs.declared.run.driver.ScriptDriver.{ScriptDriver}
 use Rattle.tb_program.specs.declared.run.notes.Told.{Told}
 use Rattle.tb_program.specs.declared.run.notes.Told.TheVariants.{Queued, Refused}
 
--- the number of packets that a driver was told are queued
+-- the number of packets that a driver knows to be queued
 abbrev pub queued_among : List Told → ℕ
 queued_among [] = 0
 queued_among (Queued ∷ told) = suc (queued_among told)

@@ -11,7 +11,7 @@ use Rattle.tb_program.specs.declared.run.notes.Notes.{Notes}
 use Rattle.tb_program.specs.declared.run.notes.Told.{Told}
 use Rattle.tb_program.specs.declared.run.notes.Told.TheVariants.{Queued, Refused}
 
--- the packets that a driver was told are queued
+-- the packets that a driver knows to be queued
 abbrev pub kept : List Packet → List Told → List Packet
 kept [] told = []
 kept (packet ∷ packets) [] = []
@@ -40,8 +40,8 @@ AreToldRightly limit replies (packet ∷ packets) [] = ⊤
 AreToldRightly limit replies (packet ∷ packets) (told ∷ others) =
     IsToldRightly limit replies packet told × AreToldRightly limit replies packets others
 
--- the first packets of a share were handed in under a limit, the driver noted the right result of each with these
--- replies, and exactly those are queued that it noted as queued
+-- The first packets of a share were handed in under a limit, and the driver noted the right result of each with these
+-- replies. Exactly those are queued that it noted as queued.
 pub record IsHandedIn (limit : ℕ) (replies : List ReplyValue) (share rest : List Packet) (told : List Told)
     (queued : List Numbered) : Type 0 where
   pub handed : List Packet

@@ -1,9 +1,9 @@
 //! Scripts of packets: what their lines say.
 //!
-//! `parse` reads the text of a script into its settings and its items (packets with their bytes, pulses, the Close), or returns the
-//! number and the fault of the first faulty line. For any text this is what `specs/Script.antt` defines.
+//! `parse` reads the text of a script into its settings and its items: packets with their bytes, pulses, the Close. If a line is
+//! faulty, it returns the number and the fault of the first one. For any text this is what `specs/Script.antt` defines.
 //!
-//! Laws on that definition: a script spelled from settings and items is read as these (`spelled_scripts_are_read`), and an event or
+//! Two laws on that definition: a script spelled from settings and items is read as these (`spelled_scripts_are_read`). An event or
 //! id spelled from its fields is the bytes that `tb_layout` lays out (`spelled_accounts_are_laid_out` and its like).
 #![tactic(auto)]
 

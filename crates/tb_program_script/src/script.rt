@@ -301,7 +301,7 @@ impl Script {
         Ok(())
     }
 
-    /// Takes a line after those so far. After an error the script isn't to be used.
+    /// Parses a line after those so far. After an error the script must not be used.
     #[tactic(auto, unfolding(crate::specs::Script::after_line))]
     pub fn line(&mut self, alloc: Global, line: &[u8]) -> Result<(), LineError>
         ensures { Leaves result self.new (after_line self.old line.now) }
@@ -396,8 +396,8 @@ impl Script {
         }
     }
 
-    /// Takes the first line of a text after the lines so far, and returns the other lines. After an error the script
-    /// isn't to be used.
+    /// Parses the first line of a text after the lines so far, and returns the other lines. After an error the script
+    /// must not be used.
     pub(crate) fn first_line<'a>(
         &mut self,
         alloc: Global,

@@ -130,7 +130,7 @@ pushes_here n pass x k l own items views _ h at =
       refl,
     )
 
--- a pass besides the reader's has no mark, so the list taken and the count may change
+-- a pass other than the reader's has no mark, so the list taken and the count may change
 mark_apart : (reader count next : ℕ) (got more : List Ticket) (j pass : ℕ) (m : Option IntakeMark) → j ≢ pass
     → pass ≡ reader → FitsMark reader count got j m → FitsMark reader next more j m
 mark_apart reader count next got more j pass None other is f = tt

@@ -41,7 +41,7 @@ pub record EndedState : Type 0 where
   pub lying : List ReplyValue
   pub settled : Bool
 
--- the intake, with what it took, and after how many tickets it saw its queue empty; the queue has so many places
+-- the intake, with what it took, after how many tickets it saw its queue empty, and the queue's capacity
 pub record IntakeState : Type 0 where
   pub queue : TableId
   pub submitters : ℕ

@@ -34,8 +34,8 @@ abbrev pub seen_empty_of : Option IntakeMark → List ℕ
 seen_empty_of None = []
 seen_empty_of (Some mark) = mark.seen_empty
 
--- the pass with the mark: its queue and how many places that has, the entries that were gathered, what was taken, how
--- many numbers were given out, and after how many tickets the queue was seen empty
+-- the pass with the mark: its queue and that one's capacity, the entries that were gathered, what was taken, how many
+-- numbers were assigned, and after how many tickets the queue was seen empty
 pub record ReaderState : Type 0 where
   pub queue : TableId
   pub capacity : ℕ

@@ -3,7 +3,7 @@
 //! `open_queue` makes a queue of `capacity` slots, and for each submitter a reply ring of `credit` slots (`intake`, `slots`).
 //!
 //! - `Submitter::submit` queues a packet with the submitter's next number, or returns it with the first refusal that applies and
-//!   nothing changed (`ok`, `back`, `refusal`); `reply` returns the next reply; `end` queues the submitter's End;
+//!   nothing changed (`ok`, `back`, `refusal`). `reply` returns the next reply, and `end` queues the submitter's End;
 //! - `Control::pulse`, `end` and `shut` queue the control's items;
 //! - `Intake::take` returns the front of the queue;
 //! - `settle_queue` establishes, once all senders have ended, that the taken tickets are the queue as its senders filled it.

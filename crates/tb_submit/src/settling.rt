@@ -44,8 +44,7 @@ fn settle_all(reader: &mut Reader, ends: Vec<Ended>, outlets: Vec<Outlet<Reply>>
 }
 
 /// Establishes, once all senders have ended and the end of each was taken, that what was taken is the queue as they
-/// filled it, and that each submitter's end sees all of its replies that were given. Takes no memory, and waits for
-/// nobody.
+/// filled it. Each submitter's end sees all replies that it was given. Takes no memory, and waits for nobody.
 pub fn settle_queue(
     intake: Intake,
     ends: Vec<Ended>,

@@ -14,7 +14,7 @@ before Account facts = record facts { accounts = without_last facts.accounts }
 before (Transfer told) facts = record facts { transfers = without_last facts.transfers }
 before Failed facts = record facts { failed = without_last facts.failed }
 
--- what there was before all of the changes, the newest of which is at the end; `undo` takes one back
+-- what there was before all of the changes; the newest change is at the end, and `undo` reverts one
 abbrev pub oldest : {T X : Type 0} → (Change T → X → X) → List (Change T) → X → X
 oldest undo [] now = now
 oldest undo (change ∷ changes) now = undo change (oldest undo changes now)

@@ -4,9 +4,9 @@ use Rattle.std.specs.List.{list_any}
 use Rattle.tb_layout.specs.declared.account.Account.{Account}
 use Rattle.tb_layout.specs.declared.transfer.Transfer.{Transfer}
 
--- accounts and transfers are in the order in which they were made, with their timestamps, and a post or a void with its
--- resolved fields; `expired` has the ids of the pending transfers that expired, in the order in which those were made,
--- and `failed` the ids that failed
+-- Accounts and transfers are in the order in which they were made, with their timestamps, and a post or a void with its
+-- resolved fields. `expired` has the ids of the pending transfers that expired, in the order in which those were made.
+-- `failed` has the ids that failed.
 pub record Facts : Type 0 where
   pub accounts : List Account
   pub transfers : List Transfer

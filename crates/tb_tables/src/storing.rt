@@ -1,4 +1,4 @@
-//! What a transfer changes besides its own row: balances, the status of what it names, and the set of expiries.
+//! What a transfer changes in addition to its own row: balances, the status of what it names, and the set of expiries.
 
 ghost use Rattle.std.specs.Prelude.{◌≡◌, ℕ, not, ◌&&◌, ◌||◌, ◌<◌, ◌^◌, ◌==◌, OnOk, OnErr, true, Some, length};
 ghost use Rattle.std.specs.List.{AllByRecursion};

@@ -85,7 +85,7 @@ pub record IsLawfulAtRest (clock submitters : ℕ) (queue : List Ticket) (world 
       → received_of world submitter ≡ due clock queue (inputs world.ledger) submitter
   pub reports : HaveAllEnded submitters queue → Reports clock submitters queue world
 
--- A World after these events, whatever they are; and what holds besides if no allocation failed, and at rest.
+-- A World after these events, whatever they are; and what also holds if no allocation failed, and at rest.
 pub record HasRun (clock limit submitters : ℕ) (events : List Event) (world : WorldState) : Type 0 where
   pub is : world ≡ run (new_world clock limit submitters) events
   pub so_far : IsLawfulSoFar clock submitters (history (new_world clock limit submitters) events) world

@@ -5,8 +5,8 @@ use Rattle.tb_work.specs.declared.item.Item.{Item}
 use Rattle.tb_work.specs.declared.item.Item.TheVariants.{Packet, Pulse, End, Close}
 use Rattle.tb_world.specs.declared.sender.Sender.{Sender}
 
--- a submitter pushes its own packets, by their numbers and within the limit, and its End; the control, which is the
--- sender after the last submitter, pushes pulses, and its End or Close
+-- A submitter pushes its own packets, by their numbers and within the limit, and its End. The control, which is the
+-- sender after the last submitter, pushes pulses, and its End or Close.
 abbrev pub may_push_item : ℕ → ℕ → ℕ → Sender → Item → Bool
 may_push_item limit submitters number sender (Packet job) =
     nat_lt number submitters && ((job.submitter == number)

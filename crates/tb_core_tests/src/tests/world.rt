@@ -137,7 +137,7 @@ fn events_of(rt: &(impl Abort + Alloc<A = Global>), steps: &str) -> Vec<Event> {
 }
 
 /// Takes steps in a World of submitters 0 and 1 and the control, 2, with batches of at most 4 events. Asserts what it
-/// returns to each and the state at the end, and that the same events as a list come to this state.
+/// returns to each and the state at the end, and that the same events as a list give this state.
 fn assert_steps(
     rt: &(impl Abort + Alloc<A = Global>),
     steps: &str,

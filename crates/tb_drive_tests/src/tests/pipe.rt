@@ -1,7 +1,7 @@
 //! The pipeline: worked examples by name, the gate's calls, threads, and memory that is refused.
 //!
 //! The helpers give up if something fails that isn't looked at, instead of returning it: at each way out of a function
-//! everything that it owns is freed, and a proof goes through its parts. So a report is dropped by name too. Only what
+//! everything that it owns is freed, and a proof treats each part of it. So a report is dropped by name too. Only what
 //! is tried with refused memory returns the refusal.
 
 ghost use Rattle.std.specs.Prelude.{◌≡◌, ◌++◌, ◌∷◌, [], IfOk, length, map};

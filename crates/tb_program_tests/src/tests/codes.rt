@@ -48,8 +48,8 @@ fn assert_codes(
     );
 }
 
-/// Accounts 1, 2, 6, 7, 8 and 9 of ledger 1; 3 of ledger 2; 4, whose debits must not exceed its
-/// credits; 5, whose credits must not exceed its debits. Plain transfer 1. Pending transfers: 2 is
+/// Accounts 1, 2, 6, 7, 8 and 9 of ledger 1, 3 of ledger 2. The debits of account 4 must not exceed
+/// its credits, and the credits of account 5 not its debits. Plain transfer 1. Pending transfers: 2 is
 /// open, 3 is posted by 4, 5 is voided by 6. Of those with a timeout, 7 is posted by 8, 9 is voided by
 /// 10, and 11 expires at the pulse. Transfer 12 debits account 6; account 8 has a pending debit, and
 /// account 7 a pending credit. Transfer 50 failed, as account 99 isn't there.

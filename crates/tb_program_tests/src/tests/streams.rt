@@ -5,7 +5,7 @@ use std::process::Abort;
 use tb_program::{ProgramFault, run_script, run_threads};
 
 /// Gives a line with its first read, fails at the second, and has ended from then on: whoever continues to read after
-/// the fault comes to the end of a script.
+/// the fault finds the end of a script.
 #[derive(Drop)]
 struct FailsAtSecond {
     reads: u32,

@@ -64,14 +64,14 @@ fn first_in_first_out(rt: HostRuntime) {
     drop(ends.intake);
 }
 
-/// The submitter is returned from an end for which the queue is too full.
+/// The submitter is returned from an end if the queue is full.
 fn refused_submitter(rt: &(impl Abort + Wait), submitter: Submitter) -> Submitter {
     let (submitter, refusal) = submitter.end(rt).err().expect(rt, "the queue is full");
     assert_eq!(rt; refusal, Refusal::Full);
     submitter
 }
 
-/// The control is returned from an end for which the queue is too full.
+/// The control is returned from an end if the queue is full.
 fn refused_control(rt: &(impl Abort + Wait), control: Control) -> Control {
     let (control, refusal) = control.end(rt).err().expect(rt, "the queue is full");
     assert_eq!(rt; refusal, Refusal::Full);

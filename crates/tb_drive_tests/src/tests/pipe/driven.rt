@@ -55,7 +55,7 @@ struct Driven {
     saw: Saw,
 }
 
-/// The ends that come back are those of the senders that were handed over.
+/// The ends that come back are those of the senders that were passed.
 #[derive(Drop)]
 struct ComesBack {
     submitter: Snapshot<Submitter>,
