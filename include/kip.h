@@ -70,7 +70,7 @@ typedef enum KIP_STATUS {
 typedef enum KIP_OUTCOME {
     KIP_OUTCOME_COMMITTED = 0,
     KIP_OUTCOME_SHUTDOWN = 7, /* queued after kip_shut */
-    KIP_OUTCOME_STOPPED = 8,  /* memory ran out at this packet or before it */
+    KIP_OUTCOME_STOPPED = 8,  /* memory ran out at its batch or before */
 } KIP_OUTCOME;
 
 /* TigerBeetle's layouts, little-endian; the flags are those of tb_client.h. */

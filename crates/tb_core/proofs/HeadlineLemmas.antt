@@ -6,7 +6,8 @@ use Rattle.std.proofs.lemmas.Bool.{eq-eqb, cond_both}
 use Rattle.std.proofs.lemmas.List.Elements.{filter-append}
 use Rattle.tb_layout.specs.declared.answer.Answer.{Answer}
 use Rattle.tb_layout.specs.Events.{Input, Packet, Pulse}
-use Rattle.tb_machine.specs.Replay.{replay, answer_of, answer_to}
+use Rattle.tb_machine.specs.Replay.{replay, answer_of}
+use Rattle.tb_machine.specs.AnswerAt.{answer_to}
 use Rattle.tb_work.specs.Packet.{Numbered, events_in, ReplyValue, reply_with, input_of}
 use Rattle.tb_work.specs.Ahead.{ahead, items_in}
 use Rattle.tb_work.specs.Queue.{part, AreSubmitted, IsSubmitted}

@@ -11,7 +11,7 @@ use Rattle.tb_work.specs.declared.item.Ticket.{Ticket}
 use Rattle.tb_core.specs.Journal.{LedgerState, inputs}
 
 -- A run: what it was opened with; the queue, as the intake popped it; what each sender queued itself; the ledger at the
--- end; and the replies to each submitter.
+-- end; and the replies to each submitter. The control is the sender after the last submitter.
 pub record Run : Type 0 where
   pub clock : ℕ
   pub limit : ℕ

@@ -3,7 +3,7 @@ use Rattle.std.specs.Prelude.{◌≡◌, ◌≤◌, ℕ, ◌+◌, ◌*◌, Bool,
 use Rattle.std.specs.List.{sum_by, AllByRecursion}
 use Rattle.tb_layout.specs.Events.{events_of, Input, Packet, Pulse}
 use Rattle.tb_layout.specs.inside.Limits.{batch_max, places_max}
-use Rattle.tb_machine.specs.Replay.{after_input}
+use Rattle.tb_machine.specs.Replay.{after_input, opening as no_inputs}
 use Rattle.tb_work.specs.Admission.{event_size}
 use Rattle.tb_work.specs.Packet.{Numbered, reply_with, input_of}
 use Rattle.tb_work.specs.declared.stub.Stub.{Stub}
@@ -18,6 +18,10 @@ use Rattle.tb_core.specs.Journal.{LedgerState, inputs}
 use Rattle.tb_core.specs.inside.Decision.{outcome_of, replies_from, Admitted}
 
 -- ---- the journal
+
+-- a ledger with an empty journal
+abbrev pub new_ledger : ℕ → LedgerState
+new_ledger clock = record { opening = clock; groups = []; state = no_inputs clock; stopped = false }
 
 -- the bytes of one event of an operation
 abbrev pub size_of : ℕ → ℕ

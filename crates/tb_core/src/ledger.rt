@@ -59,8 +59,8 @@ impl Ledger {
     ghost use Rattle.tb_core.specs.Grouping.{AreJoined, IsJoinedParcel};
     ghost use Rattle.tb_core.specs.inside.Decision.{Decision};
     ghost use Rattle.tb_core.specs.Run.{Commits, HasPackets, replies_in};
-    ghost use Rattle.tb_core.specs.Journal.{new_ledger, inputs};
-    ghost use Rattle.tb_core.specs.Ledger.{apply_result, apply_step, takes_memory, group_of, AreEntries};
+    ghost use Rattle.tb_core.specs.Journal.{inputs};
+    ghost use Rattle.tb_core.specs.Ledger.{apply_result, apply_step, new_ledger, takes_memory, group_of, AreEntries};
 
     /// A ledger without entries, whose clock starts at a number of nanoseconds, 0 to `CLOCK_MAX`. Takes no memory.
     pub fn new(alloc: Global, clock: u64) -> Ledger

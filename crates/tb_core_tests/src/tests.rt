@@ -1,9 +1,42 @@
-//! What no clause of tb_core says: worked examples by name, and allocations that fail.
+//! What no clause says: worked examples by name, each call once with ample memory, hundreds of made events against plain
+//! lists, and allocations that fail.
 
+ghost use Rattle.std.specs.Prelude.{◌≡◌};
+
+use std::alloc::Global;
+use std::process::Abort;
+use tb_layout::Failure;
+use tb_test_makers::zeros;
+use tb_work::{Answer, Outcome, Packet};
+
+mod batch;
+mod demux;
 mod embed;
 mod front;
 mod ledger;
 mod list;
+mod machine;
 mod made;
+mod rule;
+mod tables;
 mod told;
+mod work;
 mod world;
+
+/// A packet of `length` zeros, with ample memory.
+fn packet_of(rt: &(impl Abort + Alloc<A = Global>), operation: u8, length: usize) -> Packet
+    ensures { result.operation ≡ operation }
+{
+    zeros(rt.alloc(), operation, length).expect(rt, "memory")
+}
+
+/// The failures of a packet that was committed at a place.
+fn failures_at(outcome: &Outcome, at: u64) -> Option<&[Failure]> {
+    match outcome {
+        Outcome::Committed {
+            place,
+            answer: Answer::Failures(failures),
+        } if *place == at => Some(failures.as_slice()),
+        _ => None,
+    }
+}

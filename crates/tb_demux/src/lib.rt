@@ -4,7 +4,7 @@
 //! are given (`none`). Each packet gets its own failures, with its offset subtracted, or the accounts of its lookup. Nothing is
 //! allocated: a packet's failures are written into the capacity that its job brought along.
 //!
-//! `two_submitters_joined` in tb_demux_tests is an example that the gate compiles.
+//! `two_submitters_joined` in tb_core_tests is an example that the gate compiles.
 #![tactic(auto)]
 
 mod cutter;

@@ -4,4 +4,3 @@ pub mod Opened
 mod Pulsed
 mod Results
 mod Seen
-mod Refusing

@@ -1,5 +1,5 @@
 -- What drivers have seen, list by list.
-use Rattle.std.proofs.Common.{◌≡◌, ◌∙◌, ◌<◌, ◌+◌, ℕ, refl, zero, suc, List, [], ◌∷◌, ◌++◌, Some, length, slice_get, get_or, ap, sym, subst, arith, ◌-◌, append_assoc, append-nil}
+use Rattle.std.proofs.Common.{◌≡◌, ◌∙◌, ◌<◌, ◌+◌, ℕ, refl, zero, suc, List, [], ◌∷◌, ◌++◌, Some, length, slice_get, get_or, ap, sym, subst, arith, ◌-◌}
 use Rattle.std.specs.Prelude.{slice_index_or}
 use Rattle.std.proofs.lemmas.Option.{slice_get_within, slice_get-get_or, get_or_from_slice_get}
 use Rattle.tb_submit.specs.Ends.{EndedState, SenderState, SubmitterState, queued_by}
@@ -88,13 +88,6 @@ fewer_read limit sender flight items read are is some =
     omega (arith, all_jobs limit sender 0 items are, is, some)
 
 -- ---- front parts
-
-pub front_same : (items : List Item) → IsFront items items
-front_same items = ([], sym (append-nil items))
-
-pub front_then : (first next all : List Item) → IsFront first next → IsFront next all → IsFront first all
-front_then first next all one two =
-    (one.0 ++ two.0, two.1 ∙ ap (λ items. items ++ two.0) one.1 ∙ append_assoc first one.0 two.0)
 
 pub front_more : (submitters : List SubmitterState) (ends : List EndedState) (submitter : SubmitterState)
     (ended : EndedState) → length submitters ≡ length ends → AreFronts submitters ends

@@ -1,5 +1,5 @@
-//! The tests of tb_pipe and tb_drive, whole runs whose senders note all that they see, in a crate of their own so that
-//! those aren't proved twice.
+//! The tests of tb_rings, tb_submit, tb_pipe and tb_drive, in a crate of their own so that those aren't proved twice. Among
+//! them are whole runs whose senders note all that they see.
 #![tactic(auto)]
 
 #[cfg(test)]

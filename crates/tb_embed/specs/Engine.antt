@@ -16,6 +16,7 @@ use Rattle.tb_core.specs.inside.Decision.{inputs_in, Decision, AreDecisions}
 use Rattle.tb_core.specs.Front.{FrontState, held_by, take_step, with_group}
 use Rattle.tb_core.specs.Journal.{LedgerState, inputs}
 use Rattle.tb_core.specs.EndedRun.{Run, IsPrefix}
+use Rattle.tb_core.specs.Grouping.{AreJoined}
 use Rattle.tb_core.specs.Report.{LawfulReport}
 use Rattle.tb_core.specs.BareLedger.{BareLedgerState, HasSent, with_journal}
 use Rattle.tb_embed.specs.Queued.{AreQueued, ended_queue}
@@ -134,13 +135,16 @@ run_of clock queue read engine ledger =
       replies = replies_to read;
     }
 
--- The engine keeps no journal, but there is one whose replay is the engine's state: it is a prefix of what was queued ahead
--- of the Close, and the replies, read and unread, are a prefix of those due by it. Unless something stopped, what is ahead
--- is committed or held. When nothing is held and all replies are read, the report on the run that ends here is lawful.
+-- The engine keeps no journal, but there is one whose replay is the engine's state, in groups lawful under the limit. It is
+-- a prefix of what was queued ahead of the Close, and the replies, read and unread, are a prefix of those due by it. Unless
+-- something stopped, what is ahead is committed or held. When nothing is held and all replies are read, the report on the
+-- run that ends here is lawful.
 pub record IsServed (clock : ℕ) (queue : List Ticket) (read : List ReplyValue) (engine : EngineState) : Type 0 where
   pub ledger : LedgerState
   pub own : ledger ≡ with_journal engine.ledger ledger.groups
   pub replayed : state_of engine ≡ replay clock (inputs ledger)
+  pub counted : engine.ledger.places ≡ length (inputs ledger)
+  pub joined : AreJoined engine.front.limit ledger.groups
   pub committed : IsPrefix (inputs ledger) (ahead (items_in queue))
   pub due : IsPrefix (read ++ engine.unread) (all_due clock (items_in queue) (inputs ledger))
   pub replied : engine.front.held ≡ [] → read ++ engine.unread ≡ all_due clock (items_in queue) (inputs ledger)

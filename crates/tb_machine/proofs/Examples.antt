@@ -11,7 +11,8 @@ use Rattle.tb_tables.specs.Balances.{debits_pending, debits_posted, credits_pend
 use Rattle.tb_tables.specs.inside.Status.{status_with}
 use Rattle.tb_tables.specs.declared.status.Status.TheVariants.{Pending, Voided, Expired}
 use Rattle.tb_layout.specs.declared.answer.Answer.TheVariants as answer
-use Rattle.tb_machine.specs.Replay.{replay, answer_at, failures_of}
+use Rattle.tb_machine.specs.Replay.{replay, failures_of}
+use Rattle.tb_machine.specs.AnswerAt.{answer_at}
 
 abbrev most : ℕ
 most = 340282366920938463463374607431768211455

@@ -1,5 +1,5 @@
 -- The first chain of some events, and the rest.
-use Rattle.std.proofs.Common.{refl, sym, ap, ◌∙◌, arith, ◌≡◌, ℕ, suc, ◌+◌, ◌-◌, ◌<◌, ◌≤◌, Bool, true, false, List, [], ◌∷◌, ◌++◌, length, take, drop, get_or, map, append_assoc, append-nil, length-take-le, length-drop}
+use Rattle.std.proofs.Common.{refl, sym, ap, ◌∙◌, arith, ◌≡◌, ℕ, suc, ◌+◌, ◌-◌, ◌<◌, ◌≤◌, Bool, true, false, List, [], ◌∷◌, ◌++◌, length, take, drop, get_or, map, append_assoc, length-take-le, length-drop}
 use Rattle.std.specs.Prelude.{if◌then◌else◌}
 use Rattle.std.proofs.lemmas.List.{length-map, take-map, get_or-map, take_rest, drop-map, drop-drop}
 use Rattle.tb_layout.specs.declared.failure.Failure.{Failure}
@@ -131,13 +131,6 @@ pub record IsLeft {Event : Type 0} (operation : Operation Event) (clock : ℕ) (
   pub failures : failures_from 0 (events_outcome operation clock old events).results
       ≡ out ++ failures_from index (events_outcome operation now facts rest).results
 
-pub left_none : {Event : Type 0} (operation : Operation Event) (clock : ℕ) (old : Facts) (events : List Event)
-    (out : List Failure) → out ≡ [] → IsLeft operation clock old events clock old 0 events out
-left_none operation clock old events out empty = record {
-  facts_after = refl;
-  failures = ap (λ fs. fs ++ failures_from 0 (events_outcome operation clock old events).results) (sym empty);
-}
-
 left_more : {Event : Type 0} (operation : Operation Event) (clock : ℕ) (old : Facts) (events : List Event)
     (now n index : ℕ) (facts next : Facts) (rest : List Event) (out more : List Failure) →
     0 < length rest → n ≡ first_chain_length operation.is_linked rest →
@@ -165,17 +158,6 @@ left_more operation clock old events now n index facts next rest out more some i
           ∙ ap (λ fs. fs ++ failures_from (index + length first.results) later.results) (sym more_is)
           ∙ ap (λ k. more ++ failures_from (index + k) later.results) size;
     }
-
-pub left_all : {Event : Type 0} (operation : Operation Event) (clock : ℕ) (old : Facts) (events : List Event)
-    (now : ℕ) (facts : Facts) (index : ℕ) (rest : List Event) (out : List Failure) → rest ≡ [] →
-    IsLeft operation clock old events now facts index rest out
-    → (facts ≡ (events_outcome operation clock old events).facts)
-    × (out ≡ failures_from 0 (events_outcome operation clock old events).results)
-left_all operation clock old events now facts index rest out none left = (
-  sym (left.facts_after ∙ ap (λ es. (events_outcome operation now facts es).facts) none),
-  sym (left.failures ∙ ap (λ es. out ++ failures_from index (events_outcome operation now facts es).results) none
-      ∙ append-nil out),
-)
 
 -- the same for events that chunks of bytes hold, where what is left of the chunks has a name
 pub left_more_chunks : {Chunk Event : Type 0} (operation : Operation Event) (f : Chunk → Event) (clock : ℕ)

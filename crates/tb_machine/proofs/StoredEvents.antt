@@ -1,16 +1,15 @@
 -- An event whose checks find nothing may be stored.
-use Rattle.std.proofs.Common.{refl, sym, ap, subst, ◌∙◌, arith, ◌≡◌, ℕ, ◌+◌, ◌*◌, ◌<◌, ◌≤◌, ◌^◌, Bool, true, false, true≢false, not, List, [], ◌∷◌, Option, Some, None, Result}
+use Rattle.std.proofs.Common.{refl, sym, ap, subst, ◌∙◌, arith, ◌≡◌, ℕ, ◌+◌, ◌*◌, ◌<◌, ◌≤◌, ◌^◌, Bool, true, false, not, List, [], ◌∷◌, Option, Some, None}
 use Rattle.std.specs.Prelude.{◌==◌, ◌&&◌, ◌||◌, nat_lt, IsSome, if◌then◌else◌}
 use Rattle.std.specs.List.{AllByRecursion, list_all}
 use Rattle.std.specs.Option.{option_map}
 use Rattle.std.proofs.lemmas.Bool.{eqb-true}
 use Rattle.std.proofs.lemmas.Bool.Decides.{nat_tests}
 use Rattle.std.specs.declared.result.Result.TheVariants as result
-use Rattle.tb_layout.specs.declared.no_memory.NoMemory.{NoMemory}
 use Rattle.tb_layout.specs.declared.account.Account.{Account}
 use Rattle.tb_layout.specs.declared.transfer.Transfer.{Transfer}
 use Rattle.tb_layout.specs.declared.transfer_code.TransferCode.{TransferCode}
-use Rattle.tb_layout.specs.declared.transfer_code.TransferCode.TheVariants.{Exists, Ok}
+use Rattle.tb_layout.specs.declared.transfer_code.TransferCode.TheVariants.{Ok}
 use Rattle.tb_layout.specs.TransferCode.{number_of}
 use Rattle.tb_layout.specs.Transfer.{is_pending, is_post, is_void, is_resolving}
 use Rattle.tb_tables.specs.Facts.{Facts, account_with, transfer_with}
@@ -24,7 +23,7 @@ use Rattle.tb_tables.specs.Conditions.{MayAdd, MayResolve}
 use Rattle.tb_tables.proofs.FoundById.{found-id}
 use Rattle.tb_layout.specs.Limits.{clock_max, nanoseconds_per_second}
 use Rattle.tb_machine.specs.AccountVerdict.{u128_max, first_row}
-use Rattle.tb_machine.specs.TransferVerdict.{transfer_verdict, event_checks, against_id, check_new_transfer, stored_checks, new_id_checks, resolving_checks, resolving_verdict, against_named, pending_checks, against_status, moving_checks, moving_verdict, check_accounts_found, balance_checks, resolved_transfer, resolved_transfer_of, stored_transfer, has_exclusive_flags}
+use Rattle.tb_machine.specs.TransferVerdict.{transfer_verdict, event_checks, against_id, check_new_transfer, new_id_checks, resolving_checks, resolving_verdict, against_named, pending_checks, against_status, moving_checks, moving_verdict, check_accounts_found, balance_checks, resolved_transfer, resolved_transfer_of, stored_transfer, has_exclusive_flags}
 use Rattle.tb_machine.specs.Examining.{new_transfer_verdict}
 
 -- ---- where a table doesn't end in a failure, none of its checks applies
@@ -84,25 +83,6 @@ pub check_new_account : (facts : Facts) (timestamp : ℕ) (event : Transfer) →
     → transfer_verdict facts timestamp event ≡ new_transfer_verdict facts timestamp event
 check_new_account facts timestamp event new =
     ap (λ found. first_row (event_checks event) (against_id facts timestamp found event)) new
-
--- what wasn't added
-pub false-added : (added : Bool) → added ≡ false → ◌≡◌ {A = Result Bool NoMemory} (result.Ok added) (result.Ok true) → ⊥
-false-added true h e = absurd (true≢false h)
-false-added false h e = cc
-
--- an event that passes has a new id
-pub is_new : (facts : Facts) (timestamp : ℕ) (event : Transfer)
-    → number_of (transfer_verdict facts timestamp event) ≡ 0 → transfer_with facts event.id ≡ None
-is_new facts timestamp event ok =
-    by (transfer_with facts event.id) (passes (event_checks event)
-    (against_id facts timestamp (transfer_with facts event.id) event) refl ok).rest
-  where
-    by : (found : Option Transfer) → number_of (against_id facts timestamp found event) ≡ 0 → found ≡ None
-    by (Some stored) ok =
-        let exists : 46 ≡ 0 = (passes (stored_checks stored
-        (resolved_transfer_of (transfer_with facts stored.pending_id) event)) Exists refl ok).rest in
-        absurd (omega (arith, exists))
-    by None ok = refl
 
 -- ---- a plain or pending transfer
 

@@ -4,6 +4,7 @@ pub mod Prefetch
 pub mod Chain
 pub mod Operations
 pub mod Replay
+pub mod AnswerAt
 pub mod Joining
 pub mod Examining
 pub mod Invariant

@@ -1,5 +1,5 @@
 -- The state machine over packets and pulses.
-use Rattle.std.specs.Prelude.{ℕ, max, List, [], fold, length, take, slice_get, Option, Some, None}
+use Rattle.std.specs.Prelude.{ℕ, max, List, [], fold, length}
 use Rattle.std.specs.List.{filter_map}
 use Rattle.tb_layout.specs.declared.account.Account.{Account}
 use Rattle.tb_layout.specs.declared.failure.Failure.{Failure}
@@ -65,12 +65,3 @@ after_input state (Pulse moment) = after_pulse state moment
 -- the state after packets and pulses in order, from a clock and no facts
 abbrev pub replay : ℕ → List Input → State
 replay clock inputs = fold after_input (opening clock) inputs
-
-abbrev pub answer_to : State → Option Input → Option Answer
-answer_to state None = None
-answer_to state (Some (Pulse moment)) = None
-answer_to state (Some (Packet submitter number events)) = Some (answer_of state events)
-
--- the answer to the packet at a place, in the state that those before it left
-abbrev pub answer_at : ℕ → List Input → ℕ → Option Answer
-answer_at clock inputs place = answer_to (replay clock (take place inputs)) (slice_get inputs place)

@@ -96,7 +96,7 @@ resolving_checks event =
 
 -- ---- a plain or pending transfer
 
--- sums have no bound
+-- an account's debits, pending and posted, with this amount; sums have no bound
 abbrev pub debits_with : Account → ℕ → ℕ
 debits_with account amount = account.debits_pending + account.debits_posted + amount
 

@@ -4,7 +4,7 @@
 //! succeeds or fails whole; a pulse lets pending transfers expire; a lookup changes nothing. The only refusal is
 //! NoMemory, after which the machine is as before.
 //!
-//! `each_call` in tb_machine_tests is an example that the gate compiles.
+//! `each_call` in tb_core_tests is an example that the gate compiles.
 #![tactic(auto)]
 
 mod account_verdict;

@@ -137,22 +137,6 @@ group_more intake front next given batch left same some lawful may is =
         ∙ ap (λ ps. all_decisions_in given ++ ps) (append-nil (map Admitted batch))
         ∙ ap (λ jobs. all_decisions_in given ++ map Admitted jobs) same)) is.passes
 
-pub no_group_more : (intake : IntakeState) (front next : FrontState) (given : List Parcel)
-    → next ≡ with_group front [] → front.held ≡ [] → IsBatched intake front given → IsBatched intake next given
-no_group_more intake front next given left none is =
-    subst (λ n. IsBatched intake n given) (sym left)
-    (record {
-      under = is.under;
-      among = is.among;
-      passes = subst (AreDecisions (items_in intake.taken) front.closed front.stopped)
-          (ap (λ jobs. all_decisions_in given ++ map Admitted jobs) none) is.passes;
-      joined = is.joined;
-      late = subst (λ jobs. AreSealedLate intake (given ++ group_as_batch jobs)) none is.late;
-      empty = λ begins. is.empty (none, begins.1, begins.2, begins.3);
-      unended = is.unended;
-      knows = knows_held intake.taken front is.knows;
-    })
-
 -- ---- the end of it
 
 pub all_batched : (intake : IntakeState) (front : FrontState) (given all : List Parcel)

@@ -2,3 +2,4 @@ pub mod Carried
 pub mod Outlets
 pub mod Stages
 pub mod Run
+pub mod SettledRun

@@ -1,9 +1,8 @@
 -- What callers see of a pipeline before it runs, and after.
 use Rattle.std.specs.Prelude.{◌≡◌, ℕ, List, length}
 use Rattle.tb_core.specs.Journal.{LedgerState}
-use Rattle.tb_core.specs.EndedRun.{Run}
 use Rattle.tb_rings.specs.Ends.{given, taken, IsRing}
-use Rattle.tb_submit.specs.Ends.{EndedState, IntakeState, Origin, SenderState, origins, queued_by, replies_of}
+use Rattle.tb_submit.specs.Ends.{IntakeState, Origin, origins}
 use Rattle.tb_pipe.specs.Carried.{AllBatched, AllCommitted}
 use Rattle.tb_pipe.specs.Outlets.{AllRouted}
 use Rattle.tb_pipe.specs.Stages.{IsReady}
@@ -43,20 +42,6 @@ served_of remains = record {
   submitters = origins remains.intake remains.routed.outlets.items;
   ledger = remains.committed.ledger;
 }
-
--- the run of a pipeline that was opened with a clock and settled with these ends, with its ledger and the ends as they
--- came back
-abbrev pub run_of : ℕ → IntakeState → List EndedState → SenderState → LedgerState → List EndedState → Run
-run_of clock intake ends control ledger settled =
-    record {
-      clock = clock;
-      limit = intake.limit;
-      submitters = intake.submitters;
-      queue = intake.taken;
-      queued = queued_by ends control;
-      ledger = ledger;
-      replies = replies_of settled;
-    }
 
 pub record IsServed (remains : Remains) : Type 0 where
   pub rings : IsRing remains.batches remains.committed.inlet × IsRing remains.committed.outlet remains.routed.inlet

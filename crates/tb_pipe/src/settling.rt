@@ -7,7 +7,8 @@ ghost use Rattle.tb_core.specs.Journal.{inputs};
 ghost use Rattle.tb_core.specs.EndedRun.{IsPrefix};
 ghost use Rattle.tb_core.specs.Report.{LawfulReport};
 ghost use Rattle.tb_submit.specs.Ends.{EndedState, control_seat, end_origin, origins, seat_at};
-ghost use Rattle.tb_pipe.specs.Run.{IsServed, run_of};
+ghost use Rattle.tb_pipe.specs.Run.{IsServed};
+ghost use Rattle.tb_pipe.specs.SettledRun.{run_of};
 
 use crate::serving::Served;
 use crate::stages::Remains;

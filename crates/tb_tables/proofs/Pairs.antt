@@ -1,5 +1,5 @@
 -- Pairs of the set of expiries: which are those of a transfer, and which it has to have.
-use Rattle.std.proofs.Common.{find, refl, sym, ap, ◌∙◌, arith, ◌≡◌, ℕ, Bool, true, false, List, [], ◌∷◌, ◌++◌, length, slice_get, zero, suc, if◌then◌else◌, ◌==◌, ◌&&◌, ◌||◌, Option, Some, None, ◌≤◌, not, cond, is_eq, is_gt, is_lt}
+use Rattle.std.proofs.Common.{find, refl, sym, ap, ◌∙◌, arith, ◌≡◌, ℕ, Bool, true, false, List, [], ◌∷◌, ◌++◌, length, slice_get, zero, suc, if◌then◌else◌, ◌==◌, ◌&&◌, ◌||◌, Option, Some, None, ◌≤◌, not, cond, is_eq, is_lt}
 use Rattle.std.proofs.lemmas.Bool.{eqb-true}
 use Rattle.std.proofs.lemmas.Option.{slice_get_past}
 use Rattle.tb_tables.proofs.Words.{its_pair, nat_tests, Transfer, Facts, add_transfer, is_reserving, has_id, ids_distinct, is_pair, is_open_pair, list_any, pair_cmp, is_in_expiries, same_pair}
@@ -17,10 +17,6 @@ with_pair moment index m p had = grind (arith, nat_tests, pair-eq m p moment ind
 pub without_pair : (moment index m p : ℕ) (had : Bool)
     → cond (is_eq (pair_cmp (m, p) (moment, index))) false had ≡ (not (same_pair moment index m p) && had)
 without_pair moment index m p had = grind (arith, nat_tests, pair-eq m p moment index)
-
--- a pair that isn't above another has no later moment
-pub moment-le : (a b x y : ℕ) → is_gt (pair_cmp (a, x) (b, y)) ≡ false → a ≤ b
-moment-le a b x y h = grind (arith, nat_tests)
 
 pub same-keys : (old new : BTreeSet (Reverse (ℕ × ℕ))) → new.keys ≡ old.keys → (m p : ℕ) → is_in_expiries new m p ≡ is_in_expiries old m p
 same-keys old new same m p = ap (list_any (λ (k : Reverse (ℕ × ℕ)). is_eq (pair_cmp k.0 (m, p)))) same

@@ -16,7 +16,7 @@
 //! - `maps`: the maps and the set together, seen as facts, whose invariant is `AreConsistent`;
 //! - `tables`: the undo list on top, whose invariant is `AreUndoable`.
 //!
-//! `each_other_call` in tb_machine_tests is an example that the gate compiles.
+//! `each_other_call` in tb_core_tests is an example that the gate compiles.
 #![tactic(auto)]
 
 mod amounts;

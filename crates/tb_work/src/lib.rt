@@ -11,7 +11,7 @@
 //! The types keep what they promise: an `AdmittedPacket` and a job's packet are admitted, failures rise and are below the
 //! packet's count, a moment is in range.
 //!
-//! `a_packet_of_two_accounts` and `a_job_and_its_packet` in tb_demux_tests are examples that the gate compiles.
+//! `a_packet_of_two_accounts` and `a_job_and_its_packet` in tb_core_tests are examples that the gate compiles.
 #![tactic(auto)]
 
 mod admission;

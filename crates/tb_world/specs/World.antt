@@ -10,8 +10,8 @@ use Rattle.tb_world.specs.declared.event.Event.{Event}
 use Rattle.tb_world.specs.declared.event.Event.TheVariants.{Push, Pop, BatchPush, BatchPop, OutcomePush, OutcomePop, ReplyPush, ReplyPop}
 use Rattle.tb_world.specs.declared.sender.Sender.{Sender}
 use Rattle.tb_core.specs.Front.{FrontState, take_step, with_group, all_ended, takes_memory as ticket_takes}
-use Rattle.tb_core.specs.Journal.{LedgerState, new_ledger}
-use Rattle.tb_core.specs.Ledger.{apply_step, takes_memory as parcel_takes}
+use Rattle.tb_core.specs.Journal.{LedgerState}
+use Rattle.tb_core.specs.Ledger.{apply_step, new_ledger, takes_memory as parcel_takes}
 use Rattle.tb_core.specs.Run.{replies_in}
 use Rattle.tb_world.specs.Pushing.{newcomer, may_push, sender_after}
 use Rattle.tb_world.specs.Mailbox.{Mailbox, empty_mailbox, mailbox_at, mailboxes_with, after_pop}

@@ -8,7 +8,7 @@ use Rattle.std.proofs.lemmas.List.{length-map}
 use Rattle.tb_submit.specs.Ends.{EndedState, SenderState, end_origin, queued_by, seat_at}
 use Rattle.tb_pipe.proofs.Origins.{length-origins}
 use Rattle.tb_pipe.specs.Carried.{answers_in}
-use Rattle.tb_pipe.specs.Run.{run_of}
+use Rattle.tb_pipe.specs.SettledRun.{run_of}
 use Rattle.tb_pipe.proofs.Drained.{HasRun, drained, grouped, some_of}
 use Rattle.tb_pipe.proofs.settling.settle_remains.Goals as goal
 

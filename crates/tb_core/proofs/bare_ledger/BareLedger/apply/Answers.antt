@@ -1,4 +1,4 @@
-use Rattle.std.proofs.Common.{true, false, None}
+use Rattle.std.proofs.Common.{true, false, None, subst}
 use Rattle.tb_core.specs.BareLedger.{IsBatch}
 use Rattle.tb_core.proofs.JournalGroups.{sent_more}
 use Rattle.tb_core.proofs.bare_ledger.BareLedger.apply.Goals as goal
