@@ -59,7 +59,7 @@ fn take(alloc: Global, machine: &mut Machine, kind: Kind, body: &[u8]) -> Option
     }
 }
 
-/// A machine with the capacity that is asked for.
+/// Returns a machine with the capacity that is asked for.
 fn machine_with_room(alloc: Global, load: Load) -> Option<Machine> {
     let seed = Seed {
         low: load.seed,
@@ -74,7 +74,7 @@ fn machine_with_room(alloc: Global, load: Load) -> Option<Machine> {
     Some(machine)
 }
 
-/// A machine with the accounts.
+/// Returns a machine with the accounts.
 fn machine_with_accounts(alloc: Global, load: Load) -> Option<Machine> {
     let mut machine = machine_with_room(alloc, load)?;
     for number in 0..load.accounts / MADE_AT_ONCE {
@@ -90,7 +90,7 @@ fn machine_with_accounts(alloc: Global, load: Load) -> Option<Machine> {
     Some(machine)
 }
 
-/// A sum over the balances of the first thousand accounts.
+/// Returns a sum over the balances of the first thousand accounts.
 fn sum_of_balances(machine: &Machine) -> u128 {
     let mut sum = 0u128;
     for place in 0..1000 {
@@ -117,7 +117,7 @@ pub fn commit_packets(alloc: Global, load: Load) -> Option<Committed> {
     })
 }
 
-/// The processor time of this thread so far, in nanoseconds.
+/// Returns the processor time of this thread so far, in nanoseconds.
 fn now<R: CpuClock>(rt: &R) -> Option<u64> {
     let time = rt.thread_cpu_time().ok()?;
     let seconds = time.as_secs().wrapping_mul(1_000_000_000);

@@ -6,7 +6,7 @@ use std::alloc::Global;
 /// The events of the largest packet.
 const PACKET: u64 = 8190;
 
-/// The bytes of an account in ledger 1 with code 1.
+/// Returns the bytes of an account in ledger 1 with code 1.
 fn account(id: u64) -> [u8; 128] {
     let mut account = [0u8; 128];
     account[0..8].copy_from_slice(&id.to_le_bytes());
@@ -15,7 +15,7 @@ fn account(id: u64) -> [u8; 128] {
     account
 }
 
-/// The bytes of a plain transfer of the amount 1 between two accounts, which are counted from 0.
+/// Returns the bytes of a plain transfer of the amount 1 between two accounts, which are counted from 0.
 fn between(id: u64, debit: u64, credit: u64) -> [u8; 128] {
     let mut event = [0u8; 128];
     event[0..8].copy_from_slice(&id.to_le_bytes());
@@ -27,7 +27,7 @@ fn between(id: u64, debit: u64, credit: u64) -> [u8; 128] {
     event
 }
 
-/// A plain transfer between two of at least three accounts.
+/// Returns a plain transfer between two of at least three accounts.
 fn plain(made: u64, accounts: u64) -> [u8; 128] {
     let accounts = accounts.max(3);
     let debit = made.wrapping_mul(7) % accounts;
@@ -35,12 +35,12 @@ fn plain(made: u64, accounts: u64) -> [u8; 128] {
     between(made.wrapping_add(1), debit, credit)
 }
 
-/// A number in no order.
+/// Returns a number in no order.
 fn scattered(made: u64) -> u64 {
     made.wrapping_mul(0x9e37_79b9_7f4a_7c15) >> 20
 }
 
-/// A plain transfer between two accounts in no order.
+/// Returns a plain transfer between two accounts in no order.
 fn random(made: u64, accounts: u64) -> [u8; 128] {
     let accounts = accounts.max(3);
     let debit = scattered(made) % accounts;
@@ -51,7 +51,7 @@ fn random(made: u64, accounts: u64) -> [u8; 128] {
     between(made.wrapping_add(1), debit, credit)
 }
 
-/// A pending transfer with a timeout in seconds.
+/// Returns a pending transfer with a timeout in seconds.
 fn pending(made: u64, accounts: u64, timeout: u32) -> [u8; 128] {
     let mut event = plain(made, accounts);
     event[108..112].copy_from_slice(&timeout.to_le_bytes());
@@ -59,7 +59,7 @@ fn pending(made: u64, accounts: u64, timeout: u32) -> [u8; 128] {
     event
 }
 
-/// A post or a void of the transfer with an id.
+/// Returns a post or a void of the transfer with an id.
 fn resolving(made: u64, named: u64) -> [u8; 128] {
     let mut event = [0u8; 128];
     event[0..8].copy_from_slice(&made.wrapping_add(1).to_le_bytes());
@@ -73,7 +73,7 @@ fn resolving(made: u64, named: u64) -> [u8; 128] {
     event
 }
 
-/// A pending transfer, or if it is odd the post or void of the one before.
+/// Returns a pending transfer, or if it is odd the post or void of the one before.
 fn two_phase(made: u64, accounts: u64) -> [u8; 128] {
     if made % 2 == 0 {
         pending(made, accounts, 100)
@@ -82,7 +82,7 @@ fn two_phase(made: u64, accounts: u64) -> [u8; 128] {
     }
 }
 
-/// Pending transfers in one packet, and their posts and voids in the next.
+/// Returns pending transfers in one packet, and their posts and voids in the next.
 fn late(made: u64, accounts: u64) -> [u8; 128] {
     if made.wrapping_sub(accounts) / PACKET % 2 == 0 {
         pending(made, accounts, 100)
@@ -91,14 +91,14 @@ fn late(made: u64, accounts: u64) -> [u8; 128] {
     }
 }
 
-/// A plain transfer in another ledger than its accounts.
+/// Returns a plain transfer in another ledger than its accounts.
 fn in_another_ledger(made: u64, accounts: u64) -> [u8; 128] {
     let mut event = plain(made, accounts);
     event[112] = 2;
     event
 }
 
-/// A plain transfer in a chain of a length; every tenth chain fails at its end, and each one longer than ten.
+/// Returns a plain transfer in a chain of a length; every tenth chain fails at its end, and each one longer than ten.
 fn linked(made: u64, accounts: u64, length: u64) -> [u8; 128] {
     let length = length.max(1);
     let mut event = plain(made, accounts);
@@ -112,21 +112,21 @@ fn linked(made: u64, accounts: u64, length: u64) -> [u8; 128] {
     }
 }
 
-/// A plain transfer with a timestamp.
+/// Returns a plain transfer with a timestamp.
 fn early(made: u64, accounts: u64) -> [u8; 128] {
     let mut event = plain(made, accounts);
     event[120] = 1;
     event
 }
 
-/// A plain transfer from an account that isn't there.
+/// Returns a plain transfer from an account that isn't there.
 fn missing(made: u64, accounts: u64) -> [u8; 128] {
     let mut event = plain(made, accounts);
     event[24] = 1;
     event
 }
 
-/// A plain transfer that is new in the first packet, and stored already in each later one.
+/// Returns a plain transfer that is new in the first packet, and stored already in each later one.
 fn exists(made: u64, accounts: u64) -> [u8; 128] {
     let number = made.wrapping_sub(accounts) % PACKET;
     plain(number.wrapping_add(accounts), accounts)
@@ -143,8 +143,8 @@ fn mixed(made: u64, accounts: u64) -> [u8; 128] {
     }
 }
 
-/// A plain transfer; those of the first two packets have ids with one hash. The hasher multiplies the halves of an id
-/// after it has mixed a number into each, so a half that equals its number makes the product 0.
+/// Returns a plain transfer; those of the first two packets have ids with one hash. The hasher multiplies the halves of
+/// an id after it has mixed a number into each, so a half that equals its number makes the product 0.
 fn attacked(made: u64, accounts: u64) -> [u8; 128] {
     let mut event = plain(made, accounts);
     let number = made.wrapping_sub(accounts);
@@ -157,7 +157,7 @@ fn attacked(made: u64, accounts: u64) -> [u8; 128] {
     event
 }
 
-/// The bytes of the event of a kind after a number of others; those before the packets are accounts.
+/// Returns the bytes of the event of a kind after a number of others; those before the packets are accounts.
 pub fn event_of(kind: Kind, made: u64, accounts: u64) -> [u8; 128] {
     match kind {
         Kind::Accounts => account(made.wrapping_add(1)),
@@ -178,7 +178,7 @@ pub fn event_of(kind: Kind, made: u64, accounts: u64) -> [u8; 128] {
     }
 }
 
-/// What a packet has of an event: all of it, or for a look-up the id of its debit account.
+/// Returns what a packet has of an event: all of it, or for a look-up the id of its debit account.
 fn part_of(kind: Kind, event: &[u8; 128]) -> &[u8] {
     match kind {
         Kind::Lookups => &event[16..32],
@@ -186,7 +186,7 @@ fn part_of(kind: Kind, event: &[u8; 128]) -> &[u8] {
     }
 }
 
-/// The data of the packet with a number, or None if memory runs out.
+/// Returns the data of the packet with a number, or None if memory runs out.
 pub fn body_of(alloc: Global, load: Load, number: u64) -> Option<Vec<u8>> {
     let Load {
         kind,

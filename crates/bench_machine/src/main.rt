@@ -21,7 +21,7 @@ use std::env;
 use std::process::ExitCode;
 use std::time::CpuClock;
 
-/// The line that a request prints, or None if a packet has too many events or memory runs out.
+/// Returns the line that a request prints, or None if a packet has too many events or memory runs out.
 fn line_of<R: CpuClock>(rt: &R, alloc: Global, request: Request) -> Option<String> {
     let Request { command, load } = request;
     match command {

@@ -19,7 +19,7 @@ pub struct LoadDriver {
 }
 
 impl LoadDriver {
-    /// The driver of the submitter of a number, which has sent nothing.
+    /// Returns the driver of the submitter of a number, which has sent nothing.
     pub fn new(number: u64, load: Load) -> LoadDriver {
         LoadDriver {
             number,
@@ -35,7 +35,7 @@ impl LoadDriver {
         self.load.packets = self.load.packets.min(self.sent.saturating_sub(1));
     }
 
-    /// The packet of accounts, or after it the next one of the load.
+    /// Returns the packet of accounts, or after it the next one of the load.
     fn packet(&self, alloc: Global) -> Result<Packet, AllocError> {
         if self.sent == 0 {
             return accounts(alloc, self.number);
@@ -45,7 +45,7 @@ impl LoadDriver {
         transfers(alloc, self.number, before, events)
     }
 
-    /// How many packets may be unanswered as the next one is sent: the load waits for the accounts.
+    /// Returns how many packets may be unanswered as the next one is sent: the load waits for the accounts.
     fn most_unanswered(&self) -> u64 {
         if self.sent == 1 {
             1

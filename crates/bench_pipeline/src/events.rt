@@ -7,7 +7,7 @@ use tb_work::{Bytes, Packet};
 /// The accounts of each submitter.
 pub const ACCOUNTS: u64 = 1000;
 
-/// The bytes of an account in ledger 1 with code 1.
+/// Returns the bytes of an account in ledger 1 with code 1.
 fn account(id: u64) -> [u8; 128] {
     let mut account = [0u8; 128];
     account[0..8].copy_from_slice(&id.to_le_bytes());
@@ -16,7 +16,7 @@ fn account(id: u64) -> [u8; 128] {
     account
 }
 
-/// The bytes of a plain transfer of the amount 1 between two of a thousand accounts.
+/// Returns the bytes of a plain transfer of the amount 1 between two of a thousand accounts.
 fn transfer(id: u64, first_account: u64, made: u64) -> [u8; 128] {
     let debit = made.wrapping_mul(7) % ACCOUNTS;
     let credit = debit.wrapping_add(1).wrapping_add(made % (ACCOUNTS - 2)) % ACCOUNTS;
@@ -38,12 +38,12 @@ fn packet_of(operation: u8, bytes: Vec<u8>) -> Packet {
     }
 }
 
-/// The id of a submitter's first account.
+/// Returns the id of a submitter's first account.
 fn first_account(submitter: u64) -> u64 {
     submitter.wrapping_mul(ACCOUNTS).wrapping_add(1)
 }
 
-/// The submitter's own thousand accounts.
+/// Returns the submitter's own thousand accounts.
 pub fn accounts(alloc: Global, submitter: u64) -> Result<Packet, AllocError> {
     let first = first_account(submitter);
     let mut bytes = Vec::with_capacity(alloc, 128_000)?;
@@ -53,7 +53,7 @@ pub fn accounts(alloc: Global, submitter: u64) -> Result<Packet, AllocError> {
     Ok(packet_of(CREATE_ACCOUNTS, bytes))
 }
 
-/// `events` plain transfers between the submitter's accounts, after those made before.
+/// Returns `events` plain transfers between the submitter's accounts, after those made before.
 pub fn transfers(
     alloc: Global,
     submitter: u64,

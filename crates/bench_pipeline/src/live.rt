@@ -18,7 +18,7 @@ pub struct Over {
 }
 
 impl Over {
-    /// The input hasn't ended.
+    /// Returns the input hasn't ended.
     pub const fn new() -> Over {
         Over {
             ended: AtomicBool::new(false),
@@ -56,7 +56,7 @@ pub struct Echo<I, O> {
 }
 
 impl<I: Read + Drop, O: Write + Drop> Echo<I, O> {
-    /// A driver that has sent nothing.
+    /// Returns a driver that has sent nothing.
     pub fn new(input: I, output: O) -> Echo<I, O> {
         Echo {
             input,
@@ -66,7 +66,7 @@ impl<I: Read + Drop, O: Write + Drop> Echo<I, O> {
         }
     }
 
-    /// The packet for the next byte; None once the input has ended.
+    /// Returns the packet for the next byte; None once the input has ended.
     fn packet(&mut self, alloc: Global) -> Option<Packet> {
         let mut byte = [0u8; 1];
         match self.input.read(&mut byte) {
@@ -78,7 +78,7 @@ impl<I: Read + Drop, O: Write + Drop> Echo<I, O> {
         }
     }
 
-    /// The next action; None once the input has ended.
+    /// Returns the next action; None once the input has ended.
     fn action(&mut self, alloc: Global) -> Option<Action> {
         if self.replies < self.sent {
             return Some(Action::Receive);

@@ -33,7 +33,7 @@ use std::{env, io};
 use tb_drive::{ControlPlan, Finished, PlanDriver, drive_all};
 use tb_pipe::open;
 
-/// A driver for each submitter, by rising number.
+/// Returns a driver for each submitter, by rising number.
 fn drivers(alloc: Global, submitters: u32, load: Load) -> Option<Vec<LoadDriver>>
     ensures { IfSome result (λ drivers. length drivers.items ≡ submitters) }
 {
@@ -44,7 +44,7 @@ fn drivers(alloc: Global, submitters: u32, load: Load) -> Option<Vec<LoadDriver>
     Some(drivers)
 }
 
-/// A whole run, or None if the opening is refused, memory runs out or a thread can't be started.
+/// Returns a whole run, or None if the opening is refused, memory runs out or a thread can't be started.
 fn run<R: Threads + Wait + Sync>(
     rt: &R,
     alloc: Global,
@@ -66,7 +66,7 @@ fn run<R: Threads + Wait + Sync>(
     }
 }
 
-/// The sums over all replies.
+/// Returns the sums over all replies.
 fn tally_of(drivers: Vec<LoadDriver>) -> Tally {
     let mut tally = Tally::new();
     for driver in drivers {
@@ -75,7 +75,7 @@ fn tally_of(drivers: Vec<LoadDriver>) -> Tally {
     tally
 }
 
-/// The line of a run.
+/// Returns the line of a run.
 fn line_of_run(
     alloc: Global,
     finished: Finished<LoadDriver, PlanDriver>,
@@ -97,14 +97,14 @@ fn line_of_run(
     ).ok()
 }
 
-/// The line that a request prints.
+/// Returns the line that a request prints.
 fn line_of<R: Threads + Wait + Sync>(rt: &R, alloc: Global, request: Request) -> Option<String> {
     let Request { opening, load } = request;
     let finished = run(rt, alloc, opening, load)?;
     line_of_run(alloc, finished, opening.submitters)
 }
 
-/// The submitters of a live run, by rising number.
+/// Returns the submitters of a live run, by rising number.
 fn parties<'a, I: Read + Drop, O: Write + Drop>(
     alloc: Global,
     request: LiveRequest,
@@ -133,7 +133,7 @@ fn parties<'a, I: Read + Drop, O: Write + Drop>(
     Some(parties)
 }
 
-/// A live run, until its input ends; None as for `run`.
+/// Returns a live run, until its input ends; None as for `run`.
 fn run_live<I: Read + Drop + Send, O: Write + Drop + Send, R: Threads + Wait + Sync>(
     rt: &R,
     alloc: Global,

@@ -40,7 +40,7 @@ pub enum Asked {
     Live(LiveRequest),
 }
 
-/// The number in an argument, where there is one.
+/// Returns the number in an argument, where there is one.
 fn next_number(words: &mut Args) -> Option<u64> {
     words.next()?.as_str().parse::<u64>().ok()
 }
@@ -76,7 +76,7 @@ fn next_live(words: &mut Args) -> Option<LiveRequest> {
     Some(LiveRequest { submitters, loads })
 }
 
-/// What the arguments ask for; the first of them is the program's name.
+/// Returns what the arguments ask for; the first of them is the program's name.
 pub fn asked_by(words: Args) -> Option<Asked> {
     let mut words = words;
     words.next()?;

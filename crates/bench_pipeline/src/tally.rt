@@ -12,7 +12,7 @@ pub struct Tally {
 }
 
 impl Tally {
-    /// The tally of no reply.
+    /// Returns the tally of no reply.
     pub fn new() -> Tally {
         Tally {
             replies: 0,
@@ -47,7 +47,7 @@ impl Tally {
     }
 }
 
-/// A sum over the balances of the first accounts.
+/// Returns a sum over the balances of the first accounts.
 pub fn sum_of_balances(machine: &Machine, accounts: u64) -> u128 {
     let mut sum = 0u128;
     for place in 0..accounts as usize {

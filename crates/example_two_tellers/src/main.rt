@@ -39,7 +39,7 @@ impl Driver for Teller {
     fn receive(&mut self, _reply: Reply) {}
 }
 
-/// A teller that is to post twenty transfers in ledger 1, with the ids after this one.
+/// Returns a teller that is to post twenty transfers in ledger 1, with the ids after this one.
 fn new_teller(id: u128, debit_account_id: u128, credit_account_id: u128, amount: u128) -> Teller {
     let last = Transfer {
         id,

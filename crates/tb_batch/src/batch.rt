@@ -35,7 +35,7 @@ impl Model for Batch {
 impl Batch {
     ghost use Rattle.tb_batch.specs.Batch.{body_of, operation_of, AreAdmitted, AreParts};
 
-    /// The batch of these parts, as after a commit that was refused. Takes no memory.
+    /// Returns the batch of these parts, as after a commit that was refused. Takes no memory.
     pub fn whole(parts: Parts) -> Batch
         requires { AreParts parts }
         ensures { result ≡ parts.jobs.items }
@@ -43,21 +43,21 @@ impl Batch {
         Batch { parts }
     }
 
-    /// The operation of its packets.
+    /// Returns the operation of its packets.
     pub fn operation(&self) -> u8
         ensures { result ≡ operation_of self.now }
     {
         self.parts.operation
     }
 
-    /// Its packets' data, one after the other.
+    /// Returns its packets' data, one after the other.
     pub fn body(&self) -> &[u8]
         ensures { result.now ≡ body_of self.now }
     {
         self.parts.body.as_slice()
     }
 
-    /// Its jobs in order.
+    /// Returns its jobs in order.
     pub fn jobs(&self) -> &[Job]
         ensures jobs { result.now ≡ self.now }
         ensures some { (0 < length self.now) × AreAdmitted self.now }
@@ -65,14 +65,14 @@ impl Batch {
         self.parts.jobs.as_slice()
     }
 
-    /// The stubs of its jobs.
+    /// Returns the stubs of its jobs.
     pub fn stubs(&self) -> &[Stub]
         ensures { result.now ≡ map stub_of self.now }
     {
         self.parts.stubs.as_slice()
     }
 
-    /// What it is made of, with an empty answer that has room for all of it.
+    /// Returns what it is made of, with an empty answer that has room for all of it.
     pub fn into_parts(self) -> Parts
         ensures jobs { result.jobs.items ≡ self }
         ensures parts { AreParts result }

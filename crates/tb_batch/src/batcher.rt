@@ -54,8 +54,8 @@ impl Batcher {
     ghost use Rattle.tb_batch.specs.Grouping.{is_taken, IsGroup};
     ghost use Rattle.tb_batch.specs.Offering.{Offers, with_group};
 
-    /// A batcher that holds nothing. The limit is 1 to 8190 events, and any other is refused as `BadLimit`. Takes no
-    /// memory.
+    /// Returns a batcher that holds nothing. The limit is 1 to 8190 events, and any other is refused as `BadLimit`.
+    /// Takes no memory.
     pub fn new(alloc: Global, limit: u32) -> Result<Batcher, Refusal>
         ensures held { IfOk result (λ batcher. (batcher.limit ≡ limit) × (batcher.jobs ≡ [])) }
         ensures refused { IfErr result (λ refusal. refusal ≡ BadLimit) }
@@ -73,7 +73,7 @@ impl Batcher {
         })
     }
 
-    /// Whether a job begins a group or joins the one held.
+    /// Returns whether a job begins a group or joins the one held.
     fn takes(&self, job: &Job) -> bool
         ensures taken { result ≡ is_taken self.now.limit self.now.jobs job.now }
         ensures lawful { IsGroup self.now.limit self.now.jobs }
@@ -84,7 +84,7 @@ impl Batcher {
         }
     }
 
-    /// How large the group held is, or where none is, the batch before.
+    /// Returns how large the group held is, or where none is, the batch before.
     fn size_of_held(&self) -> Size {
         match &self.held {
             Some(held) => held.size(),
@@ -142,7 +142,7 @@ impl Batcher {
         }
     }
 
-    /// Whether no group is held. Takes no memory.
+    /// Returns whether no group is held. Takes no memory.
     pub fn is_empty(&self) -> bool
         ensures { result ≡ (length self.now.jobs == 0) }
     {
@@ -152,7 +152,7 @@ impl Batcher {
         }
     }
 
-    /// The group held, which is then no longer held; None where nothing was. Takes no memory.
+    /// Returns the group held, which is then no longer held; None if nothing was. Takes no memory.
     pub fn seal(&mut self) -> Option<Batch>
         ensures left { self.new ≡ with_group self.old [] }
         ensures some { IfSome result (λ batch. (batch ≡ self.old.jobs) × (0 < length self.old.jobs)) }

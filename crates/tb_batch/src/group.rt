@@ -35,7 +35,7 @@ impl Model for Group {
     ghost invariant = { λ group. IsGroupOf group.parts group.shares group.events };
 }
 
-/// Whether a job's packet is neither open nor a lookup.
+/// Returns whether a job's packet is neither open nor a lookup.
 fn can_share(job: &Job) -> bool
     ensures { result ≡ can_share job.now }
 {
@@ -43,8 +43,8 @@ fn can_share(job: &Job) -> bool
 }
 
 impl Group {
-    /// A group of one job. If others may join it, it has room for as much as the batch before had, if memory allows
-    /// that. If the allocation for the job itself fails, the job is returned.
+    /// Returns a group of one job. If others may join it, it has room for as much as the batch before had, if memory
+    /// allows that. If the allocation for the job itself fails, the job is returned.
     #[inline(never)]
     pub(crate) fn alone(alloc: Global, before: Size, job: Job) -> Result<Group, (Job, NoMemory)>
         ensures group { IfOk result (λ group. group ≡ job ∷ []) }
@@ -67,7 +67,7 @@ impl Group {
         })
     }
 
-    /// Whether a job joins the group.
+    /// Returns whether a job joins the group.
     pub(crate) fn takes(&self, limit: u32, job: &Job) -> bool
         ensures { result ≡ is_taken limit self.now job.now }
     {
@@ -98,14 +98,14 @@ impl Group {
         Ok(())
     }
 
-    /// Whether it has no job, which its type rules out.
+    /// Returns whether it has no job, which its type rules out.
     pub(crate) fn is_empty(&self) -> bool
         ensures { result ≡ (length self.now == 0) }
     {
         self.parts.jobs.is_empty()
     }
 
-    /// How large it is.
+    /// Returns how large it is.
     pub(crate) fn size(&self) -> Size
         ensures packets { result.packets ≡ length self.now }
         ensures events { result.events ≡ count_of_all self.now }
@@ -118,7 +118,7 @@ impl Group {
         }
     }
 
-    /// The group as a batch, to which nothing joins any more.
+    /// Returns the group as a batch, to which nothing joins any more.
     pub(crate) fn seal(self) -> Batch
         ensures batch { result ≡ self }
         ensures some { 0 < length self }

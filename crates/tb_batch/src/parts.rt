@@ -27,7 +27,7 @@ pub struct Parts {
 }
 
 impl Parts {
-    /// No parts yet, of an operation. Takes no memory.
+    /// Returns no parts yet, of an operation. Takes no memory.
     pub(crate) fn new(alloc: Global, operation: u8) -> Parts
         ensures operation { result.operation ≡ operation }
         ensures jobs { (result.jobs.items ≡ []) × (result.stubs.items ≡ []) × (result.body.items ≡ []) }

@@ -14,7 +14,7 @@ pub(crate) struct Size {
 }
 
 impl Size {
-    /// The size of nothing.
+    /// Returns the size of nothing.
     pub(crate) fn none() -> Size
         ensures { result ≡ record { packets = 0; events = 0; bytes = 0 } }
     {
@@ -25,7 +25,7 @@ impl Size {
         }
     }
 
-    /// The size of a group of one packet.
+    /// Returns the size of a group of one packet.
     pub(crate) fn of(job: &Job) -> Size
         ensures { result ≡ record {
           packets = 1;
@@ -40,7 +40,7 @@ impl Size {
         }
     }
 
-    /// The greater number of each.
+    /// Returns the greater number of each.
     pub(crate) fn max(self, other: Size) -> Size
         ensures { result ≡ record {
           packets = max self.packets other.packets;

@@ -66,7 +66,7 @@ fn take_batch(machine: &mut Machine, parts: &mut Parts) -> Result<(), NoMemory>
     }
 }
 
-/// The answer to a batch: accounts where it is a lookup, failures else.
+/// Returns the answer to a batch: accounts where it is a lookup, failures else.
 fn answer(operation: u8, failures: Vec<Failure>, accounts: Vec<Account>) -> Answer
     ensures { result ≡ answer_in operation failures.items accounts.items }
 {
@@ -114,7 +114,7 @@ fn record(place: u64, parts: Parts) -> Committed
     }
 }
 
-/// The replies to a batch that isn't committed.
+/// Returns the replies to a batch that isn't committed.
 fn stopped(batch: Batch) -> Cutter
     ensures replies { result ≡ map (reply_with StoppedOutcome) batch }
     ensures some { (0 < length batch) × AreAdmitted batch }
@@ -122,7 +122,7 @@ fn stopped(batch: Batch) -> Cutter
     Cutter::new(batch.into_parts().jobs, Outcome::Stopped)
 }
 
-/// The reply to a packet that comes back.
+/// Returns the reply to a packet that comes back.
 fn returned(job: Job, cause: Cause) -> Reply
     ensures { result ≡ reply_with (outcome_of cause) job }
 {
@@ -139,7 +139,7 @@ pub(crate) struct Recorded {
     pub(crate) entry: Option<Entry>,
 }
 
-/// The outcomes of a parcel that wasn't committed.
+/// Returns the outcomes of a parcel that wasn't committed.
 fn without_entry(outcomes: Outcomes) -> Recorded
     ensures { (result.outcomes ≡ outcomes) × (result.entry ≡ None) }
 {
@@ -159,8 +159,8 @@ impl BareLedger {
     ghost use Rattle.tb_core.specs.Run.{HasPackets, replies_in};
     ghost use Rattle.tb_core.specs.BareLedger.{new_bare_ledger, halts, Applies, HasSent, IsBatch, IsEntryIf, Records};
 
-    /// A ledger that has committed nothing, whose clock starts at a number of nanoseconds, 0 to `CLOCK_MAX`, and that
-    /// hashes ids with a seed, as `Ledger::with_seed` does. Takes no memory.
+    /// Returns a ledger that has committed nothing, whose clock starts at a number of nanoseconds, 0 to `CLOCK_MAX`,
+    /// and that hashes ids with a seed, as `Ledger::with_seed` does. Takes no memory.
     pub fn with_seed(alloc: Global, clock: u64, seed: Seed) -> BareLedger
         requires { clock ≤ clock_max }
         ensures new { result ≡ new_bare_ledger clock }
@@ -181,42 +181,42 @@ impl BareLedger {
         self.machine.reserve(accounts, transfers)
     }
 
-    /// Where the clock started, in nanoseconds.
+    /// Returns where the clock started, in nanoseconds.
     pub fn opening(&self) -> u64
         ensures { result ≡ self.now.opening }
     {
         self.opening
     }
 
-    /// Whether an allocation failed, or there were no places left.
+    /// Returns whether an allocation failed, or there were no places left.
     pub fn stopped(&self) -> bool
         ensures { result ≡ self.now.stopped }
     {
         self.stopped
     }
 
-    /// How many packets and pulses were committed.
+    /// Returns how many packets and pulses were committed.
     pub fn places(&self) -> u64
         ensures { result ≡ self.now.places }
     {
         self.places
     }
 
-    /// The machine, in the state that what was committed gives.
+    /// Returns the machine, in the state that what was committed gives.
     pub fn machine(&self) -> &Machine
         ensures { result.now ≡ self.now.state }
     {
         &self.machine
     }
 
-    /// Whether this number of packets or pulses isn't committed, however much memory there is.
+    /// Returns whether this number of packets or pulses isn't committed, however much memory there is.
     fn halts_at(&self, count: usize) -> bool
         ensures { result ≡ halts self.now count }
     {
         self.stopped || count as u64 > PLACES_MAX - self.places
     }
 
-    /// Whether a parcel takes memory: what isn't committed, however much there is, takes none.
+    /// Returns whether a parcel takes memory: what isn't committed, however much there is, takes none.
     pub(crate) fn takes_memory(&self, parcel: &Parcel) -> bool
         ensures { result ≡ grows self.now parcel.now }
     {

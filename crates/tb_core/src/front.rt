@@ -70,8 +70,8 @@ impl Front {
     ghost use Rattle.tb_core.specs.inside.Decision.{Decision, AreDecisions, decisions_of_item};
     ghost use Rattle.tb_core.specs.Front.{FrontState, IsFront, opening_refusal, take_result, with_group, group_as_batch, all_ended, take_step, step_of_packet, step_of_pulse, step_of_end, step_of_close, all_decisions_in, decisions_in_batch, held_by, KnowsEnds, HaveAllEnded, takes_memory};
 
-    /// A front that took nothing. The limit is 1 to 8190 events, else it is refused as `BadLimit`, and then there are 1
-    /// to 16 submitters, else as `BadSubmitters`. Takes no memory.
+    /// Returns a front that took nothing. The limit is 1 to 8190 events, else it is refused as `BadLimit`, and then
+    /// there are 1 to 16 submitters, else as `BadSubmitters`. Takes no memory.
     pub fn new(alloc: Global, limit: u32, submitters: u32) -> Result<Front, Refusal>
         ensures front { IfOk result (λ front. front ≡ record {
           limit = limit;
@@ -100,7 +100,7 @@ impl Front {
         })
     }
 
-    /// Whether an End or Close of each sender was taken.
+    /// Returns whether an End or Close of each sender was taken.
     pub fn finished(&self) -> bool
         ensures finished { result ≡ all_ended self.now }
         ensures ends { (queue : List TicketValue) → KnowsEnds queue self.now
@@ -111,7 +111,7 @@ impl Front {
         ended.iter().all(|ended| *ended)
     }
 
-    /// The group held, which is then no longer held; None where nothing was. Takes no memory.
+    /// Returns the group held, which is then no longer held; None if nothing was. Takes no memory.
     pub fn idle(&mut self) -> Option<Batch>
         ensures left { self.new ≡ with_group self.old [] }
         ensures some { IfSome result (λ batch. (batch ≡ self.old.held) × (0 < length self.old.held)) }
@@ -124,7 +124,7 @@ impl Front {
         self.batcher.seal()
     }
 
-    /// Whether a group is held. Takes no memory.
+    /// Returns whether a group is held. Takes no memory.
     pub fn is_holding(&self) -> bool
         ensures { result ≡ not (length self.now.held == 0) }
     {

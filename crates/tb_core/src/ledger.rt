@@ -62,7 +62,8 @@ impl Ledger {
     ghost use Rattle.tb_core.specs.Journal.{inputs};
     ghost use Rattle.tb_core.specs.Ledger.{apply_result, apply_step, new_ledger, takes_memory, group_of, AreEntries};
 
-    /// A ledger without entries, whose clock starts at a number of nanoseconds, 0 to `CLOCK_MAX`. Takes no memory.
+    /// Returns a ledger without entries, whose clock starts at a number of nanoseconds, 0 to `CLOCK_MAX`. Takes no
+    /// memory.
     pub fn new(alloc: Global, clock: u64) -> Ledger
         requires { clock ≤ clock_max }
         ensures ledger { result ≡ new_ledger clock }
@@ -92,28 +93,28 @@ impl Ledger {
         self.bare.reserve(accounts, transfers)
     }
 
-    /// Where the clock started, in nanoseconds.
+    /// Returns where the clock started, in nanoseconds.
     pub fn opening(&self) -> u64
         ensures { result ≡ self.now.opening }
     {
         self.bare.opening()
     }
 
-    /// Whether an allocation failed, or there were no places left.
+    /// Returns whether an allocation failed, or there were no places left.
     pub fn stopped(&self) -> bool
         ensures { result ≡ self.now.stopped }
     {
         self.bare.stopped()
     }
 
-    /// How many packets and pulses were committed.
+    /// Returns how many packets and pulses were committed.
     pub fn places(&self) -> u64
         ensures { result ≡ length (inputs self.now) }
     {
         self.bare.places()
     }
 
-    /// The machine, in the state that the journal gives.
+    /// Returns the machine, in the state that the journal gives.
     pub fn machine(&self) -> &Machine
         ensures own { result.now ≡ self.now.state }
         ensures replayed { result.now ≡ replay self.now.opening (inputs self.now) }

@@ -23,14 +23,14 @@ mod told;
 mod work;
 mod world;
 
-/// A packet of `length` zeros, with ample memory.
+/// Returns a packet of `length` zeros, with ample memory.
 fn packet_of(rt: &(impl Abort + Alloc<A = Global>), operation: u8, length: usize) -> Packet
     ensures { result.operation ≡ operation }
 {
     zeros(rt.alloc(), operation, length).expect(rt, "memory")
 }
 
-/// The failures of a packet that was committed at a place.
+/// Returns the failures of a packet that was committed at a place.
 fn failures_at(outcome: &Outcome, at: u64) -> Option<&[Failure]> {
     match outcome {
         Outcome::Committed {

@@ -39,9 +39,8 @@ impl Model for Cutter {
 }
 
 impl Cutter {
-    /// The replies to a batch's packets: `outcome` is that of the whole batch, its place that of the
-    /// first packet, its failures by their index in the batch (Demuxer of TigerBeetle's state machine).
-    /// Takes no memory.
+    /// Returns the replies to a batch's packets: `outcome` is that of the whole batch, its place that of the first
+    /// packet, its failures by their index in the batch (Demuxer of TigerBeetle's state machine). Takes no memory.
     pub fn new(jobs: Vec<Job>, outcome: Outcome) -> Cutter
         requires { IsOutcomeOfAll outcome jobs.items }
         ensures { result ≡ cut_replies outcome jobs.items }
@@ -68,8 +67,8 @@ impl Cutter {
         }
     }
 
-    /// The next packet's reply; None when all are given, and from then on. Takes no memory; the cost is
-    /// that of the packet's failures.
+    /// Returns the next packet's reply; None when all are given, and from then on. Takes no memory; the cost is that of
+    /// the packet's failures.
     pub fn next(&mut self) -> Option<Reply>
         ensures some { IfSome result (λ reply. self.old ≡ reply ∷ self.new) }
         ensures none { IfNone result ((self.old ≡ []) × (self.new ≡ [])) }

@@ -23,7 +23,7 @@ pub(crate) struct RemainingFailures {
     pub(crate) failures: Failures,
 }
 
-/// The number of failures before the first one whose index isn't below `end`.
+/// Returns the number of failures before the first one whose index isn't below `end`.
 fn count_below(failures: &[Failure], end: u64) -> usize
     ensures value { result ≡ count_below end failures.now }
     ensures within { result ≤ length failures.now }
@@ -36,7 +36,7 @@ fn count_below(failures: &[Failure], end: u64) -> usize
     failures.len()
 }
 
-/// An offset that isn't above an index.
+/// Returns an offset that isn't above an index.
 fn offset_up_to(index: u32, end: u64) -> u32
     requires { end ≤ index }
     ensures { result ≡ end }
@@ -44,7 +44,8 @@ fn offset_up_to(index: u32, end: u64) -> u32
     end as u32
 }
 
-/// The offset after a packet's events. If no failure remains it doesn't matter, and may be too large for 32 bits.
+/// Returns the offset after a packet's events. If no failure remains it doesn't matter, and may be too large for 32
+/// bits.
 fn offset_after(failures_remaining: &[Failure], offset: u32, end: u64) -> u32
     requires { (high : ℕ) × RiseWithin end high failures_remaining.now }
     ensures { (result ≡ end) ⊎ (failures_remaining.now ≡ []) }
@@ -56,7 +57,7 @@ fn offset_after(failures_remaining: &[Failure], offset: u32, end: u64) -> u32
 }
 
 impl RemainingFailures {
-    /// The reply to the next packet.
+    /// Returns the reply to the next packet.
     pub(crate) fn reply(&mut self, job: Job) -> Reply
         requires place { self.old.place < places_max }
         requires taken { self.old.taken ≤ length self.old.failures }

@@ -42,7 +42,7 @@ pub trait ControlDriver: Drop {
 
     ghost has_ended: { Self → Self → List ItemValue → Type 0 } = { λ _ _ _. ⊤ };
 
-    /// What the control does next. It may wait with `rt`.
+    /// Returns what the control does next. It may wait with `rt`.
     fn next<R: Wait>(&mut self, rt: &R) -> ControlAction
         ensures { (first : Self) (items : List ItemValue) → has_queued first self.old items
             → ControlsOn result (λ moment. has_asked first self.new moment items) (has_queued first self.new items)

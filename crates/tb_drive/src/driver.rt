@@ -46,7 +46,7 @@ pub trait Driver: Drop {
 
     ghost share: { Self → List packets.Packet } = { λ _. [] };
 
-    /// What the submitter does next. It may wait with `rt`.
+    /// Returns what the submitter does next. It may wait with `rt`.
     fn next<R: Wait>(&mut self, rt: &R, alloc: Global) -> Action
         ensures seen { (limit : ℕ) (queued : List Numbered) (read : List ReplyValue) → has_seen self.old limit queued read
             → GoesOn result (λ packet. has_asked self.new packet limit queued read)

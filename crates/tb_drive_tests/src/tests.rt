@@ -48,7 +48,7 @@ enum Saw {
     NoMemory,
 }
 
-/// What is seen of a reply to a packet that is committed, and None where it isn't.
+/// Returns what is seen of a reply to a packet that is committed, and None if it isn't.
 fn given_by(reply: &Reply) -> Option<Saw> {
     match &reply.outcome {
         Outcome::Committed { .. } => {
@@ -58,7 +58,7 @@ fn given_by(reply: &Reply) -> Option<Saw> {
     }
 }
 
-/// A packet of an operation with this number of zeros.
+/// Returns a packet of an operation with this number of zeros.
 fn packet_of(alloc: Global, operation: u8, size: usize, user: u64) -> Result<Packet, NoMemory> {
     let mut packet = zeros(alloc, operation, size)?;
     packet.user = user;
@@ -77,7 +77,7 @@ struct Noter {
 }
 
 impl Noter {
-    /// A driver that has seen nothing.
+    /// Returns a driver that has seen nothing.
     fn new(alloc: Global, steps: &'static [Step], pause: u32, user: u64) -> Noter {
         Noter {
             steps,
@@ -93,7 +93,7 @@ impl Noter {
         let _ = self.saw.push(saw);
     }
 
-    /// The next step; None after the last.
+    /// Returns the next step; None after the last.
     fn step(&mut self) -> Option<Step> {
         let step = *self.steps.get(self.next)?;
         self.next = self.next.saturating_add(1);
@@ -158,7 +158,7 @@ struct Seen {
     left: Vec<Option<Saw>>,
 }
 
-/// The replies that an end still has, each by what is seen of it.
+/// Returns the replies that an end still has, each by what is seen of it.
 fn replies_left(alloc: Global, ended: &mut Ended) -> Result<Vec<Option<Saw>>, AllocError> {
     let mut left = Vec::new(alloc);
     for _ in 0..MOST_REPLIES {
@@ -170,7 +170,7 @@ fn replies_left(alloc: Global, ended: &mut Ended) -> Result<Vec<Option<Saw>>, Al
     Ok(left)
 }
 
-/// What was seen of each submitter, the drivers and the ends both in the order in which they came back.
+/// Returns what was seen of each submitter, the drivers and the ends both in the order in which they came back.
 fn seen_in(alloc: Global, finished: Finished<Noter, PlanDriver>) -> Result<Vec<Seen>, AllocError> {
     let Finished {
         report,

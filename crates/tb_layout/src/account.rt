@@ -40,28 +40,28 @@ impl Account {
     /// The flag of an account whose posted and pending credits may not exceed its posted debits.
     pub const CREDITS_MUST_NOT_EXCEED_DEBITS: u16 = 4;
 
-    /// Whether the next event of its packet belongs to the same chain (bit 0 of the flags).
+    /// Returns whether the next event of its packet belongs to the same chain (bit 0 of the flags).
     pub fn is_linked(&self) -> bool
         ensures { result ≡ spec.is_linked self.now }
     {
         self.flags & Account::LINKED != 0
     }
 
-    /// Whether what the account owes may not exceed what it is owed (bit 1 of the flags).
+    /// Returns whether what the account owes may not exceed what it is owed (bit 1 of the flags).
     pub fn debits_must_not_exceed_credits(&self) -> bool
         ensures { result ≡ spec.debits_must_not_exceed_credits self.now }
     {
         self.flags & Account::DEBITS_MUST_NOT_EXCEED_CREDITS != 0
     }
 
-    /// Whether what the account is owed may not exceed what it owes (bit 2 of the flags).
+    /// Returns whether what the account is owed may not exceed what it owes (bit 2 of the flags).
     pub fn credits_must_not_exceed_debits(&self) -> bool
         ensures { result ≡ spec.credits_must_not_exceed_debits self.now }
     {
         self.flags & Account::CREDITS_MUST_NOT_EXCEED_DEBITS != 0
     }
 
-    /// Whether a bit of the flags is set that stands for nothing (bits 4 to 15).
+    /// Returns whether a bit of the flags is set that stands for nothing (bits 4 to 15).
     pub fn has_reserved_flag(&self) -> bool
         ensures { result ≡ is_reserved_in self.now.flags }
     {
@@ -69,7 +69,7 @@ impl Account {
     }
 }
 
-/// The account in 128 bytes, as the requests reference of TigerBeetle lays it out.
+/// Returns the account in 128 bytes, as the requests reference of TigerBeetle lays it out.
 pub fn read_account(bytes: &[u8; 128]) -> Account
     ensures { result ≡ spec.account_of bytes.now }
 {
@@ -90,7 +90,7 @@ pub fn read_account(bytes: &[u8; 128]) -> Account
     }
 }
 
-/// The 128 bytes of an account.
+/// Returns the 128 bytes of an account.
 pub fn write_account(account: &Account) -> [u8; 128]
     ensures value { result ≡ account_bytes account.now }
     ensures read_back { spec.account_of result ≡ account.now }

@@ -37,21 +37,21 @@ impl AccountCode {
     ghost use Rattle.tb_layout.specs.AccountCode.{number_of};
     ghost use Rattle.tb_layout.specs.inside.AccountCodes.{code_of, name_of};
 
-    /// The number that a failure carries. 0 is no failure.
+    /// Returns the number that a failure carries. 0 is no failure.
     pub fn number(self) -> u32
         ensures { result ≡ number_of self }
     {
         self as u32
     }
 
-    /// The result that has this number, as a failure carries it.
+    /// Returns the result that has this number, as a failure carries it.
     pub fn of_number(number: u32) -> Option<AccountCode>
         ensures { result ≡ code_of number }
     {
         code_with(&ROWS, number)
     }
 
-    /// TigerBeetle's name of the result.
+    /// Returns TigerBeetle's name of the result.
     pub fn name(self) -> &'static str
         ensures { result.now ≡ name_of self }
     {

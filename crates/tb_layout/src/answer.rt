@@ -34,7 +34,7 @@ impl Model for Failures {
 }
 
 impl Failures {
-    /// These failures. More than two are not copied.
+    /// Returns these failures. More than two are not copied.
     pub fn from_vec(failures: Vec<Failure>) -> Failures
         ensures { result ≡ failures.items }
     {
@@ -43,14 +43,14 @@ impl Failures {
         }
     }
 
-    /// The failures that were put into their room.
+    /// Returns the failures that were put into their room.
     pub fn from_room(failures: FailureRoom) -> Failures
         ensures { result ≡ failures.items }
     {
         Failures { failures }
     }
 
-    /// All failures, by rising index.
+    /// Returns all failures, by rising index.
     pub fn as_slice(&self) -> &[Failure]
         ensures { result.now ≡ self.now }
     {
@@ -74,14 +74,14 @@ impl Model for Accounts {
 }
 
 impl Accounts {
-    /// These accounts, which are not copied.
+    /// Returns these accounts, which are not copied.
     pub fn from_vec(accounts: Vec<Account>) -> Accounts
         ensures { result ≡ accounts.items }
     {
         Accounts { accounts }
     }
 
-    /// All accounts, in the order asked.
+    /// Returns all accounts, in the order asked.
     pub fn as_slice(&self) -> &[Account]
         ensures { result.now ≡ self.now }
     {

@@ -13,7 +13,7 @@ ghost use Rattle.std.specs.Prelude.{◌≡◌, ℕ, List};
 ghost use Rattle.tb_layout.specs.Failure.{failure_of, failure_bytes};
 ghost use Rattle.tb_layout.specs.inside.Bytes.{IsBytes};
 
-/// The failure in 8 bytes: the index, then the code (requests reference of TigerBeetle, results).
+/// Returns the failure in 8 bytes: the index, then the code (requests reference of TigerBeetle, results).
 pub fn read_failure(bytes: &[u8; 8]) -> Failure
     ensures { result ≡ failure_of bytes.now }
 {
@@ -23,7 +23,7 @@ pub fn read_failure(bytes: &[u8; 8]) -> Failure
     }
 }
 
-/// The 8 bytes of a failure.
+/// Returns the 8 bytes of a failure.
 pub fn write_failure(failure: &Failure) -> [u8; 8]
     ensures value { result ≡ failure_bytes failure.now }
     ensures read_back { failure_of result ≡ failure.now }

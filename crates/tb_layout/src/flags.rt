@@ -7,7 +7,7 @@ ghost use Rattle.tb_layout.specs.Bytes as spec;
 /// ones (imported, balancing and closing events); they are reserved here.
 const KNOWN_FLAGS: u16 = 0b1111;
 
-/// Whether a bit is set that stands for nothing, one of 4 to 15.
+/// Returns whether a bit is set that stands for nothing, one of 4 to 15.
 pub fn has_reserved_flag(flags: u16) -> bool
     ensures { result ≡ spec.has_reserved_flag flags }
 {

@@ -6,7 +6,7 @@ ghost use Rattle.tb_layout.specs.inside.Bytes.{bytes_of};
 
 use byteorder::{ByteOrder, LittleEndian};
 
-/// The number in the 16 bytes at an offset.
+/// Returns the number in the 16 bytes at an offset.
 pub fn read_u128(bytes: &[u8], offset: usize) -> u128
     requires { offset + 16 ≤ length bytes.now }
     ensures { result ≡ number_at bytes.now offset 16 }
@@ -14,7 +14,7 @@ pub fn read_u128(bytes: &[u8], offset: usize) -> u128
     LittleEndian::read_u128(&bytes[offset..offset + 16])
 }
 
-/// The number in the 8 bytes at an offset.
+/// Returns the number in the 8 bytes at an offset.
 pub fn read_u64(bytes: &[u8], offset: usize) -> u64
     requires { offset + 8 ≤ length bytes.now }
     ensures { result ≡ number_at bytes.now offset 8 }
@@ -22,7 +22,7 @@ pub fn read_u64(bytes: &[u8], offset: usize) -> u64
     LittleEndian::read_u64(&bytes[offset..offset + 8])
 }
 
-/// The number in the 4 bytes at an offset.
+/// Returns the number in the 4 bytes at an offset.
 pub fn read_u32(bytes: &[u8], offset: usize) -> u32
     requires { offset + 4 ≤ length bytes.now }
     ensures { result ≡ number_at bytes.now offset 4 }
@@ -30,7 +30,7 @@ pub fn read_u32(bytes: &[u8], offset: usize) -> u32
     LittleEndian::read_u32(&bytes[offset..offset + 4])
 }
 
-/// The number in the 2 bytes at an offset.
+/// Returns the number in the 2 bytes at an offset.
 pub fn read_u16(bytes: &[u8], offset: usize) -> u16
     requires { offset + 2 ≤ length bytes.now }
     ensures { result ≡ number_at bytes.now offset 2 }

@@ -22,7 +22,7 @@ pub enum Operation {
 impl Operation {
     ghost use Rattle.tb_layout.specs.inside.Operations.{name_of, number_of, operation_of};
 
-    /// The number that a packet carries.
+    /// Returns the number that a packet carries.
     pub fn number(self) -> u8
         ensures { result ≡ number_of self }
     {
@@ -33,7 +33,7 @@ impl Operation {
         }
     }
 
-    /// The operation that has this number; None for all but 129, 130 and 131.
+    /// Returns the operation that has this number; None for all but 129, 130 and 131.
     pub fn of_number(number: u8) -> Option<Operation>
         ensures { result ≡ operation_of number }
     {
@@ -45,7 +45,7 @@ impl Operation {
         }
     }
 
-    /// TigerBeetle's name of the operation.
+    /// Returns TigerBeetle's name of the operation.
     pub fn name(self) -> &'static str
         ensures { result.now ≡ name_of self }
     {

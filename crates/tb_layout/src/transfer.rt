@@ -43,35 +43,35 @@ impl Transfer {
     /// The flag of an event that voids the pending transfer named by `pending_id`.
     pub const VOID_PENDING_TRANSFER: u16 = 8;
 
-    /// Whether the next event of its packet belongs to the same chain (bit 0 of the flags).
+    /// Returns whether the next event of its packet belongs to the same chain (bit 0 of the flags).
     pub fn is_linked(&self) -> bool
         ensures { result ≡ spec.is_linked self.now }
     {
         self.flags & Transfer::LINKED != 0
     }
 
-    /// Whether the transfer reserves its amount and moves nothing yet (bit 1 of the flags).
+    /// Returns whether the transfer reserves its amount and moves nothing yet (bit 1 of the flags).
     pub fn is_pending(&self) -> bool
         ensures { result ≡ spec.is_pending self.now }
     {
         self.flags & Transfer::PENDING != 0
     }
 
-    /// Whether the event posts a pending transfer (bit 2 of the flags).
+    /// Returns whether the event posts a pending transfer (bit 2 of the flags).
     pub fn is_post(&self) -> bool
         ensures { result ≡ spec.is_post self.now }
     {
         self.flags & Transfer::POST_PENDING_TRANSFER != 0
     }
 
-    /// Whether the event voids a pending transfer (bit 3 of the flags).
+    /// Returns whether the event voids a pending transfer (bit 3 of the flags).
     pub fn is_void(&self) -> bool
         ensures { result ≡ spec.is_void self.now }
     {
         self.flags & Transfer::VOID_PENDING_TRANSFER != 0
     }
 
-    /// Whether a bit of the flags is set that stands for nothing (bits 4 to 15).
+    /// Returns whether a bit of the flags is set that stands for nothing (bits 4 to 15).
     pub fn has_reserved_flag(&self) -> bool
         ensures { result ≡ is_reserved_in self.now.flags }
     {
@@ -79,7 +79,7 @@ impl Transfer {
     }
 }
 
-/// The transfer in 128 bytes, as the requests reference of TigerBeetle lays it out.
+/// Returns the transfer in 128 bytes, as the requests reference of TigerBeetle lays it out.
 pub fn read_transfer(bytes: &[u8; 128]) -> Transfer
     ensures { result ≡ spec.transfer_of bytes.now }
 {
@@ -100,7 +100,7 @@ pub fn read_transfer(bytes: &[u8; 128]) -> Transfer
     }
 }
 
-/// The 128 bytes of a transfer.
+/// Returns the 128 bytes of a transfer.
 pub fn write_transfer(transfer: &Transfer) -> [u8; 128]
     ensures value { result ≡ transfer_bytes transfer.now }
     ensures read_back { spec.transfer_of result ≡ transfer.now }

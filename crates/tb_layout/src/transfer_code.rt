@@ -72,7 +72,7 @@ impl TransferCode {
     ghost use Rattle.tb_layout.specs.TransferCode.{number_of};
     ghost use Rattle.tb_layout.specs.inside.TransferCodes.{code_of, name_of};
 
-    /// The number that a failure carries. 0 is no failure.
+    /// Returns the number that a failure carries. 0 is no failure.
     #[inline(always)]
     pub fn number(self) -> u32
         ensures { result ≡ number_of self }
@@ -80,14 +80,14 @@ impl TransferCode {
         self as u32
     }
 
-    /// The result that has this number, as a failure carries it.
+    /// Returns the result that has this number, as a failure carries it.
     pub fn of_number(number: u32) -> Option<TransferCode>
         ensures { result ≡ code_of number }
     {
         code_with(&ROWS, number)
     }
 
-    /// TigerBeetle's name of the result.
+    /// Returns TigerBeetle's name of the result.
     pub fn name(self) -> &'static str
         ensures { result.now ≡ name_of self }
     {

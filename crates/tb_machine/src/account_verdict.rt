@@ -6,7 +6,7 @@ ghost use Rattle.tb_machine.specs.AccountVerdict as spec;
 use tb_layout::{Account, AccountCode};
 use tb_tables::Tables;
 
-/// How an event differs from the account that has its id, or that it doesn't.
+/// Returns how an event differs from the account that has its id, or that it doesn't.
 fn compare_with_existing(existing: &Account, event: &Account) -> AccountCode
     ensures { result ≡ spec.compare_with_existing existing.now event.now }
 {
@@ -31,7 +31,7 @@ fn compare_with_existing(existing: &Account, event: &Account) -> AccountCode
     AccountCode::Exists
 }
 
-/// The first check that an event with a new id fails, or Ok.
+/// Returns the first check that an event with a new id fails, or Ok.
 #[inline(always)]
 fn check_new_account(event: &Account) -> AccountCode
     ensures { result ≡ spec.check_new_account event.now }
@@ -60,7 +60,7 @@ fn check_new_account(event: &Account) -> AccountCode
     AccountCode::Ok
 }
 
-/// The first check that an event fails, or Ok, where the account with its id is the other, if there is one.
+/// Returns the first check that an event fails, or Ok, where the account with its id is the other, if there is one.
 #[inline(always)]
 fn verdict_given(found: Option<Account>, event: &Account) -> AccountCode
     ensures { result ≡ spec.verdict_given found event.now }
@@ -86,7 +86,7 @@ fn verdict_given(found: Option<Account>, event: &Account) -> AccountCode
     }
 }
 
-/// The first check that the event fails if no account has its id, or Ok.
+/// Returns the first check that the event fails if no account has its id, or Ok.
 #[inline(always)]
 pub fn new_account_verdict(event: &Account) -> AccountCode
     ensures { result ≡ spec.verdict_given None event.now }
@@ -94,7 +94,7 @@ pub fn new_account_verdict(event: &Account) -> AccountCode
     verdict_given(None, event)
 }
 
-/// The first check that the event fails, or Ok.
+/// Returns the first check that the event fails, or Ok.
 #[inline(never)]
 pub fn account_verdict(tables: &Tables, event: &Account) -> AccountCode
     ensures { result ≡ spec.account_verdict tables.now.now event.now }

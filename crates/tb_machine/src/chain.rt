@@ -34,7 +34,7 @@ impl ChainStart {
     }
 }
 
-/// How many events the first chain has.
+/// Returns how many events the first chain has.
 pub fn first_chain_length<E: CreateEvent>(chunks: &[[u8; 128]]) -> usize
     ensures value { result ≡ first_chain_length E.operation.is_linked (map E.event_of chunks.now) }
     ensures within { result ≤ length chunks.now }

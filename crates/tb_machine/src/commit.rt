@@ -72,7 +72,7 @@ fn examine_all<'a, E: CreateEvent>(
     Ok(None)
 }
 
-/// A fault with its event in place of the event's chunk.
+/// Returns a fault with its event in place of the event's chunk.
 fn with_event<E: CreateEvent>(fault: Option<ChainFault<&[u8; 128]>>) -> Option<ChainFault<E>>
     ensures { result ≡ fault_as (λ chunk. E.event_of chunk.now) fault.entry }
 {

@@ -33,19 +33,19 @@ pub trait CreateEvent: Copy {
 
     ghost has_accounts: { Facts → Self → Bool };
 
-    /// The event in the 128 bytes of its chunk.
+    /// Returns the event in the 128 bytes of its chunk.
     fn read(chunk: &[u8; 128]) -> Self
         ensures { result ≡ event_of chunk.now };
 
-    /// Whether the event in a chunk is linked, without reading the rest of it.
+    /// Returns whether the event in a chunk is linked, without reading the rest of it.
     fn is_chunk_linked(chunk: &[u8; 128]) -> bool
         ensures { result ≡ operation.is_linked (event_of chunk.now) };
 
-    /// Whether an event with the id of this one is stored.
+    /// Returns whether an event with the id of this one is stored.
     fn is_stored(&self, tables: &Tables) -> bool
         ensures { result ≡ is_stored tables.now.now self.now };
 
-    /// Whether the accounts of the event are there, unless it is a post or a void, which may leave them out.
+    /// Returns whether the accounts of the event are there, unless it is a post or a void, which may leave them out.
     fn has_accounts(&self, tables: &Tables) -> bool
         ensures { result ≡ has_accounts tables.now.now self.now };
 
@@ -145,8 +145,8 @@ impl CreateEvent for Transfer {
     }
 }
 
-/// Whether the same event could find no fault later: an account or a pending transfer wasn't there, or a limit of
-/// an account would have been passed. TigerBeetle calls these results transient; the id of an event that failed with
+/// Returns whether the same event could find no fault later: an account or a pending transfer wasn't there, or a limit
+/// of an account would have been passed. TigerBeetle calls these results transient; the id of an event that failed with
 /// one of them is never taken again.
 fn is_transient(code: u32) -> bool
     ensures { result ≡ spec.is_transient code }

@@ -47,8 +47,8 @@ impl Machine {
     ghost use Rattle.tb_machine.specs.Replay.{opening, failures_of, accounts_found, after_events, after_packet, after_pulse};
     ghost use Rattle.tb_machine.specs.inside.Accounts.{balanced_accounts};
 
-    /// A machine without facts. Its clock starts at a number of nanoseconds, 0 to `CLOCK_MAX`; the first event gets
-    /// the next one as its timestamp. Takes no memory.
+    /// Returns a machine without facts. Its clock starts at a number of nanoseconds, 0 to `CLOCK_MAX`; the first event
+    /// gets the next one as its timestamp. Takes no memory.
     pub fn new(alloc: Global, clock: u64) -> Machine
         requires { clock ≤ clock_max }
         ensures { result ≡ opening clock }
@@ -56,8 +56,8 @@ impl Machine {
         Machine::with_seed(alloc, clock, Seed::default())
     }
 
-    /// The same, whose ids are hashed with a seed. With two numbers that an attacker doesn't know, ids can't be chosen
-    /// to make commits slow. What the machine does doesn't depend on them.
+    /// Returns the same, whose ids are hashed with a seed. With two numbers that an attacker doesn't know, ids can't be
+    /// chosen to make commits slow. What the machine does doesn't depend on them.
     pub fn with_seed(alloc: Global, clock: u64, seed: Seed) -> Machine
         requires { clock ≤ clock_max }
         ensures { result ≡ opening clock }
@@ -170,7 +170,7 @@ impl Machine {
         look_up(&self.tables, chunks, out);
     }
 
-    /// The clock in nanoseconds: where it started, raised by one for each event and to the moments of pulses.
+    /// Returns the clock in nanoseconds: where it started, raised by one for each event and to the moments of pulses.
     pub fn clock(&self) -> u64
         ensures value { result ≡ self.now.clock }
         ensures bound { result ≤ clock_max }
@@ -178,35 +178,35 @@ impl Machine {
         self.clock
     }
 
-    /// The account with this id, with its balances.
+    /// Returns the account with this id, with its balances.
     pub fn account(&self, id: u128) -> Option<Account>
         ensures { result ≡ balanced_account self.now.facts id }
     {
         self.tables.account(id)
     }
 
-    /// The account at an index in the order of making, counted from 0, with its balances.
+    /// Returns the account at an index in the order of making, counted from 0, with its balances.
     pub fn account_at(&self, index: usize) -> Option<Account>
         ensures { result ≡ slice_get (balanced_accounts self.now.facts) index }
     {
         self.tables.account_at(index)
     }
 
-    /// How many accounts there are.
+    /// Returns how many accounts there are.
     pub fn accounts(&self) -> usize
         ensures { result ≡ length self.now.facts.accounts }
     {
         self.tables.accounts()
     }
 
-    /// The transfer with this id; a post or a void with its resolved fields.
+    /// Returns the transfer with this id; a post or a void with its resolved fields.
     pub fn transfer(&self, id: u128) -> Option<Transfer>
         ensures { result ≡ transfer_with self.now.facts id }
     {
         self.tables.transfer(id)
     }
 
-    /// The status of the pending transfer with this id.
+    /// Returns the status of the pending transfer with this id.
     pub fn status(&self, id: u128) -> Option<Status>
         ensures { result ≡ status_with self.now.facts id }
     {

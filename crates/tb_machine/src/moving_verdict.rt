@@ -12,7 +12,7 @@ use crate::prefetch::{Sides, account_at};
 use tb_layout::{Account, CLOCK_MAX, Transfer, TransferCode};
 use tb_tables::Tables;
 
-/// Whether the sum of two amounts is above a number.
+/// Returns whether the sum of two amounts is above a number.
 fn sum_exceeds(first: u128, second: u128, most: u128) -> bool
     ensures { result ≡ nat_lt most (first + second) }
 {
@@ -22,7 +22,7 @@ fn sum_exceeds(first: u128, second: u128, most: u128) -> bool
     }
 }
 
-/// Whether a balance, pending and posted together, and an amount are above a number.
+/// Returns whether a balance, pending and posted together, and an amount are above a number.
 fn total_exceeds(pending: u128, posted: u128, amount: u128, most: u128) -> bool
     ensures { result ≡ nat_lt most (pending + posted + amount) }
 {
@@ -32,14 +32,14 @@ fn total_exceeds(pending: u128, posted: u128, amount: u128, most: u128) -> bool
     }
 }
 
-/// Whether an account's debits and an amount are above a number.
+/// Returns whether an account's debits and an amount are above a number.
 fn total_debits_exceed(account: &Account, amount: u128, most: u128) -> bool
     ensures { result ≡ nat_lt most (account.now.debits_pending + account.now.debits_posted + amount) }
 {
     total_exceeds(account.debits_pending, account.debits_posted, amount, most)
 }
 
-/// Whether an account's credits and an amount are above a number.
+/// Returns whether an account's credits and an amount are above a number.
 fn total_credits_exceed(account: &Account, amount: u128, most: u128) -> bool
     ensures { result ≡ nat_lt most (account.now.credits_pending + account.now.credits_posted + amount) }
 {
@@ -51,8 +51,8 @@ fn total_credits_exceed(account: &Account, amount: u128, most: u128) -> bool
     )
 }
 
-/// The first check that a plain or pending transfer between two accounts fails, or Ok. Sums are exact, also past 128
-/// bits.
+/// Returns the first check that a plain or pending transfer between two accounts fails, or Ok. Sums are exact, also
+/// past 128 bits.
 #[inline(always)]
 fn check_accounts(
     timestamp: u64,
@@ -102,7 +102,7 @@ fn check_accounts(
     TransferCode::Ok
 }
 
-/// The first check that a plain or pending transfer fails, or Ok, where one of its accounts may not be there.
+/// Returns the first check that a plain or pending transfer fails, or Ok, where one of its accounts may not be there.
 #[inline(always)]
 fn check_accounts_found(
     tables: &Tables,
@@ -123,7 +123,7 @@ fn check_accounts_found(
     check_accounts(timestamp, &debit, &credit, event)
 }
 
-/// The first check that a plain or pending transfer fails, or Ok.
+/// Returns the first check that a plain or pending transfer fails, or Ok.
 #[inline(always)]
 pub fn moving_verdict(
     tables: &Tables,

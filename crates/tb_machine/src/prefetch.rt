@@ -42,7 +42,7 @@ impl Target {
     }
 }
 
-/// The account at an index, with its balances.
+/// Returns the account at an index, with its balances.
 pub fn account_at(tables: &Tables, index: Option<usize>) -> Option<Account>
     ensures { (id : ℕ) → IsIndexOf tables.now.now id index → result ≡ balanced_account tables.now.now id }
 {

@@ -8,49 +8,50 @@ ghost use Rattle.tb_machine.specs.TransferVerdict as spec;
 use tb_layout::Transfer;
 use tb_tables::Tables;
 
-/// A field of 128 bits, or where it is 0 what the pending transfer has.
+/// Returns a field of 128 bits, or where it is 0 what the pending transfer has.
 fn unless_zero_u128(field: u128, otherwise: u128) -> u128
     ensures { result ≡ spec.unless_zero field otherwise }
 {
     if field == 0 { otherwise } else { field }
 }
 
-/// A field of 64 bits, or where it is 0 what the pending transfer has.
+/// Returns a field of 64 bits, or where it is 0 what the pending transfer has.
 fn unless_zero_u64(field: u64, otherwise: u64) -> u64
     ensures { result ≡ spec.unless_zero field otherwise }
 {
     if field == 0 { otherwise } else { field }
 }
 
-/// A field of 32 bits, or where it is 0 what the pending transfer has.
+/// Returns a field of 32 bits, or where it is 0 what the pending transfer has.
 fn unless_zero_u32(field: u32, otherwise: u32) -> u32
     ensures { result ≡ spec.unless_zero field otherwise }
 {
     if field == 0 { otherwise } else { field }
 }
 
-/// A field of 16 bits, or where it is 0 what the pending transfer has.
+/// Returns a field of 16 bits, or where it is 0 what the pending transfer has.
 fn unless_zero_u16(field: u16, otherwise: u16) -> u16
     ensures { result ≡ spec.unless_zero field otherwise }
 {
     if field == 0 { otherwise } else { field }
 }
 
-/// Whether an event is a post or a void.
+/// Returns whether an event is a post or a void.
 pub fn is_resolving(event: &Transfer) -> bool
     ensures { result ≡ is_resolving_event event.now }
 {
     event.is_post() || event.is_void()
 }
 
-/// Whether a post's or void's amount stands for all that was reserved: the greatest number in a post, 0 in a void.
+/// Returns whether a post's or void's amount stands for all that was reserved: the greatest number in a post, 0 in a
+/// void.
 fn means_whole_amount(event: &Transfer) -> bool
     ensures { result ≡ spec.means_whole_amount event.now }
 {
     event.is_post() && event.amount == u128::MAX || event.is_void() && event.amount == 0
 }
 
-/// A post or a void with its fields resolved.
+/// Returns a post or a void with its fields resolved.
 pub fn resolved(pending: &Transfer, event: &Transfer) -> Transfer
     ensures { result ≡ spec.resolved_transfer pending.now event.now }
 {
@@ -71,8 +72,8 @@ pub fn resolved(pending: &Transfer, event: &Transfer) -> Transfer
     }
 }
 
-/// A post or a void with its fields resolved against the transfer with an id. It is passed by value, so that a transfer
-/// that is neither isn't put into memory for it.
+/// Returns a post or a void with its fields resolved against the transfer with an id. It is passed by value, so that a
+/// transfer that is neither isn't put into memory for it.
 fn resolved_against(tables: &Tables, pending_id: u128, event: Transfer) -> Transfer
     requires { is_resolving_event event ≡ true }
     ensures { result ≡ spec.resolved_transfer_of (transfer_with tables.now.now pending_id) event }
@@ -83,7 +84,7 @@ fn resolved_against(tables: &Tables, pending_id: u128, event: Transfer) -> Trans
     }
 }
 
-/// An event with its fields resolved against the transfer with an id, where it is a post or a void.
+/// Returns an event with its fields resolved against the transfer with an id, where it is a post or a void.
 pub fn resolved_by(tables: &Tables, pending_id: u128, event: &Transfer) -> Transfer
     ensures { result ≡ spec.resolved_transfer_of (transfer_with tables.now.now pending_id) event.now }
 {

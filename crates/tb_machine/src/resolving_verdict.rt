@@ -15,15 +15,15 @@ use crate::resolved::resolved;
 use tb_layout::{Transfer, TransferCode};
 use tb_tables::{Status, Tables};
 
-/// Whether a transfer has a timeout that is over at a clock.
+/// Returns whether a transfer has a timeout that is over at a clock.
 fn is_due(clock: u64, transfer: &Transfer) -> bool
     ensures { result ≡ is_due_at clock transfer.now }
 {
     transfer.timeout != 0 && expires_at(transfer.timestamp, transfer.timeout) <= u128::from(clock)
 }
 
-/// What a pending transfer's status leaves of a post or a void: only one that is pending still, and not due, may be
-/// resolved. One that is due expired, also where no pulse came since.
+/// Returns what a pending transfer's status leaves of a post or a void: only one that is pending still, and not due,
+/// may be resolved. One that is due expired, also where no pulse came since.
 fn against_status(tables: &Tables, index: usize, pending: &Transfer, due: bool) -> TransferCode
     requires there { slice_get tables.now.now.transfers index ≡ Some pending.now }
     requires pending { is_pending pending.now ≡ true }
@@ -43,8 +43,8 @@ fn against_status(tables: &Tables, index: usize, pending: &Transfer, due: bool) 
     }
 }
 
-/// The first check that a post or a void, with its fields resolved, fails against the fields of the transfer that it
-/// names, if it fails one.
+/// Returns the first check that a post or a void, with its fields resolved, fails against the fields of the transfer
+/// that it names, if it fails one.
 fn pending_fault(pending: &Transfer, event: &Transfer) -> Option<TransferCode>
     ensures rest { MatchOption result
         ((rest : Code) → first_row (spec.pending_checks pending.now event.now) rest ≡ rest)
@@ -76,7 +76,7 @@ fn pending_fault(pending: &Transfer, event: &Transfer) -> Option<TransferCode>
     None
 }
 
-/// The first check that a post or a void fails before what it names is looked at, if it fails one.
+/// Returns the first check that a post or a void fails before what it names is looked at, if it fails one.
 fn naming_fault(event: &Transfer) -> Option<TransferCode>
     ensures rest { MatchOption result
         ((rest : Code) → first_row (spec.resolving_checks event.now) rest ≡ rest)
@@ -98,8 +98,8 @@ fn naming_fault(event: &Transfer) -> Option<TransferCode>
     None
 }
 
-/// A post or a void as it is stored, where its checks find nothing, or else the first one that it fails. The transfer
-/// that it names is read once.
+/// Returns a post or a void as it is stored, where its checks find nothing, or else the first one that it fails. The
+/// transfer that it names is read once.
 #[inline(always)]
 pub fn resolve(
     tables: &Tables,
@@ -137,7 +137,7 @@ pub fn resolve(
     }
 }
 
-/// The first check that a post or a void fails, or Ok.
+/// Returns the first check that a post or a void fails, or Ok.
 #[inline(never)]
 pub fn resolving_verdict(
     tables: &Tables,

@@ -19,7 +19,8 @@ use crate::resolving_verdict::{resolve, resolving_verdict};
 use tb_layout::{Transfer, TransferCode};
 use tb_tables::Tables;
 
-/// How an event, with its fields resolved, differs from the stored transfer that has its id, or that it doesn't.
+/// Returns how an event, with its fields resolved, differs from the stored transfer that has its id, or that it
+/// doesn't.
 fn compare_with_stored(stored: &Transfer, event: &Transfer) -> TransferCode
     ensures { result ≡ first_row (spec.stored_checks stored.now event.now) Exists }
 {
@@ -59,7 +60,7 @@ fn compare_with_stored(stored: &Transfer, event: &Transfer) -> TransferCode
     TransferCode::Exists
 }
 
-/// How an event differs from the transfer at an index, which has its id, or that it doesn't.
+/// Returns how an event differs from the transfer at an index, which has its id, or that it doesn't.
 #[inline(never)]
 fn compare_with_stored_at(tables: &Tables, index: usize, event: &Transfer) -> TransferCode
     requires { IsIndexOfTransfer tables.now.now event.now.id (Some index) }
@@ -72,7 +73,7 @@ fn compare_with_stored_at(tables: &Tables, index: usize, event: &Transfer) -> Tr
     compare_with_stored(&stored, &resolved_by(tables, stored.pending_id, event))
 }
 
-/// Whether more than one of pending, post and void is set.
+/// Returns whether more than one of pending, post and void is set.
 fn has_exclusive_flags(event: &Transfer) -> bool
     ensures { result ≡ spec.has_exclusive_flags event.now }
 {
@@ -81,7 +82,7 @@ fn has_exclusive_flags(event: &Transfer) -> bool
         || event.is_post() && event.is_void()
 }
 
-/// The first check that any event fails, if it fails one.
+/// Returns the first check that any event fails, if it fails one.
 #[inline(always)]
 fn event_fault(event: &Transfer) -> Option<TransferCode>
     ensures rest { MatchOption result
@@ -104,7 +105,7 @@ fn event_fault(event: &Transfer) -> Option<TransferCode>
     None
 }
 
-/// The first check that any event fails whose id is that of no transfer, if it fails one.
+/// Returns the first check that any event fails whose id is that of no transfer, if it fails one.
 #[inline(always)]
 fn new_id_fault(tables: &Tables, event: &Transfer) -> Option<TransferCode>
     ensures rest { MatchOption result
@@ -121,8 +122,8 @@ fn new_id_fault(tables: &Tables, event: &Transfer) -> Option<TransferCode>
     None
 }
 
-/// The first check that an event fails whose id is that of no transfer, or Ok. The accounts, or the pending transfer,
-/// were looked up before.
+/// Returns the first check that an event fails whose id is that of no transfer, or Ok. The accounts, or the pending
+/// transfer, were looked up before.
 #[inline(always)]
 fn check_new_transfer(
     tables: &Tables,
@@ -142,7 +143,7 @@ fn check_new_transfer(
     }
 }
 
-/// The first check that the event fails if no transfer has its id, or Ok.
+/// Returns the first check that the event fails if no transfer has its id, or Ok.
 #[inline(always)]
 pub fn new_transfer_verdict(
     tables: &Tables,
@@ -159,7 +160,7 @@ pub fn new_transfer_verdict(
     check_new_transfer(tables, target, timestamp, event)
 }
 
-/// A post or a void as it is stored, where its checks find nothing if no transfer has its id.
+/// Returns a post or a void as it is stored, where its checks find nothing if no transfer has its id.
 #[inline(always)]
 pub fn new_resolving(
     tables: &Tables,
@@ -178,7 +179,7 @@ pub fn new_resolving(
     resolve(tables, pending, timestamp, event).ok()
 }
 
-/// The first check that the event fails, or Ok.
+/// Returns the first check that the event fails, or Ok.
 #[inline(never)]
 pub fn transfer_verdict(
     tables: &Tables,

@@ -23,7 +23,7 @@ impl Model for Cleared {
 }
 
 impl Cleared {
-    /// The parcel, which may now be applied.
+    /// Returns the parcel, which may now be applied.
     pub(crate) fn into_parcel(self) -> Parcel
         ensures { result ≡ self }
     {
@@ -32,7 +32,7 @@ impl Cleared {
     }
 }
 
-/// Whether the parcel is a batch; a gate is asked for no other.
+/// Returns whether the parcel is a batch; a gate is asked for no other.
 pub(crate) fn is_batch(parcel: &Parcel) -> bool
     ensures { result ≡ is_batch parcel.now }
 {

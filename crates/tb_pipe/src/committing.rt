@@ -39,7 +39,7 @@ impl Promise<Committed> for Commitment {
         × AllCommitted p.clock (taken r.inlet) r.ledger (given r.outlet) };
 }
 
-/// Whether a parcel is the last.
+/// Returns whether a parcel is the last.
 fn is_last(parcel: &Parcel) -> bool
     ensures { result ≡ is_last parcel.now }
 {

@@ -9,8 +9,8 @@ pub trait Gate: Sync {
     /// Notes that the batch was handed to the committer. The batcher calls it once for each batch.
     fn sealed(&self, batch: u64);
 
-    /// Whether the batch may be committed now. The committer asks before each commit, again and again while
-    /// the answer is no; a gate that never says yes holds the run up for ever.
+    /// Returns whether the batch may be committed now. The committer asks before each commit, again and again while the
+    /// answer is no; a gate that never says yes holds the run up for ever.
     fn may_commit(&self, batch: u64) -> bool
         ensures { IsTrue result → lets_through self.now batch };
 }

@@ -35,7 +35,7 @@ struct Rings {
     outcomes: Inlet<Outcomes>,
 }
 
-/// The rings between the stages. None if memory runs out.
+/// Returns the rings between the stages. None if memory runs out.
 fn open_rings(alloc: Global) -> Option<Rings>
     ensures pairs { IfSome result (λ rings. IsRing rings.batches rings.parcels × IsRing rings.made rings.outcomes) }
     ensures empty { IfSome result (λ rings. (given rings.batches ≡ []) × (taken rings.parcels ≡ [])
@@ -94,9 +94,9 @@ pub fn open(
     )
 }
 
-/// The same over a new ledger that the caller made, with its clock. It may have a seed (`Ledger::with_seed`), if ids come
-/// from someone who may choose them to make commits slow. It may have reserved capacity (`Ledger::reserve`), so that no
-/// commit waits for a map to grow.
+/// Returns the same over a new ledger that the caller made, with its clock. It may have a seed (`Ledger::with_seed`),
+/// if ids come from someone who may choose them to make commits slow. It may have reserved capacity
+/// (`Ledger::reserve`), so that no commit waits for a map to grow.
 pub fn open_with(
     alloc: Global,
     ledger: Ledger,

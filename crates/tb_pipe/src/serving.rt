@@ -59,7 +59,7 @@ impl Model for Served {
 }
 
 impl Served {
-    /// What the stages left, taken out.
+    /// Returns what the stages left, taken out.
     pub(crate) fn into_remains(self) -> Remains
         ensures served { IsServed result }
         ensures same { self ≡ served_of result }

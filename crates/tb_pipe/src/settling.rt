@@ -23,7 +23,7 @@ pub struct Report {
     pub ends: Vec<Ended>,
 }
 
-/// The report on what the stages left, as `settle` gives it.
+/// Returns the report on what the stages left, as `settle` gives it.
 fn settle_remains(remains: Remains, ends: Vec<Ended>, control: ControlEnd) -> Report
     requires served { IsServed remains }
     requires ends { map end_origin ends.items ≡ origins remains.intake remains.routed.outlets.items }

@@ -32,7 +32,7 @@ use tb_program_script::{Script, Settings};
 use tb_program_text::{ProgramFault, Source, read_source, write_out};
 use tb_work::{Packet, Refusal};
 
-/// The pipeline that a script's settings open. They are all in range, so only NoMemory refuses it.
+/// Returns the pipeline that a script's settings open. They are all in range, so only NoMemory refuses it.
 fn open_for(alloc: Global, settings: &Settings) -> Result<Opened, NoMemory>
     requires { InBounds settings.now }
     ensures together { IfOk result (λ opened. AreTogether opened.pipeline opened.submitters.items opened.control) }
@@ -61,7 +61,7 @@ fn open_for(alloc: Global, settings: &Settings) -> Result<Opened, NoMemory>
     }
 }
 
-/// A driver for each submitter's packets, by rising number.
+/// Returns a driver for each submitter's packets, by rising number.
 fn drivers(alloc: Global, packets: Vec<Vec<Packet>>) -> Result<Vec<ScriptDriver>, NoMemory>
     ensures shares { IfOk result (λ drivers. map share_of drivers.items ≡ lists_of packets.items) }
     ensures new { IfOk result (λ drivers. AreNew drivers.items) }
@@ -97,7 +97,7 @@ fn run_opened<T: Threads + Wait + Sync>(
     }
 }
 
-/// The output for a script that has no fault.
+/// Returns the output for a script that has no fault.
 fn output_for<T: Threads + Wait + Sync>(
     rt: &T,
     alloc: Global,
@@ -114,7 +114,7 @@ fn output_for<T: Threads + Wait + Sync>(
     }
 }
 
-/// The output for all that a reader has, and whether its script has no fault.
+/// Returns the output for all that a reader has, and whether its script has no fault.
 fn output_of<T: Threads + Wait + Sync, R: Read>(
     rt: &T,
     alloc: Global,

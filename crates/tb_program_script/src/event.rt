@@ -36,7 +36,7 @@ pub struct Draft {
 }
 
 impl Draft {
-    /// An event, none of whose fields was given.
+    /// Returns an event, none of whose fields was given.
     pub fn new() -> Draft
         ensures { result ≡ blank }
     {
@@ -101,8 +101,8 @@ struct NamedField<'a> {
     from_number: &'a [u8],
 }
 
-/// The field of some rows that the first word of a text names. The end of the word isn't looked for: the name is compared
-/// with those of the rows in place.
+/// Returns the field of some rows that the first word of a text names. The end of the word isn't looked for: the name
+/// is compared with those of the rows in place.
 #[inline(always)]
 fn named<'a>(mut rows: &[(&[u8], Field)], text: &'a [u8]) -> Result<NamedField<'a>, Fault>
     requires { All (λ row. IsBare row.0.now) rows.now }
@@ -126,7 +126,7 @@ fn named<'a>(mut rows: &[(&[u8], Field)], text: &'a [u8]) -> Result<NamedField<'
     Err(Fault::BadField)
 }
 
-/// The field that the first word of a text names.
+/// Returns the field that the first word of a text names.
 #[tactic(auto, unfolding(crate::specs::Event::field_and_number))]
 fn field_and_number(layout: Layout, text: &[u8]) -> Result<NamedField, Fault>
     ensures both { Tells (λ first. (first.field, first_word (first_line first.from_number.now))) result
@@ -142,8 +142,8 @@ fn field_and_number(layout: Layout, text: &[u8]) -> Result<NamedField, Fault>
     }
 }
 
-/// The field that the first word of a text names, looked for among some rows of the table first: the fields of an event
-/// mostly come in the table's order.
+/// Returns the field that the first word of a text names, looked for among some rows of the table first: the fields of
+/// an event mostly come in the table's order.
 #[inline(always)]
 #[tactic(auto, using(crate::proofs::Named::named_in_rows))]
 fn field_among<'a>(
@@ -166,7 +166,7 @@ fn field_among<'a>(
     field_and_number(layout, text)
 }
 
-/// The greatest number of this many bytes.
+/// Returns the greatest number of this many bytes.
 fn greatest(size: usize) -> u128
     requires { (size ≡ 2) ⊎ ((size ≡ 4) ⊎ ((size ≡ 8) ⊎ (size ≡ 16))) }
     ensures { result ≡ greatest size }
@@ -182,7 +182,7 @@ fn greatest(size: usize) -> u128
     }
 }
 
-/// The field, where it wasn't given before.
+/// Returns the field, where it wasn't given before.
 fn new_field(draft: &Draft, f: Field) -> Result<Field, Fault>
     requires { Lies f }
     ensures field { result ≡ new_field draft.now (Some f) }
@@ -198,7 +198,7 @@ fn new_field(draft: &Draft, f: Field) -> Result<Field, Fault>
 /// What the lower half of a number of 128 bits stays below.
 const HALF: u128 = 1 << 64;
 
-/// The bytes of a number, the lowest first. Two halves take fewer instructions than the whole.
+/// Returns the bytes of a number, the lowest first. Two halves take fewer instructions than the whole.
 #[inline(always)]
 #[tactic(auto, using(crate::proofs::Numbers::halves))]
 fn bytes_of(n: u128) -> [u8; 16]
@@ -322,7 +322,7 @@ pub fn assign_all<'a>(layout: Layout, draft: &mut Draft, text: &'a [u8]) -> Resu
     }
 }
 
-/// The bytes that hexadecimal digits give; there must be exactly as many pairs of these.
+/// Returns the bytes that hexadecimal digits give; there must be exactly as many pairs of these.
 #[tactic(auto, unfolding(crate::specs::Event::hex_bytes))]
 pub fn hex_bytes(alloc: Global, word: &[u8]) -> Result<Vec<u8>, LineError>
     ensures { Gives (λ v. v.items) result (hex_bytes word.now) }

@@ -24,7 +24,7 @@ pub enum Fault {
 }
 
 impl Fault {
-    /// What is printed of the fault, after the number of its line.
+    /// Returns what is printed of the fault, after the number of its line.
     pub fn text(self) -> &'static str
         ensures { result.now ≡ fault_text self }
     {

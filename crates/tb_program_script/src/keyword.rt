@@ -38,7 +38,7 @@ const KEYWORDS: [(&[u8], Keyword); 12] = [
     (b"submitters", Keyword::Submitters),
 ];
 
-/// The keyword that a word spells.
+/// Returns the keyword that a word spells.
 #[tactic(auto, unfolding(crate::specs::Keyword::keyword_of))]
 pub fn keyword_of(word: &[u8]) -> Option<Keyword>
     ensures { result ≡ keyword_of word.now }

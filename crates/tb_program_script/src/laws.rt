@@ -2,37 +2,37 @@
 
 ghost use Rattle.tb_program_script.specs.Laws.{FirstFaultDecides, FaultlessLinesAreParsed, SpelledAccountsAreLaidOut, SpelledIdsAreLaidOut, SpelledScriptsAreRead, SpelledTransfersAreLaidOut};
 
-/// The first faulty line decides, whatever follows it.
+/// Establishes that the first faulty line decides, whatever follows it.
 #[tactic(auto, using(crate::proofs::Lines::decides))]
 pub fn first_fault_decides()
     ensures { FirstFaultDecides }
 {}
 
-/// A script in which no line is faulty has no fault.
+/// Establishes that a script in which no line is faulty has no fault.
 #[tactic(auto, using(crate::proofs::Lines::faultless))]
 pub fn faultless_lines_are_parsed()
     ensures { FaultlessLinesAreParsed }
 {}
 
-/// A script spelled from settings and items is read as these.
+/// Establishes that a script spelled from settings and items is read as these.
 #[tactic(auto, using(crate::proofs::Spelling::read_as_spelled))]
 pub fn spelled_scripts_are_read()
     ensures { SpelledScriptsAreRead }
 {}
 
-/// A line spelled from the fields of an account adds the 128 bytes that `tb_layout` writes of it.
+/// Establishes that a line spelled from the fields of an account adds the 128 bytes that `tb_layout` writes of it.
 #[tactic(auto, using(crate::proofs::Fields::accounts_are_laid_out))]
 pub fn spelled_accounts_are_laid_out()
     ensures { SpelledAccountsAreLaidOut }
 {}
 
-/// A line spelled from the fields of a transfer adds the 128 bytes that `tb_layout` writes of it.
+/// Establishes that a line spelled from the fields of a transfer adds the 128 bytes that `tb_layout` writes of it.
 #[tactic(auto, using(crate::proofs::Fields::transfers_are_laid_out))]
 pub fn spelled_transfers_are_laid_out()
     ensures { SpelledTransfersAreLaidOut }
 {}
 
-/// A line spelled from an id adds its 16 bytes, the lowest first.
+/// Establishes that a line spelled from an id adds its 16 bytes, the lowest first.
 #[tactic(auto, using(crate::proofs::Fields::ids_are_laid_out))]
 pub fn spelled_ids_are_laid_out()
     ensures { SpelledIdsAreLaidOut }

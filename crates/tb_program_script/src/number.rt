@@ -9,14 +9,14 @@ ghost use Rattle.tb_program_script.specs.Number.{number_of, fitting, within, num
 use crate::fault::Fault;
 use crate::text::{is_at_line_end, is_at_word_end, split_first_word, trim_spaces};
 
-/// Whether a word has only digits.
+/// Returns whether a word has only digits.
 fn are_digits(word: &[u8]) -> bool
     ensures { result ≡ list_all is_ascii_digit word.now }
 {
     word.iter().all(|b| b.is_ascii_digit())
 }
 
-/// A number, if it is there and in bounds.
+/// Returns a number, if it is there and in bounds.
 pub fn in_bounds(n: Option<u128>, low: u128, high: u128) -> Result<u128, Fault>
     ensures value { result ≡ within low high n }
     ensures bounds { IfOk result (λ n. (low ≤ n) × (n ≤ high)) }
@@ -27,7 +27,7 @@ pub fn in_bounds(n: Option<u128>, low: u128, high: u128) -> Result<u128, Fault>
     }
 }
 
-/// The text of a word that has only digits.
+/// Returns the text of a word that has only digits.
 #[tactic(auto, using(crate::proofs::Numbers::digits_are_text))]
 fn text_of(word: &[u8]) -> &str
     requires { list_all is_ascii_digit word.now ≡ true }
@@ -42,8 +42,8 @@ fn text_of(word: &[u8]) -> &str
 /// The most digits that always leave a number in 64 bits.
 const SHORT: usize = 19;
 
-/// The number that the first word of a text spells in 1 to 19 digits, and the rest of the text. The end of the word is
-/// seen as its digits are read.
+/// Returns the number that the first word of a text spells in 1 to 19 digits, and the rest of the text. The end of the
+/// word is seen as its digits are read.
 #[inline(always)]
 pub fn leading_number(text: &[u8]) -> Option<(u64, &[u8])>
     ensures number { IfSome result (λ both. number_of (first_word (first_line text.now)) ≡ Some both.0) }
@@ -72,8 +72,8 @@ pub struct TwoNumbers<'a> {
     pub rest: &'a [u8],
 }
 
-/// The numbers that the words of a text's first line spell, if these are two, of 1 to 19 digits each. The ends of the
-/// words and of the line are seen as the digits are read.
+/// Returns the numbers that the words of a text's first line spell, if these are two, of 1 to 19 digits each. The ends
+/// of the words and of the line are seen as the digits are read.
 #[inline(always)]
 pub fn two_short_numbers(text: &[u8]) -> Option<TwoNumbers>
     ensures numbers { IfSome result (λ two. map number_of (words_of (first_line text.now))
@@ -94,7 +94,7 @@ pub fn two_short_numbers(text: &[u8]) -> Option<TwoNumbers>
     }
 }
 
-/// The number that a word spells, if it fits, of any length.
+/// Returns the number that a word spells, if it fits, of any length.
 #[inline(never)]
 #[tactic(auto, using(crate::proofs::Numbers::too_long, crate::proofs::Numbers::no_digits, crate::proofs::Numbers::parsed))]
 fn long_number(word: &[u8]) -> Option<u128>
@@ -109,7 +109,7 @@ fn long_number(word: &[u8]) -> Option<u128>
     text_of(word).parse::<u128>().ok()
 }
 
-/// The number that a word spells, if it fits.
+/// Returns the number that a word spells, if it fits.
 #[inline(always)]
 fn fitting_number(word: &[u8]) -> Option<u128>
     ensures { result ≡ fitting (number_of word.now) }
@@ -120,7 +120,7 @@ fn fitting_number(word: &[u8]) -> Option<u128>
     }
 }
 
-/// The number that a word spells in 1 to 39 digits, if it is in bounds.
+/// Returns the number that a word spells in 1 to 39 digits, if it is in bounds.
 #[inline(always)]
 pub fn number_within(word: &[u8], low: u128, high: u128) -> Result<u128, Fault>
     ensures value { result ≡ number_within low high word.now }
@@ -129,7 +129,7 @@ pub fn number_within(word: &[u8], low: u128, high: u128) -> Result<u128, Fault>
     in_bounds(fitting_number(word), low, high)
 }
 
-/// The number that the first word of a text spells, if it fits, of any length, and the rest of the text.
+/// Returns the number that the first word of a text spells, if it fits, of any length, and the rest of the text.
 #[inline(never)]
 pub fn long_first(text: &[u8]) -> (Option<u128>, &[u8])
     ensures number { result.0 ≡ fitting (number_of (first_word (first_line text.now))) }

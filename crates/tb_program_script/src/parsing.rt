@@ -30,8 +30,8 @@ impl Display for ScriptError {
 
 impl Error for ScriptError {}
 
-/// What a script says, or the number of its first faulty line, from 1, and that line's fault. Each byte is read a
-/// bounded number of times. It takes memory for the items and the bytes of their packets.
+/// Returns what a script says, or the number of its first faulty line, from 1, and that line's fault. Each byte is read
+/// a bounded number of times. It takes memory for the items and the bytes of their packets.
 pub fn parse(alloc: Global, text: &[u8]) -> Result<Script, ScriptError>
     ensures { Parses result (script_of text.now) }
 {

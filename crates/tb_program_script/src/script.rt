@@ -67,7 +67,7 @@ fn one_word(words: Words) -> Result<&[u8], Fault>
     }
 }
 
-/// The number of a line that has one word more, if it is in bounds.
+/// Returns the number of a line that has one word more, if it is in bounds.
 #[inline(always)]
 fn one_number(words: Words, low: u128, high: u128) -> Result<u128, Fault>
     ensures value { result ≡ one_number low high (words_of words.entry.rest.now) }
@@ -83,7 +83,7 @@ struct TwoWords<'a> {
     second: &'a [u8],
 }
 
-/// The words of a line, if it has two.
+/// Returns the words of a line, if it has two.
 fn two_words(words: Words) -> Result<TwoWords, Fault>
     ensures { Tells (λ two. (two.first.now, two.second.now)) result (two_words (words_of words.entry.rest.now)) }
 {
@@ -101,7 +101,7 @@ struct PacketNumbers {
     operation: u8,
 }
 
-/// The numbers of a packet's line: its submitter, at most this one, and its operation.
+/// Returns the numbers of a packet's line: its submitter, at most this one, and its operation.
 fn packet_numbers(words: Words, most: u32) -> Result<PacketNumbers, Fault>
     ensures { Tells (λ numbers. (numbers.submitter, numbers.operation)) result
         (packet_numbers most (words_of words.entry.rest.now)) }
@@ -115,7 +115,7 @@ fn packet_numbers(words: Words, most: u32) -> Result<PacketNumbers, Fault>
     })
 }
 
-/// Whether a line has only bytes 32 to 126.
+/// Returns whether a line has only bytes 32 to 126.
 fn is_text(line: &[u8]) -> bool
     ensures { result ≡ is_text_line line.now }
 {
@@ -124,7 +124,7 @@ fn is_text(line: &[u8]) -> bool
 }
 
 impl Script {
-    /// A script without lines so far. Takes no memory.
+    /// Returns a script without lines so far. Takes no memory.
     pub fn new(alloc: Global) -> Script
         ensures { result ≡ nothing_parsed }
     {
@@ -143,14 +143,14 @@ impl Script {
         }
     }
 
-    /// Whether there was a packet, a pulse or a Close.
+    /// Returns whether there was a packet, a pulse or a Close.
     fn has_begun(&self) -> bool
         ensures { result ≡ has_begun self.now }
     {
         !self.items.is_empty() || self.packet.is_some()
     }
 
-    /// Whether a line with a keyword may follow those so far.
+    /// Returns whether a line with a keyword may follow those so far.
     fn may_stand(&self, keyword: Keyword) -> bool
         ensures { result ≡ may_stand self.now keyword }
     {
@@ -417,7 +417,7 @@ impl Script {
         Ok(others)
     }
 
-    /// The settings, and all items. The packet to which lines still added is the last of them.
+    /// Returns the settings, and all items. The packet to which lines still added is the last of them.
     pub fn finish(self) -> Result<(Settings, Vec<ScriptItem>), NoMemory>
         ensures all { IfOk result (λ both. (both.0 ≡ self.settings) × (both.1.items ≡ items_of self)) }
         ensures bounds { IfOk result (λ both. InBounds both.0) }

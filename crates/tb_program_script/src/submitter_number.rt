@@ -21,7 +21,7 @@ impl Model for SubmitterNumber {
 }
 
 impl SubmitterNumber {
-    /// The submitter of this number.
+    /// Returns the submitter of this number.
     pub fn new(number: u32) -> SubmitterNumber
         requires { number < 16 }
         ensures { result ≡ number }
@@ -29,7 +29,7 @@ impl SubmitterNumber {
         SubmitterNumber { number }
     }
 
-    /// Its number.
+    /// Returns its number.
     pub fn get(self) -> u32
         ensures value { result ≡ self }
         ensures bound { result < 16 }

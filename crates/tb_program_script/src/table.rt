@@ -3,7 +3,7 @@
 ghost use Rattle.std.specs.Prelude.{◌≡◌, map};
 ghost use Rattle.tb_program_script.specs.Steps.{look_up};
 
-/// The value that a table has for a word.
+/// Returns the value that a table has for a word.
 #[inline(always)]
 pub fn look_up<T: Copy>(mut table: &[(&[u8], T)], word: &[u8]) -> Option<T>
     ensures { result ≡ look_up word.now (map (λ row. (row.0.now, row.1)) table.entry.now) }

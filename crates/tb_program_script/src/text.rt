@@ -14,7 +14,7 @@ fn offset_of_other(bytes: &[u8], byte: u8) -> Option<usize>
     bytes.iter().position(|b| *b != byte)
 }
 
-/// The number of bytes before the first that is `byte`.
+/// Returns the number of bytes before the first that is `byte`.
 #[tactic(auto, using(crate::proofs::Texts::before_found))]
 pub fn length_before(bytes: &[u8], byte: u8) -> usize
     ensures value { result ≡ position_or_len (λ b. b == byte) bytes.now }
@@ -32,7 +32,7 @@ fn offset_of(bytes: &[u8], byte: u8) -> Option<usize>
     bytes.iter().position(|b| *b == byte)
 }
 
-/// The number of bytes before the first space. They are read one by one: words are short.
+/// Returns the number of bytes before the first space. They are read one by one: words are short.
 #[tactic(auto, using(crate::proofs::Texts::nowhere))]
 fn length_before_space(bytes: &[u8]) -> usize
     ensures value { result ≡ position_or_len (λ b. b == 32) bytes.now }
@@ -44,7 +44,7 @@ fn length_before_space(bytes: &[u8]) -> usize
     }
 }
 
-/// The number of spaces at the front.
+/// Returns the number of spaces at the front.
 #[tactic(auto, using(crate::proofs::Texts::nowhere))]
 fn leading_spaces(bytes: &[u8]) -> usize
     ensures value { result ≡ position_or_len (λ b. not (b == 32)) bytes.now }
@@ -56,7 +56,7 @@ fn leading_spaces(bytes: &[u8]) -> usize
     }
 }
 
-/// What follows the spaces at the front.
+/// Returns what follows the spaces at the front.
 #[tactic(auto, using(crate::proofs::Texts::words_trimmed, crate::proofs::Texts::trimmed_begins))]
 pub fn trim_spaces(line: &[u8]) -> &[u8]
     ensures same { words_of result.now ≡ words_of line.now }
@@ -68,7 +68,7 @@ pub fn trim_spaces(line: &[u8]) -> &[u8]
     trimmed
 }
 
-/// The first word of a line that begins with one, and the rest of the line.
+/// Returns the first word of a line that begins with one, and the rest of the line.
 fn split_word(line: &[u8]) -> (&[u8], &[u8])
     ensures word { result.0.now ≡ first_word line.now }
     ensures rest { result.1.now ≡ after_first_word line.now }
@@ -76,7 +76,7 @@ fn split_word(line: &[u8]) -> (&[u8], &[u8])
     line.split_at(length_before_space(line))
 }
 
-/// Whether the first line of a text has no byte.
+/// Returns whether the first line of a text has no byte.
 #[inline(always)]
 pub fn is_at_line_end(text: &[u8]) -> bool
     ensures { result ≡ (length (first_line text.now) == 0) }
@@ -87,7 +87,7 @@ pub fn is_at_line_end(text: &[u8]) -> bool
     }
 }
 
-/// Whether the first word of a text's first line has no byte.
+/// Returns whether the first word of a text's first line has no byte.
 #[inline(always)]
 pub fn is_at_word_end(text: &[u8]) -> bool
     ensures { result ≡ (length (first_word (first_line text.now)) == 0) }
@@ -104,7 +104,7 @@ fn offset_of_word_end(bytes: &[u8]) -> Option<usize>
     bytes.iter().position(|b| *b == b' ' || *b == b'\n')
 }
 
-/// The number of bytes before the first space of the first line, or before its end.
+/// Returns the number of bytes before the first space of the first line, or before its end.
 #[tactic(auto, using(crate::proofs::Texts::nowhere))]
 fn length_before_word_end(text: &[u8]) -> usize
     ensures value { result ≡ position_or_len (λ b. (b == 32) || (b == 10)) text.now }
@@ -116,7 +116,7 @@ fn length_before_word_end(text: &[u8]) -> usize
     }
 }
 
-/// The first word of a text that begins with one, and the rest of the text.
+/// Returns the first word of a text that begins with one, and the rest of the text.
 #[tactic(auto, using(crate::proofs::FirstLines::word_cut))]
 pub fn split_first_word(text: &[u8]) -> (&[u8], &[u8])
     ensures word { result.0.now ≡ first_word (first_line text.now) }
@@ -126,7 +126,7 @@ pub fn split_first_word(text: &[u8]) -> (&[u8], &[u8])
     text.split_at(length_before_word_end(text))
 }
 
-/// What follows a word and a byte that ends it, if the text begins with these.
+/// Returns what follows a word and a byte that ends it, if the text begins with these.
 #[inline(always)]
 pub fn strip_word<'a>(text: &'a [u8], word: &[u8], end: u8) -> Option<&'a [u8]>
     ensures { MatchOption result ((others : List ℕ) → text.now ≡ word.now ++ end ∷ others → ⊥)
@@ -140,7 +140,7 @@ pub fn strip_word<'a>(text: &'a [u8], word: &[u8], end: u8) -> Option<&'a [u8]>
     }
 }
 
-/// What follows the first byte, which ends a line, if there is one.
+/// Returns what follows the first byte, which ends a line, if there is one.
 pub fn skip_line_end(text: &[u8]) -> &[u8]
     ensures { result.now ≡ drop 1 text.now }
 {
@@ -150,7 +150,7 @@ pub fn skip_line_end(text: &[u8]) -> &[u8]
     }
 }
 
-/// The first line, and what follows the byte that ends it.
+/// Returns the first line, and what follows the byte that ends it.
 pub fn split_line(text: &[u8]) -> (&[u8], &[u8])
     ensures line { result.0.now ≡ first_line text.now }
     ensures others { result.1.now ≡ drop 1 (after_first_line text.now) }
@@ -170,7 +170,7 @@ pub struct FirstWord<'a> {
     pub rest: &'a [u8],
 }
 
-/// The first word of a line, if it has one.
+/// Returns the first word of a line, if it has one.
 pub fn first_word(line: &[u8]) -> Option<FirstWord>
     ensures words { MatchOption result (words_of line.now ≡ [])
         (λ first. words_of line.now ≡ first.word.now ∷ words_of first.rest.now) }

@@ -15,14 +15,14 @@ mod running;
 mod streams;
 mod submitters;
 
-/// What `list` writes for a script.
+/// Returns what `list` writes for a script.
 fn listed(rt: &(impl Abort + Alloc<A = Global>), script: &str) -> String {
     let mut out = Vec::new(rt.alloc());
     let _ = run_script(rt.alloc(), &mut script.as_bytes(), &mut out).expect(rt, "memory");
     String::from_utf8(out).ok().expect(rt, "text")
 }
 
-/// What `run` writes for a script.
+/// Returns what `run` writes for a script.
 fn ran<R: Abort + Threads + Wait + Sync + Alloc<A = Global>>(rt: &R, script: &str) -> String {
     let mut out = Vec::new(rt.alloc());
     let _ = run_threads(rt, rt.alloc(), &mut script.as_bytes(), &mut out).expect(rt, "memory");
@@ -61,7 +61,7 @@ fn assert_both<R: Abort + Threads + Wait + Sync + Alloc<A = Global>>(
     assert_run(rt, script, output);
 }
 
-/// The line of a packet's bytes, all with these two digits, after other lines.
+/// Returns the line of a packet's bytes, all with these two digits, after other lines.
 fn bytes_after(
     rt: &(impl Abort + Alloc<A = Global>),
     lines: &str,

@@ -21,7 +21,7 @@ pub enum Ending {
     Failed(ProgramFault),
 }
 
-/// How it ends after a script.
+/// Returns how it ends after a script.
 pub fn ending_of(outcome: Result<bool, ProgramFault>) -> Ending
     ensures { result ≡ ending_of outcome }
 {
@@ -33,7 +33,7 @@ pub fn ending_of(outcome: Result<bool, ProgramFault>) -> Ending
 }
 
 impl Ending {
-    /// The exit status.
+    /// Returns the exit status.
     pub fn status(&self) -> u8
         ensures { result ≡ status_of self.now }
     {
@@ -44,7 +44,7 @@ impl Ending {
         }
     }
 
-    /// What is printed last. Of a failed write nothing is, since nothing more can be written.
+    /// Returns what is printed last. Of a failed write nothing is, since nothing more can be written.
     pub fn text(&self) -> &'static str
         ensures { result.now ≡ text_of self.now }
     {

@@ -42,7 +42,7 @@ impl Model for Plan {
 }
 
 impl Plan {
-    /// Nothing is planned yet, but there is room for this number of items.
+    /// Returns a plan of nothing, with capacity for this number of items.
     fn with_capacity(alloc: Global, items: usize) -> Result<Plan, NoMemory>
         ensures { IfOk result (λ plan. plan ≡ record { queue = []; lines = [] }) }
     {
@@ -128,7 +128,7 @@ impl Plan {
         }
     }
 
-    /// The parts of the plan.
+    /// Returns the parts of the plan.
     pub fn into_parts(self) -> PlanParts
         ensures queue { result.queue.items ≡ self.queue }
         ensures lines { result.lines.items ≡ self.lines }
@@ -140,8 +140,8 @@ impl Plan {
     }
 }
 
-/// The plan of a script's items. A packet is moved into its job, with room for its failures; none of its bytes is
-/// copied. The items are taken out of the list, which keeps its own memory.
+/// Returns the plan of a script's items. A packet is moved into its job, with room for its failures; none of its bytes
+/// is copied. The items are taken out of the list, which keeps its own memory.
 #[tactic(auto, unfolding(crate::specs::Plan::plan_after))]
 pub fn plan_all(alloc: Global, limit: u32, items: &mut Vec<ScriptItem>) -> Result<Plan, NoMemory>
     requires { limit ≤ batch_max }

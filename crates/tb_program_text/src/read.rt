@@ -13,8 +13,8 @@ const SCRIPT_MAX: usize = 16_777_216;
 /// The most reads of a script, which has at least one byte in each but the last.
 const MOST_READS: u32 = 16_777_217;
 
-/// All bytes of a reader, or None where there are more than a script may have. What fails is a read fault, and so is a
-/// reader that hasn't ended after the most reads.
+/// Returns all bytes of a reader, or None if there are more than a script may have. What fails is a read fault, and
+/// so is a reader that hasn't ended after the most reads.
 pub fn read_script<R: Read>(alloc: Global, reader: &mut R) -> Result<Option<Vec<u8>>, ProgramFault>
     ensures whole { IfOk result (λ text. IfSome (R.remaining reader.old) (λ bytes. IsWhole text bytes)) }
     ensures thread { IfErr result (λ fault. fault ≢ ProgramFault.NoThread) }

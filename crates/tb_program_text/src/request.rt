@@ -32,7 +32,7 @@ fn asked_by(word: &str) -> Request
     }
 }
 
-/// What the words ask for; the first is the program's name.
+/// Returns what the words ask for; the first is the program's name.
 pub fn request_of(words: Args) -> Request
     ensures { result ≡ request_of (map string_bytes (into_iter_items words)) }
 {

@@ -25,7 +25,7 @@ use tb_work::Item;
 /// As many bytes as the line of a committed packet without failures mostly has.
 const USUAL_LINE: usize = 32;
 
-/// The lines of a plan whose queue is listed.
+/// Returns the lines of a plan whose queue is listed.
 fn text_of(
     alloc: Global,
     clock: u64,
@@ -47,7 +47,7 @@ fn text_of(
     Ok(out)
 }
 
-/// The output for a script that has no fault.
+/// Returns the output for a script that has no fault.
 fn output_for(alloc: Global, script: Script) -> Result<String, NoMemory>
     ensures { IfOk result (λ text. string_bytes text ≡ listing script) }
 {
@@ -57,8 +57,8 @@ fn output_for(alloc: Global, script: Script) -> Result<String, NoMemory>
     text_of(alloc, settings.clock(), limit, queue, &lines)
 }
 
-/// The output for everything that a reader has, and whether its script has no fault. The text and its list of items are
-/// freed last: once large blocks were freed, the C library copies what grows, where it would move its pages.
+/// Returns the output for everything that a reader has, and whether its script has no fault. The text and its list of
+/// items are freed last: once large blocks were freed, the C library copies what grows, where it would move its pages.
 fn output_of<R: Read>(alloc: Global, reader: &mut R) -> Result<(String, bool), ProgramFault>
     ensures output { IfOk result (λ both. IfSome (R.remaining reader.old) (λ bytes.
         (string_bytes both.0 ≡ out bytes) × (both.1 ≡ is_faultless bytes))) }

@@ -20,7 +20,7 @@ pub enum Source {
     Faulty(String),
 }
 
-/// The line that is printed of a fault.
+/// Returns the line that is printed of a fault.
 fn source_of_fault(alloc: Global, line: usize, text: &str) -> Result<Source, NoMemory>
     ensures { IfOk result (λ source. IsFaultAt line text.now source) }
 {
@@ -29,7 +29,7 @@ fn source_of_fault(alloc: Global, line: usize, text: &str) -> Result<Source, NoM
     Ok(Source::Faulty(out))
 }
 
-/// What the bytes of a script say.
+/// Returns what the bytes of a script say.
 fn source_of_bytes(alloc: Global, text: &[u8]) -> Result<Source, NoMemory>
     ensures { IfOk result (λ source. IsTold source (script_of text.now)) }
 {
@@ -40,7 +40,7 @@ fn source_of_bytes(alloc: Global, text: &[u8]) -> Result<Source, NoMemory>
     }
 }
 
-/// What the text that was read says, or the fault of a text that is too long.
+/// Returns what the text that was read says, or the fault of a text that is too long.
 pub fn source_of(alloc: Global, text: &Option<Vec<u8>>) -> Result<Source, NoMemory>
     ensures { IfOk result (λ source. (bytes : List ℕ) → IsWhole text.now bytes → IsSource source bytes) }
 {

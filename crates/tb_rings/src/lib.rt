@@ -50,8 +50,8 @@ impl<T: Drop> Drop for Inlet<T> {
     }
 }
 
-/// Both ends of a new, empty ring with this number of slots. With no slot it is always full. Its slots take memory
-/// here, and no call takes any later.
+/// Returns both ends of a new, empty ring with this number of slots. With no slot it is always full. Its slots take
+/// memory here, and no call takes any later.
 pub fn ring<T: Drop>(alloc: Global, capacity: usize) -> Result<(Outlet<T>, Inlet<T>), NoMemory>
     ensures pair { IfOk result (λ ends. IsRing ends.0 ends.1) }
     ensures slots { IfOk result (λ ends. slots ends.0 ≡ capacity) }
@@ -99,7 +99,7 @@ impl<T: Drop> Inlet<T> {
         Some(self.consumer.pop_known())
     }
 
-    /// Whether a value is seen. Looks into the ring only if none is known.
+    /// Returns whether a value is seen. Looks into the ring only if none is known.
     #[inline(always)]
     fn has_value(&mut self) -> bool
         ensures ring { SameInlet self.old self.new }
@@ -110,7 +110,8 @@ impl<T: Drop> Inlet<T> {
         self.consumer.cached_slots() > 0 || self.consumer.slots() > 0
     }
 
-    /// How many values are in the ring, with both ends in one thread: these and what was taken are all that was given.
+    /// Returns how many values are in the ring, with both ends in one thread: these and what was taken are all that was
+    /// given.
     pub fn lying(&mut self, outlet: &mut Outlet<T>) -> usize
         requires { IsRing outlet.old self.old }
         ensures ring { SameInlet self.old self.new × SameOutlet outlet.old outlet.new }

@@ -19,7 +19,7 @@ pub struct SpinWait {
 }
 
 impl SpinWait {
-    /// As if there had just been something to do. Takes no memory.
+    /// Returns the state after something was done. Takes no memory.
     pub fn new() -> SpinWait {
         SpinWait {
             yields: Cell::new(0),

@@ -33,7 +33,7 @@ impl Model for Control {
 }
 
 impl Control {
-    /// The control of a queue, over the sender whose number comes after the last submitter's.
+    /// Returns the control of a queue, over the sender whose number comes after the last submitter's.
     pub(crate) fn new(sender: Sender) -> Control
         requires none { sender.queued ≡ [] }
         requires control { sender.seat.number ≡ sender.seat.submitters }
@@ -42,7 +42,7 @@ impl Control {
         Control { sender, queued: 0 }
     }
 
-    /// How many pulses it has queued.
+    /// Returns how many pulses it has queued.
     pub fn queued(&self) -> u64
         ensures { result ≡ length self.now.queued }
     {

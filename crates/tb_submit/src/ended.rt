@@ -40,7 +40,7 @@ impl Model for Ended {
 }
 
 impl Ended {
-    /// A submitter that has ended, before its queue is settled.
+    /// Returns a submitter that has ended, before its queue is settled.
     pub(crate) fn new(sender: EndedSender, inlet: Inlet<Reply>) -> Ended
         ensures { result ≡ record {
           origin = record { seat = sender.seat; ring = inlet_ring inlet };

@@ -25,7 +25,7 @@ pub struct Ends {
     pub outlets: Vec<Outlet<Reply>>,
 }
 
-/// The submitters of a queue, each with the ring of its replies.
+/// Returns the submitters of a queue, each with the ring of its replies.
 fn open_submitters(
     alloc: Global,
     reader: &mut Reader,
@@ -54,7 +54,7 @@ fn open_submitters(
     Ok((opened, outlets))
 }
 
-/// All ends of a queue whose bounds were checked.
+/// Returns all ends of a queue whose bounds were checked.
 fn open_ends(
     alloc: Global,
     limit: u32,
@@ -82,9 +82,9 @@ fn open_ends(
     })
 }
 
-/// A queue of `capacity` slots with all its ends, for submitters with this credit. It is refused for its limit (1 to
-/// 8190), then its capacity or credit (1 to 65,536), then the number of submitters (1 to 16), then memory. All memory
-/// but that of packets is taken here: the queue's slots and a ring of `credit` slots for each submitter.
+/// Returns a queue of `capacity` slots with all its ends, for submitters with this credit. It is refused for its limit
+/// (1 to 8190), then its capacity or credit (1 to 65,536), then the number of submitters (1 to 16), then memory. All
+/// memory but that of packets is taken here: the queue's slots and a ring of `credit` slots for each submitter.
 pub fn open_queue(
     alloc: Global,
     limit: u32,

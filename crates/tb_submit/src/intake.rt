@@ -36,7 +36,7 @@ impl Model for Intake {
 }
 
 impl Intake {
-    /// The intake of a queue, once each sender has its number.
+    /// Returns the intake of a queue, once each sender has its number.
     pub(crate) fn new(reader: Reader, submitters: u32, limit: u32) -> Intake
         requires entries { reader.entries ≡ [] }
         requires count { reader.count ≡ submitters + 1 }

@@ -60,7 +60,7 @@ impl Model for Reader {
 }
 
 impl Reader {
-    /// The pass that takes from a new queue of `capacity` slots.
+    /// Returns the pass that takes from a new queue of `capacity` slots.
     pub(crate) fn new(alloc: Global, capacity: usize) -> Result<Reader, NoMemory>
         requires { 0 < capacity }
         ensures fresh { IfOk result (λ reader. (reader.entries ≡ []) × (reader.taken ≡ []) × (reader.count ≡ 0)
@@ -77,7 +77,7 @@ impl Reader {
         })
     }
 
-    /// A new sender, with the next number.
+    /// Returns a new sender, with the next number.
     pub(crate) fn sender(
         &mut self,
         number: u32,

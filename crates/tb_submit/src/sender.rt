@@ -55,14 +55,14 @@ impl Model for Sender {
 }
 
 impl Sender {
-    /// Its number among the senders, from 0.
+    /// Returns its number among the senders, from 0.
     pub(crate) fn number(&self) -> u32
         ensures { result ≡ self.now.seat.number }
     {
         self.number
     }
 
-    /// The most events of a packet.
+    /// Returns the most events of a packet.
     pub(crate) fn limit(&self) -> u32
         ensures { result ≡ self.now.seat.limit }
     {

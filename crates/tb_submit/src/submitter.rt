@@ -51,7 +51,7 @@ impl Model for Submitter {
         s.told (taken s.inlet) };
 }
 
-/// What an outcome says of all packets that come later.
+/// Returns what an outcome says of all packets that come later.
 fn told_by(outcome: &Outcome) -> Option<Refusal>
     ensures { result ≡ spec.told_by outcome.now }
 {
@@ -63,7 +63,7 @@ fn told_by(outcome: &Outcome) -> Option<Refusal>
 }
 
 impl Submitter {
-    /// A submitter over its sender and its reply ring, with nothing queued and nothing in flight.
+    /// Returns a submitter over its sender and its reply ring, with nothing queued and nothing in flight.
     pub(crate) fn new(sender: Sender, inlet: Inlet<Reply>, credit: u32) -> Submitter
         requires among { sender.seat.number < sender.seat.submitters }
         requires limit { sender.seat.limit ≤ batch_max }
@@ -81,14 +81,15 @@ impl Submitter {
         }
     }
 
-    /// How many packets it has queued. The next one gets this number.
+    /// Returns how many packets it has queued. The next one gets this number.
     pub fn queued(&self) -> u64
         ensures { result ≡ length self.now.queued }
     {
         self.queued
     }
 
-    /// How many packets are queued and their replies not read, at most the credit. Only packets are queued by it.
+    /// Returns how many packets are queued and their replies not read, at most the credit. Only packets are queued by
+    /// it.
     pub fn in_flight(&self) -> u32
         ensures value { result ≡ in_flight self.now }
         ensures packets { ArePackets self.now.origin.seat.limit self.now.origin.seat.number 0 self.now.queued }
@@ -135,7 +136,7 @@ impl Submitter {
         }
     }
 
-    /// The next reply; None where none is seen. It takes no memory and waits for nobody.
+    /// Returns the next reply; None if none is seen. It takes no memory and waits for nobody.
     pub fn reply(&mut self) -> Option<Reply>
         ensures some { IfSome result (λ reply. self.new
             ≡ record self.old { read = self.old.read ++ reply ∷ []; lying = self.new.lying }) }

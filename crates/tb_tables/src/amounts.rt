@@ -17,7 +17,7 @@ pub enum Phase {
     Posted,
 }
 
-/// What the amount of a plain or pending transfer is.
+/// Returns what the amount of a plain or pending transfer is.
 pub fn phase_of(transfer: &Transfer) -> Phase
     ensures { result ≡ phase_of transfer.now }
 {

@@ -63,7 +63,7 @@ pub fn pop_failed(failed: &mut Ids)
     failed.truncate(failed.len().saturating_sub(1));
 }
 
-/// The index of the entry with this id.
+/// Returns the index of the entry with this id.
 pub fn index_of<V: Drop>(entries: &ById<V>, id: u128) -> usize
     requires { IsSome (get nat_eq entries.now id) }
     ensures { slice_get (keys entries.now) result ≡ Some id }
@@ -71,7 +71,7 @@ pub fn index_of<V: Drop>(entries: &ById<V>, id: u128) -> usize
     entries.get_index_of(&id).unwrap()
 }
 
-/// The status of what a post or a void names.
+/// Returns the status of what a post or a void names.
 pub fn resolved_status(is_post: bool) -> Status
     ensures { result ≡ status_after is_post }
 {

@@ -33,7 +33,7 @@ pub struct IdHasher {
 }
 
 impl IdHasher {
-    /// The hasher with a seed.
+    /// Returns the hasher with a seed.
     pub fn new(seed: Seed) -> IdHasher
         ensures low { result.low ≡ bit_xor seed.low 0x243f_6a88_85a3_08e3 }
         ensures high { result.high ≡ bit_xor seed.high 0x9e37_79b9_7f4a_7c15 }
@@ -52,7 +52,7 @@ impl IdHasher {
     }
 }
 
-/// The halves of a product of 128 bits, joined by exclusive or.
+/// Returns the halves of a product of 128 bits, joined by exclusive or.
 fn folded_product(a: u64, b: u64) -> u64
     ensures { result ≡ folded a b }
 {

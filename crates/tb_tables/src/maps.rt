@@ -175,7 +175,7 @@ impl Maps {
         );
     }
 
-    /// The indices of the accounts of a plain or pending transfer.
+    /// Returns the indices of the accounts of a plain or pending transfer.
     pub fn indices_of(&self, transfer: &Transfer) -> Indices
         requires { MayAdd self.now.facts transfer.now }
         ensures at { HaveIndices self.now.facts transfer.now result }
@@ -188,7 +188,7 @@ impl Maps {
         }
     }
 
-    /// The indices of the accounts of a post or a void, and of the transfer that it names.
+    /// Returns the indices of the accounts of a post or a void, and of the transfer that it names.
     pub fn resolved_indices(&self, transfer: &Transfer, pending: usize) -> Indices
         requires pending { IsIndexOfTransfer self.now.facts transfer.now.pending_id (Some pending) }
         requires may { MayResolve self.now.facts transfer.now }
@@ -203,21 +203,21 @@ impl Maps {
         }
     }
 
-    /// The account with this id, with its balances.
+    /// Returns the account with this id, with its balances.
     pub fn account(&self, id: u128) -> Option<Account>
         ensures { result ≡ balanced_account self.now.facts id }
     {
         self.accounts.get(&id).copied()
     }
 
-    /// The index of the account with this id.
+    /// Returns the index of the account with this id.
     pub fn account_index(&self, id: u128) -> Option<usize>
         ensures { IsIndexOf self.now.facts id result }
     {
         self.accounts.get_index_of(&id)
     }
 
-    /// The account at an index, with its balances.
+    /// Returns the account at an index, with its balances.
     pub fn account_at(&self, index: usize) -> Option<Account>
         ensures { result ≡ option_map (balanced self.now.facts) (slice_get self.now.facts.accounts index) }
     {
@@ -225,49 +225,49 @@ impl Maps {
         Some(*account)
     }
 
-    /// How many accounts there are.
+    /// Returns how many accounts there are.
     pub fn accounts(&self) -> usize
         ensures { result ≡ length self.now.facts.accounts }
     {
         self.accounts.len()
     }
 
-    /// The transfer with this id.
+    /// Returns the transfer with this id.
     pub fn transfer(&self, id: u128) -> Option<Transfer>
         ensures { result ≡ transfer_with self.now.facts id }
     {
         self.transfers.transfer(id)
     }
 
-    /// The index of the transfer with this id.
+    /// Returns the index of the transfer with this id.
     pub fn transfer_index(&self, id: u128) -> Option<usize>
         ensures { IsIndexOfTransfer self.now.facts id result }
     {
         self.transfers.index_of(id)
     }
 
-    /// The transfer at an index.
+    /// Returns the transfer at an index.
     pub fn transfer_at(&self, index: usize) -> Option<Transfer>
         ensures { result ≡ slice_get self.now.facts.transfers index }
     {
         self.transfers.transfer_at(index)
     }
 
-    /// The status of the pending transfer with this id.
+    /// Returns the status of the pending transfer with this id.
     pub fn status(&self, id: u128) -> Option<Status>
         ensures { result ≡ status_with self.now.facts id }
     {
         self.transfers.status(id)
     }
 
-    /// The status of the pending transfer at an index.
+    /// Returns the status of the pending transfer at an index.
     pub fn status_at(&self, index: usize) -> Option<Status>
         ensures { result ≡ status_if_pending self.now.facts (slice_get self.now.facts.transfers index) }
     {
         self.transfers.status_at(index)
     }
 
-    /// Whether an id is among those that failed.
+    /// Returns whether an id is among those that failed.
     pub fn failed(&self, id: u128) -> bool
         ensures { result ≡ is_failed self.now.facts id }
     {

@@ -19,14 +19,14 @@ impl Model for Mark {
 }
 
 impl Mark {
-    /// A mark after this number of changes.
+    /// Returns a mark after this number of changes.
     pub(crate) fn new(changes: usize) -> Mark
         ensures { result ≡ changes }
     {
         Mark { changes }
     }
 
-    /// The number of changes before it.
+    /// Returns the number of changes before it.
     pub fn changes(self) -> usize
         ensures { result ≡ self }
     {

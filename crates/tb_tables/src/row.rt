@@ -15,7 +15,7 @@ pub struct Row {
 impl Row {
     ghost use Rattle.tb_tables.specs.Changing.{is_open_status};
 
-    /// Whether the transfer still reserves its amount.
+    /// Returns whether the transfer still reserves its amount.
     pub fn is_open(&self) -> bool
         ensures { result ≡ is_open_status self.now.status }
     {

@@ -22,14 +22,14 @@ use crate::status::Status;
 use crate::transfers::Transfers;
 use tb_layout::{Account, NANOSECONDS_PER_SECOND, NoMemory, Transfer};
 
-/// Whether a transfer has a moment at which it expires.
+/// Returns whether a transfer has a moment at which it expires.
 fn is_timed(transfer: &Transfer) -> bool
     ensures { result ≡ is_timed_of transfer.now }
 {
     transfer.is_pending() && transfer.timeout != 0
 }
 
-/// When a timed transfer with this timestamp expires, in nanoseconds.
+/// Returns when a timed transfer with this timestamp expires, in nanoseconds.
 fn expires_at(transfer: &Transfer, timestamp: u64) -> u64
     requires { expires_at_of (stamped timestamp transfer.now) < 2 ^ 64 }
     ensures { result ≡ expires_at_of (stamped timestamp transfer.now) }
@@ -136,7 +136,7 @@ pub fn undo_transfer(
     unapply(accounts, transfers, indices, transfer);
 }
 
-/// The index of the transfer that a change resolved.
+/// Returns the index of the transfer that a change resolved.
 fn named_by(change: &Change<Indices>) -> Option<usize>
     ensures { result ≡ named_by_of change.now }
 {
@@ -146,7 +146,7 @@ fn named_by(change: &Change<Indices>) -> Option<usize>
     }
 }
 
-/// Whether a transfer has a pair, and reserves nothing any more.
+/// Returns whether a transfer has a pair, and reserves nothing any more.
 fn is_spent(row: &Row) -> bool
     ensures { result ≡ (is_timed_of row.now.transfer && not (is_open_status row.now.status)) }
 {

@@ -52,15 +52,15 @@ impl Tables {
     ghost use Rattle.tb_tables.specs.History.{with_change, mark_of, back_to, without_past};
     ghost use Rattle.tb_tables.specs.Contents.{MayStore, HaveIndices};
 
-    /// Tables without facts. Takes no memory.
+    /// Returns tables without facts. Takes no memory.
     pub fn new(alloc: Global) -> Tables
         ensures { result ≡ record { now = no_facts; past = [] } }
     {
         Tables::with_seed(alloc, Seed::default())
     }
 
-    /// Tables without facts, whose ids are hashed with a seed: with numbers that an attacker doesn't know, ids that are
-    /// known to have one hash don't make look-ups slow. The facts don't depend on it. Takes no memory.
+    /// Returns tables without facts, whose ids are hashed with a seed: with numbers that an attacker doesn't know, ids
+    /// that are known to have one hash don't make look-ups slow. The facts don't depend on it. Takes no memory.
     pub fn with_seed(alloc: Global, seed: Seed) -> Tables
         ensures { result ≡ record { now = no_facts; past = [] } }
     {
@@ -215,77 +215,79 @@ impl Tables {
         self.store(transfer, transfer.timestamp, indices)
     }
 
-    /// The account with this id, with its balances.
+    /// Returns the account with this id, with its balances.
     pub fn account(&self, id: u128) -> Option<Account>
         ensures { result ≡ balanced_account self.now.now id }
     {
         self.maps.account(id)
     }
 
-    /// The index in the order of making of the account with this id, counted from 0.
+    /// Returns the index in the order of making of the account with this id, counted from 0.
     pub fn account_index(&self, id: u128) -> Option<usize>
         ensures { IsIndexOf self.now.now id result }
     {
         self.maps.account_index(id)
     }
 
-    /// The account at an index in the order of making, counted from 0, with its balances.
+    /// Returns the account at an index in the order of making, counted from 0, with its balances.
     pub fn account_at(&self, index: usize) -> Option<Account>
         ensures { result ≡ option_map (balanced self.now.now) (slice_get self.now.now.accounts index) }
     {
         self.maps.account_at(index)
     }
 
-    /// How many accounts there are.
+    /// Returns how many accounts there are.
     pub fn accounts(&self) -> usize
         ensures { result ≡ length self.now.now.accounts }
     {
         self.maps.accounts()
     }
 
-    /// The transfer with this id; a post or a void with its resolved fields.
+    /// Returns the transfer with this id; a post or a void with its resolved fields.
     pub fn transfer(&self, id: u128) -> Option<Transfer>
         ensures { result ≡ transfer_with self.now.now id }
     {
         self.maps.transfer(id)
     }
 
-    /// The index in the order of making of the transfer with this id, counted from 0.
+    /// Returns the index in the order of making of the transfer with this id, counted from 0.
     pub fn transfer_index(&self, id: u128) -> Option<usize>
         ensures { IsIndexOfTransfer self.now.now id result }
     {
         self.maps.transfer_index(id)
     }
 
-    /// The transfer at an index in the order of making, counted from 0; a post or a void with its resolved fields.
+    /// Returns the transfer at an index in the order of making, counted from 0; a post or a void with its resolved
+    /// fields.
     pub fn transfer_at(&self, index: usize) -> Option<Transfer>
         ensures { result ≡ slice_get self.now.now.transfers index }
     {
         self.maps.transfer_at(index)
     }
 
-    /// The status of the pending transfer with this id.
+    /// Returns the status of the pending transfer with this id.
     pub fn status(&self, id: u128) -> Option<Status>
         ensures { result ≡ status_with self.now.now id }
     {
         self.maps.status(id)
     }
 
-    /// The status of the pending transfer at an index in the order of making, counted from 0.
+    /// Returns the status of the pending transfer at an index in the order of making, counted from 0.
     pub fn status_at(&self, index: usize) -> Option<Status>
         ensures { result ≡ status_if_pending self.now.now (slice_get self.now.now.transfers index) }
     {
         self.maps.status_at(index)
     }
 
-    /// Whether an id is among those that failed.
+    /// Returns whether an id is among those that failed.
     pub fn failed(&self, id: u128) -> bool
         ensures { result ≡ is_failed self.now.now id }
     {
         self.maps.failed(id)
     }
 
-    /// A mark at the changes so far, to which `undo_to` can come back. It is spent by `keep` and by going back past it.
+    /// Returns a mark at the changes so far, to which `undo_to` can come back. It is spent by `keep` and by going back
+    /// past it.
     pub fn mark(&self) -> Mark
         ensures { result ≡ mark_of self.now }
     {

@@ -18,7 +18,7 @@ pub fn looks_up(operation: u8) -> bool
     operation == LOOKUP_ACCOUNTS
 }
 
-/// How many bytes an event of an operation has. None where there is no such operation.
+/// Returns how many bytes an event of an operation has. None if there is no such operation.
 fn event_size(operation: u8) -> Option<usize>
     ensures { result ≡ spec.event_size operation }
 {
@@ -33,9 +33,9 @@ fn event_size(operation: u8) -> Option<usize>
     }
 }
 
-/// The number of a packet's events, or why it is not admitted: another operation, data that isn't
-/// whole events, more events than the limit. A packet without events is admitted. Costs the same
-/// for any packet (checks of tb_client before a packet is queued).
+/// Returns the number of a packet's events, or why it is not admitted: another operation, data that isn't whole events,
+/// more events than the limit. A packet without events is admitted. Costs the same for any packet (checks of tb_client
+/// before a packet is queued).
 pub fn admit(limit: u32, packet: &Packet) -> Result<u32, Refusal>
     ensures { result ≡ spec.admission_of limit packet.now }
 {

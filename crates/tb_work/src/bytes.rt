@@ -17,21 +17,21 @@ impl Model for Bytes {
 }
 
 impl Bytes {
-    /// These bytes, which are not copied.
+    /// Returns these bytes, which are not copied.
     pub fn from_vec(bytes: Vec<u8>) -> Bytes
         ensures { result ≡ bytes.items }
     {
         Bytes { bytes }
     }
 
-    /// The bytes with their memory.
+    /// Returns the bytes with their memory.
     pub fn into_vec(self) -> Vec<u8>
         ensures { result.items ≡ self }
     {
         self.bytes
     }
 
-    /// All bytes.
+    /// Returns all bytes.
     pub fn as_slice(&self) -> &[u8]
         ensures { result.now ≡ self.now }
     {

@@ -48,8 +48,8 @@ impl Model for Job {
     ghost invariant = { λ job. HasRoomFor job.admitted job.room };
 }
 
-/// Room for the failures of a packet: none for a lookup, which has no failures, except the two slots that any room has.
-/// Up to two failures take no memory.
+/// Returns room for the failures of a packet: none for a lookup, which has no failures, except the two slots that any
+/// room has. Up to two failures take no memory.
 fn room_for(alloc: Global, operation: u8, count: u32) -> Result<FailureRoom, AllocError>
     ensures empty { IfOk result (λ room. room.items ≡ []) }
     ensures fits { IfOk result (λ room. spec.looks_up operation ≡ false → count ≤ room.capacity) }
@@ -64,7 +64,7 @@ fn room_for(alloc: Global, operation: u8, count: u32) -> Result<FailureRoom, All
     }
 }
 
-/// Whether the event of a chunk is linked. It is read from its flags, and no event is decoded.
+/// Returns whether the event of a chunk is linked. It is read from its flags, and no event is decoded.
 fn is_last_linked(operation: u8, chunk: &[u8; 128]) -> bool
     ensures { result ≡ is_chunk_linked operation chunk.now }
 {
@@ -123,7 +123,7 @@ impl Job {
         }
     }
 
-    /// Its submitter, its number and its number of events.
+    /// Returns its submitter, its number and its number of events.
     pub fn stub(&self) -> Stub
         ensures value { result ≡ stub_of self.now }
         ensures bound { result.count ≤ batch_max }
@@ -135,7 +135,7 @@ impl Job {
         }
     }
 
-    /// The packet as it was handed in.
+    /// Returns the packet as it was handed in.
     pub fn packet(&self) -> &Packet
         ensures packet { result.now ≡ self.now.packet }
         ensures admitted { IsOk (admission_of batch_max self.now.packet) }
@@ -143,7 +143,7 @@ impl Job {
         self.admitted.packet()
     }
 
-    /// The packet as it was handed in. The room for its failures is freed.
+    /// Returns the packet as it was handed in. The room for its failures is freed.
     pub fn into_packet(self) -> Packet
         ensures { result ≡ self.packet }
     {
@@ -152,7 +152,7 @@ impl Job {
         packet
     }
 
-    /// Its packet, and the room for its failures.
+    /// Returns its packet, and the room for its failures.
     pub(crate) fn into_packet_and_room(self) -> (Packet, FailureRoom)
         ensures packet { result.0 ≡ self.packet }
         ensures empty { result.1.items ≡ [] }
@@ -167,7 +167,7 @@ impl Job {
         (admitted.into_packet(), room)
     }
 
-    /// Whether its last event is linked, so that nothing may be joined to it. A lookup never is.
+    /// Returns whether its last event is linked, so that nothing may be joined to it. A lookup never is.
     pub fn is_open(&self) -> bool
         ensures { result ≡ is_open self.now.packet }
     {

@@ -22,7 +22,7 @@ impl Model for Moment {
 }
 
 impl Moment {
-    /// The moment of this number of nanoseconds, at most `MOMENT_MAX`.
+    /// Returns the moment of this number of nanoseconds, at most `MOMENT_MAX`.
     pub fn new(nanoseconds: u64) -> Moment
         requires { nanoseconds ≤ moment_max }
         ensures { result ≡ nanoseconds }
@@ -30,7 +30,7 @@ impl Moment {
         Moment { nanoseconds }
     }
 
-    /// Its nanoseconds.
+    /// Returns its nanoseconds.
     pub fn get(self) -> u64
         ensures value { result ≡ self }
         ensures bound { result ≤ moment_max }

@@ -66,7 +66,7 @@ fn add_id(bytes: &mut Vec<u8>, id: u128) -> Result<(), NoMemory>
     Ok(())
 }
 
-/// The accounts in turn, in 128 bytes each.
+/// Returns the accounts in turn, in 128 bytes each.
 fn lay_accounts(alloc: Global, accounts: &[Account]) -> Result<Vec<u8>, NoMemory>
     ensures bytes { IfOk result (λ bytes. bytes.items ≡ flat_map account_bytes accounts.now) }
     ensures events { IfOk result (λ bytes. accounts_of bytes.items ≡ accounts.now) }
@@ -78,7 +78,7 @@ fn lay_accounts(alloc: Global, accounts: &[Account]) -> Result<Vec<u8>, NoMemory
     Ok(bytes)
 }
 
-/// The transfers in turn, in 128 bytes each.
+/// Returns the transfers in turn, in 128 bytes each.
 fn lay_transfers(alloc: Global, transfers: &[Transfer]) -> Result<Vec<u8>, NoMemory>
     ensures bytes { IfOk result (λ bytes. bytes.items ≡ flat_map transfer_bytes transfers.now) }
     ensures events { IfOk result (λ bytes. transfers_of bytes.items ≡ transfers.now) }
@@ -90,7 +90,7 @@ fn lay_transfers(alloc: Global, transfers: &[Transfer]) -> Result<Vec<u8>, NoMem
     Ok(bytes)
 }
 
-/// The ids in turn, in 16 bytes each.
+/// Returns the ids in turn, in 16 bytes each.
 fn lay_ids(alloc: Global, ids: &[u128]) -> Result<Vec<u8>, NoMemory>
     ensures bytes { IfOk result (λ bytes. bytes.items ≡ flat_map (bytes_of 16) ids.now) }
     ensures events { IfOk result (λ bytes. ids_of bytes.items ≡ ids.now) }
@@ -106,8 +106,8 @@ impl Packet {
     ghost use Rattle.tb_layout.specs.Events.{Accounts, Ids, Transfers};
     ghost use Rattle.tb_work.specs.Packet.{events_in};
 
-    /// A packet that makes these accounts, in their order, with a user word. Takes 128 bytes of memory an account, at
-    /// once. How many a packet may have is its pipeline's limit, 8190 at most, and isn't looked at here.
+    /// Returns a packet that makes these accounts, in their order, with a user word. Takes 128 bytes of memory an
+    /// account, at once. How many a packet may have is its pipeline's limit, 8190 at most, and isn't looked at here.
     pub fn of_accounts(alloc: Global, accounts: &[Account], user: u64) -> Result<Packet, NoMemory>
         ensures operation { IfOk result (λ packet. packet.operation ≡ create_accounts) }
         ensures bytes { IfOk result (λ packet. packet.bytes ≡ flat_map account_bytes accounts.now) }
@@ -121,8 +121,8 @@ impl Packet {
         })
     }
 
-    /// A packet that makes these transfers, in their order, with a user word. Takes 128 bytes of memory a transfer, at
-    /// once. How many a packet may have is its pipeline's limit, 8190 at most, and isn't looked at here.
+    /// Returns a packet that makes these transfers, in their order, with a user word. Takes 128 bytes of memory a
+    /// transfer, at once. How many a packet may have is its pipeline's limit, 8190 at most, and isn't looked at here.
     pub fn of_transfers(
         alloc: Global,
         transfers: &[Transfer],
@@ -140,8 +140,9 @@ impl Packet {
         })
     }
 
-    /// A packet that looks up the accounts with these ids, in their order, with a user word. Takes 16 bytes of memory an
-    /// id, at once. How many a packet may have is its pipeline's limit, 8190 at most, and isn't looked at here.
+    /// Returns a packet that looks up the accounts with these ids, in their order, with a user word. Takes 16 bytes of
+    /// memory an id, at once. How many a packet may have is its pipeline's limit, 8190 at most, and isn't looked at
+    /// here.
     pub fn of_ids(alloc: Global, ids: &[u128], user: u64) -> Result<Packet, NoMemory>
         ensures operation { IfOk result (λ packet. packet.operation ≡ lookup_accounts) }
         ensures bytes { IfOk result (λ packet. packet.bytes ≡ flat_map (bytes_of 16) ids.now) }

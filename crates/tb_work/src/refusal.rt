@@ -39,7 +39,7 @@ pub enum Refusal {
 }
 
 impl Refusal {
-    /// The number that is printed, from 1.
+    /// Returns the number that is printed, from 1.
     pub fn number(self) -> u32
         ensures { result ≡ spec.number_of self }
     {
@@ -60,7 +60,7 @@ impl Refusal {
         }
     }
 
-    /// The name that is printed.
+    /// Returns the name that is printed.
     pub fn name(self) -> &'static str
         ensures { result.now ≡ spec.name_of self }
     {

@@ -59,7 +59,7 @@ fn rebase_into(room: &mut FailureRoom, failures: &[Failure], offset: u32, count:
 impl Reply {
     ghost use Rattle.tb_work.specs.Packet.{reply_with};
 
-    /// The reply to a job's packet, with this outcome. Takes no memory; the job's room is freed.
+    /// Returns the reply to a job's packet, with this outcome. Takes no memory; the job's room is freed.
     pub fn of(job: Job, outcome: Outcome) -> Reply
         requires { IsOutcomeOf job.packet outcome }
         ensures { result ≡ reply_with outcome job }
@@ -73,9 +73,9 @@ impl Reply {
         }
     }
 
-    /// The reply to a packet that was committed at a place, with its failures out of a batch's, whose
-    /// indices are counted from the packet's offset there. The failures go into the job's own room, so
-    /// that no memory is taken (Demuxer of TigerBeetle's state machine).
+    /// Returns the reply to a packet that was committed at a place, with its failures out of a batch's, whose indices
+    /// are counted from the packet's offset there. The failures go into the job's own room, so that no memory is taken
+    /// (Demuxer of TigerBeetle's state machine).
     pub fn committed(job: Job, place: u64, failures: &[Failure], offset: u32) -> Reply
         requires no_lookup { is_lookup job.packet ≡ false }
         requires rise { RiseWithin offset (offset + count_of job.packet) failures.now }

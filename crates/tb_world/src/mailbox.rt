@@ -78,7 +78,7 @@ impl Model for Mailboxes {
 }
 
 impl Mailboxes {
-    /// An empty ring for each of the submitters; none has received anything.
+    /// Returns an empty ring for each of the submitters; none has received anything.
     pub(crate) fn new(alloc: Global, submitters: u32) -> Result<Mailboxes, NoMemory>
         ensures { IfOk result (λ mailboxes. mailboxes ≡ replicate submitters empty_mailbox) }
     {
@@ -120,7 +120,7 @@ impl Mailboxes {
         mailbox.take()
     }
 
-    /// What a submitter received; nothing where there is no such submitter.
+    /// Returns what a submitter received; nothing where there is no such submitter.
     pub(crate) fn received(&self, submitter: u32) -> &[Reply]
         ensures { result.now ≡ (mailbox_at self.now submitter).received }
     {

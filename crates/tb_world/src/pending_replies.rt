@@ -32,7 +32,7 @@ impl Model for PendingReplies {
 }
 
 impl PendingReplies {
-    /// No reply is left.
+    /// Returns the state in which no reply is left.
     pub(crate) fn nothing() -> PendingReplies
         ensures { result ≡ [] }
     {
@@ -69,7 +69,7 @@ impl PendingReplies {
         }
     }
 
-    /// Whether no reply is left.
+    /// Returns whether no reply is left.
     pub(crate) fn is_empty(&self) -> bool
         ensures { result ≡ is_none self.now }
     {

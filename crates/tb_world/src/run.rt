@@ -33,9 +33,9 @@ fn go_through(world: &mut World, events: Vec<Event>) -> Result<(), NoMemory>
     Ok(())
 }
 
-/// A World, from a clock in nanoseconds, 0 to `CLOCK_MAX`, on, after events in order; one that returns false is passed
-/// over. The limit is 1 to 8190 events, and there are 1 to 16 submitters. It takes memory for the World and in its
-/// steps; if that really fails, nothing is returned.
+/// Returns a World, from a clock in nanoseconds, 0 to `CLOCK_MAX`, on, after events in order; one that returns false is
+/// passed over. The limit is 1 to 8190 events, and there are 1 to 16 submitters. It takes memory for the World and in
+/// its steps; if that really fails, nothing is returned.
 pub fn run_world(
     alloc: Global,
     clock: u64,

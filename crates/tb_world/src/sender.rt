@@ -14,7 +14,7 @@ pub struct Sender {
 }
 
 impl Sender {
-    /// Whether sender `number` may push an item; the control is the sender after the submitters.
+    /// Returns whether sender `number` may push an item; the control is the sender after the submitters.
     pub(crate) fn may_push(self, limit: u32, submitters: u32, number: u32, item: &Item) -> bool
         ensures { result ≡ may_push limit submitters number self item.now }
     {
@@ -34,7 +34,7 @@ impl Sender {
         }
     }
 
-    /// The sender after an item that it may push.
+    /// Returns the sender after an item that it may push.
     pub(crate) fn after(self, item: &Item) -> Sender
         requires { (limit : ℕ) × (submitters : ℕ) × (number : ℕ)
             × (may_push limit submitters number self item.now ≡ true) }

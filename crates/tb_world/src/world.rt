@@ -95,7 +95,7 @@ impl Model for World {
     ghost invariant = { λ world. IsWorld world.submitters world.front world.queue.items world.senders.items };
 }
 
-/// The submitters and the control; none has pushed anything.
+/// Returns the submitters and the control; none has pushed anything.
 fn newcomers(alloc: Global, submitters: u32) -> Result<Vec<Sender>, NoMemory>
     requires { submitters ≤ submitters_max }
     ensures { IfOk result (λ senders. senders.items ≡ replicate (submitters + 1) newcomer) }
@@ -109,7 +109,7 @@ fn newcomers(alloc: Global, submitters: u32) -> Result<Vec<Sender>, NoMemory>
     Ok(senders)
 }
 
-/// The senders, and the submitters' rings.
+/// Returns the senders, and the submitters' rings.
 fn sides(alloc: Global, submitters: u32) -> Result<(Vec<Sender>, Mailboxes), NoMemory>
     requires { submitters ≤ submitters_max }
     ensures senders { IfOk result (λ sides. sides.0.items ≡ replicate (submitters + 1) newcomer) }
@@ -136,8 +136,8 @@ impl World {
     ghost use Rattle.tb_world.specs.World.{received_of, moved, takes_memory};
     ghost use Rattle.tb_world.specs.declared.event.Event.TheVariants as event;
 
-    /// A World in which nothing happened, whose clock starts at a number of nanoseconds, 0 to `CLOCK_MAX`. The limit is
-    /// 1 to 8190 events, and there are 1 to 16 submitters; the limit is looked at first, and memory last.
+    /// Returns a World in which nothing happened, whose clock starts at a number of nanoseconds, 0 to `CLOCK_MAX`. The
+    /// limit is 1 to 8190 events, and there are 1 to 16 submitters; the limit is looked at first, and memory last.
     pub fn new(alloc: Global, clock: u64, limit: u32, submitters: u32) -> Result<World, Refusal>
         requires { clock ≤ clock_max }
         ensures world { IfOk result (λ world. world ≡ new_world clock limit submitters) }
@@ -167,14 +167,14 @@ impl World {
         })
     }
 
-    /// What a submitter received, in order; nothing where there is no such submitter.
+    /// Returns what a submitter received, in order; nothing where there is no such submitter.
     pub fn received(&self, sender: u32) -> &[Reply]
         ensures { result.now ≡ received_of self.now sender }
     {
         self.mailboxes.received(sender)
     }
 
-    /// The ledger, with its journal and its machine.
+    /// Returns the ledger, with its journal and its machine.
     pub fn ledger(&self) -> &Ledger
         ensures { result.now ≡ self.now.ledger }
     {
@@ -235,7 +235,7 @@ impl World {
         }
     }
 
-    /// Whether the batcher has a parcel, a group, or Last to push.
+    /// Returns whether the batcher has a parcel, a group, or Last to push.
     fn has_parcel(&self) -> bool
         ensures { result ≡ is_some (batch_push self.now self.now.parcels self.now.front.held) }
     {

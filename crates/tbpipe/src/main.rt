@@ -12,7 +12,7 @@ use std::{env, io};
 use tb_program::{run_script, run_threads};
 use tb_program_text::{Ending, ProgramFault, Request, ending_of, request_of};
 
-/// What the arguments ask for. One that isn't text asks for nothing that there is.
+/// Returns what the arguments ask for. One that isn't text asks for nothing that there is.
 fn read_arguments(rt: &(impl Env + Alloc<A = Global>)) -> Result<Request, ProgramFault> {
     match env::args(rt) {
         Ok(words) => Ok(request_of(words)),

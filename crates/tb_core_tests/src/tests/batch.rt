@@ -10,7 +10,7 @@ mod examples;
 mod memory;
 mod sizes;
 
-/// The job of a packet of events that are all zeros but for their flags; a lookup has as many ids.
+/// Returns the job of a packet of events that are all zeros but for their flags; a lookup has as many ids.
 fn job_of(rt: &(impl Abort + Alloc<A = Global>), number: u64, operation: u8, flags: &[u8]) -> Job {
     let mut bytes = Vec::new(rt.alloc());
     for flag in flags {

@@ -12,12 +12,12 @@ use tb_demux::Cutter;
 use tb_layout::{CREATE_ACCOUNTS, Failure, LOOKUP_ACCOUNTS, read_account};
 use tb_work::{Accounts, Answer, Failures, Job, Outcome, Reply};
 
-/// What packets say of the submitter that queued them.
+/// Returns what packets say of the submitter that queued them.
 fn user_word_of(submitter: u32) -> u64 {
     40 + u64::from(submitter)
 }
 
-/// A submitter's packet of `count` events of zeros; no event is linked.
+/// Returns a submitter's packet of `count` events of zeros; no event is linked.
 fn job_of(
     rt: &(impl Abort + Alloc<A = Global>),
     submitter: u32,
@@ -37,7 +37,7 @@ fn job_of(
     job
 }
 
-/// Two packets of two accounts, of submitters 0 and 1.
+/// Returns two packets of two accounts, of submitters 0 and 1.
 fn two_jobs(rt: &(impl Abort + Alloc<A = Global>)) -> Vec<Job>
     ensures number { length result.items ≡ 2 }
     ensures events { count_of_all result.items ≡ 4 }
@@ -51,7 +51,7 @@ fn two_jobs(rt: &(impl Abort + Alloc<A = Global>)) -> Vec<Job>
     jobs
 }
 
-/// How many accounts were found by a lookup that was committed at a place.
+/// Returns how many accounts were found by a lookup that was committed at a place.
 fn found_at(outcome: &Outcome, at: u64) -> Option<usize> {
     match outcome {
         Outcome::Committed {
@@ -62,7 +62,7 @@ fn found_at(outcome: &Outcome, at: u64) -> Option<usize> {
     }
 }
 
-/// The next reply, which is to this submitter's packet.
+/// Returns the next reply, which is to this submitter's packet.
 fn next_of(rt: &impl Abort, cutter: &mut Cutter, submitter: u32) -> Reply {
     let reply = cutter.next().expect(rt, "a reply is left");
     assert!(rt; reply.submitter == submitter);

@@ -45,14 +45,14 @@ fn ticket(alloc: Global, sender: u32, made: Made) -> Result<Ticket, Refusal>
     Ok(Ticket { sender, item })
 }
 
-/// A ticket, where memory isn't refused.
+/// Returns a ticket, where memory isn't refused.
 pub(super) fn ticket_of(rt: &(impl Abort + Alloc<A = Global>), sender: u32, made: Made) -> Ticket
     ensures { result.sender ≡ sender }
 {
     ticket(rt.alloc(), sender, made).expect(rt, "memory")
 }
 
-/// A front for one submitter, whose batches have at most 4 events.
+/// Returns a front for one submitter, whose batches have at most 4 events.
 pub(super) fn small_front(alloc: Global) -> Result<Front, Refusal>
     ensures { IfOk result (λ front. front.submitters ≡ 1) }
 {
@@ -142,7 +142,7 @@ fn packets_of_all_sizes(rt: HostRuntime) {
     drop(front);
 }
 
-/// Why a front isn't opened.
+/// Returns why a front isn't opened.
 fn refusal(alloc: Global, limit: u32, submitters: u32) -> Option<Refusal> {
     Front::new(alloc, limit, submitters).err()
 }
@@ -265,7 +265,7 @@ fn joins(front: &mut Front, parcels: &mut ArrayVec<Parcel, 2>, ticket: Ticket) -
     parcels.is_empty()
 }
 
-/// How many of three packets are taken and held; if one isn't, the parcels have what the front yields at it.
+/// Returns how many of three packets are taken and held; if one isn't, the parcels have what the front yields at it.
 fn held_of_three(
     alloc: Global,
     front: &mut Front,
@@ -285,7 +285,7 @@ fn held_of_three(
     Ok(3)
 }
 
-/// How many packets there are in the group held, which is then no longer held.
+/// Returns how many packets there are in the group held, which is then no longer held.
 fn packets_held(front: &mut Front) -> Option<usize> {
     let batch = front.idle()?;
     Some(batch.jobs().len())

@@ -148,7 +148,7 @@ fn assert_pulse_between(rt: &impl Abort, ledger: &Ledger) {
     assert!(rt; !ledger.stopped());
 }
 
-/// A job as a batch.
+/// Returns a job as a batch.
 fn alone(rt: &(impl Abort + Alloc<A = Global>), job: Job) -> Batch {
     let mut batcher = Batcher::new(rt.alloc(), 8190).expect(rt, "memory");
     let joined = matches!(batcher.offer(job), Offered::Joined);
@@ -156,17 +156,17 @@ fn alone(rt: &(impl Abort + Alloc<A = Global>), job: Job) -> Batch {
     batcher.seal().expect(rt, "the job is held")
 }
 
-/// A packet that creates the account of an id.
+/// Returns a packet that creates the account of an id.
 fn creating_one(rt: &(impl Abort + Alloc<A = Global>), number: u64, id: u128) -> Job {
     creating(rt.alloc(), 0, number, &[account(id, 0)]).expect(rt, "the packet is admitted")
 }
 
-/// A batch of one packet, which creates the account of an id.
+/// Returns a batch of one packet, which creates the account of an id.
 fn batch_of(rt: &(impl Abort + Alloc<A = Global>), id: u128) -> Parcel {
     Parcel::Batch(alone(rt, creating_one(rt, 0, id)))
 }
 
-/// The place of a lookup, how many accounts it found, and the first.
+/// Returns the place of a lookup, how many accounts it found, and the first.
 fn found(reply: &Reply) -> Option<(u64, usize, Account)> {
     match &reply.outcome {
         Outcome::Committed {
@@ -188,7 +188,7 @@ fn found_by_a_lookup(rt: HostRuntime) {
     drop(ledger);
 }
 
-/// A lookup of accounts 1 and 2; only the first exists.
+/// Looks accounts 1 and 2 up; only the first exists.
 fn assert_found(rt: &(impl Abort + Alloc<A = Global>), ledger: &mut Ledger) {
     let ids = Packet::of_ids(rt.alloc(), &[1, 2], 7).expect(rt, "memory");
     let asked = job(rt.alloc(), 0, 1, ids).expect(rt, "the packet is admitted");
@@ -221,7 +221,7 @@ fn assert_nothing_committed(rt: &impl Abort, ledger: &Ledger) {
     assert!(rt; ledger.machine().clock() == 0);
 }
 
-/// A batch whose allocation fails, and what comes after it.
+/// Refuses a batch's allocation, and tries what comes after it.
 fn refuse_commit(rt: &(impl Abort + Alloc<A = Global>), ledger: &mut Ledger, told: &mut Vec<Told>) {
     tell(rt, ledger.apply_as_refused(batch_of(rt, 1)), told);
     assert!(rt; ledger.stopped());

@@ -64,7 +64,7 @@ fn packet_behind_shut(rt: HostRuntime) {
     drop(listed);
 }
 
-/// So many accounts, with rising ids.
+/// Returns `count` accounts, with rising ids.
 fn accounts(rt: &(impl Abort + Alloc<A = Global>), first_id: u128, count: u32) -> Vec<Account> {
     let mut accounts = Vec::new(rt.alloc());
     for place in 0..count {
@@ -74,7 +74,7 @@ fn accounts(rt: &(impl Abort + Alloc<A = Global>), first_id: u128, count: u32) -
     accounts
 }
 
-/// So many transfers of 1 from account 1 to account 2, with ids from 1 on.
+/// Returns `count` transfers of 1 from account 1 to account 2, with ids from 1 on.
 fn transfers(rt: &(impl Abort + Alloc<A = Global>), count: u32) -> Vec<Transfer> {
     let mut transfers = Vec::new(rt.alloc());
     for place in 0..count {
@@ -84,7 +84,7 @@ fn transfers(rt: &(impl Abort + Alloc<A = Global>), count: u32) -> Vec<Transfer>
     transfers
 }
 
-/// A packet of submitter 0 that creates `count` accounts.
+/// Returns a packet of submitter 0 that creates `count` accounts.
 fn packet_of_accounts(
     rt: &(impl Abort + Alloc<A = Global>),
     number: u64,
@@ -96,14 +96,14 @@ fn packet_of_accounts(
     Item::Packet(job)
 }
 
-/// A packet of submitter 0 that creates `count` transfers.
+/// Returns a packet of submitter 0 that creates `count` transfers.
 fn packet_of_transfers(rt: &(impl Abort + Alloc<A = Global>), number: u64, count: u32) -> Item {
     let transfers = transfers(rt, count);
     let job = transferring(rt.alloc(), number, &transfers).expect(rt, "the packet is admitted");
     Item::Packet(job)
 }
 
-/// Four accounts, one, and none.
+/// Returns four accounts, one, and none.
 fn overflowing(rt: &(impl Abort + Alloc<A = Global>)) -> Vec<Item> {
     let mut items = Vec::new(rt.alloc());
     for (number, first_id, count) in [(0, 1, 4), (1, 5, 1), (2, 6, 0)] {
@@ -125,7 +125,7 @@ fn full_batch_then_overflow(rt: HostRuntime) {
     drop(listed);
 }
 
-/// A full packet of accounts, a full one of transfers, and a few more accounts.
+/// Returns a full packet of accounts, a full one of transfers, and a few more accounts.
 fn full_packets(rt: &(impl Abort + Alloc<A = Global>)) -> Vec<Item> {
     let mut items = Vec::new(rt.alloc());
     items

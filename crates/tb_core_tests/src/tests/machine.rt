@@ -19,7 +19,7 @@ mod running;
 
 const MOST: u128 = u128::MAX;
 
-/// A post's or void's event, which leaves all else to the transfer that it names.
+/// Returns a post's or void's event, which leaves all else to the transfer that it names.
 fn resolving(id: u128, pending_id: u128, amount: u128, flags: u16) -> Transfer {
     Transfer {
         pending_id,
@@ -29,7 +29,7 @@ fn resolving(id: u128, pending_id: u128, amount: u128, flags: u16) -> Transfer {
     }
 }
 
-/// Whether an operation makes accounts or transfers, and a body has a whole number of events, no more than a
+/// Returns whether an operation makes accounts or transfers, and a body has a whole number of events, no more than a
 /// batch may have.
 fn is_packet(operation: u8, body: &[u8]) -> bool
     ensures operation { result ≡ true → operation == create_accounts || operation == create_transfers ≡ true }
@@ -41,7 +41,7 @@ fn is_packet(operation: u8, body: &[u8]) -> bool
         && body.len() / 128 <= BATCH_MAX as usize
 }
 
-/// Whether a packet was committed and each of its events succeeded, as they do unless memory runs out.
+/// Returns whether a packet was committed and each of its events succeeded, as they do unless memory runs out.
 fn commits(rt: &impl Alloc<A = Global>, machine: &mut Machine, operation: u8, body: &[u8]) -> bool {
     if !is_packet(operation, body) {
         return false;

@@ -24,7 +24,7 @@ pub(super) enum Made {
     Close,
 }
 
-/// A packet of a submitter as a job, unless memory ran out for it.
+/// Returns a packet of a submitter as a job, unless memory ran out for it.
 fn job_of(
     alloc: Global,
     submitter: u32,
@@ -37,7 +37,7 @@ fn job_of(
     }
 }
 
-/// A packet that creates accounts.
+/// Returns a packet that creates accounts.
 pub(super) fn creating(
     alloc: Global,
     submitter: u32,
@@ -47,7 +47,7 @@ pub(super) fn creating(
     job_of(alloc, submitter, number, accounts_packet(alloc, accounts))
 }
 
-/// A packet of submitter 0 that creates transfers.
+/// Returns a packet of submitter 0 that creates transfers.
 pub(super) fn transferring(
     alloc: Global,
     number: u64,
@@ -73,7 +73,7 @@ fn job_of_zeros(
     job_of(alloc, submitter, number, packet)
 }
 
-/// What a sender queues.
+/// Returns what a sender queues.
 pub(super) fn item(alloc: Global, sender: u32, made: Made) -> Result<Item, Refusal> {
     Ok(match made {
         Made::Packet { number, id } => {

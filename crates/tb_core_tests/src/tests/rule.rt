@@ -46,7 +46,7 @@ impl Rule {
     }
 }
 
-/// One of `many` numbers, counted from 0, that a counter and a purpose lead to.
+/// Returns one of `many` numbers, counted from 0, that a counter and a purpose lead to.
 pub(super) fn pick(counter: u64, purpose: u64, many: u64) -> u64 {
     let number = counter.wrapping_add(purpose.wrapping_mul(7));
     (number.wrapping_mul(number) % 1009)

@@ -36,7 +36,7 @@ fn account(id: u128) -> Account
     }
 }
 
-/// A transfer from account 1 to account 2.
+/// Returns a transfer from account 1 to account 2.
 fn transfer(id: u128, amount: u128, pending_id: u128, flags: u16) -> Transfer
     ensures { result ≡ record {
       id = id;
@@ -68,13 +68,13 @@ fn transfer(id: u128, amount: u128, pending_id: u128, flags: u16) -> Transfer
     }
 }
 
-/// The pending and the posted debits of account 1.
+/// Returns the pending and the posted debits of account 1.
 fn debits(tables: &Tables) -> Option<(u128, u128)> {
     let account = tables.account(1)?;
     Some((account.debits_pending, account.debits_posted))
 }
 
-/// Whether a fact holds.
+/// Returns whether a fact holds.
 fn holds(fact: bool) -> Result<(), Fail> {
     if fact {
         Ok(())

@@ -33,7 +33,7 @@ pub(super) const SIX_PLACES: [Told; 6] = [
     Told::Committed(6),
 ];
 
-/// The first reply of a batch.
+/// Returns the first reply of a batch.
 pub(super) fn first_reply(outcomes: Outcomes) -> Option<Reply> {
     match outcomes {
         Outcomes::Cut(mut cutter) => cutter.next(),
@@ -41,7 +41,7 @@ pub(super) fn first_reply(outcomes: Outcomes) -> Option<Reply> {
     }
 }
 
-/// What a reply says.
+/// Returns what a reply says.
 pub(super) fn told_by(reply: &Reply) -> Told {
     match &reply.outcome {
         Outcome::Committed { place, answer: _ } => Told::Committed(*place),
@@ -50,7 +50,7 @@ pub(super) fn told_by(reply: &Reply) -> Told {
     }
 }
 
-/// The failures of a packet that was committed; None where it wasn't, or was a lookup.
+/// Returns the failures of a packet that was committed; None if it wasn't, or was a lookup.
 pub(super) fn failures(reply: &Reply) -> Option<&[Failure]> {
     match &reply.outcome {
         Outcome::Committed {

@@ -11,7 +11,7 @@ mod memory;
 mod packets;
 mod sizes;
 
-/// A packet that asks for accounts with these ids and flags.
+/// Returns a packet that asks for accounts with these ids and flags.
 fn packet_of_accounts(rt: &(impl Abort + Alloc<A = Global>), events: &[(u128, u16)]) -> Packet {
     let mut accounts = Vec::new(rt.alloc());
     for (id, flags) in events {

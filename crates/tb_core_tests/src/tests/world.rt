@@ -27,7 +27,7 @@ enum Step {
     ReplyPop(u32),
 }
 
-/// The event of a step.
+/// Returns the event of a step.
 fn event(alloc: Global, step: Step) -> Result<Event, Refusal> {
     Ok(match step {
         Step::Push(sender, made) => Event::Push(Ticket {
@@ -46,7 +46,7 @@ fn event(alloc: Global, step: Step) -> Result<Event, Refusal> {
     })
 }
 
-/// What the World answers to a step.
+/// Returns what the World answers to a step.
 fn answer(rt: &(impl Abort + Alloc<A = Global>), world: &mut World, step: Step) -> bool {
     let event = event(rt.alloc(), step).expect(rt, "memory");
     world.step(event).ok().expect(rt, "memory")
@@ -68,7 +68,8 @@ fn number_of(rt: &impl Abort, digits: &str) -> u64 {
     digits.parse::<u64>().ok().expect(rt, "a number")
 }
 
-/// What a sender pushes: `close`, `end`, `pulse5` at moment 5, or `packet0=1`, number 0, which creates account 1.
+/// Returns what a sender pushes: `close`, `end`, `pulse5` at moment 5, or `packet0=1`, number 0, which creates account
+/// 1.
 fn made_of(rt: &impl Abort, pushed: &str) -> Made {
     match pushed {
         "close" => return Made::Close,
@@ -86,7 +87,8 @@ fn made_of(rt: &impl Abort, pushed: &str) -> Made {
     }
 }
 
-/// The step of a word: the name of a stage's step, or a sender's number, a colon, and `reply` or what it pushes.
+/// Returns the step of a word: the name of a stage's step, or a sender's number, a colon, and `reply` or what it
+/// pushes.
 fn step_of(rt: &impl Abort, word: &str) -> Step {
     for (name, step) in STAGES.iter() {
         if word == *name {
@@ -101,7 +103,7 @@ fn step_of(rt: &impl Abort, word: &str) -> Step {
     }
 }
 
-/// The step of a word, and what the World answers to it: false after a `!`, and else true.
+/// Returns the step of a word, and what the World answers to it: false after a `!`, and else true.
 fn answered_step(rt: &impl Abort, word: &str) -> (Step, bool) {
     match word.strip_prefix('!') {
         Some(refused) => (step_of(rt, refused), false),

@@ -32,7 +32,7 @@ mod sizes;
 /// How often a test gives way before it gives up.
 const MOST_TURNS: u32 = 1_000_000;
 
-/// A packet of accounts with this one account, or without events where the id is 0. The user word is the id.
+/// Returns a packet of accounts with this one account, or without events where the id is 0. The user word is the id.
 fn packet_of(alloc: Global, operation: u8, id: u8) -> Result<Packet, NoMemory> {
     let accounts = [account(u128::from(id), 0)];
     let mut packet = accounts_packet(alloc, &accounts[usize::from(id == 0)..])?;
@@ -41,7 +41,7 @@ fn packet_of(alloc: Global, operation: u8, id: u8) -> Result<Packet, NoMemory> {
     Ok(packet)
 }
 
-/// What a packet is known by: its operation, how many bytes it has, and its user word.
+/// Returns what a packet is known by: its operation, how many bytes it has, and its user word.
 fn look_of(packet: &Packet) -> (u8, usize, u64) {
     (packet.operation, packet.bytes.as_slice().len(), packet.user)
 }
@@ -64,7 +64,7 @@ fn told_by(reply: Reply) -> Told {
     told
 }
 
-/// A pipeline whose clock starts at 0.
+/// Returns a pipeline whose clock starts at 0.
 fn opened(
     alloc: Global,
     limit: u32,
@@ -87,7 +87,7 @@ struct Lone {
     control: Control,
 }
 
-/// The parts of a pipeline that was opened for one submitter.
+/// Returns the parts of a pipeline that was opened for one submitter.
 fn lone_of(opened: Opened) -> Lone
     requires { length opened.submitters.items ≡ 1 }
     ensures { (result.pipeline ≡ opened.pipeline) × (result.submitter ∷ [] ≡ opened.submitters.items)
@@ -108,7 +108,7 @@ fn lone_of(opened: Opened) -> Lone
     }
 }
 
-/// A pipeline of one submitter, with clock 0, or why it isn't opened.
+/// Returns a pipeline of one submitter, with clock 0, or why it isn't opened.
 fn opened_lone(alloc: Global, limit: u32, capacity: u32, credit: u32) -> Result<Lone, Refusal>
     ensures together { IfOk result (λ lone. AreTogether lone.pipeline (lone.submitter ∷ []) lone.control) }
     ensures as_asked { IfOk result (λ lone. IsOpenedAs 0 limit 1 lone.pipeline) }
@@ -119,7 +119,7 @@ fn opened_lone(alloc: Global, limit: u32, capacity: u32, credit: u32) -> Result<
     }
 }
 
-/// The same with limit 4 and ample memory.
+/// Returns the same with limit 4 and ample memory.
 fn open_lone(rt: &impl Abort, alloc: Global, capacity: u32, credit: u32) -> Lone
     ensures together { AreTogether result.pipeline (result.submitter ∷ []) result.control }
     ensures as_asked { IsOpenedAs 0 4 1 result.pipeline }
@@ -143,7 +143,7 @@ fn submit<R: Wait + Abort>(
     submitter.submit(rt, alloc, packet)
 }
 
-/// The answer to a packet of an operation with one account: its number, or why it is refused.
+/// Returns the answer to a packet of an operation with one account: its number, or why it is refused.
 fn answer_to<R: Wait + Abort>(
     rt: &R,
     alloc: Global,
@@ -182,7 +182,7 @@ fn end_control<R: Wait + Abort>(rt: &R, control: Control, shut: bool) -> Control
     ended.ok().expect(rt, "there is a place for the end")
 }
 
-/// Room for an end of each of up to 16 submitters, asked for again if it is refused.
+/// Returns capacity for an end of each of up to 16 submitters, asked for again if it is refused.
 fn room_for_ends(alloc: Global) -> Result<Vec<Ended>, AllocError>
     ensures { IfOk result (λ ends. ends.items ≡ []) }
 {
@@ -325,7 +325,7 @@ fn assert_report(
     assert_eq!(rt; next_told(ended), None);
 }
 
-/// The place in the next unread reply of a submitter.
+/// Returns the place in the next unread reply of a submitter.
 fn next_told(ended: &mut Ended) -> Option<Told> {
     let reply = ended.reply()?;
     Some(told_by(reply))

@@ -15,12 +15,12 @@ mod rings;
 mod rounds;
 mod threads;
 
-/// A packet of this number of bytes, each of them 7.
+/// Returns a packet of this number of bytes, each of them 7.
 fn sevens(alloc: Global, operation: u8, length: usize) -> Result<Packet, AllocError> {
     Ok(packet_of(operation, Vec::from_elem(alloc, 7u8, length)?))
 }
 
-/// A packet's operation, the number of its bytes, their sum, and its user word.
+/// Returns a packet's operation, the number of its bytes, their sum, and its user word.
 fn look_of(packet: &Packet) -> (u8, usize, u64, u64) {
     let bytes = packet.bytes.as_slice();
     let mut sum = 0u64;
@@ -30,12 +30,12 @@ fn look_of(packet: &Packet) -> (u8, usize, u64, u64) {
     (packet.operation, bytes.len(), sum, packet.user)
 }
 
-/// What `look_of` returns for a packet of sevens.
+/// Returns what `look_of` returns for a packet of sevens.
 fn made_look(operation: u8, length: usize) -> (u8, usize, u64, u64) {
     (operation, length, (length as u64).wrapping_mul(7), 7)
 }
 
-/// A queue of this limit, capacity and credit: its one submitter, and its other ends.
+/// Returns a queue of this limit, capacity and credit: its one submitter, and its other ends.
 fn queue_of(
     rt: &(impl Abort + Alloc<A = Global>),
     limit: u32,
@@ -77,7 +77,7 @@ enum Says {
     Stopped,
 }
 
-/// The reply to a packet that says Committed at place 0 without failures, Shutdown or Stopped.
+/// Returns the reply to a packet that says Committed at place 0 without failures, Shutdown or Stopped.
 fn reply_to(alloc: Global, job: Job, says: Says) -> Reply {
     let outcome = match says {
         Says::Committed => Outcome::Committed {

@@ -49,7 +49,7 @@ fn receive_waits_for_one_reply(rt: HostRuntime) -> Result<(), Fail> {
 /// Two packets, and a wait for the first reply.
 const TWO: [Step; 3] = [SUBMIT, SUBMIT, Step::Receive];
 
-/// What the driver of a submitter sees whose packets have this user word.
+/// Returns what the driver of a submitter sees whose packets have this user word.
 fn two_seen(submitter: u32, user: u64) -> [Saw; 7] {
     [
         Saw::Asked,
@@ -62,14 +62,14 @@ fn two_seen(submitter: u32, user: u64) -> [Saw; 7] {
     ]
 }
 
-/// Whether this was seen of a submitter, and the second reply is left.
+/// Returns whether this was seen of a submitter, and the second reply is left.
 fn is_two(seen: &Seen, submitter: u32, user: u64) -> bool {
     seen.user == user
         && seen.by_driver.as_slice() == two_seen(submitter, user).as_slice()
         && seen.left.as_slice() == [Some(Saw::Given(submitter, 1, user))].as_slice()
 }
 
-/// Sixteen drivers, whose user words are 100 and more.
+/// Returns sixteen drivers, whose user words are 100 and more.
 fn sixteen(alloc: Global, steps: &'static [Step]) -> Result<Vec<Noter>, AllocError> {
     let mut drivers = Vec::new(alloc);
     for user in 100..116u64 {
@@ -92,7 +92,8 @@ fn drivers_in_order(rt: HostRuntime) -> Result<(), Fail> {
     Ok(())
 }
 
-/// The packet is queued, and its reply is given to the driver or left, as the submitter found room for its end or not.
+/// Returns whether the packet was queued, and its reply given to the driver or left, as the submitter found a slot for
+/// its end or not.
 fn is_one(seen: &Seen, submitter: u32) -> bool {
     let given = Saw::Given(submitter, 0, seen.user);
     let front = [Saw::Asked, Saw::Told(Ok(0)), Saw::Asked];

@@ -36,7 +36,7 @@ impl Sender {
         }
     }
 
-    /// The next number of the sequence, below `longest`.
+    /// Returns the next number of the sequence, below `longest`.
     fn gap(&mut self) -> u32 {
         self.number = self
             .number
@@ -76,7 +76,7 @@ impl Driver for Sender {
     }
 }
 
-/// How many replies each driver was given.
+/// Returns how many replies each driver was given.
 fn replies_to(alloc: Global, finished: Finished<Sender, PlanDriver>) -> Result<Vec<u32>, Fail> {
     let mut replies = Vec::new(alloc);
     for driver in &finished.drivers {

@@ -21,7 +21,7 @@ pub struct ScriptDriver {
 }
 
 impl ScriptDriver {
-    /// The driver for these packets, with room for what it is to note.
+    /// Returns the driver for these packets, with room for what it is to note.
     pub fn new(alloc: Global, packets: Vec<Packet>) -> Result<ScriptDriver, NoMemory>
         ensures share { IfOk result (λ driver. share_of driver ≡ packets.items) }
         ensures new { IfOk result (λ driver. (limit : ℕ) → HasSeenOf driver limit [] []) }
@@ -34,7 +34,8 @@ impl ScriptDriver {
         })
     }
 
-    /// What it has noted. None where it found no room, or a packet is left, as none is once the driver has ended.
+    /// Returns what it has noted. None if it found no room, or a packet is left, as none is once the driver has
+    /// ended.
     pub fn into_notes(self) -> Option<Notes>
         ensures notes { IfSome result (λ notes. notes ≡ self.notes) }
         ensures done { IsSome result → IsDone self }

@@ -6,7 +6,7 @@ ghost use Rattle.tb_program.specs.Faults.{program_fault_of};
 use tb_drive::DriveFault;
 use tb_program_text::ProgramFault;
 
-/// Why the program gives up if its threads did: memory ran out, or a thread can't be started.
+/// Returns why the program gives up if its threads did: memory ran out, or a thread can't be started.
 pub fn program_fault_of(fault: DriveFault) -> ProgramFault
     ensures { result ≡ program_fault_of fault }
 {

@@ -24,7 +24,7 @@ pub struct Notes {
 }
 
 impl Notes {
-    /// No notes, with room for this number of packets and their replies.
+    /// Returns no notes, with room for this number of packets and their replies.
     pub fn new(alloc: Global, packets: usize) -> Result<Notes, NoMemory>
         ensures { IfOk result (λ notes. (notes.told.items ≡ []) × (notes.replies.items ≡ [])
             × (notes.complete ≡ true)) }

@@ -210,7 +210,7 @@ fn put_run(
     put_ledger(out, ledger, refused_pulses)
 }
 
-/// An empty text, with room for the shortest lines of what was committed.
+/// Returns an empty text, with room for the shortest lines of what was committed.
 fn text_with_room(alloc: Global, ledger: &Ledger) -> Result<String, AllocError>
     ensures { IfOk result (λ text. string_bytes text ≡ []) }
 {
@@ -218,7 +218,7 @@ fn text_with_room(alloc: Global, ledger: &Ledger) -> Result<String, AllocError>
     String::with_capacity(alloc, probable)
 }
 
-/// A text with all lines of a run added to it.
+/// Returns a text with all lines of a run added to it.
 fn with_run(text: String, finished: Finished<ScriptDriver, PlanDriver>) -> Result<String, NoMemory>
     requires few { length finished.drivers.items ≤ submitters_max }
     requires number { length finished.report.ends.items ≡ length finished.drivers.items }
@@ -243,8 +243,8 @@ fn with_run(text: String, finished: Finished<ScriptDriver, PlanDriver>) -> Resul
     Ok(out)
 }
 
-/// The text of a run: its packets, its pulses, the pulses that were refused, the clock and the accounts. It begins with
-/// room for the shortest lines of what was committed.
+/// Returns the text of a run: its packets, its pulses, the pulses that were refused, the clock and the accounts. It
+/// begins with room for the shortest lines of what was committed.
 pub fn text_of(
     alloc: Global,
     finished: Finished<ScriptDriver, PlanDriver>,

@@ -19,7 +19,7 @@ pub struct Shares {
 }
 
 impl Shares {
-    /// No items yet, for this number of submitters.
+    /// Returns no items yet, for this number of submitters.
     fn new(alloc: Global, submitters: u32) -> Result<Shares, NoMemory>
         ensures number { IfOk result (λ shares. length shares.packets.items ≡ submitters) }
         ensures packets { IfOk result (λ shares. AreDealt 0 shares.packets.items []) }

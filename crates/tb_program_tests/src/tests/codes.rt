@@ -4,7 +4,7 @@ use super::listed;
 use std::alloc::Global;
 use std::process::Abort;
 
-/// A script in which each row is a packet of its own after a setup.
+/// Returns a script in which each row is a packet of its own after a setup.
 fn script_of(rt: &(impl Abort + Alloc<A = Global>), setup: &str, rows: &str) -> String {
     let mut script = String::from_str(rt.alloc(), setup).expect(rt, "memory");
     for row in rows.lines() {
@@ -14,7 +14,7 @@ fn script_of(rt: &(impl Abort + Alloc<A = Global>), setup: &str, rows: &str) -> 
     script
 }
 
-/// The lines in which each row gets its code, after a setup of this number of packets and pulses.
+/// Returns the lines in which each row gets its code, after a setup of this number of packets and pulses.
 fn answers_of(
     rt: &(impl Abort + Alloc<A = Global>),
     packets: usize,

@@ -2,7 +2,7 @@ use super::{assert_both, assert_list, bytes_after};
 use std::alloc::Global;
 use std::process::Abort;
 
-/// A packet of accounts and one of no operation, both of `count` bytes of zeros.
+/// Returns a packet of accounts and one of no operation, both of `count` bytes of zeros.
 fn two_packets_of(rt: &(impl Abort + Alloc<A = Global>), count: usize) -> String {
     let bytes = "00".repeat(rt.alloc(), count).expect(rt, "memory");
     let script = format!(in rt.alloc(); "packet 0 129\nhex {bytes}\npacket 0 200\nhex {bytes}\n");

@@ -5,7 +5,7 @@ use super::{assert_run, ran};
 use std::alloc::Global;
 use std::process::Abort;
 
-/// 50 packets of an account each, for a queue of one place and a credit of one.
+/// Returns 50 packets of an account each, for a queue of one place and a credit of one.
 fn of_one_place(rt: &(impl Abort + Alloc<A = Global>)) -> String {
     let settings = "capacity 1\ncredit 1\nsubmitters 1\n";
     let mut script = String::from_str(rt.alloc(), settings).expect(rt, "memory");
@@ -19,7 +19,7 @@ fn of_one_place(rt: &(impl Abort + Alloc<A = Global>)) -> String {
     script
 }
 
-/// What is wanted of them: there is no account of id 0.
+/// Returns what is wanted of them: there is no account of id 0.
 fn wanted_of_one_place(rt: &(impl Abort + Alloc<A = Global>)) -> String {
     let first = "packet 0 0 committed 0 0:6\n";
     let mut wanted = String::from_str(rt.alloc(), first).expect(rt, "memory");
@@ -42,7 +42,7 @@ fn one_place_one_credit(rt: HostRuntime) {
     assert_run(&rt, script.as_str(), wanted.as_str());
 }
 
-/// Three packets of each of 16 submitters, each of one account.
+/// Returns three packets of each of 16 submitters, each of one account.
 fn of_sixteen(rt: &(impl Abort + Alloc<A = Global>)) -> String {
     let settings = "submitters 16\ncapacity 4\ncredit 1\n";
     let mut script = String::from_str(rt.alloc(), settings).expect(rt, "memory");
@@ -57,7 +57,7 @@ fn of_sixteen(rt: &(impl Abort + Alloc<A = Global>)) -> String {
     script
 }
 
-/// What is wanted of them, whatever their places are: there is no account of id 0.
+/// Returns what is wanted of them, whatever their places are: there is no account of id 0.
 fn wanted_of_sixteen(rt: &(impl Abort + Alloc<A = Global>)) -> String {
     let first = "packet 0 0 committed * 0:6\n";
     let mut wanted = String::from_str(rt.alloc(), first).expect(rt, "memory");

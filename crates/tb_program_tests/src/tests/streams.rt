@@ -103,7 +103,7 @@ impl Write for OneAtATime {
     }
 }
 
-/// A writer that has taken nothing.
+/// Returns a writer that has taken nothing.
 fn one_at_a_time() -> OneAtATime {
     OneAtATime {
         interrupted: false,

@@ -9,7 +9,8 @@ use std::str::Lines;
 /// How often a script is run whose schedule decides much.
 const TURNS: u32 = 10;
 
-/// The number that a line has where the wanted one has a `*`, or None if the wanted one has no `*` and is the line.
+/// Returns the number that a line has where the wanted one has a `*`, or None if the wanted one has no `*` and is the
+/// line.
 fn number_in(rt: &impl Abort, line: &str, wanted: &str) -> Option<u64> {
     let Some((front, end)) = wanted.split_once('*') else {
         assert!(rt; line == wanted, "{line} in place of {wanted}");
@@ -20,7 +21,7 @@ fn number_in(rt: &impl Abort, line: &str, wanted: &str) -> Option<u64> {
     Some(number.parse::<u64>().ok().expect(rt, "a number"))
 }
 
-/// The numbers that an output has where the wanted one has a `*`; both are the same in all else.
+/// Returns the numbers that an output has where the wanted one has a `*`; both are the same in all else.
 pub(super) fn numbers_in(
     rt: &(impl Abort + Alloc<A = Global>),
     output: &str,
@@ -38,7 +39,7 @@ pub(super) fn numbers_in(
     numbers
 }
 
-/// Whether these rise.
+/// Returns whether these rise.
 fn rise(places: &[u64]) -> bool {
     let mut least = 0u64;
     for place in places {
@@ -140,8 +141,8 @@ account 1 * 0 0 0 0
 /// How many events of each of submitter 1's packets raise the clock.
 const EVENTS: [u64; 4] = [1, 2, 0, 2];
 
-/// The timestamp of account 1, which is submitter 0's first event: those of submitter 1 that came ahead of it raised
-/// the clock before.
+/// Returns the timestamp of account 1, which is submitter 0's first event: those of submitter 1 that came ahead of it
+/// raised the clock before.
 fn timestamp_at(place: u64, others: &[u64]) -> u64 {
     let mut timestamp = 1u64;
     for (other, events) in others.iter().zip(EVENTS.iter()) {
@@ -185,7 +186,7 @@ packet 1 129
 account id=0
 ";
 
-/// The place of a packet that is committed, or None of one that is shut down.
+/// Returns the place of a packet that is committed, or None of one that is shut down.
 fn place_in(
     rt: &(impl Abort + Alloc<A = Global>),
     line: &str,
@@ -202,7 +203,7 @@ fn place_in(
     }
 }
 
-/// The places of a submitter's committed packets, by the lines of its four; after one that is shut down none is
+/// Returns the places of a submitter's committed packets, by the lines of its four; after one that is shut down none is
 /// committed.
 fn places_in(
     rt: &(impl Abort + Alloc<A = Global>),
@@ -243,7 +244,7 @@ fn packets_behind_a_close(rt: HostRuntime) {
     }
 }
 
-/// Two accounts, and then a transfer of 1 in each packet. Each even one repeats the transfer before it.
+/// Returns two accounts, and then a transfer of 1 in each packet. Each even one repeats the transfer before it.
 fn of_two_thousand(rt: &(impl Abort + Alloc<A = Global>)) -> String {
     let setup = "submitters 1
 capacity 4
@@ -268,7 +269,7 @@ account id=2 ledger=1 code=1
     script
 }
 
-/// What is wanted of it: 46, `exists`, for the 999 that are repeated. The other 1000 are made.
+/// Returns what is wanted of it: 46, `exists`, for the 999 that are repeated. The other 1000 are made.
 fn wanted_of_two_thousand(rt: &(impl Abort + Alloc<A = Global>)) -> String {
     let mut wanted = String::new(rt.alloc());
     for number in 0..2000u32 {
@@ -292,7 +293,7 @@ fn two_thousand_packets(rt: HostRuntime) {
     assert_run(&rt, script.as_str(), wanted.as_str());
 }
 
-/// 200 packets of one submitter, each waiting for the reply to the one before it, and a Close.
+/// Returns 200 packets of one submitter, each waiting for the reply to the one before it, and a Close.
 fn of_one_by_one(rt: &(impl Abort + Alloc<A = Global>)) -> String {
     let settings = "submitters 1\ncredit 1\nshut\n";
     let mut script = String::from_str(rt.alloc(), settings).expect(rt, "memory");
@@ -304,8 +305,8 @@ fn of_one_by_one(rt: &(impl Abort + Alloc<A = Global>)) -> String {
     script
 }
 
-/// What is wanted of them if this number is ahead of the Close: the next one is shut down, and all others are refused
-/// since that was read.
+/// Returns what is wanted of them if this number is ahead of the Close: the next one is shut down, and all others are
+/// refused since that was read.
 fn wanted_of_one_by_one(rt: &(impl Abort + Alloc<A = Global>), ahead: u32) -> String {
     let mut wanted = String::new(rt.alloc());
     for number in 0..200u32 {
@@ -323,7 +324,7 @@ fn wanted_of_one_by_one(rt: &(impl Abort + Alloc<A = Global>), ahead: u32) -> St
     wanted
 }
 
-/// How many lines of an output are those of committed packets.
+/// Returns how many lines of an output are those of committed packets.
 fn committed_in(output: &str) -> u32 {
     let mut committed = 0u32;
     for line in output.lines() {

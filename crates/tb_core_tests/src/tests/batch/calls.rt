@@ -22,7 +22,7 @@ fn limits(rt: HostRuntime) {
     }
 }
 
-/// A batcher of at most 4 events.
+/// Returns a batcher of at most 4 events.
 fn small_batcher(rt: &(impl Abort + Alloc<A = Global>)) -> Batcher {
     Batcher::new(rt.alloc(), 4).ok().expect(rt, "a batcher")
 }
@@ -33,7 +33,7 @@ fn join(rt: &(impl Abort + Alloc<A = Global>), batcher: &mut Batcher, operation:
     assert!(rt; matches!(&offered, Offered::Joined));
 }
 
-/// A batch of two packets, of two events and of one.
+/// Returns a batch of two packets, of two events and of one.
 fn batch_of_two(rt: &(impl Abort + Alloc<A = Global>)) -> Batch {
     let mut batcher = small_batcher(rt);
     join(rt, &mut batcher, 129, &[0, 0]);
@@ -58,7 +58,7 @@ fn a_batch_and_its_parts(rt: HostRuntime) {
     assert!(rt; is_of_two(&Batch::whole(parts)));
 }
 
-/// A batch of a lookup of two ids.
+/// Returns a batch of a lookup of two ids.
 fn lookup_of_two(rt: &(impl Abort + Alloc<A = Global>)) -> Batch {
     let mut batcher = small_batcher(rt);
     join(rt, &mut batcher, 131, &[0, 0]);
@@ -71,7 +71,7 @@ fn a_lookup_has_room_for_its_accounts(rt: HostRuntime) {
     assert!(rt; parts.operation == 131 && parts.accounts.capacity() >= 2);
 }
 
-/// How many bytes the body of a batch of one packet of `events` transfers has room for.
+/// Returns how many bytes the body of a batch of one packet of `events` transfers has room for.
 fn room_of_body(
     rt: &(impl Abort + Alloc<A = Global>),
     batcher: &mut Batcher,

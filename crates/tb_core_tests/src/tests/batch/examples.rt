@@ -48,7 +48,7 @@ impl Batches {
     }
 }
 
-/// The job of a row's packet.
+/// Returns the job of a row's packet.
 fn job_in(rt: &(impl Abort + Alloc<A = Global>), packet: &str) -> Job {
     let (operation, digits) = packet.split_once(':').expect(rt, "an operation");
     let operation = operation.parse::<u8>().ok().expect(rt, "a number");

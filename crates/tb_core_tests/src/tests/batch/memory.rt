@@ -4,13 +4,13 @@ use tb_batch::{Batcher, Offered};
 use tb_test_makers::zeros;
 use tb_work::Job;
 
-/// The job of a packet of an account of zeros, or None if memory runs out.
+/// Returns the job of a packet of an account of zeros, or None if memory runs out.
 fn job_of(alloc: Global, number: u64) -> Option<Job> {
     let packet = zeros(alloc, 129, 128).ok()?;
     Job::new(alloc, 0, number, 4, packet).ok()
 }
 
-/// Whether a job is joined. One that is refused comes back as it was.
+/// Returns whether a job is joined. One that is refused comes back as it was.
 fn is_joined(rt: &impl Abort, batcher: &mut Batcher, job: Job, number: u64) -> bool {
     match batcher.offer(job) {
         Offered::Joined => true,
@@ -23,7 +23,7 @@ fn is_joined(rt: &impl Abort, batcher: &mut Batcher, job: Job, number: u64) -> b
     }
 }
 
-/// How many of three jobs are joined, as far as memory lasts.
+/// Returns how many of three jobs are joined, as far as memory lasts.
 fn offer_three(rt: &(impl Abort + Alloc<A = Global>), batcher: &mut Batcher) -> usize {
     for number in 0..3 {
         let joined = match job_of(rt.alloc(), number) {

@@ -8,7 +8,7 @@ use tb_machine::{Machine, Seed};
 use tb_tables::Status;
 use tb_test_makers::{account, transfer};
 
-/// A pending transfer with a timeout, one that is voided, and a plain one.
+/// Makes a pending transfer with a timeout, one that is voided, and a plain one.
 fn make_three_kinds(rt: &(impl Abort + Alloc<A = Global>), machine: &mut Machine) {
     let timed = Transfer {
         timeout: 1,
@@ -105,7 +105,7 @@ fn look_up(rt: &(impl Abort + Alloc<A = Global>), machine: &Machine, found: &mut
     machine.lookup(&ids, found);
 }
 
-/// The two that are there are found, in the order in which they are asked for.
+/// Asserts that the two that are there are found, in the order in which they are asked for.
 fn assert_both_found(rt: &(impl Abort + Alloc<A = Global>), machine: &Machine) {
     let mut found = Vec::with_capacity(rt.alloc(), 3).expect(rt, "memory");
     look_up(rt, machine, &mut found);

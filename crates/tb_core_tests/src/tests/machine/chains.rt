@@ -10,7 +10,7 @@ use tb_layout::{
 use tb_machine::Machine;
 use tb_test_makers::{account, transfer};
 
-/// Linked accounts by rising id, as many as a batch may have with the last event.
+/// Returns linked accounts by rising id, as many as a batch may have with the last event.
 fn full_chain(rt: &(impl Abort + Alloc<A = Global>), last: Account) -> Vec<u8> {
     let mut body = Vec::new(rt.alloc());
     for id in 1..BATCH_MAX {
@@ -22,7 +22,7 @@ fn full_chain(rt: &(impl Abort + Alloc<A = Global>), last: Account) -> Vec<u8> {
     body
 }
 
-/// How many of the accounts in a body failed.
+/// Returns how many of the accounts in a body failed.
 fn failed(rt: &(impl Abort + Alloc<A = Global>), machine: &mut Machine, body: &[u8]) -> usize {
     assert!(rt; is_packet(CREATE_ACCOUNTS, body));
     let mut out = Vec::with_capacity(rt.alloc(), body.len() / 128).expect(rt, "memory");

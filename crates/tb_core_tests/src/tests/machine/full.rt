@@ -10,7 +10,7 @@ use tb_layout::{
 use tb_machine::Machine;
 use tb_test_makers::{account, transfer};
 
-/// As many accounts as a batch may have, by rising id.
+/// Returns as many accounts as a batch may have, by rising id.
 fn full_accounts(rt: &(impl Abort + Alloc<A = Global>), first_id: u128) -> Vec<u8> {
     let mut body = Vec::new(rt.alloc());
     for place in 0..BATCH_MAX {
@@ -21,7 +21,7 @@ fn full_accounts(rt: &(impl Abort + Alloc<A = Global>), first_id: u128) -> Vec<u
     body
 }
 
-/// As many transfers of 1, by rising id: each account is debited by one and credited by another.
+/// Returns as many transfers of 1, by rising id: each account is debited by one and credited by another.
 fn full_transfers(rt: &(impl Abort + Alloc<A = Global>)) -> Vec<u8> {
     let mut body = Vec::new(rt.alloc());
     for place in 0..BATCH_MAX {
@@ -45,7 +45,7 @@ fn make_transfers(rt: &(impl Abort + Alloc<A = Global>), machine: &mut Machine) 
     assert!(rt; commits(rt, machine, CREATE_TRANSFERS, &transfers));
 }
 
-/// Whether an account has this timestamp, and was debited and credited this much.
+/// Returns whether an account has this timestamp, and was debited and credited this much.
 fn is_made_at(made: Option<Account>, timestamp: u64, amount: u128) -> bool {
     made.is_some_and(|account| {
         account.timestamp == timestamp
@@ -54,7 +54,7 @@ fn is_made_at(made: Option<Account>, timestamp: u64, amount: u128) -> bool {
     })
 }
 
-/// Whether all are stored: each event has the timestamp after that of the one before it.
+/// Returns whether all are stored: each event has the timestamp after that of the one before it.
 fn has_all(machine: &Machine) -> bool {
     let last_transfer = machine.transfer(8190).map(|made| made.timestamp);
     machine.accounts() == 16_380

@@ -47,7 +47,7 @@ impl Seen {
     }
 }
 
-/// Whether these are the failures, each with its event's place and code.
+/// Returns whether these are the failures, each with its event's place and code.
 fn are_failures(failures: &[Failure], wanted: &[(u32, TransferCode)]) -> bool {
     failures.len() == wanted.len()
         && failures.iter().zip(wanted).all(|(failure, (index, code))| failure.index == *index
@@ -79,7 +79,7 @@ fn commits(
     is_committed
 }
 
-/// A packet of accounts; none fails.
+/// Returns a packet of accounts; none fails.
 fn commits_accounts(
     rt: &(impl Abort + Alloc<A = Global>),
     machine: &mut Machine,
@@ -91,7 +91,7 @@ fn commits_accounts(
     }
 }
 
-/// A packet of transfers, with exactly these failures.
+/// Returns a packet of transfers, with exactly these failures.
 fn commits_transfers(
     rt: &(impl Abort + Alloc<A = Global>),
     machine: &mut Machine,
@@ -104,7 +104,7 @@ fn commits_transfers(
     }
 }
 
-/// A chain whose last event fails, and one of its transfers by itself.
+/// Returns a chain whose last event fails, and one of its transfers by itself.
 fn chain_and_single(rt: &(impl Abort + Alloc<A = Global>), machine: &mut Machine) -> bool {
     let accounts = [account(1, 0), account(2, 2), account(3, 0)];
     let chain = [
@@ -135,7 +135,7 @@ fn chains_of_transfers_joined_refused_memory(rt: HostRuntime) {
     drop(machine);
 }
 
-/// A chain whose ids both come again, and a post that names nothing, whose id comes again.
+/// Returns a chain whose ids both come again, and a post that names nothing, whose id comes again.
 fn four_packets(rt: &(impl Abort + Alloc<A = Global>), machine: &mut Machine) -> bool {
     let chain = [transfer(1, [1, 2], 5, 1), transfer(2, [1, 9], 5, 0)];
     let codes = [(0, LinkedEventFailed), (1, CreditAccountNotFound)];
@@ -159,7 +159,8 @@ fn id_already_failed_refused_memory(rt: HostRuntime) {
     drop(machine);
 }
 
-/// A void that names nothing leaves its id among the failed ones, and so is refused for that when it comes again.
+/// Returns a void that names nothing leaves its id among the failed ones, and so is refused for that when it comes
+/// again.
 fn void_twice(rt: &(impl Abort + Alloc<A = Global>), machine: &mut Machine) -> bool {
     let void = [resolving(1, 8, 0, 8)];
     commits_transfers(rt, machine, &void, &[(0, PendingTransferNotFound)])

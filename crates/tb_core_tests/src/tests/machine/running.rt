@@ -17,7 +17,7 @@ fn accounts(rule: Rule) -> [Account; 4] {
     [1, 2, 3, 4].map(|number| account(rule.id(number), 0))
 }
 
-/// Any flags in every second event; else those of one kind, linked now and then.
+/// Returns any flags for every second event; else those of one kind, linked now and then.
 fn flags(counter: u64) -> u16 {
     let any = pick(counter, 1, 16);
     let kind = match pick(counter, 2, 4) {
@@ -35,7 +35,7 @@ fn flags(counter: u64) -> u16 {
     u16::try_from(chosen).unwrap_or(0)
 }
 
-/// The event that a counter leads to; a post or a void names one of the last ids.
+/// Returns the event that a counter leads to; a post or a void names one of the last ids.
 fn event(counter: u64, rule: Rule) -> Transfer {
     let id = rule.id_at(counter);
     let debit = rule.id(pick(counter, 6, 4).saturating_add(1));
@@ -72,7 +72,7 @@ struct Made {
     has_expired: bool,
 }
 
-/// The post or void that names the transfer with an id.
+/// Returns the post or void that names the transfer with an id.
 fn resolution(all: &[Made], id: u128) -> Option<Transfer> {
     for one in all {
         if one.transfer.pending_id == id {
@@ -102,7 +102,7 @@ fn raised(balance: u128, belongs: bool, amount: u128) -> u128 {
     }
 }
 
-/// An account with the amount of a transfer in its balances, where it belongs there.
+/// Returns an account with the amount of a transfer in its balances, where it belongs there.
 fn with_amount(account: Account, status: Option<Status>, made: &Transfer) -> Account {
     let is_debit = made.debit_account_id == account.id;
     let is_credit = made.credit_account_id == account.id;
@@ -126,7 +126,7 @@ fn with_amount(account: Account, status: Option<Status>, made: &Transfer) -> Acc
     }
 }
 
-/// An account, without balances at first, with those that all transfers give.
+/// Returns an account, without balances at first, with those that all transfers give.
 fn with_balances(account: Account, all: &[Made]) -> Account {
     let mut balanced = account;
     for one in all {
@@ -150,7 +150,7 @@ fn note_new(all: &mut Vec<Made>, machine: &Machine, rule: Rule) -> Result<(), Al
     Ok(())
 }
 
-/// Whether all balances and statuses are those of all transfers.
+/// Returns whether all balances and statuses are those of all transfers.
 fn agrees(machine: &Machine, all: &[Made], rule: Rule) -> bool {
     for timestamp in 1..=4_u64 {
         let id = rule.id(timestamp);
@@ -184,7 +184,7 @@ fn expire(all: &mut Vec<Made>, clock: u64) {
     }
 }
 
-/// Whether a packet was committed, as it is unless memory runs out.
+/// Returns whether a packet was committed, as it is unless memory runs out.
 fn commits_any(rt: &impl Alloc<A = Global>, machine: &mut Machine, body: &[u8]) -> bool {
     if !is_packet(CREATE_TRANSFERS, body) {
         return false;
@@ -195,7 +195,7 @@ fn commits_any(rt: &impl Alloc<A = Global>, machine: &mut Machine, body: &[u8]) 
     machine.commit(CREATE_TRANSFERS, body, &mut out).is_ok()
 }
 
-/// A packet of the events from a counter on.
+/// Returns a packet of the events from a counter on.
 fn packet(
     rt: &impl Alloc<A = Global>,
     first: u64,
@@ -210,7 +210,7 @@ fn packet(
     Ok(body)
 }
 
-/// A packet of the events from a counter on, which is committed.
+/// Commits a packet of the events from a counter on.
 fn commit_packet(
     rt: &(impl Abort + Alloc<A = Global>),
     machine: &mut Machine,
@@ -222,7 +222,7 @@ fn commit_packet(
     assert!(rt; commits_any(rt, machine, &body));
 }
 
-/// 115 packets of 1 to 6 events, 400 in all, with a pulse after each tenth packet.
+/// Runs 115 packets of 1 to 6 events, 400 in all, with a pulse after each tenth packet.
 fn run(
     rt: &(impl Abort + Alloc<A = Global>),
     machine: &mut Machine,
@@ -244,7 +244,7 @@ fn run(
     }
 }
 
-/// Whether some transfer has a status.
+/// Returns whether some transfer has a status.
 fn some_has(all: &[Made], status: Status) -> bool {
     for one in all {
         if plain_status(all, one) == Some(status) {
@@ -282,7 +282,7 @@ fn four_hundred_events_near_2_128(rt: HostRuntime) {
     run_of_each_status(&rt, large(400, MOST - 1));
 }
 
-/// Packets in order, as far as memory lasts; one that is refused leaves what the lists say.
+/// Runs packets in order, as far as memory lasts; one that is refused leaves what the lists say.
 fn run_refused(
     rt: &impl Alloc<A = Global>,
     machine: &mut Machine,
@@ -300,7 +300,7 @@ fn run_refused(
     Ok(())
 }
 
-/// Whether the four accounts are made, as they are unless memory runs out.
+/// Returns whether the four accounts are made, as they are unless memory runs out.
 fn makes_accounts(rt: &impl Alloc<A = Global>, machine: &mut Machine) -> bool {
     match account_bytes(rt.alloc(), &accounts(small(400))) {
         Ok(accounts) => commits(rt, machine, CREATE_ACCOUNTS, &accounts),

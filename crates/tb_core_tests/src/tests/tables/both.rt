@@ -15,14 +15,14 @@ use std::test::Fail;
 use tb_layout::{Account, NANOSECONDS_PER_SECOND, NoMemory, Transfer};
 use tb_tables::{Status, Tables};
 
-/// The clock at an event, in nanoseconds: a second passes with each forty.
+/// Returns the clock at an event, in nanoseconds: a second passes with each forty.
 fn clock_at(counter: u64) -> u64 {
     (counter / 40)
         .saturating_mul(NANOSECONDS_PER_SECOND)
         .saturating_add(counter)
 }
 
-/// A plain or pending transfer between two of the accounts 1 to 4, or to account 5, which isn't there.
+/// Returns a plain or pending transfer between two of the accounts 1 to 4, or to account 5, which isn't there.
 fn moving(counter: u64, rule: Rule, flags: u16) -> Transfer {
     let amount = rule.amount(pick(counter, 8, 100).saturating_add(1));
     Transfer {
@@ -34,7 +34,7 @@ fn moving(counter: u64, rule: Rule, flags: u16) -> Transfer {
     }
 }
 
-/// A post of half of what a transfer reserves, or a void of all.
+/// Returns a post of half of what a transfer reserves, or a void of all.
 fn resolving(counter: u64, rule: Rule, pending: &Transfer, flags: u16) -> Transfer {
     let amount = if flags == 4 {
         pending.amount / 2
@@ -49,7 +49,7 @@ fn resolving(counter: u64, rule: Rule, pending: &Transfer, flags: u16) -> Transf
     }
 }
 
-/// The transfer that a counter leads to; a post or a void names one of the last ids, where that has a transfer.
+/// Returns the transfer that a counter leads to; a post or a void names one of the last ids, where that has a transfer.
 fn event(counter: u64, rule: Rule, maps: &Tables) -> Transfer {
     let named = rule.id_at(counter.saturating_sub(pick(counter, 9, 16)));
     match (pick(counter, 2, 4), maps.transfer(named)) {
@@ -60,7 +60,7 @@ fn event(counter: u64, rule: Rule, maps: &Tables) -> Transfer {
     }
 }
 
-/// Whether the sum of a balance, pending and posted together, and an amount fits in 128 bits.
+/// Returns whether the sum of a balance, pending and posted together, and an amount fits in 128 bits.
 fn fits(pending: u128, posted: u128, amount: u128) -> bool
     ensures { result ≡ true → pending + posted + amount < 2 ^ 128 }
 {
@@ -70,7 +70,7 @@ fn fits(pending: u128, posted: u128, amount: u128) -> bool
     }
 }
 
-/// Whether an account is there and can be debited.
+/// Returns whether an account is there and can be debited.
 fn can_debit(tables: &Tables, id: u128, amount: u128) -> bool
     ensures there { result ≡ true → IsSome (account_with tables.now.now id) }
     ensures fits { result ≡ true → debits tables.now.now id + amount < 2 ^ 128 }
@@ -81,7 +81,7 @@ fn can_debit(tables: &Tables, id: u128, amount: u128) -> bool
     }
 }
 
-/// Whether an account is there and can be credited.
+/// Returns whether an account is there and can be credited.
 fn can_credit(tables: &Tables, id: u128, amount: u128) -> bool
     ensures there { result ≡ true → IsSome (account_with tables.now.now id) }
     ensures fits { result ≡ true → credits tables.now.now id + amount < 2 ^ 128 }
@@ -92,7 +92,7 @@ fn can_credit(tables: &Tables, id: u128, amount: u128) -> bool
     }
 }
 
-/// Whether the moment at which a transfer expires fits in 64 bits.
+/// Returns whether the moment at which a transfer expires fits in 64 bits.
 fn expiry_fits(transfer: &Transfer) -> bool
     ensures { result ≡ true → expires_at transfer.now < 2 ^ 64 }
 {
@@ -102,7 +102,7 @@ fn expiry_fits(transfer: &Transfer) -> bool
         .is_some()
 }
 
-/// Whether the tables may take a plain or pending transfer.
+/// Returns whether the tables may take a plain or pending transfer.
 fn may_add(tables: &Tables, transfer: &Transfer) -> bool
     ensures { result ≡ true → MayAdd tables.now.now transfer.now }
 {
@@ -114,7 +114,7 @@ fn may_add(tables: &Tables, transfer: &Transfer) -> bool
     debits && credits && expiry_fits(transfer)
 }
 
-/// Whether the tables may take a post or a void.
+/// Returns whether the tables may take a post or a void.
 fn may_resolve(tables: &Tables, transfer: &Transfer) -> bool
     ensures new { result ≡ true → transfer_with tables.now.now transfer.now.id ≡ None }
     ensures may { result ≡ true → MayResolve tables.now.now transfer.now }
@@ -200,7 +200,7 @@ fn pulse(maps: &mut Tables, lists: &mut PlainTables, clock: u64)
     lists.expire_due(clock);
 }
 
-/// Whether each look-up of the id of a number agrees, and that of the index one below.
+/// Returns whether each look-up of the id of a number agrees, and that of the index one below.
 fn agree_on(maps: &Tables, lists: &PlainTables, rule: Rule, number: u32) -> bool {
     let index = number.saturating_sub(1) as usize;
     let id = rule.id(u64::from(number));
@@ -211,7 +211,7 @@ fn agree_on(maps: &Tables, lists: &PlainTables, rule: Rule, number: u32) -> bool
         && maps.failed(id) == lists.failed(id)
 }
 
-/// Whether all look-ups agree.
+/// Returns whether all look-ups agree.
 fn agree(maps: &Tables, lists: &PlainTables, rule: Rule) -> bool {
     for number in 0..=rule.ids {
         if !agree_on(maps, lists, rule, number) {
@@ -254,7 +254,7 @@ fn take_events(
     Ok(())
 }
 
-/// Whether a transfer with one of the ids has this status.
+/// Returns whether a transfer with one of the ids has this status.
 fn some_has(maps: &Tables, rule: Rule, status: Status) -> bool {
     for number in 1..=rule.ids {
         if maps.status(rule.id(u64::from(number))) == Some(status) {

@@ -3,7 +3,7 @@ use std::alloc::Global;
 use std::process::Abort;
 use tb_work::{Refusal, admit};
 
-/// The number of events admitted of a packet of `length` zero bytes.
+/// Returns the number of events admitted of a packet of `length` zero bytes.
 fn admitted(
     rt: &(impl Abort + Alloc<A = Global>),
     limit: u32,

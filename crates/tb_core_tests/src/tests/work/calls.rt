@@ -9,7 +9,7 @@ use tb_work::{
     Ticket,
 };
 
-/// The job of a packet of submitter 3, with ample memory.
+/// Returns the job of a packet of submitter 3, with ample memory.
 fn job_of(rt: &(impl Abort + Alloc<A = Global>), number: u64, packet: Packet) -> Job {
     let made = Job::new(rt.alloc(), 3, number, 4, packet);
     made.ok().expect(rt, "a job")
@@ -45,7 +45,7 @@ fn a_refused_packet_comes_back(rt: HostRuntime) {
     assert!(rt; packet.user == 7 && packet.bytes.as_slice().len() == 640);
 }
 
-/// The accounts that were found by a lookup.
+/// Returns the accounts that were found by a lookup.
 fn found(outcome: &Outcome) -> Option<&[Account]> {
     match outcome {
         Outcome::Committed {
@@ -73,7 +73,7 @@ fn a_stopped_reply(rt: HostRuntime) {
     assert!(rt; matches!(&reply.outcome, Outcome::Stopped));
 }
 
-/// The reply to a lookup of an id that finds an account.
+/// Returns the reply to a lookup of an id that finds an account.
 fn reply_to_a_lookup(rt: &(impl Abort + Alloc<A = Global>)) -> Reply {
     let job = job_of(rt, 6, packet_of(rt, 131, 16));
     assert!(rt; job.packet().operation == 131);

@@ -6,24 +6,24 @@ use tb_layout::{Account, AccountCode, Transfer, TransferCode, read_account, read
 use tb_test_makers::{account, accounts_packet, transfers_packet};
 use tb_work::{Packet, Refusal, admit};
 
-/// A packet of these accounts, with user word 7.
+/// Returns a packet of these accounts, with user word 7.
 fn of_accounts(rt: &(impl Abort + Alloc<A = Global>), accounts: &[Account]) -> Packet {
     accounts_packet(rt.alloc(), accounts).expect(rt, "memory")
 }
 
-/// A packet of these transfers, with user word 7.
+/// Returns a packet of these transfers, with user word 7.
 fn of_transfers(rt: &(impl Abort + Alloc<A = Global>), transfers: &[Transfer]) -> Packet {
     transfers_packet(rt.alloc(), transfers).expect(rt, "memory")
 }
 
-/// The number of events admitted of a packet of `count` accounts.
+/// Returns the number of events admitted of a packet of `count` accounts.
 fn admitted_accounts(rt: &(impl Abort + Alloc<A = Global>), count: usize) -> Result<u32, Refusal> {
     let mut accounts = Vec::new(rt.alloc());
     accounts.resize(count, account(1, 0)).expect(rt, "memory");
     admit(8190, &of_accounts(rt, accounts.as_slice()))
 }
 
-/// The number of events admitted of a packet of `count` transfers.
+/// Returns the number of events admitted of a packet of `count` transfers.
 fn admitted_transfers(rt: &(impl Abort + Alloc<A = Global>), count: usize) -> Result<u32, Refusal> {
     let mut transfers = Vec::new(rt.alloc());
     transfers

@@ -24,7 +24,7 @@ fn pushes_that_answer_false(rt: HostRuntime) {
     assert_steps(&rt, PUSHES, &[], &[], 0);
 }
 
-/// What a new World of two submitters answers to the push of a packet.
+/// Returns what a new World of two submitters answers to the push of a packet.
 fn answer_to(rt: &(impl Abort + Alloc<A = Global>), limit: u32, sender: u32, job: Job) -> bool {
     let mut world = World::new(rt.alloc(), 0, limit, 2).expect(rt, "memory");
     let item = Item::Packet(job);
@@ -33,7 +33,7 @@ fn answer_to(rt: &(impl Abort + Alloc<A = Global>), limit: u32, sender: u32, job
     answer.ok().expect(rt, "memory")
 }
 
-/// The first packet of submitter 0, which creates accounts.
+/// Returns the first packet of submitter 0, which creates accounts.
 fn first_job(rt: &(impl Abort + Alloc<A = Global>), accounts: &[Account]) -> Job {
     creating(rt.alloc(), 0, 0, accounts).expect(rt, "the packet is admitted")
 }

@@ -63,7 +63,7 @@ fn world_with_close(rt: HostRuntime) {
     assert_steps(&rt, WITH_CLOSE, &WITH_CLOSE_TOLD, &noted, 1);
 }
 
-/// Why a World isn't opened.
+/// Returns why a World isn't opened.
 fn refusal(alloc: Global, limit: u32, submitters: u32) -> Option<Refusal> {
     World::new(alloc, 0, limit, submitters).err()
 }

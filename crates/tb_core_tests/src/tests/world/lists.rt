@@ -42,7 +42,7 @@ impl Known {
     }
 }
 
-/// The next number of the rule, from 0 up to a bound.
+/// Returns the next number of the rule, from 0 up to a bound.
 fn next_number(seed: &mut u64, bound: u64) -> u64 {
     *seed = seed
         .wrapping_mul(6_364_136_223_846_793_005)
@@ -50,12 +50,12 @@ fn next_number(seed: &mut u64, bound: u64) -> u64 {
     (*seed >> 33).checked_rem(bound).unwrap_or(0)
 }
 
-/// One of the submitters.
+/// Returns one of the submitters.
 fn next_submitter(seed: &mut u64, submitters: u32) -> u32 {
     u32::try_from(next_number(seed, u64::from(submitters))).unwrap_or(0)
 }
 
-/// How many packets a submitter pushed.
+/// Returns how many packets a submitter pushed.
 fn packets_of(pushed: &[Pushed], submitter: u32) -> u64 {
     let mut count = 0u64;
     for one in pushed {
@@ -66,13 +66,13 @@ fn packets_of(pushed: &[Pushed], submitter: u32) -> u64 {
     count
 }
 
-/// Whether a sender ended.
+/// Returns whether a sender ended.
 fn has_ended(known: &Known, sender: u32) -> bool {
     let close = sender == known.control() && known.pushed.contains(&Pushed::Close);
     close || known.pushed.contains(&Pushed::End(sender))
 }
 
-/// What the rule pushes: mostly a packet, by one of the submitters.
+/// Returns what the rule pushes: mostly a packet, by one of the submitters.
 fn next_push(seed: &mut u64, known: &Known) -> (u32, Pushed) {
     let kind = next_number(seed, 61);
     let submitter = next_submitter(seed, known.setting.submitters);
@@ -123,7 +123,7 @@ fn packet(limit: u32, sender: u32, number: u64) -> Made {
     }
 }
 
-/// The item of what is pushed.
+/// Returns the item of what is pushed.
 fn made(limit: u32, pushed: Pushed) -> Made {
     match pushed {
         Pushed::Packet { sender, number } => packet(limit, sender, number),
@@ -133,7 +133,7 @@ fn made(limit: u32, pushed: Pushed) -> Made {
     }
 }
 
-/// A step of a stage; now and then its allocation fails.
+/// Returns a step of a stage; now and then its allocation fails.
 fn next_stage(seed: &mut u64, submitters: u32) -> Step {
     let kind = next_number(seed, 20);
     let refused = next_number(seed, 100) == 0;
@@ -150,7 +150,7 @@ fn next_stage(seed: &mut u64, submitters: u32) -> Step {
     }
 }
 
-/// A push that the rule allows; it returns true unless its sender has ended.
+/// Pushes what the rule allows, which returns true unless its sender has ended.
 fn push(
     rt: &(impl Abort + Alloc<A = Global>),
     world: &mut World,
@@ -167,7 +167,7 @@ fn push(
     }
 }
 
-/// An event of the rule.
+/// Takes an event of the rule.
 fn step(
     rt: &(impl Abort + Alloc<A = Global>),
     world: &mut World,
@@ -183,7 +183,7 @@ fn step(
     }
 }
 
-/// The packets and pulses ahead of the Close, in order.
+/// Returns the packets and pulses ahead of the Close, in order.
 fn ahead(rt: &(impl Abort + Alloc<A = Global>), pushed: &[Pushed]) -> Vec<Pushed> {
     let mut ahead = Vec::new(rt.alloc());
     for one in pushed {
@@ -207,7 +207,7 @@ fn add_stubs(rt: &impl Abort, stubs: &[Stub], committed: &mut Vec<Pushed>) {
     }
 }
 
-/// The packets and pulses of the journal, in order.
+/// Returns the packets and pulses of the journal, in order.
 fn committed(rt: &(impl Abort + Alloc<A = Global>), journal: &[Entry]) -> Vec<Pushed> {
     let mut committed = Vec::new(rt.alloc());
     for entry in journal {
@@ -226,7 +226,7 @@ fn committed(rt: &(impl Abort + Alloc<A = Global>), journal: &[Entry]) -> Vec<Pu
     committed
 }
 
-/// What becomes of a packet if this number of those ahead were committed.
+/// Returns what becomes of a packet if this number of those ahead were committed.
 fn due(ahead: &[Pushed], committed: usize, packet: Pushed) -> Told {
     match ahead.iter().position(|one| *one == packet) {
         Some(place) if place < committed => Told::Committed(place as u64),
@@ -272,7 +272,7 @@ const ROUND: [Step; 6] = [
     Step::ReplyPush,
 ];
 
-/// Whether one of the stages moved, or a submitter took a reply.
+/// Returns whether one of the stages moved, or a submitter took a reply.
 fn round(rt: &(impl Abort + Alloc<A = Global>), world: &mut World, submitters: u32) -> bool {
     let mut moved = false;
     for step in &ROUND {
@@ -306,7 +306,7 @@ fn assert_whole(rt: &(impl Abort + Alloc<A = Global>), world: &World, known: &Kn
     }
 }
 
-/// A list of the rule.
+/// Plays a list of the rule.
 fn play_list(
     rt: &(impl Abort + Alloc<A = Global>),
     world: &mut World,

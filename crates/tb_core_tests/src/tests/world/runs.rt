@@ -34,7 +34,7 @@ fn add_words(
     Ok(())
 }
 
-/// The World of one submitter after a list of events; its batches have at most 4 events.
+/// Returns the World of one submitter after a list of events; its batches have at most 4 events.
 fn run(alloc: Global, events: Vec<Event>) -> Result<World, Refusal> {
     match run_world(alloc, 0, 4, 1, events) {
         Ok(world) => Ok(world),
@@ -51,7 +51,7 @@ const THROUGH: &str =
     "batch-pop outcome-push outcome-pop reply-push reply-push reply-push reply-push 0:reply 0:reply
 0:reply 0:reply";
 
-/// The events of the example.
+/// Returns the events of the example.
 fn pulsed_events(rt: &impl Abort, alloc: Global) -> Result<Vec<Event>, Refusal> {
     let mut events = Vec::new(alloc);
     add_words(rt, alloc, &mut events, PULSE_BETWEEN_BATCHES)?;
@@ -89,12 +89,12 @@ fn pulse_between_batches_refused_memory(rt: HostRuntime) {
     }
 }
 
-/// Three accounts; the second may not owe more than it is owed.
+/// Returns three accounts; the second may not owe more than it is owed.
 fn accounts() -> [Account; 3] {
     [account(1, 0), account(2, 2), account(3, 0)]
 }
 
-/// A chain of three transfers; the last is in ledger 0.
+/// Returns a chain of three transfers; the last is in ledger 0.
 fn chain() -> [Transfer; 3] {
     [
         transfer(1, [1, 2], 10, 1),
@@ -112,7 +112,7 @@ fn add_push(events: &mut Vec<Event>, job: Result<Job, Refusal>) -> Result<(), Re
     add(events, Event::Push(Ticket { sender: 0, item }))
 }
 
-/// The packets of the example.
+/// Returns the packets of the example.
 fn add_packets(alloc: Global, events: &mut Vec<Event>) -> Result<(), Refusal> {
     add_push(events, creating(alloc, 0, 0, &accounts()))?;
     add_push(events, transferring(alloc, 1, &chain()))?;
@@ -122,7 +122,7 @@ fn add_packets(alloc: Global, events: &mut Vec<Event>) -> Result<(), Refusal> {
 
 const JOINED: &str = "pop pop batch-push pop batch-push";
 
-/// The events of the example.
+/// Returns the events of the example.
 fn joined_events(rt: &impl Abort, alloc: Global) -> Result<Vec<Event>, Refusal> {
     let mut events = Vec::new(alloc);
     add_packets(alloc, &mut events)?;
@@ -189,7 +189,7 @@ const FOUR: &str =
     "pop pop pop pop batch-push batch-pop outcome-push outcome-pop reply-push reply-push reply-push
 reply-push";
 
-/// A packet of each of 16 submitters, and what becomes of them.
+/// Returns a packet of each of 16 submitters, and what becomes of them.
 fn sixteen_events(rt: &(impl Abort + Alloc<A = Global>)) -> Vec<Event> {
     let mut events = Vec::new(rt.alloc());
     for sender in 0..16 {

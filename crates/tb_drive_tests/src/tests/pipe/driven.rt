@@ -104,7 +104,7 @@ fn end_control<R: Wait>(rt: &R, control: Control, shut: bool) -> ControlEnd
     unreachable!()
 }
 
-/// The next reply; None if it doesn't come in this number of turns.
+/// Returns the next reply; None if it doesn't come in this number of turns.
 fn reply_within(submitter: &mut Submitter, turns: u32) -> Option<Told>
     ensures { origin_of submitter.new ≡ origin_of submitter.old }
 {
@@ -117,7 +117,7 @@ fn reply_within(submitter: &mut Submitter, turns: u32) -> Option<Told>
     None
 }
 
-/// The next reply; None where it doesn't come in time.
+/// Returns the next reply; None if it doesn't come in time.
 fn wait_for_reply(submitter: &mut Submitter) -> Option<Told>
     ensures { origin_of submitter.new ≡ origin_of submitter.old }
 {
@@ -133,7 +133,7 @@ fn round<R: Wait + Abort>(rt: &R, alloc: Global, submitter: &mut Submitter, id: 
     wait_for_reply(submitter)
 }
 
-/// Why a packet of an unknown operation, without events, is refused; it takes no memory.
+/// Returns why a packet of an unknown operation, without events, is refused; it takes no memory.
 fn refusal<R: Wait + Abort>(rt: &R, alloc: Global, submitter: &mut Submitter) -> Option<Refusal>
     ensures { origin_of submitter.new ≡ origin_of submitter.old }
 {
@@ -251,7 +251,7 @@ fn drive_fifty<R: Wait + Abort>(
     }
 }
 
-/// Whether a reply comes while the gate holds a batch, and the next reply once it lets that through.
+/// Returns whether a reply comes while the gate holds a batch, and the next reply once it lets that through.
 fn hold(submitter: &mut Submitter, gate: &Counted, batch: u64) -> (bool, Option<Told>)
     ensures { origin_of submitter.new ≡ origin_of submitter.old }
 {
@@ -310,8 +310,8 @@ pub(super) struct Driving {
     pub(super) control: Control,
 }
 
-/// A thread drives the last submitter and the control. The report, and what the driver saw; there is room for the last
-/// end. From opening to the report it is proved lawful by the clauses of the calls.
+/// Returns a thread drives the last submitter and the control. The report, and what the driver saw; there is room for
+/// the last end. From opening to the report it is proved lawful by the clauses of the calls.
 pub(super) fn run<R: Threads + Wait + Sync + Abort>(
     rt: &R,
     alloc: Global,
@@ -369,7 +369,7 @@ pub(super) fn run<R: Threads + Wait + Sync + Abort>(
     )
 }
 
-/// The lone submitter is to be driven; there is room for its end.
+/// Returns a lone submitter as it is to be driven, with capacity for its end.
 pub(super) fn drive_lone(lone: Lone, ends: Vec<Ended>) -> Driving
     requires together { AreTogether lone.pipeline (lone.submitter ∷ []) lone.control }
     requires none { ends.items ≡ [] }

@@ -133,7 +133,7 @@ impl Counted {
         self.below.store(batch.wrapping_add(1), SeqCst);
     }
 
-    /// How many batches were sealed, and how many were let through.
+    /// Returns how many batches were sealed, and how many were let through.
     pub(super) fn counts(&self) -> (u64, u64) {
         (self.sealed.load(SeqCst), self.passed.load(SeqCst))
     }
@@ -182,7 +182,7 @@ fn batcher_and_committer_overlap(rt: HostRuntime) {
     assert_run(&rt, report, 0, &places);
 }
 
-/// The same two in turn, twenty in all.
+/// Returns the same two in turn, twenty in all.
 fn twenty_in_turn() -> [Step; 20] {
     let mut steps = [EMPTY[0]; 20];
     for k in 0..20usize {
@@ -199,7 +199,7 @@ fn twenty_places() -> [Told; 20] {
     told
 }
 
-/// While batch 0 is held this number of batches is sealed.
+/// Asserts that this number of batches is sealed while batch 0 is held.
 fn assert_sealed_ahead<R: Threads + Wait + Sync + Abort>(rt: &R, alloc: Global, number: u64) {
     let gate = Meeting::new(number, false);
     let report = run_queued(rt, alloc, &twenty_in_turn(), false, &[], &gate);
@@ -218,8 +218,8 @@ fn nine_batches_sealed_ahead(rt: HostRuntime) {
     assert_sealed_ahead(&rt, rt.alloc(), 9);
 }
 
-/// Two packets with a pulse between them: the gate sees batches 0 and 1, each once and in order, and is asked for them
-/// as noted.
+/// Queues two packets with a pulse between them. Asserts that the gate sees batches 0 and 1, each once and in order,
+/// and is asked for them as noted.
 fn assert_asked<R: Threads + Wait + Sync + Abort>(rt: &R, alloc: Global, yes_at: u64, asked: u64) {
     let steps = [
         Step::Packet(CREATE_ACCOUNTS, 1),

@@ -28,7 +28,7 @@ fn packet_again(alloc: Global, id: u8) -> Result<Packet, NoMemory> {
     }
 }
 
-/// A pipeline of one submitter, opened again if memory ran out, and whether it did.
+/// Returns a pipeline of one submitter, opened again if memory ran out, and whether it did.
 fn open_again(rt: &impl Abort, alloc: Global, told: &mut bool) -> Result<Lone, Refusal>
     ensures { IfOk result (λ lone. AreTogether lone.pipeline (lone.submitter ∷ []) lone.control) }
 {
@@ -56,7 +56,7 @@ fn submit_account<R: Wait + Abort>(
     Ok(())
 }
 
-/// Two accounts, a pulse, and four accounts, each in its packet.
+/// Returns two accounts, a pulse, and four accounts, each in its packet.
 fn queue_seven<R: Wait + Abort>(
     rt: &R,
     alloc: Global,
@@ -118,7 +118,7 @@ fn said_by(ticket: &Ticket) -> (u32, ParsedScript) {
     (ticket.sender, said)
 }
 
-/// The first ten tickets of a queue, each with its sender.
+/// Returns the first ten tickets of a queue, each with its sender.
 fn ten_tickets<R: Wait>(rt: &R, intake: &mut Intake) -> [Option<(u32, ParsedScript)>; 10] {
     let mut tickets = [None; 10];
     for k in 0..10usize {
@@ -127,7 +127,7 @@ fn ten_tickets<R: Wait>(rt: &R, intake: &mut Intake) -> [Option<(u32, ParsedScri
     tickets
 }
 
-/// The first seven replies to submitter 0.
+/// Returns the first seven replies to submitter 0.
 fn seven_replies(report: &mut Report) -> [Option<Told>; 7] {
     let mut replies = [None; 7];
     if let Some(ended) = report.ends.get_mut(0) {
@@ -138,7 +138,7 @@ fn seven_replies(report: &mut Report) -> [Option<Told>; 7] {
     replies
 }
 
-/// The replies to the six packets of the seven items, if this number is committed.
+/// Returns the replies to the six packets of the seven items, if this number is committed.
 fn replies_where(committed: u64) -> [Option<Told>; 7] {
     let mut replies = [None; 7];
     let places = [0, 1, 3, 4, 5, 6];
@@ -155,7 +155,7 @@ fn replies_where(committed: u64) -> [Option<Told>; 7] {
 /// The clock if this number of the seven items is committed.
 const CLOCKS: [u64; 8] = [0, 1, 2, 5, 6, 7, 8, 9];
 
-/// This number of the seven items is committed; all of them unless a stop was reported.
+/// Asserts that some of the seven items are committed, and all of them unless a stop was reported.
 fn assert_seven(rt: &impl Abort, report: &mut Report, told: bool) {
     let committed = report.ledger.places();
     assert!(rt; committed < 7 && !told || committed == 7);
@@ -163,7 +163,7 @@ fn assert_seven(rt: &impl Abort, report: &mut Report, told: bool) {
     assert_eq!(rt; seven_replies(report), replies_where(committed));
 }
 
-/// A thread couldn't be started, and the intake has all that was queued.
+/// Asserts that a thread couldn't be started, and the intake has all that was queued.
 fn assert_none_taken<R: Wait + Abort>(rt: &R, intake: &mut Intake, refusal: Refusal) {
     assert_eq!(rt; refusal, Refusal::NoThread);
     assert_eq!(rt; ten_tickets(rt, intake), ALL_TICKETS);
@@ -217,7 +217,7 @@ const ALL_TICKETS: [Option<(u32, ParsedScript)>; 10] = [
     None,
 ];
 
-/// Two accounts, each in its packet, and a pulse.
+/// Returns two accounts, each in its packet, and a pulse.
 fn queue_three<R: Wait + Abort>(
     rt: &R,
     alloc: Global,

@@ -9,7 +9,7 @@ use tb_pipe::open;
 use tb_submit::{Control, Submitter};
 use tb_work::Refusal;
 
-/// Why an opening with a credit of 4 is refused.
+/// Returns why an opening with a credit of 4 is refused.
 fn refusal_of(alloc: Global, limit: u32, capacity: u32, submitters: u32) -> Option<Refusal> {
     open(alloc, 0, limit, capacity, 4, submitters).err()
 }
@@ -28,7 +28,7 @@ fn bad_openings(rt: HostRuntime) {
     }
 }
 
-/// A packet of accounts is refused, since there is no place, and comes back.
+/// Asserts that a packet of accounts is refused, since there is no slot, and comes back.
 fn assert_full<R: Wait + Abort>(rt: &R, alloc: Global, submitter: &mut Submitter, id: u8) {
     let packet = packet_of(alloc, CREATE_ACCOUNTS, id).expect(rt, "memory");
     let (back, refusal) = submit(rt, alloc, submitter, packet).expect_err(rt, "the queue is full");
@@ -50,7 +50,7 @@ fn full_queue_of_one(rt: HostRuntime) {
     drop(lone);
 }
 
-/// So many pulses are queued, and one more is refused.
+/// Queues `count` pulses; one more is refused.
 fn fill<R: Wait + Abort>(rt: &R, control: &mut Control, places: u32) {
     for moment in 0..places {
         queue_pulse(rt, control, u64::from(moment));

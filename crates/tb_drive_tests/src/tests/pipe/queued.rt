@@ -45,8 +45,8 @@ pub(super) fn queue_steps<R: Wait + Abort>(
     }
 }
 
-/// A run in which steps are queued, then the control's end or its Close, and then accounts, each in a packet of its
-/// own.
+/// Returns a run in which steps are queued, then the control's end or its Close, and then accounts, each in a packet of
+/// its own.
 pub(super) fn run_queued<R: Threads + Wait + Sync + Abort, G: Gate>(
     rt: &R,
     alloc: Global,
@@ -99,7 +99,7 @@ fn packet_behind_shut(rt: HostRuntime) {
     assert_run(&rt, report, 1, &[Told::Committed(0), Told::Shutdown]);
 }
 
-/// So many of six packets are ahead of the Close.
+/// Returns whether this number of six packets are ahead of the Close.
 fn closes_after<R: Threads + Wait + Sync + Abort>(rt: &R, alloc: Global, count: usize) -> Report {
     assert!(rt; count <= 6);
     let ids = [1, 2, 3, 4, 5, 6];
@@ -107,7 +107,7 @@ fn closes_after<R: Threads + Wait + Sync + Abort>(rt: &R, alloc: Global, count: 
     run_queued(rt, alloc, &steps[..count], true, &ids[count..], &Open)
 }
 
-/// The replies if this number of six packets is ahead of the Close.
+/// Returns the replies if this number of six packets is ahead of the Close.
 fn told_where(count: usize) -> [Told; 6] {
     let mut told = [Told::Shutdown; 6];
     for k in 0..6usize {
@@ -157,7 +157,7 @@ fn replies_after_settle(rt: HostRuntime) {
     assert_run(&rt, report, 3, &told);
 }
 
-/// Each submitter queues a packet with the account after its number.
+/// Returns each submitter queues a packet with the account after its number.
 fn queue_each<R: Wait + Abort>(rt: &R, alloc: Global, submitters: Vec<Submitter>) -> Vec<Submitter>
     ensures { map origin_of result.items ≡ map origin_of submitters.items }
 {
@@ -190,7 +190,7 @@ fn end_each<R: Wait + Abort>(
     }
 }
 
-/// Each of the submitters queues a packet and ends, and the pipeline serves them.
+/// Returns each of the submitters queues a packet and ends, and the pipeline serves them.
 fn finish_each<R: Threads + Wait + Sync + Abort>(rt: &R, alloc: Global, opened: Opened) -> Report
     requires { AreTogether opened.pipeline opened.submitters.items opened.control }
     ensures { IsRun opened.pipeline.clock opened.pipeline.intake.limit opened.pipeline.intake.submitters

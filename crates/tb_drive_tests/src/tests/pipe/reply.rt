@@ -57,7 +57,7 @@ fn end_alone<R: Wait + Abort>(rt: &R, control: Control) -> ControlEnd
         .expect(rt, "there is a place for the end")
 }
 
-/// A pipeline of one submitter, with a packet queued.
+/// Returns a pipeline of one submitter, with a packet queued.
 fn queue_one<R: Wait + Abort>(rt: &R, alloc: Global, packet: Packet) -> Queued
     ensures own { end_origin result.ended ∷ [] ≡ result.pipeline.submitters }
     ensures control { result.control ≡ record { seat = control_seat result.pipeline.intake; queued = item.End ∷ [] } }
@@ -83,7 +83,7 @@ fn queue_one<R: Wait + Abort>(rt: &R, alloc: Global, packet: Packet) -> Queued
     }
 }
 
-/// The ends of the submitters; there is one.
+/// Returns the ends of the submitters; there is one.
 fn only_end(rt: &impl Abort, alloc: Global, ended: Ended) -> Vec<Ended>
     ensures { result.items ≡ ended ∷ [] }
 {
@@ -112,7 +112,7 @@ fn settle_one<R: Threads + Wait + Sync + Abort>(rt: &R, alloc: Global, queued: Q
     }
 }
 
-/// The reply that such a run has for its submitter: there is one.
+/// Returns the reply that such a run has for its submitter: there is one.
 fn only_reply(report: &mut Report) -> Reply
     requires { (packet : PacketValue) × IsRunOfOne 0 packet report.old.ledger report.old.ends.items }
     ensures { (packet : PacketValue) → IsRunOfOne 0 packet report.old.ledger report.old.ends.items
@@ -127,7 +127,7 @@ fn only_reply(report: &mut Report) -> Reply
     reply
 }
 
-/// One packet from `open` to its reply. What the reply says is known only from the clauses of the calls.
+/// Returns one packet from `open` to its reply. What the reply says is known only from the clauses of the calls.
 fn reply_to_one<R: Threads + Wait + Sync + Abort>(rt: &R, alloc: Global, packet: Packet) -> Reply
     ensures { IsReplyToOne 0 packet result }
 {
@@ -138,12 +138,12 @@ fn reply_to_one<R: Threads + Wait + Sync + Abort>(rt: &R, alloc: Global, packet:
     reply
 }
 
-/// A packet that asks twice for account 1.
+/// Returns a packet that asks twice for account 1.
 fn same_account_twice(alloc: Global) -> Result<Packet, NoMemory> {
     accounts_packet(alloc, &[account(1, 0), account(1, 0)])
 }
 
-/// The failures of what was committed at place 0; None for another outcome.
+/// Returns the failures of what was committed at place 0; None for another outcome.
 fn failures_at_first(outcome: &Outcome) -> Option<&[Failure]> {
     match outcome {
         Outcome::Committed {

@@ -64,14 +64,14 @@ fn first_in_first_out(rt: HostRuntime) {
     drop(ends.intake);
 }
 
-/// The submitter is returned from an end if the queue is full.
+/// Returns the submitter, which comes back from an end if the queue is full.
 fn refused_submitter(rt: &(impl Abort + Wait), submitter: Submitter) -> Submitter {
     let (submitter, refusal) = submitter.end(rt).err().expect(rt, "the queue is full");
     assert_eq!(rt; refusal, Refusal::Full);
     submitter
 }
 
-/// The control is returned from an end if the queue is full.
+/// Returns the control, which comes back from an end if the queue is full.
 fn refused_control(rt: &(impl Abort + Wait), control: Control) -> Control {
     let (control, refusal) = control.end(rt).err().expect(rt, "the queue is full");
     assert_eq!(rt; refusal, Refusal::Full);
@@ -92,7 +92,7 @@ fn ends_of_a_full_queue(rt: HostRuntime) {
     drop(ends.intake);
 }
 
-/// Three packets use up a credit of three, and two of them are answered.
+/// Uses up a credit of three by three packets, two of which are answered.
 fn use_credit(
     rt: &(impl Abort + Wait + Alloc<A = Global>),
     submitter: &mut Submitter,
@@ -111,7 +111,7 @@ fn use_credit(
     answer(rt, ends, Says::Committed);
 }
 
-/// One reply is read before the submitter ends, and the other afterwards.
+/// Reads one reply before the submitter ends, and the other afterwards.
 fn read_both(rt: &(impl Abort + Wait), submitter: Submitter) {
     let mut submitter = submitter;
     assert!(rt; submitter.reply().is_some());

@@ -5,7 +5,7 @@ use std::sync::Wait;
 use tb_submit::{Submitter, open_queue};
 use tb_work::{Packet, Refusal};
 
-/// The packet is queued as number 0, or comes back as it was and none is queued.
+/// Queues the packet as number 0, or gets it back as it was and none is queued.
 fn submit_or_not(
     rt: &(impl Abort + Wait),
     alloc: Global,

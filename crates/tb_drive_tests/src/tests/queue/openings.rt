@@ -55,7 +55,7 @@ fn takes_reply(rt: &(impl Abort + Alloc<A = Global>), outlet: &mut Outlet<Reply>
     given.is_ok()
 }
 
-/// So many replies are taken, and no more.
+/// Takes `count` replies, and no more.
 fn fill(rt: &(impl Abort + Alloc<A = Global>), outlet: &mut Outlet<Reply>, credit: u32) {
     for _ in 0..credit {
         assert!(rt; takes_reply(rt, outlet));

@@ -98,7 +98,7 @@ fn submit_behind(
     }
 }
 
-/// Two packets get replies, and refusals follow once the replies were read.
+/// Asserts that two packets get replies, and that refusals follow once the replies were read.
 fn told_behind(
     rt: &(impl Abort + Wait + Alloc<A = Global>),
     first: Says,
@@ -133,7 +133,7 @@ fn told_of_a_stop(rt: HostRuntime) {
     told_behind(&rt, Says::Stopped, Says::Shutdown, Refusal::Stopped);
 }
 
-/// The greatest moment is 2^62; two pulses fill the queue.
+/// Pulses five times: the greatest moment is 2^62, and two pulses fill the queue.
 fn pulse_five(rt: &(impl Abort + Wait), control: &mut Control) {
     for (moment, wanted) in [
         (4_611_686_018_427_387_905, Err(Refusal::MomentTooLarge)),
@@ -155,7 +155,7 @@ fn moments(rt: HostRuntime) {
     drop(ends);
 }
 
-/// So many pulses are queued, and one more is refused.
+/// Queues `count` pulses; one more is refused.
 fn fill(rt: &(impl Abort + Wait), control: &mut Control, places: u64) {
     for moment in 0..places {
         assert_eq!(rt; pulse(rt, control, moment), Ok(()));

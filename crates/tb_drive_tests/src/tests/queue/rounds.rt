@@ -5,7 +5,7 @@ use std::sync::Wait;
 use tb_submit::{Control, Ends, Intake, Submitter};
 use tb_work::{Item, Packet, Reply};
 
-/// A packet passes the queue and comes back with its reply; its number, and the packet.
+/// Passes a packet through the queue and returns its number, and the packet of its reply.
 fn round(
     rt: &(impl Abort + Wait + Alloc<A = Global>),
     submitter: &mut Submitter,
@@ -25,7 +25,7 @@ fn round(
     (number, packet)
 }
 
-/// Credit and slots are free again with each reply: one packet goes round this number of times.
+/// Passes one packet round this number of times: credit and slots are free again with each reply.
 fn rounds(rt: &(impl Abort + Wait + Alloc<A = Global>), count: u64) {
     let (mut submitter, mut ends) = queue_of(rt, 4, 1, 1);
     let mut packet = sevens(rt.alloc(), 129, 512).expect(rt, "memory");

@@ -110,7 +110,7 @@ fn take_all<R: Wait>(rt: &R, intake: &mut Intake, senders: u32) -> Counts {
     counts
 }
 
-/// So many submitters, each in a thread, and one taker.
+/// Runs submitters, each in a thread, and one taker.
 fn run<R: Abort + Threads + Wait + Sync>(
     rt: &R,
     alloc: Global,

@@ -8,14 +8,14 @@ ghost use Rattle.tb_core_tests.specs.Plain.{facts_in};
 use super::statuses::is_reserving;
 use tb_layout::{Account, Transfer};
 
-/// Whether the amount of a transfer counts as posted.
+/// Returns whether the amount of a transfer counts as posted.
 fn is_posting(transfer: &Transfer) -> bool
     ensures { result ≡ is_posting_of transfer.now }
 {
     !transfer.is_pending() && !transfer.is_void()
 }
 
-/// The pending debits of an account, as a sum over the transfers.
+/// Returns the pending debits of an account, as a sum over the transfers.
 fn debits_pending(rows: &[(Transfer, bool)], id: u128) -> u128
     requires { debits_pending_of (facts_in rows.now) id < 2 ^ 128 }
     ensures { result ≡ debits_pending_of (facts_in rows.now) id }
@@ -27,7 +27,7 @@ fn debits_pending(rows: &[(Transfer, bool)], id: u128) -> u128
         .sum()
 }
 
-/// The posted debits of an account, as a sum over the transfers.
+/// Returns the posted debits of an account, as a sum over the transfers.
 fn debits_posted(rows: &[(Transfer, bool)], id: u128) -> u128
     requires { debits_posted_of (facts_in rows.now) id < 2 ^ 128 }
     ensures { result ≡ debits_posted_of (facts_in rows.now) id }
@@ -39,7 +39,7 @@ fn debits_posted(rows: &[(Transfer, bool)], id: u128) -> u128
         .sum()
 }
 
-/// The pending credits of an account, as a sum over the transfers.
+/// Returns the pending credits of an account, as a sum over the transfers.
 fn credits_pending(rows: &[(Transfer, bool)], id: u128) -> u128
     requires { credits_pending_of (facts_in rows.now) id < 2 ^ 128 }
     ensures { result ≡ credits_pending_of (facts_in rows.now) id }
@@ -51,7 +51,7 @@ fn credits_pending(rows: &[(Transfer, bool)], id: u128) -> u128
         .sum()
 }
 
-/// The posted credits of an account, as a sum over the transfers.
+/// Returns the posted credits of an account, as a sum over the transfers.
 fn credits_posted(rows: &[(Transfer, bool)], id: u128) -> u128
     requires { credits_posted_of (facts_in rows.now) id < 2 ^ 128 }
     ensures { result ≡ credits_posted_of (facts_in rows.now) id }
@@ -63,7 +63,7 @@ fn credits_posted(rows: &[(Transfer, bool)], id: u128) -> u128
         .sum()
 }
 
-/// An account with its balances.
+/// Returns an account with its balances.
 pub fn with_balances(rows: &[(Transfer, bool)], account: Account) -> Account
     requires { IsLawful (facts_in rows.now) }
     ensures { result ≡ with_balances_of (facts_in rows.now) account }

@@ -34,7 +34,7 @@ impl Lists {
     ghost use Rattle.tb_tables.specs.Status.{expire_due as with_due_expired};
     ghost use Rattle.tb_core_tests.specs.Plain.{facts_of, cut_back as before};
 
-    /// Empty lists. Takes no memory.
+    /// Returns empty lists. Takes no memory.
     pub fn new(alloc: Global) -> Lists
         ensures { result ≡ record { accounts = []; rows = []; failed = [] } }
     {
@@ -92,21 +92,21 @@ impl Lists {
         expire_due(self.rows.as_mut_slice(), clock);
     }
 
-    /// The accounts.
+    /// Returns the accounts.
     pub fn accounts(&self) -> &[Account]
         ensures { result.now ≡ self.now.accounts }
     {
         self.accounts.as_slice()
     }
 
-    /// The transfers, with their marks.
+    /// Returns the transfers, with their marks.
     pub fn rows(&self) -> &[(Transfer, bool)]
         ensures { result.now ≡ self.now.rows }
     {
         self.rows.as_slice()
     }
 
-    /// The failed ids.
+    /// Returns the failed ids.
     pub fn failed(&self) -> &[u128]
         ensures { result.now ≡ self.now.failed }
     {

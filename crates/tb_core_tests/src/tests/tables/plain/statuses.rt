@@ -11,7 +11,7 @@ ghost use Rattle.tb_tables.specs.Lawful.{IsLawful};
 use tb_layout::{NANOSECONDS_PER_SECOND, Transfer};
 use tb_tables::Status;
 
-/// The transfer with this id.
+/// Returns the transfer with this id.
 pub fn transfer_in(rows: &[(Transfer, bool)], id: u128) -> Option<Transfer>
     ensures { result ≡ find (λ (transfer : TransferRecord). transfer.id == id) (transfers_in rows.now) }
 {
@@ -20,7 +20,7 @@ pub fn transfer_in(rows: &[(Transfer, bool)], id: u128) -> Option<Transfer>
         .find(|transfer| transfer.id == id)
 }
 
-/// Whether a post names the transfer with this id.
+/// Returns whether a post names the transfer with this id.
 fn is_posted(rows: &[(Transfer, bool)], id: u128) -> bool
     ensures { result ≡ list_any (λ (other : TransferRecord). is_post other && (other.pending_id == id))
         (transfers_in rows.now) }
@@ -30,7 +30,7 @@ fn is_posted(rows: &[(Transfer, bool)], id: u128) -> bool
         .any(|other| other.is_post() && other.pending_id == id)
 }
 
-/// Whether a void names the transfer with this id.
+/// Returns whether a void names the transfer with this id.
 fn is_voided(rows: &[(Transfer, bool)], id: u128) -> bool
     ensures { result ≡ list_any (λ (other : TransferRecord). is_void other && (other.pending_id == id))
         (transfers_in rows.now) }
@@ -40,7 +40,7 @@ fn is_voided(rows: &[(Transfer, bool)], id: u128) -> bool
         .any(|other| other.is_void() && other.pending_id == id)
 }
 
-/// Whether a post or a void names the transfer with this id.
+/// Returns whether a post or a void names the transfer with this id.
 pub fn is_resolved(rows: &[(Transfer, bool)], id: u128) -> bool
     ensures { result ≡ list_any (λ (other : TransferRecord). is_resolving other && (other.pending_id == id))
         (transfers_in rows.now) }
@@ -49,7 +49,7 @@ pub fn is_resolved(rows: &[(Transfer, bool)], id: u128) -> bool
         && other.pending_id == id)
 }
 
-/// Whether the transfer with this id expired.
+/// Returns whether the transfer with this id expired.
 pub fn is_expired(rows: &[(Transfer, bool)], id: u128) -> bool
     ensures { result ≡ list_any (λ expired. expired == id) (expired_in rows.now) }
 {
@@ -59,7 +59,7 @@ pub fn is_expired(rows: &[(Transfer, bool)], id: u128) -> bool
         .any(|expired| expired == id)
 }
 
-/// The status of the transfer with this id, which is a pending one.
+/// Returns the status of the transfer with this id, which is a pending one.
 pub fn status_in(rows: &[(Transfer, bool)], id: u128) -> Status
     ensures { result ≡ status_of (facts_in rows.now) id }
 {
@@ -74,7 +74,7 @@ pub fn status_in(rows: &[(Transfer, bool)], id: u128) -> Status
     }
 }
 
-/// Whether a transfer is due at a clock.
+/// Returns whether a transfer is due at a clock.
 fn is_due(clock: u64, transfer: &Transfer) -> bool
     ensures { result ≡ is_due_at clock transfer.now }
 {
@@ -83,14 +83,14 @@ fn is_due(clock: u64, transfer: &Transfer) -> bool
     transfer.timeout != 0 && expires_at <= u128::from(clock)
 }
 
-/// Whether a transfer still reserves its amount.
+/// Returns whether a transfer still reserves its amount.
 pub fn is_reserving(rows: &[(Transfer, bool)], transfer: &Transfer) -> bool
     ensures { result ≡ is_reserving_in (facts_in rows.now) transfer.now }
 {
     transfer.is_pending() && !is_resolved(rows, transfer.id) && !is_expired(rows, transfer.id)
 }
 
-/// Whether a transfer expires at a clock.
+/// Returns whether a transfer expires at a clock.
 fn expires(rows: &[(Transfer, bool)], clock: u64, transfer: &Transfer) -> bool
     ensures { result ≡ (is_reserving_in (facts_in rows.now) transfer.now && is_due_at clock transfer.now) }
 {

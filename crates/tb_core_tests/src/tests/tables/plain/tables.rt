@@ -39,7 +39,7 @@ impl PlainTables {
     ghost use Rattle.tb_tables.specs.History.{with_change, mark_of, back_to, without_past};
     ghost use Rattle.tb_tables.specs.Lawful.{IsLawful};
 
-    /// Tables without facts. Takes no memory.
+    /// Returns tables without facts. Takes no memory.
     pub fn new(alloc: Global) -> PlainTables
         ensures { result ≡ record { now = no_facts; past = [] } }
     {
@@ -105,7 +105,7 @@ impl PlainTables {
         Ok(())
     }
 
-    /// The account with this id, with its balances.
+    /// Returns the account with this id, with its balances.
     pub fn account(&self, id: u128) -> Option<Account>
         ensures { result ≡ balanced_account self.now.now id }
     {
@@ -113,7 +113,7 @@ impl PlainTables {
         Some(with_balances(self.lists.rows(), account))
     }
 
-    /// The account at an index in the order of making, counted from 0, with its balances.
+    /// Returns the account at an index in the order of making, counted from 0, with its balances.
     pub fn account_at(&self, index: usize) -> Option<Account>
         ensures { result ≡ option_map (balanced self.now.now) (slice_get self.now.now.accounts index) }
     {
@@ -121,21 +121,21 @@ impl PlainTables {
         Some(with_balances(self.lists.rows(), account))
     }
 
-    /// How many accounts there are.
+    /// Returns how many accounts there are.
     pub fn accounts(&self) -> usize
         ensures { result ≡ length self.now.now.accounts }
     {
         self.lists.accounts().len()
     }
 
-    /// The transfer with this id; a post or a void with its resolved fields.
+    /// Returns the transfer with this id; a post or a void with its resolved fields.
     pub fn transfer(&self, id: u128) -> Option<Transfer>
         ensures { result ≡ transfer_with self.now.now id }
     {
         transfer_in(self.lists.rows(), id)
     }
 
-    /// The status of the pending transfer with this id.
+    /// Returns the status of the pending transfer with this id.
     pub fn status(&self, id: u128) -> Option<Status>
         ensures { result ≡ status_with self.now.now id }
     {
@@ -147,14 +147,14 @@ impl PlainTables {
         }
     }
 
-    /// Whether an id is among those that failed.
+    /// Returns whether an id is among those that failed.
     pub fn failed(&self, id: u128) -> bool
         ensures { result ≡ is_failed self.now.now id }
     {
         self.lists.failed().iter().any(|failed| *failed == id)
     }
 
-    /// How far `undo_to` can come back to, here a plain count. It is spent by `keep` and by going back past it.
+    /// Returns how far `undo_to` can come back to, here a plain count. It is spent by `keep` and by going back past it.
     pub fn mark(&self) -> usize
         ensures { result ≡ mark_of self.now }
     {
