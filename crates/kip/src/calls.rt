@@ -71,10 +71,7 @@ fn open(
         return Err(Refusal::MomentTooLarge);
     }
     let engine = Engine::with_seed(alloc, clock, limit, submitters, seed)?;
-    match Box::new(alloc, engine) {
-        Ok(engine) => Ok(engine),
-        Err(_) => Err(Refusal::NoMemory),
-    }
+    Box::new(alloc, engine).map_err(|_| Refusal::NoMemory)
 }
 
 /// Opens a closed handle and hashes ids with a seed.

@@ -183,13 +183,7 @@ impl Engine {
             sender: self.submitters,
             item,
         };
-        match self.take(ticket) {
-            Ok(()) => Ok(()),
-            Err(ticket) => {
-                drop(ticket);
-                Err(Refusal::NoMemory)
-            }
-        }
+        self.take(ticket).map_err(|_ticket| Refusal::NoMemory)
     }
 
     /// Returns the first refusal of a packet that doesn't depend on memory or on the packet; None if there is none.

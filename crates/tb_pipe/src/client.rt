@@ -140,10 +140,8 @@ impl<'s> Client<'s> {
             → IfErr result (λ refused. IsSubmitRefusal self.old packet refused.1) }
         ensures full { queued_max ≤ length self.old.queued → result ≡ Err (packet, refusal.Full) }
     {
-        match self.submit(rt, alloc, packet) {
-            Ok(_number) => Ok(self.receive(rt)),
-            Err(refused) => Err(refused),
-        }
+        let _number = self.submit(rt, alloc, packet)?;
+        Ok(self.receive(rt))
     }
 
     /// Queues the submitter's end. While the queue is full it yields and tries again. Returns `None` if the run is

@@ -112,8 +112,5 @@ pub fn open_queue(
     if submitters < 1 || submitters > SUBMITTERS_MAX {
         return Err(Refusal::BadSubmitters);
     }
-    match open_ends(alloc, limit, capacity, credit, submitters) {
-        Ok(ends) => Ok(ends),
-        Err(_) => Err(Refusal::NoMemory),
-    }
+    open_ends(alloc, limit, capacity, credit, submitters).map_err(|_| Refusal::NoMemory)
 }

@@ -39,10 +39,7 @@ impl Mailbox {
         ensures ok { OnOk result (self.new ≡ with_reply self.old reply) }
         ensures err { IfErr result (λ back. (back ≡ reply) × (self.new ≡ self.old)) }
     {
-        match self.ring.push_back(reply) {
-            Ok(()) => Ok(()),
-            Err(failed) => Err(failed.value),
-        }
+        self.ring.push_back(reply).map_err(|failed| failed.value)
     }
 
     /// Takes the first reply of the ring, where there is one.

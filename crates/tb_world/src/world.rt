@@ -354,35 +354,22 @@ impl World {
         ensures memory { OnErr result (takes_memory self.old event ≡ true) }
     {
         match event {
-            Event::Push(ticket) => match self.push(ticket) {
-                Ok(moves) => Ok(moves),
-                Err(ticket) => Err((Event::Push(ticket), NoMemory)),
-            },
-            Event::Pop { refused } => match self.pop(refused) {
-                Ok(moves) => Ok(moves),
-                Err(_) => Err((Event::Pop { refused }, NoMemory)),
-            },
-            Event::BatchPush => match self.batch_push() {
-                Ok(moves) => Ok(moves),
-                Err(_) => Err((Event::BatchPush, NoMemory)),
-            },
-            Event::BatchPop { refused } => match self.batch_pop(refused) {
-                Ok(moves) => Ok(moves),
-                Err(_) => Err((Event::BatchPop { refused }, NoMemory)),
-            },
-            Event::OutcomePush => match self.outcome_push() {
-                Ok(moves) => Ok(moves),
-                Err(_) => Err((Event::OutcomePush, NoMemory)),
-            },
+            Event::Push(ticket) => self.push(ticket).map_err(|back| (Event::Push(back), NoMemory)),
+            Event::Pop { refused } => self
+                .pop(refused)
+                .map_err(|_| (Event::Pop { refused }, NoMemory)),
+            Event::BatchPush => self.batch_push().map_err(|_| (Event::BatchPush, NoMemory)),
+            Event::BatchPop { refused } => self
+                .batch_pop(refused)
+                .map_err(|_| (Event::BatchPop { refused }, NoMemory)),
+            Event::OutcomePush => self
+                .outcome_push()
+                .map_err(|_| (Event::OutcomePush, NoMemory)),
             Event::OutcomePop => Ok(self.outcome_pop()),
-            Event::ReplyPush => match self.reply_push() {
-                Ok(moves) => Ok(moves),
-                Err(_) => Err((Event::ReplyPush, NoMemory)),
-            },
-            Event::ReplyPop { sender } => match self.reply_pop(sender) {
-                Ok(moves) => Ok(moves),
-                Err(_) => Err((Event::ReplyPop { sender }, NoMemory)),
-            },
+            Event::ReplyPush => self.reply_push().map_err(|_| (Event::ReplyPush, NoMemory)),
+            Event::ReplyPop { sender } => self
+                .reply_pop(sender)
+                .map_err(|_| (Event::ReplyPop { sender }, NoMemory)),
         }
     }
 }

@@ -15,10 +15,7 @@ use tb_world::{Event, World, run_world};
 
 /// Puts an event after the others.
 fn add(events: &mut Vec<Event>, event: Event) -> Result<(), Refusal> {
-    match events.push(event) {
-        Ok(()) => Ok(()),
-        Err(_) => Err(Refusal::NoMemory),
-    }
+    events.push(event).map_err(|_| Refusal::NoMemory)
 }
 
 /// Puts the events of steps in words after the others.
@@ -36,10 +33,7 @@ fn add_words(
 
 /// Returns the World of one submitter after a list of events; its batches have at most 4 events.
 fn run(alloc: Global, events: Vec<Event>) -> Result<World, Refusal> {
-    match run_world(alloc, 0, 4, 1, events) {
-        Ok(world) => Ok(world),
-        Err(_) => Err(Refusal::NoMemory),
-    }
+    run_world(alloc, 0, 4, 1, events).map_err(|_| Refusal::NoMemory)
 }
 
 const PULSE_BETWEEN_BATCHES: &str =
