@@ -22,8 +22,8 @@ use Rattle.tb_work.specs.declared.stub.Stub.{Stub}
 use Rattle.tb_batch.specs.Grouping.{can_share, are_of}
 use Rattle.tb_batch.specs.Batch.{body_of, IsLawful, AreAdmitted}
 use Rattle.tb_core.proofs.PacketAnswers.{answers_from}
-use Rattle.tb_core.specs.Ledger.{packets_of, count_of_stubs, IsBatchEntry}
-use Rattle.tb_core.proofs.Bodies.{first_is, whole_events, packets_of-jobs}
+use Rattle.tb_core.specs.Ledger.{batch_packets, count_of_stubs, IsBatchEntry}
+use Rattle.tb_core.proofs.Bodies.{first_is, whole_events, batch_packets-jobs}
 use Rattle.tb_core.proofs.JoinedBatch.{length-chunks, GivesEach, gives}
 
 -- ---- operations
@@ -213,10 +213,10 @@ entry_is operation jobs lawful = by operation (kind_of_batch operation jobs lawf
     by op OfIds one = sized 131 16 refl one
 
 pub entry_has : (operation : ℕ) (jobs : List Numbered) → IsLawful operation jobs
-    → packets_of operation (body_of jobs) (map stub_of jobs) ≡ map input_of jobs
+    → batch_packets operation (body_of jobs) (map stub_of jobs) ≡ map input_of jobs
 entry_has operation jobs lawful = by operation (kind_of_batch operation jobs lawful) lawful.one_operation
   where
-    by : (op : ℕ) → Kind op → are_of op jobs ≡ true → packets_of op (body_of jobs) (map stub_of jobs) ≡ map input_of jobs
-    by op OfAccounts one = packets_of-jobs 129 128 jobs refl one lawful.all_admitted
-    by op OfTransfers one = packets_of-jobs 130 128 jobs refl one lawful.all_admitted
-    by op OfIds one = packets_of-jobs 131 16 jobs refl one lawful.all_admitted
+    by : (op : ℕ) → Kind op → are_of op jobs ≡ true → batch_packets op (body_of jobs) (map stub_of jobs) ≡ map input_of jobs
+    by op OfAccounts one = batch_packets-jobs 129 128 jobs refl one lawful.all_admitted
+    by op OfTransfers one = batch_packets-jobs 130 128 jobs refl one lawful.all_admitted
+    by op OfIds one = batch_packets-jobs 131 16 jobs refl one lawful.all_admitted

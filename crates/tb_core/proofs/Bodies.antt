@@ -14,7 +14,7 @@ use Rattle.tb_work.specs.declared.packet.Packet.{Packet}
 use Rattle.tb_batch.specs.Grouping.{are_of}
 use Rattle.tb_batch.specs.Batch.{body_of, AreAdmitted}
 use Rattle.tb_machine.specs.Joining.{events_in_turn}
-use Rattle.tb_core.specs.Ledger.{size_of, packets_of}
+use Rattle.tb_core.specs.Ledger.{size_of, batch_packets}
 
 -- ---- chunks
 
@@ -59,11 +59,11 @@ first_is operation job jobs all =
     (eqb-true job.packet.operation operation parts.0, parts.1)
 
 -- the stubs cut the body to its packets
-pub packets_of-jobs : (operation size : ℕ) (jobs : List Numbered) → event_size operation ≡ Some size
+pub batch_packets-jobs : (operation size : ℕ) (jobs : List Numbered) → event_size operation ≡ Some size
     → are_of operation jobs ≡ true → AreAdmitted jobs
-    → packets_of operation (body_of jobs) (map stub_of jobs) ≡ map input_of jobs
-packets_of-jobs operation size [] is one all = refl
-packets_of-jobs operation size (job ∷ jobs) is one all =
+    → batch_packets operation (body_of jobs) (map stub_of jobs) ≡ map input_of jobs
+batch_packets-jobs operation size [] is one all = refl
+batch_packets-jobs operation size (job ∷ jobs) is one all =
     let first = first_is operation job jobs one in
     let own : event_size job.packet.operation ≡ Some size = ap event_size first.0 ∙ is in
     let bytes = job.packet.bytes in
@@ -76,7 +76,7 @@ packets_of-jobs operation size (job ∷ jobs) is one all =
       take-append_seam bytes (body_of jobs),
       drop-append_seam bytes
           (body_of jobs),
-      packets_of-jobs operation size jobs is first.1 all.1,
+      batch_packets-jobs operation size jobs is first.1 all.1,
       first.0,
     ) refl
 

@@ -17,7 +17,7 @@ use Rattle.tb_core.specs.declared.parcel.Parcel.TheVariants as parcel
 use Rattle.tb_core.specs.declared.outcomes.Outcomes.TheVariants.{Cut}
 use Rattle.tb_core.proofs.PacketAnswers.{answers_from}
 use Rattle.tb_core.specs.Due.{outcome_at, Ahead}
-use Rattle.tb_core.specs.inside.Decision.{outcome_of, inputs_in, replies_from, Decision, Admitted, Pulsed, Returned}
+use Rattle.tb_core.specs.inside.Decision.{cause_outcome, inputs_in, replies_from, Decision, Admitted, Pulsed, Returned}
 use Rattle.tb_core.specs.Front.{decisions_in}
 use Rattle.tb_core.specs.Journal.{LedgerState, inputs}
 use Rattle.tb_core.specs.BareLedger.{BareLedgerState, with_journal, HasCommitted, halts}
@@ -83,7 +83,7 @@ replies_from-append clock journal place (Pulsed moment ∷ xs) ys =
     replies_from-append clock journal (place + 1) xs ys
     ∙ ap (λ n. replies_from clock journal (place + 1) xs ++ replies_from clock journal n ys) (omega arith)
 replies_from-append clock journal place (Returned job cause ∷ xs) ys =
-    ap (λ rs. reply_with (outcome_of cause) job ∷ rs) (replies_from-append clock journal place xs ys)
+    ap (λ rs. reply_with (cause_outcome cause) job ∷ rs) (replies_from-append clock journal place xs ys)
 
 -- a longer journal answers what it had answered the same
 pub replies_from-longer : (clock : ℕ) (journal others : List Input) (place : ℕ) (xs : List Decision)
@@ -98,7 +98,7 @@ replies_from-longer clock journal others place (Admitted job ∷ xs) h =
 replies_from-longer clock journal others place (Pulsed moment ∷ xs) h =
     replies_from-longer clock journal others (place + 1) xs (omega (arith, h))
 replies_from-longer clock journal others place (Returned job cause ∷ xs) h =
-    ap (λ rs. reply_with (outcome_of cause) job ∷ rs) (replies_from-longer clock journal others place xs h)
+    ap (λ rs. reply_with (cause_outcome cause) job ∷ rs) (replies_from-longer clock journal others place xs h)
 
 -- packets that the journal doesn't reach are Stopped
 replies_from-stopped : (clock : ℕ) (journal : List Input) (place : ℕ) (jobs : List Numbered) → length journal ≤ place

@@ -15,7 +15,7 @@ use Rattle.tb_core.specs.declared.journal.Entry.TheVariants as entry
 use Rattle.tb_core.specs.declared.outcomes.Outcomes.{Outcomes}
 use Rattle.tb_core.specs.declared.outcomes.Outcomes.TheVariants.{Cut, One, Nothing, Last}
 use Rattle.tb_core.specs.Journal.{LedgerState, inputs}
-use Rattle.tb_core.specs.inside.Decision.{outcome_of, replies_from, Admitted}
+use Rattle.tb_core.specs.inside.Decision.{cause_outcome, replies_from, Admitted}
 
 -- ---- the journal
 
@@ -28,15 +28,15 @@ abbrev pub size_of : ℕ → ℕ
 size_of operation = unwrap_or (event_size operation) 0
 
 -- the packets of a batch: for each stub one, with that stub's count of the body's events
-abbrev pub packets_of : ℕ → List ℕ → List Stub → List Input
-packets_of operation body [] = []
-packets_of operation body (stub ∷ stubs) =
+abbrev pub batch_packets : ℕ → List ℕ → List Stub → List Input
+batch_packets operation body [] = []
+batch_packets operation body (stub ∷ stubs) =
     let size = stub.count * size_of operation in
     Packet stub.submitter stub.number (events_of operation (take size body))
-    ∷ packets_of operation (drop size body) stubs
+    ∷ batch_packets operation (drop size body) stubs
 
 abbrev pub group_of : Entry → List Input
-group_of (entry.Batch operation body stubs) = packets_of operation body.items stubs.items
+group_of (entry.Batch operation body stubs) = batch_packets operation body.items stubs.items
 group_of (entry.Pulse moment) = Pulse moment ∷ []
 
 -- how many events the packets of these stubs have together
@@ -94,7 +94,7 @@ apply_step refused ledger (parcel.Batch jobs) =
 apply_step refused ledger (parcel.Pulse moment) =
     if must_stop refused ledger 1 then apply_result (with_stop ledger) Nothing
     else apply_result (with_entry ledger (Pulse moment ∷ [])) Nothing
-apply_step refused ledger (parcel.Return job cause) = apply_result ledger (One (reply_with (outcome_of cause) job))
+apply_step refused ledger (parcel.Return job cause) = apply_result ledger (One (reply_with (cause_outcome cause) job))
 apply_step refused ledger parcel.Last = apply_result ledger Last
 
 -- whether a parcel takes memory: what must be stopped, however much there is, takes none

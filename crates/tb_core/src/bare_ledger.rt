@@ -11,7 +11,7 @@ ghost use Rattle.tb_work.specs.declared.outcome.Outcome.TheVariants.{Stopped as 
 ghost use Rattle.tb_core.specs.BareLedger.{grows};
 ghost use Rattle.tb_core.specs.Ledger.{group_of, IsEntry};
 ghost use Rattle.tb_core.specs.inside.BatchAnswer.{AreAnswered, answer_in};
-ghost use Rattle.tb_core.specs.inside.Decision.{outcome_of, replies_from, Admitted};
+ghost use Rattle.tb_core.specs.inside.Decision.{cause_outcome, replies_from, Admitted};
 
 use crate::journal::Entry;
 use crate::outcomes::Outcomes;
@@ -124,7 +124,7 @@ fn stopped(batch: Batch) -> Cutter
 
 /// Returns the reply to a packet that comes back.
 fn returned(job: Job, cause: Cause) -> Reply
-    ensures { result ≡ reply_with (outcome_of cause) job }
+    ensures { result ≡ reply_with (cause_outcome cause) job }
 {
     match cause {
         Cause::Shutdown => Reply::of(job, Outcome::Shutdown),

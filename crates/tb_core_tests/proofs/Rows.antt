@@ -27,23 +27,23 @@ facts_of-push lists transfer =
 
 module _ (changes : List Change) (old : Lists) (all : AreLawful (plain_history changes old)) where
   -- a history that continues
-  abbrev GoesOn : Change → Lists → Facts → Type 0
-  GoesOn change new facts =
+  abbrev TakesPlainChange : Change → Lists → Facts → Type 0
+  TakesPlainChange change new facts =
       AreLawful (plain_history (changes ++ change ∷ []) new)
       × (plain_history (changes ++ change ∷ []) new ≡ with_change (plain_history changes old) facts)
 
   added : (change : Change) (new : Lists) → cut_back change new ≡ old → IsLawful (facts_of new)
-      → GoesOn change new (facts_of new)
+      → TakesPlainChange change new (facts_of new)
   added change new back lawful =
       (lawful_push changes change old new back lawful all, history-push changes change old new back)
 
   pub account-added : (account : AccountRecord)
-      → GoesOn Account (record old { accounts = old.accounts ++ account ∷ [] }) (add_account (facts_of old) account)
+      → TakesPlainChange Account (record old { accounts = old.accounts ++ account ∷ [] }) (add_account (facts_of old) account)
   account-added account =
       added Account _ (ap (λ accounts. record old { accounts = accounts }) (without_last-push old.accounts account))
       (record { distinct = all.now.distinct; debits_fit = all.now.debits_fit; credits_fit = all.now.credits_fit })
 
-  pub failed-added : (id : ℕ) → GoesOn Failed (record old { failed = old.failed ++ id ∷ [] })
+  pub failed-added : (id : ℕ) → TakesPlainChange Failed (record old { failed = old.failed ++ id ∷ [] })
       (add_failed (facts_of old) id)
   failed-added id =
       added Failed _ (ap (λ failed. record old { failed = failed }) (without_last-push old.failed id))
@@ -51,7 +51,7 @@ module _ (changes : List Change) (old : Lists) (all : AreLawful (plain_history c
 
   pub row-added : (transfer : TransferRecord) → (IsLawful (facts_of old)
       → IsLawful (add_transfer (facts_of old) transfer))
-      → GoesOn Transfer (record old { rows = old.rows ++ (transfer, false) ∷ [] })
+      → TakesPlainChange Transfer (record old { rows = old.rows ++ (transfer, false) ∷ [] })
       (add_transfer (facts_of old) transfer)
   row-added transfer keeps =
       let row : TransferRecord × Bool = (transfer, false) in

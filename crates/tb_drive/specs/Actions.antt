@@ -10,15 +10,15 @@ use Rattle.tb_drive.specs.declared.driver.Action.TheVariants.{Submit, Receive, E
 
 -- the claim that holds after an action: one of the packet to be queued, one if there is none, and another at
 -- the end
-abbrev pub GoesOn : Action → (packets.Packet → Type 0) → Type 0 → Type 0 → Type 0
-GoesOn (Submit packet) asks keeps ends = asks packet
-GoesOn Receive asks keeps ends = keeps
-GoesOn End asks keeps ends = keeps × ends
+abbrev pub ClaimAfter : Action → (packets.Packet → Type 0) → Type 0 → Type 0 → Type 0
+ClaimAfter (Submit packet) asks keeps ends = asks packet
+ClaimAfter Receive asks keeps ends = keeps
+ClaimAfter End asks keeps ends = keeps × ends
 
 -- the claim that holds after an action of the control: one of the pulse's moment, one if it waits, and one of the item
 -- that ends it
-abbrev pub ControlsOn : ControlAction → (ℕ → Type 0) → Type 0 → (Item → Type 0) → Type 0
-ControlsOn (control.Pulse moment) asks keeps ends = asks moment
-ControlsOn control.Wait asks keeps ends = keeps
-ControlsOn control.Close asks keeps ends = ends item.Close
-ControlsOn control.End asks keeps ends = ends item.End
+abbrev pub ControlClaimAfter : ControlAction → (ℕ → Type 0) → Type 0 → (Item → Type 0) → Type 0
+ControlClaimAfter (control.Pulse moment) asks keeps ends = asks moment
+ControlClaimAfter control.Wait asks keeps ends = keeps
+ControlClaimAfter control.Close asks keeps ends = ends item.Close
+ControlClaimAfter control.End asks keeps ends = ends item.End

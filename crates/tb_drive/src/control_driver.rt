@@ -4,7 +4,7 @@ ghost use Rattle.std.specs.Prelude.{◌≡◌, ℕ, List, [], ◌∷◌, ◌++�
 ghost use Rattle.tb_work.specs.declared.item.Item.{Item as ItemValue};
 ghost use Rattle.tb_work.specs.declared.item.Item.TheVariants as item;
 ghost use Rattle.tb_work.specs.declared.refusal.Refusal.TheVariants as refusal;
-ghost use Rattle.tb_drive.specs.Actions.{ControlsOn};
+ghost use Rattle.tb_drive.specs.Actions.{ControlClaimAfter};
 ghost use Rattle.tb_drive.specs.Plan.{is_refused};
 
 use std::sync::Wait;
@@ -45,7 +45,7 @@ pub trait ControlDriver: Drop {
     /// Returns what the control does next. It may wait with `rt`.
     fn next<R: Wait>(&mut self, rt: &R) -> ControlAction
         ensures { (first : Self) (items : List ItemValue) → has_queued first self.old items
-            → ControlsOn result (λ moment. has_asked first self.new moment items) (has_queued first self.new items)
+            → ControlClaimAfter result (λ moment. has_asked first self.new moment items) (has_queued first self.new items)
             (λ last. has_ended first self.new (items ++ last ∷ [])) };
 
     /// Receives the result of the last pulse: it is queued, or refused as `MomentTooLarge`, since its moment is above

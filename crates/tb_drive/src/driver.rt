@@ -4,7 +4,7 @@ ghost use Rattle.std.specs.Prelude.{◌≡◌, ◌<◌, ℕ, List, [], ◌∷◌
 ghost use Rattle.tb_work.specs.Packet.{Numbered, ReplyValue};
 ghost use Rattle.tb_work.specs.declared.packet.Packet as packets;
 ghost use Rattle.tb_work.specs.declared.refusal.Refusal.{Refusal as RefusalValue};
-ghost use Rattle.tb_drive.specs.Actions.{GoesOn};
+ghost use Rattle.tb_drive.specs.Actions.{ClaimAfter};
 ghost use Rattle.tb_drive.specs.Refusing.{IsFinalRefusal, final_refusal};
 
 use std::alloc::Global;
@@ -49,7 +49,7 @@ pub trait Driver: Drop {
     /// Returns what the submitter does next. It may wait with `rt`.
     fn next<R: Wait>(&mut self, rt: &R, alloc: Global) -> Action
         ensures seen { (limit : ℕ) (queued : List Numbered) (read : List ReplyValue) → has_seen self.old limit queued read
-            → GoesOn result (λ packet. has_asked self.new packet limit queued read)
+            → ClaimAfter result (λ packet. has_asked self.new packet limit queued read)
             (has_seen self.new limit queued read) (has_ended self.new limit queued read) }
         ensures share { share self.new ≡ share self.old };
 

@@ -4,7 +4,7 @@ use Rattle.tb_layout.specs.Events.{Input, Packet, Pulse}
 use Rattle.std.specs.List.{flat_map}
 use Rattle.std.proofs.lemmas.List.Folds.{flat_map-map}
 use Rattle.tb_core.specs.Journal.{LedgerState, inputs}
-use Rattle.tb_core.specs.Ledger.{group_of, packets_of, size_of}
+use Rattle.tb_core.specs.Ledger.{group_of, batch_packets, size_of}
 use Rattle.tb_core.specs.declared.journal.Entry.{Entry}
 use Rattle.tb_work.specs.declared.stub.Stub.{Stub}
 use Rattle.tb_program_text.specs.Output.{pulse_line}
@@ -42,14 +42,14 @@ of_entries journal ledger is = sym (flat_map-map (λ group. group) group_of jour
 
 -- a batch has no pulse
 pub none_in_batch : (place operation : ℕ) (body : List ℕ) (stubs : List Stub)
-    → pulses_text place (packets_of operation body stubs) ≡ []
+    → pulses_text place (batch_packets operation body stubs) ≡ []
 none_in_batch place operation body [] = refl
 none_in_batch place operation body (stub ∷ stubs) =
     none_in_batch (suc place) operation (drop (stub.count * size_of operation) body) stubs
 
 -- and a packet for each stub
 pub as_many_packets : (operation : ℕ) (body : List ℕ) (stubs : List Stub)
-    → length (packets_of operation body stubs) ≡ length stubs
+    → length (batch_packets operation body stubs) ≡ length stubs
 as_many_packets operation body [] = refl
 as_many_packets operation body (stub ∷ stubs) =
     ap suc (as_many_packets operation (drop (stub.count * size_of operation) body) stubs)

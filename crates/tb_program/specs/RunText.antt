@@ -1,7 +1,7 @@
 -- What is printed of a run.
 use Rattle.std.specs.Prelude.{◌≡◌, ℕ, ◌+◌, zero, suc, List, [], ◌∷◌, ◌++◌, Ok, Some, length, slice_get}
 use Rattle.tb_core.specs.Grouping.{IsGrouping}
-use Rattle.tb_core.specs.Headline.{moments_in as moments_committed, moments_queued}
+use Rattle.tb_core.specs.Headline.{moments_in, moments_queued}
 use Rattle.tb_core.specs.EndedRun.{Run, committed_in, IsPrefix}
 use Rattle.tb_core.specs.Report.{LawfulReport}
 use Rattle.tb_layout.specs.Events.{Input, Packet, Pulse}
@@ -14,7 +14,7 @@ use Rattle.tb_drive.specs.Seen.{jobs_in}
 use Rattle.tb_program_script.specs.Script.{ParsedScript, clock_of, limit_of, submitters_of, items_of, script_of}
 use Rattle.tb_program.specs.Noting.{IsHandedIn}
 use Rattle.tb_program_text.specs.Output.{reply_line, refused_line, pulse_line, refused_pulse_line, state_text}
-use Rattle.tb_program.specs.Sharing.{moments_in, shares_of, shuts_in}
+use Rattle.tb_program.specs.Sharing.{moments_asked, shares_of, shuts_in}
 use Rattle.tb_program.specs.declared.run.notes.Told.{Told}
 use Rattle.tb_program.specs.declared.run.notes.Told.TheVariants.{Queued, Refused}
 
@@ -86,7 +86,7 @@ pub record IsRunText (clock limit : ℕ) (shares : List (List packets.Packet)) (
   pub report : LawfulReport run
   pub grouping : IsGrouping limit run.ledger.groups
   pub control : run.queued run.submitters ≡ controlled
-  pub pulses : IsPrefix (moments_committed (committed_in run)) (moments_queued controlled)
+  pub pulses : IsPrefix (moments_in (committed_in run)) (moments_queued controlled)
   pub number : length told ≡ length shares
   pub handed : AreHandedIn limit run.replies shares told run.queued
   pub printed : text ≡ run_text told run.replies (committed_in run) refused_pulses run.ledger.state
@@ -97,8 +97,8 @@ abbrev pub IsTextOf : ParsedScript → List ℕ → Type 0
 IsTextOf parsed text =
     let items = items_of parsed in
     IsRunText (clock_of parsed.settings) (limit_of parsed.settings) (shares_of 0 (submitters_of parsed.settings) items)
-    (planned_items (moments_in items) (shuts_in items))
-    (refused_of (moments_in items)) text
+    (planned_items (moments_asked items) (shuts_in items))
+    (refused_of (moments_asked items)) text
 
 -- the same of the bytes of a script without a fault
 abbrev pub IsRunOf : List ℕ → List ℕ → Type 0

@@ -20,8 +20,8 @@ moment_in (Packet submitter packet) = []
 moment_in (Pulse moment) = moment ∷ []
 moment_in Shut = []
 
-abbrev pub moments_in : List ScriptItem → List ℕ
-moments_in items = flat_map moment_in items
+abbrev pub moments_asked : List ScriptItem → List ℕ
+moments_asked items = flat_map moment_in items
 
 abbrev pub is_shut : ScriptItem → Bool
 is_shut (Packet submitter packet) = false

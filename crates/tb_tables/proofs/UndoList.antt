@@ -68,14 +68,14 @@ module _ (indexed other : ℕ → ℕ → Bool) (count : ℕ) (same : KeepsPairs
 module _ (changes : List (Change Indices)) (old : MapsState) (all : AreUndoable (has_pair old.pairs) changes old.facts)
     (sound : IsSound (has_pair old.pairs) old.facts) where
   -- what can be undone, and the history
-  abbrev GoesOn : Change Indices → MapsState → Type 0
-  GoesOn change new =
+  abbrev TakesChange : Change Indices → MapsState → Type 0
+  TakesChange change new =
       AreUndoable (has_pair new.pairs) (changes ++ change ∷ []) new.facts
       × (history_in (changes ++ change ∷ []) new.facts ≡ with_change (history_in changes old.facts) new.facts)
 
   goes-on : (change : Change Indices) (new : MapsState) → before change new.facts ≡ old.facts
       → WasMade change old.facts new.facts → KeepsPairs (length old.facts.transfers) (has_pair old.pairs)
-      (has_pair new.pairs) → GoesOn change new
+      (has_pair new.pairs) → TakesChange change new
   goes-on change new is made keeps =
       let count = length old.facts.transfers in
       let same = undoable-indexed (has_pair old.pairs)
@@ -86,12 +86,12 @@ module _ (changes : List (Change Indices)) (old : MapsState) (all : AreUndoable 
         history_of-push before (λ (now : Facts). now) changes change old.facts new.facts is,
       )
 
-  pub account-made : (account : AccountRecord) → GoesOn Account (record old { facts = add_account old.facts account })
+  pub account-made : (account : AccountRecord) → TakesChange Account (record old { facts = add_account old.facts account })
   account-made account =
       goes-on Account _ (ap (λ accounts. record old.facts { accounts = accounts })
       (without_last-push old.facts.accounts account)) tt (λ m p within has. has)
 
-  pub failed-made : (id : ℕ) → GoesOn Failed (record old { facts = add_failed old.facts id })
+  pub failed-made : (id : ℕ) → TakesChange Failed (record old { facts = add_failed old.facts id })
   failed-made id =
       goes-on Failed _ (ap (λ failed. record old.facts { failed = failed }) (without_last-push old.facts.failed id))
       tt (λ m p within has. has)
@@ -99,7 +99,7 @@ module _ (changes : List (Change Indices)) (old : MapsState) (all : AreUndoable 
   pub transfer-made : (t : TransferRecord) (indices : Indices) → HaveIndices old.facts t indices
       → MayStore old.facts t indices.pending → (new : MapsState) → new.facts ≡ add_transfer old.facts t
       → KeepsPairs (length old.facts.transfers) (has_pair old.pairs) (has_pair new.pairs)
-      → GoesOn (Transfer indices) new
+      → TakesChange (Transfer indices) new
   transfer-made t indices at may new is keeps =
       goes-on (Transfer indices) new (ap (before {T = Indices} (Transfer indices)) is ∙ back old.facts t indices)
       (record {

@@ -8,7 +8,7 @@ use Rattle.tb_core.specs.declared.parcel.Parcel.{Parcel}
 use Rattle.tb_core.specs.declared.parcel.Parcel.TheVariants.{Batch, Last}
 use Rattle.tb_world.specs.declared.event.Event.{Event}
 use Rattle.tb_world.specs.declared.event.Event.TheVariants.{Push, Pop, BatchPush, BatchPop, OutcomePush, OutcomePop, ReplyPush, ReplyPop}
-use Rattle.tb_world.specs.declared.sender.Sender.{Sender}
+use Rattle.tb_world.specs.declared.sender.WorldSender.{WorldSender}
 use Rattle.tb_core.specs.Front.{FrontState, take_step, with_group, all_ended, takes_memory as ticket_takes}
 use Rattle.tb_core.specs.Journal.{LedgerState}
 use Rattle.tb_core.specs.Ledger.{apply_step, new_ledger, takes_memory as parcel_takes}
@@ -20,7 +20,7 @@ use Rattle.tb_world.specs.Mailbox.{Mailbox, empty_mailbox, mailbox_at, mailboxes
 pub record WorldState : Type 0 where
   pub limit : ℕ
   pub submitters : ℕ
-  pub senders : List Sender  -- the submitters, and after them the control
+  pub senders : List WorldSender  -- the submitters, and after them the control
   pub queue : List Ticket
   pub front : FrontState
   pub parcels : List Parcel  -- those that the batcher is to push
@@ -34,7 +34,7 @@ pub record WorldState : Type 0 where
 
 -- ---- the queue
 
-abbrev pub sender_at : List Sender → ℕ → Sender
+abbrev pub sender_at : List WorldSender → ℕ → WorldSender
 sender_at senders number = slice_index_or senders number newcomer
 
 abbrev pub is_lawful : WorldState → Ticket → Bool
@@ -42,7 +42,7 @@ is_lawful world ticket =
     may_push world.limit world.submitters ticket.sender (sender_at world.senders ticket.sender) ticket.item
 
 -- the senders after a ticket
-abbrev pub senders_after : List Sender → Ticket → List Sender
+abbrev pub senders_after : List WorldSender → Ticket → List WorldSender
 senders_after senders ticket =
     slice_set senders ticket.sender (sender_after (sender_at senders ticket.sender) ticket.item)
 
@@ -193,7 +193,7 @@ new_world clock limit submitters =
     }
 
 -- what is true of a World between its steps: the front takes tickets of these senders
-pub record IsWorld (submitters : ℕ) (front : FrontState) (queue : List Ticket) (senders : List Sender) : Type 0 where
+pub record IsWorld (submitters : ℕ) (front : FrontState) (queue : List Ticket) (senders : List WorldSender) : Type 0 where
   pub counted : front.submitters ≡ submitters
   pub queued : All (λ (ticket : Ticket). ticket.sender ≤ submitters) queue
   pub all_senders : length senders ≡ submitters + 1

@@ -8,12 +8,12 @@ use tb_work::Item;
 /// How many packets a sender has pushed, which may be one more than the greatest number of a packet, and whether
 /// it ended.
 #[derive(Clone, Copy)]
-pub struct Sender {
+pub struct WorldSender {
     pub pushed: u128,
     pub ended: bool,
 }
 
-impl Sender {
+impl WorldSender {
     /// Returns whether sender `number` may push an item; the control is the sender after the submitters.
     pub(crate) fn may_push(self, limit: u32, submitters: u32, number: u32, item: &Item) -> bool
         ensures { result ≡ may_push limit submitters number self item.now }
@@ -35,18 +35,18 @@ impl Sender {
     }
 
     /// Returns the sender after an item that it may push.
-    pub(crate) fn after(self, item: &Item) -> Sender
+    pub(crate) fn after(self, item: &Item) -> WorldSender
         requires { (limit : ℕ) × (submitters : ℕ) × (number : ℕ)
             × (may_push limit submitters number self item.now ≡ true) }
         ensures { result ≡ sender_after self item.now }
     {
         match item {
-            Item::Packet(job) => Sender {
+            Item::Packet(job) => WorldSender {
                 pushed: u128::from(job.stub().number) + 1,
                 ended: self.ended,
             },
             Item::Pulse(_) => self,
-            Item::End | Item::Close => Sender {
+            Item::End | Item::Close => WorldSender {
                 pushed: self.pushed,
                 ended: true,
             },

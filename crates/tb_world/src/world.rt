@@ -12,7 +12,7 @@ ghost use Rattle.tb_world.specs.World.{pending_of, new_world, IsMove, batch_push
 use crate::event::Event;
 use crate::mailbox::Mailboxes;
 use crate::pending_replies::PendingReplies;
-use crate::sender::Sender;
+use crate::sender::WorldSender;
 use arrayvec::ArrayVec;
 use std::alloc::Global;
 use std::collections::VecDeque;
@@ -27,7 +27,7 @@ use tb_work::{Refusal, Reply, Ticket};
 pub struct World {
     limit: u32,
     submitters: u32,
-    senders: Vec<Sender>,
+    senders: Vec<WorldSender>,
     queue: VecDeque<Ticket>,
     front: Front,
     parcels: ArrayVec<Parcel, 2>,
@@ -96,12 +96,12 @@ impl Model for World {
 }
 
 /// Returns the submitters and the control; none has pushed anything.
-fn newcomers(alloc: Global, submitters: u32) -> Result<Vec<Sender>, NoMemory>
+fn newcomers(alloc: Global, submitters: u32) -> Result<Vec<WorldSender>, NoMemory>
     requires { submitters ≤ submitters_max }
     ensures { IfOk result (λ senders. senders.items ≡ replicate (submitters + 1) newcomer) }
 {
     let mut senders = Vec::new(alloc);
-    let newcomer = Sender {
+    let newcomer = WorldSender {
         pushed: 0,
         ended: false,
     };
@@ -110,7 +110,7 @@ fn newcomers(alloc: Global, submitters: u32) -> Result<Vec<Sender>, NoMemory>
 }
 
 /// Returns the senders, and the submitters' rings.
-fn sides(alloc: Global, submitters: u32) -> Result<(Vec<Sender>, Mailboxes), NoMemory>
+fn sides(alloc: Global, submitters: u32) -> Result<(Vec<WorldSender>, Mailboxes), NoMemory>
     requires { submitters ≤ submitters_max }
     ensures senders { IfOk result (λ sides. sides.0.items ≡ replicate (submitters + 1) newcomer) }
     ensures mailboxes { IfOk result (λ sides. sides.1 ≡ replicate submitters empty_mailbox) }
@@ -354,7 +354,9 @@ impl World {
         ensures memory { OnErr result (takes_memory self.old event ≡ true) }
     {
         match event {
-            Event::Push(ticket) => self.push(ticket).map_err(|back| (Event::Push(back), NoMemory)),
+            Event::Push(ticket) => self
+                .push(ticket)
+                .map_err(|back| (Event::Push(back), NoMemory)),
             Event::Pop { refused } => self
                 .pop(refused)
                 .map_err(|_| (Event::Pop { refused }, NoMemory)),

@@ -80,9 +80,9 @@ inputs_in (Admitted job ∷ decisions) = input_of job ∷ inputs_in decisions
 inputs_in (Pulsed moment ∷ decisions) = input.Pulse moment ∷ inputs_in decisions
 inputs_in (Returned job cause ∷ decisions) = inputs_in decisions
 
-abbrev pub outcome_of : Cause → Outcome
-outcome_of Shutdown = outcome.Shutdown
-outcome_of Stopped = outcome.Stopped
+abbrev pub cause_outcome : Cause → Outcome
+cause_outcome Shutdown = outcome.Shutdown
+cause_outcome Stopped = outcome.Stopped
 
 -- the replies from a place on, with these packets and pulses committed from a clock on
 abbrev pub replies_from : ℕ → List Input → ℕ → List Decision → List ReplyValue
@@ -91,4 +91,4 @@ replies_from clock inputs place (Admitted job ∷ decisions) =
     reply_with (outcome_at clock inputs (Ahead place)) job ∷ replies_from clock inputs (place + 1) decisions
 replies_from clock inputs place (Pulsed moment ∷ decisions) = replies_from clock inputs (place + 1) decisions
 replies_from clock inputs place (Returned job cause ∷ decisions) =
-    reply_with (outcome_of cause) job ∷ replies_from clock inputs place decisions
+    reply_with (cause_outcome cause) job ∷ replies_from clock inputs place decisions

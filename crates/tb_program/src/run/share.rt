@@ -1,7 +1,7 @@
 //! What each thread is to queue.
 
 ghost use Rattle.std.specs.Prelude.{◌≡◌, ◌++◌, ◌∷◌, [], List, false, ◌||◌, length, OnOk, IfOk};
-ghost use Rattle.tb_program.specs.Sharing.{AreDealt, is_shut, moment_in, moments_in, shuts_in};
+ghost use Rattle.tb_program.specs.Sharing.{AreDealt, is_shut, moment_in, moments_asked, shuts_in};
 ghost use Rattle.tb_program_script.specs.declared.item.ScriptItem.{ScriptItem as ItemValue};
 ghost use Rattle.tb_program_script.specs.declared.item.ScriptItem.TheVariants.{Packet as PacketItem};
 
@@ -69,7 +69,7 @@ impl Shares {
 pub fn share_out(alloc: Global, submitters: u32, items: Vec<ScriptItem>) -> Result<Shares, NoMemory>
     ensures number { IfOk result (λ shares. length shares.packets.items ≡ submitters) }
     ensures packets { IfOk result (λ shares. AreDealt 0 shares.packets.items items.items) }
-    ensures moments { IfOk result (λ shares. shares.lines.moments.items ≡ moments_in items.items) }
+    ensures moments { IfOk result (λ shares. shares.lines.moments.items ≡ moments_asked items.items) }
     ensures shuts { IfOk result (λ shares. shares.lines.shuts ≡ shuts_in items.items) }
 {
     let mut shares = Shares::new(alloc, submitters)?;

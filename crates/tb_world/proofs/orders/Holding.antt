@@ -239,14 +239,14 @@ sent_applied queue applied front parcels batches p sent =
     }
 
 -- the next parcel is applied without a stop where nothing was refused
-abbrev pub GoesOn : Type 0 → Bool → WorldState → Type 0
-GoesOn Unrefused refused w =
+abbrev pub NextIsApplied : Type 0 → Bool → WorldState → Type 0
+NextIsApplied Unrefused refused w =
     Unrefused → (p : Parcel) (batches : List Parcel) → w.batches ≡ p ∷ batches
     → (apply_step refused w.ledger p).ledger.stopped ≡ false
 
 pub batch_pop_holds : (Unrefused : Type 0) (refused : Bool) (clock n : ℕ) (pushed : List Ticket) (w : WorldState)
     (outcome : Option Outcomes) (batches : List Parcel) → w.outcome ≡ outcome → w.batches ≡ batches
-    → GoesOn Unrefused refused w →
+    → NextIsApplied Unrefused refused w →
     Holds Unrefused clock n pushed w → Holds Unrefused clock n pushed
     (unwrap_or (batch_pop refused w outcome batches) w)
 batch_pop_holds Unrefused refused clock n pushed w (Some outcome) batches o e goes h = h

@@ -8,7 +8,7 @@ use Rattle.tb_work.specs.Queue.{part, is_end, IsUnended, IsEnded, IsSubmitted, A
 use Rattle.tb_work.specs.declared.item.Item.{Item}
 use Rattle.tb_work.specs.declared.item.Item.TheVariants as item
 use Rattle.tb_work.specs.declared.item.Ticket.{Ticket}
-use Rattle.tb_world.specs.declared.sender.Sender.{Sender}
+use Rattle.tb_world.specs.declared.sender.WorldSender.{WorldSender}
 use Rattle.tb_world.specs.Pushing.{may_push_item, may_push, newcomer, sender_after}
 use Rattle.tb_world.specs.World.{sender_at, senders_after}
 use Rattle.tb_core.specs.Front.{HaveAllEnded}
@@ -22,12 +22,12 @@ abbrev IsNext : ℕ → ℕ → Item → Type 0
 IsNext number next (item.Packet job) = (job.submitter ≡ number) × (job.number ≡ next)
 IsNext number next x = Unit {0}
 
-record MayPush (submitters number : ℕ) (sender : Sender) (x : Item) : Type 0 where
+record MayPush (submitters number : ℕ) (sender : WorldSender) (x : Item) : Type 0 where
   among : number ≤ submitters
   next : IsNext number sender.pushed x
   submitted : IsSubmitted submitters number x
 
-may : (limit submitters number : ℕ) (sender : Sender) (x : Item)
+may : (limit submitters number : ℕ) (sender : WorldSender) (x : Item)
     → may_push_item limit submitters number sender x ≡ true → MayPush submitters number sender x
 may limit submitters number sender (item.Packet job) h =
     let below = and_parts (nat_lt number submitters) _ h in
@@ -67,7 +67,7 @@ numbered_push number next (item.Packet job ∷ items) x all is =
 numbered_push number next (first ∷ items) x all is = numbered_push number next items x all is
 
 -- a sender has pushed these
-pub record HasPushed (number : ℕ) (sender : Sender) (items : List Item) : Type 0 where
+pub record HasPushed (number : ℕ) (sender : WorldSender) (items : List Item) : Type 0 where
   pub numbered : AreNumbered number 0 items
   pub counted : sender.pushed ≡ packets_in items
   pub goes_on : sender.ended ≡ false → IsUnended items
@@ -81,7 +81,7 @@ unended_push items x all goes =
 ended_by : (items : List Item) (x : Item) → IsUnended items → is_end x ≡ true → IsEnded (items ++ x ∷ [])
 ended_by items x all ends = record { body = items; last = x; parts = refl; unended = all; ends = ends }
 
-pushed_more : (number : ℕ) (sender : Sender) (items : List Item) (x : Item) → sender.ended ≡ false
+pushed_more : (number : ℕ) (sender : WorldSender) (items : List Item) (x : Item) → sender.ended ≡ false
     → IsNext number sender.pushed x → HasPushed number sender items
     → HasPushed number (sender_after sender x) (items ++ x ∷ [])
 pushed_more number sender items x goes next has =
@@ -127,13 +127,13 @@ pushed_more number sender items x goes next has =
 
 -- ---- all senders
 
-pub record HavePushed (submitters : ℕ) (pushed : List Ticket) (senders : List Sender) : Type 0 where
+pub record HavePushed (submitters : ℕ) (pushed : List Ticket) (senders : List WorldSender) : Type 0 where
   pub long : length senders ≡ submitters + 1
   pub submitted : AreSubmitted submitters pushed
   pub no_other_sender : (sender : ℕ) → submitters < sender → part sender pushed ≡ []
   pub each : (sender : ℕ) → sender ≤ submitters → HasPushed sender (sender_at senders sender) (part sender pushed)
 
-pub none_pushed : (submitters : ℕ) (senders : List Sender) → length senders ≡ submitters + 1
+pub none_pushed : (submitters : ℕ) (senders : List WorldSender) → length senders ≡ submitters + 1
     → ((sender : ℕ) → sender ≤ submitters → sender_at senders sender ≡ newcomer) → HavePushed submitters [] senders
 none_pushed submitters senders long new =
     record {
@@ -149,7 +149,7 @@ part_of_others : (sender : ℕ) (queue : List Ticket) (ticket : Ticket) → tick
 part_of_others sender queue ticket other =
     part_push sender queue ticket ∙ rw (ne_eqb ticket.sender sender other) (append-nil (part sender queue))
 
-pub push_counted : (limit submitters : ℕ) (pushed : List Ticket) (senders : List Sender) (ticket : Ticket)
+pub push_counted : (limit submitters : ℕ) (pushed : List Ticket) (senders : List WorldSender) (ticket : Ticket)
     → may_push limit submitters ticket.sender (sender_at senders ticket.sender) ticket.item ≡ true
     → HavePushed submitters pushed senders →
     HavePushed submitters (pushed ++ ticket ∷ []) (senders_after senders ticket)
@@ -190,7 +190,7 @@ not_both (item.End ∷ items) all any = cc
 not_both (item.Close ∷ items) all any = cc
 not_both (x ∷ items) all any = not_both items all any
 
-has_ended : (number : ℕ) (sender : Sender) (items : List Item) → HasPushed number sender items
+has_ended : (number : ℕ) (sender : WorldSender) (items : List Item) → HasPushed number sender items
     → list_any is_end items ≡ true → IsEnded items
 has_ended number sender items has any = by sender.ended refl
   where
@@ -198,12 +198,12 @@ has_ended number sender items has any = by sender.ended refl
     by true over = has.ended over
     by false on = absurd (not_both items (has.goes_on on) any)
 
-pub numbered_by : (submitters : ℕ) (pushed : List Ticket) (senders : List Sender)
+pub numbered_by : (submitters : ℕ) (pushed : List Ticket) (senders : List WorldSender)
     → HavePushed submitters pushed senders → (sender : ℕ) → sender ≤ submitters
     → AreNumbered sender 0 (part sender pushed)
 numbered_by submitters pushed senders have sender among = (have.each sender among).numbered
 
-pub queue_of_all : (submitters : ℕ) (pushed : List Ticket) (senders : List Sender)
+pub queue_of_all : (submitters : ℕ) (pushed : List Ticket) (senders : List WorldSender)
     → HavePushed submitters pushed senders → HaveAllEnded submitters pushed
     → IsQueueOf submitters pushed (λ sender. part sender pushed)
 queue_of_all submitters pushed senders have over =

@@ -24,7 +24,7 @@ use Rattle.tb_world.specs.EveryOrder.{pushed_at, history, is_refused}
 use Rattle.tb_core.proofs.LedgerSteps.{inputs_in-append, inputs_in-admitted}
 use Rattle.tb_core.proofs.Runs.{so_far}
 use Rattle.tb_world.proofs.orders.Pushed.{none_pushed}
-use Rattle.tb_world.proofs.orders.Holding.{on_the_way, Holds, GoesOn, push_holds, pop_holds, batch_push_holds, batch_pop_holds, outcome_push_holds, outcome_pop_holds, reply_push_holds, reply_pop_holds}
+use Rattle.tb_world.proofs.orders.Holding.{on_the_way, Holds, NextIsApplied, push_holds, pop_holds, batch_push_holds, batch_pop_holds, outcome_push_holds, outcome_pop_holds, reply_push_holds, reply_pop_holds}
 
 -- ---- where nothing was refused the next parcel is committed: there are fewer places than 2^63
 
@@ -57,7 +57,7 @@ goes_on ledger p goes room = by p room
 
 pub parcel_goes : (Unrefused : Type 0) (refused : Bool) (clock n : ℕ) (pushed : List Ticket) (w : WorldState)
     → (Unrefused → refused ≡ false) → length pushed ≤ 2 ^ 63 → Holds Unrefused clock n pushed w
-    → GoesOn Unrefused refused w
+    → NextIsApplied Unrefused refused w
 parcel_goes Unrefused refused clock n pushed w u short h = λ is p batches e.
     let on_way = on_the_way w.front w.parcels w.batches in
     let rest = on_the_way w.front w.parcels batches in

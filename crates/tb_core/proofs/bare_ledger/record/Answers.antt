@@ -1,7 +1,7 @@
 use Rattle.std.proofs.Common.{◌∙◌, ap, refl, sym, subst}
 use Rattle.tb_machine.specs.Replay.{replay}
 use Rattle.tb_batch.specs.Batch.{body_of}
-use Rattle.tb_core.specs.Ledger.{packets_of, IsBatchEntry}
+use Rattle.tb_core.specs.Ledger.{batch_packets, IsBatchEntry}
 use Rattle.tb_core.proofs.Batches.{JoinInvisibly, entry_has, entry_is}
 use Rattle.tb_core.proofs.LedgerSteps.{replies_from-answers}
 use Rattle.tb_core.proofs.RecordedBatch.{recorded}
@@ -20,8 +20,8 @@ pub returns-clause-entry : goal.returns-clause-entry
 returns-clause-entry c =
     let answered = c.requires.answered.1 in
     let parts = c.args.parts in
-    let packets = ap (λ body. packets_of parts.operation body parts.stubs.items) answered.body
-    ∙ ap (packets_of parts.operation _) answered.stubs
+    let packets = ap (λ body. batch_packets parts.operation body parts.stubs.items) answered.body
+    ∙ ap (batch_packets parts.operation _) answered.stubs
     ∙ entry_has parts.operation parts.jobs.items answered.lawful in
     let whole = subst (λ body. IsBatchEntry parts.operation body parts.stubs.items) (sym answered.body)
     (subst (IsBatchEntry parts.operation (body_of parts.jobs.items)) (sym answered.stubs)

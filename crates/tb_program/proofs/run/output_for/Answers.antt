@@ -5,7 +5,7 @@ use Rattle.tb_program_script.specs.declared.item.Settings.{Settings}
 use Rattle.tb_program_script.specs.Script.{clock_of, items_of, limit_of, submitters_of}
 use Rattle.tb_work.specs.declared.packet.Packet.{Packet}
 use Rattle.tb_program.specs.Drivers.{share_of}
-use Rattle.tb_program.specs.Sharing.{AreDealt, moments_in, shares_of, shuts_in}
+use Rattle.tb_program.specs.Sharing.{AreDealt, moments_asked, shares_of, shuts_in}
 use Rattle.tb_program.proofs.Sharing.{dealt_lists}
 use Rattle.tb_program.proofs.run.output_for.Goals as goal
 
@@ -39,6 +39,6 @@ returns-in-Ok g c =
     ∙ ap (λ n. shares_of 0 n c.in_ok-settings.items.items) number
     ∙ ap (λ (settings : Settings). shares_of 0 (submitters_of settings) c.in_ok-settings.items.items) all.0
     ∙ ap (shares_of 0 (submitters_of parsed.settings)) all.1 in
-    let moments : c.in_ok-packets.field-0.lines.moments.items ≡ moments_in (items_of parsed) = search rules in
+    let moments : c.in_ok-packets.field-0.lines.moments.items ≡ moments_asked (items_of parsed) = search rules in
     let shuts : c.in_ok-packets.field-0.lines.shuts ≡ shuts_in (items_of parsed) = search rules in
     rw (clock, limit, shares, moments, shuts) at c.run_opened.ensures

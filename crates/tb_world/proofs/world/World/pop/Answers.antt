@@ -4,14 +4,14 @@ use Rattle.std.proofs.lemmas.List.Elements.{All-tail}
 use Rattle.tb_work.specs.declared.item.Ticket.{Ticket}
 use Rattle.tb_core.specs.declared.parcel.Parcel.{Parcel}
 use Rattle.tb_core.specs.Front.{FrontState, Taken, IsFront, take_result, take_step}
-use Rattle.tb_world.specs.declared.sender.Sender.{Sender}
+use Rattle.tb_world.specs.declared.sender.WorldSender.{WorldSender}
 use Rattle.tb_world.specs.World.{IsWorld}
 use Rattle.tb_core.proofs.TicketDecisions.{is_step}
 use Rattle.tb_world.proofs.world.World.pop.Goals as goal
 
 -- a ticket was taken off the queue
 taken_off : (refused : Bool) (submitters : ℕ) (old new : FrontState) (ticket : Ticket) (queue rest : List Ticket)
-    (senders : List Sender) (parcels : List Parcel) → IsWorld submitters old queue senders → IsFront old →
+    (senders : List WorldSender) (parcels : List Parcel) → IsWorld submitters old queue senders → IsFront old →
     queue ≡ ticket ∷ rest → take_result new parcels ≡ take_step refused old ticket.sender ticket.item
     → IsWorld submitters new rest senders
 taken_off refused submitters old new ticket queue rest senders parcels is front queue_is took =
