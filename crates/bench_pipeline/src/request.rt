@@ -40,7 +40,7 @@ pub enum Asked {
     Live(LiveRequest),
 }
 
-/// Returns the number in an argument, where there is one.
+/// Returns the number in an argument, if there is one.
 fn next_number(words: &mut Args) -> Option<u64> {
     words.next()?.as_str().parse::<u64>().ok()
 }

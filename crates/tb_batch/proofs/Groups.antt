@@ -24,7 +24,7 @@ count_of_all-push : (jobs : List Numbered) (job : Numbered)
 count_of_all-push [] job = omega arith
 count_of_all-push (first ∷ jobs) job = omega (arith, count_of_all-push jobs job)
 
--- packets of one operation are of another's where these are the same
+-- packets of one operation are of another's if these are the same
 are_of-other : (operation other : ℕ) (jobs : List Numbered) → 0 < length jobs → are_of operation jobs ≡ true
     → are_of other jobs ≡ (operation == other)
 are_of-other operation other [] some h = absurd (omega arith)
@@ -110,7 +110,7 @@ both_true a b c d h =
     let r = and_parts c d q.1 in
     (p.0, q.0, r.0, r.1)
 
--- what holds where a call succeeded
+-- what holds if a call succeeded
 pub given : {T E : Type 0} (r : Result T E) (P : Type 0) → is_err r ≡ false → OnOk r P → P
 given (Ok x) P h p = p
 given (Err e) P h p = cc

@@ -84,7 +84,7 @@ impl Batcher {
         }
     }
 
-    /// Returns how large the group held is, or where none is, the batch before.
+    /// Returns how large the group held is, or if none is, the batch before.
     fn size_of_held(&self) -> Size {
         match &self.held {
             Some(held) => held.size(),
@@ -159,7 +159,7 @@ impl Batcher {
         ensures none { IfNone result (self.old.jobs ≡ []) }
         ensures lawful { IsGroup self.old.limit self.old.jobs }
     {
-        // A group is large: where none is held, none is moved.
+        // A group is large: if none is held, none is moved.
         if self.held.is_none() {
             return None;
         }

@@ -80,7 +80,7 @@ impl Group {
         self.events + job.stub().count <= limit
     }
 
-    /// Puts a job that joins the group after its others. Where memory is refused, the job comes back and the group is
+    /// Puts a job that joins the group after its others. If memory runs out, the job comes back and the group is
     /// as before.
     pub(crate) fn join(&mut self, limit: u32, job: Job) -> Result<(), (Job, NoMemory)>
         requires limit { limit ≤ batch_max }

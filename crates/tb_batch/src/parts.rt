@@ -43,7 +43,7 @@ impl Parts {
         }
     }
 
-    /// Makes room for packets of a size, and for the jobs and failures of a few small ones at least. Where that is
+    /// Makes room for packets of a size, and for the jobs and failures of a few small ones at least. If that is
     /// refused, there is as much room as before.
     pub(crate) fn reserve_first(&mut self, size: Size)
         requires { (self.old.failures.items ≡ []) × (self.old.accounts.items ≡ []) }

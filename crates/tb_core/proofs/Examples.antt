@@ -55,7 +55,7 @@ pulsed = packet first ∷ of_control (item.Pulse 5) ∷ packet second ∷ of_con
 refused_second_commit : outcomes (due 0 pulsed (input_of first ∷ []) 0) ≡ Committed 0 (Failures []) ∷ Stopped ∷ []
 refused_second_commit = refl
 
--- where nothing is refused, a pulse takes a place
+-- if nothing is refused, a pulse takes a place
 all_committed : outcomes (due 0 pulsed (ahead (items pulsed)) 0)
     ≡ Committed 0 (Failures []) ∷ Committed 2 (Failures []) ∷ []
 all_committed = refl

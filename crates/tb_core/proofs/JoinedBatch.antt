@@ -42,7 +42,7 @@ pub length-chunks : {X : Type 0} (size k : ℕ) (xs : List X) → length (first_
 length-chunks size zero xs = refl
 length-chunks size (suc k) xs = ap suc (length-chunks size k (drop size xs))
 
--- for an operation whose events have 128 bytes, where packets of a group give what each gives by itself
+-- for an operation whose events have 128 bytes, if packets of a group give what each gives by itself
 module _ {Event : Type 0} (is_linked : Event → Bool) (number : ℕ) (f : List ℕ → Event)
     (packet_of : List Event → Events) (law : JoiningIsInvisible packet_of is_linked)
     (size : event_size number ≡ Some 128) (events_is : (bytes : List ℕ)

@@ -80,7 +80,7 @@ let_through clock (suc most) through k journal (item.End ∷ items) far h =
 let_through clock (suc most) through k journal (item.Close ∷ items) far h =
     behind_close clock k (Some through) journal items
 
--- how many were let through at most, where the front may have stopped
+-- how many were let through at most, if the front may have stopped
 abbrev most_of : Option ℕ → List Item → ℕ
 most_of None items = length (ahead items)
 most_of (Some through) items = through
@@ -103,7 +103,7 @@ none_behind clock journal [] = refl
 none_behind clock journal (item.Packet job ∷ items) = none_behind clock journal items
 none_behind clock journal (x ∷ items) = none_behind clock journal items
 
--- nobody, where the journal has all that is ahead
+-- nobody, if the journal has all that is ahead
 none_told : (clock k : ℕ) (journal before : List Input) (items : List Item) → journal ≡ before ++ ahead items
     → k ≡ length before → any_stopped (all_due_from clock journal (Ahead k) items) ≡ false
 none_told clock k journal before [] all k_is = refl
@@ -120,7 +120,7 @@ none_told clock k journal before (item.Pulse moment ∷ items) all k_is =
 none_told clock k journal before (item.End ∷ items) all k_is = none_told clock k journal before items all k_is
 none_told clock k journal before (item.Close ∷ items) all k_is = none_behind clock journal items
 
--- somebody, where the journal ends in front of a packet that is ahead
+-- somebody, if the journal ends in front of a packet that is ahead
 one_told : (clock k left : ℕ) (journal : List Input) (items : List Item) → length journal ≤ k + left
     → IsPacket (slice_get (ahead items) left) → any_stopped (all_due_from clock journal (Ahead k) items) ≡ true
 one_told clock k left journal [] far packet = absurd packet
@@ -351,7 +351,7 @@ run_is_lawful run answers filled ran theirs =
       replied = λ submitter below. theirs submitter below ∙ ap (λ rs. replies_to rs submitter) is_due;
     }
 
--- where neither stopped, a list has been run whole
+-- if neither stopped, a list has been run whole
 pub run_is_listed : (clock : ℕ) (items : List Item) (ledger : LedgerState) (answers : List ReplyValue)
     (run : Ran clock items ledger answers) → ledger.stopped ≡ false → run.stopped ≡ false
     → IsListed clock items ledger answers

@@ -43,7 +43,7 @@ take_result front parcels = record { front = front; parcels = parcels }
 abbrev pub with_group : FrontState → List Numbered → FrontState
 with_group front jobs = record front { held = jobs }
 
--- the group held as a batch, where there is one
+-- the group held as a batch, if there is one
 abbrev pub group_as_batch : List Numbered → List Parcel
 group_as_batch [] = []
 group_as_batch (job ∷ jobs) = Batch (job ∷ jobs) ∷ []
@@ -81,7 +81,7 @@ abbrev pub step_of_close : FrontState → ℕ → Taken
 step_of_close front sender =
     take_result (record (with_end front sender) { held = []; closed = true }) (group_as_batch front.held)
 
--- one ticket taken, where `refused` says that the growth which it needs is refused
+-- one ticket taken; `refused` says whether the allocation that it needs fails
 abbrev pub take_step : Bool → FrontState → ℕ → Item → Taken
 take_step refused front sender (item.Packet job) = step_of_packet refused front job
 take_step refused front sender (item.Pulse moment) = step_of_pulse front moment
@@ -111,7 +111,7 @@ all_decisions_in parcels = flat_map decisions_in parcels
 abbrev pub held_by : FrontState → List Decision
 held_by front = map Admitted front.held
 
--- the group that a batcher gives back, where it gives one
+-- the group that a batcher gives back, if it gives one
 abbrev pub decisions_in_batch : Option (List Numbered) → List Decision
 decisions_in_batch None = []
 decisions_in_batch (Some jobs) = map Admitted jobs

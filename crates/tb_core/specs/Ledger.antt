@@ -85,7 +85,7 @@ step_of_batch ledger jobs =
     let next = with_entry ledger (map input_of jobs) in
     apply_result next (Cut (replies_from ledger.opening (inputs next) (length (inputs ledger)) (map Admitted jobs)))
 
--- one parcel applied, where `refused` says that the growth which it needs is refused
+-- one parcel applied; `refused` says whether the allocation that it needs fails
 abbrev pub apply_step : Bool → LedgerState → Parcel → Applied
 apply_step refused ledger (parcel.Batch jobs) =
     if must_stop refused ledger (length jobs) then apply_result (with_stop ledger)

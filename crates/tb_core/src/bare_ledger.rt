@@ -48,7 +48,7 @@ impl Model for BareLedger {
     ghost invariant = { λ bare. IsBareLedger bare.opening bare.places };
 }
 
-/// Lets the machine take a batch. Where memory is refused, it and the parts are as before.
+/// Lets the machine take a batch. If memory runs out, it and the parts are as before.
 fn take_batch(machine: &mut Machine, parts: &mut Parts) -> Result<(), NoMemory>
     requires parts { AreParts parts.old }
     ensures jobs { parts.new.jobs.items ≡ parts.old.jobs.items }
@@ -66,7 +66,7 @@ fn take_batch(machine: &mut Machine, parts: &mut Parts) -> Result<(), NoMemory>
     }
 }
 
-/// Returns the answer to a batch: accounts where it is a lookup, failures else.
+/// Returns the answer to a batch: accounts if it is a lookup, failures else.
 fn answer(operation: u8, failures: Vec<Failure>, accounts: Vec<Account>) -> Answer
     ensures { result ≡ answer_in operation failures.items accounts.items }
 {

@@ -131,7 +131,7 @@ impl Ledger {
         self.entries.as_slice()
     }
 
-    /// Applies one parcel where its growth isn't refused. Where it is, the parcel comes back, and nothing has changed;
+    /// Applies one parcel unless an allocation fails. If one does, the parcel comes back, and nothing has changed;
     /// what must be stopped anyway never comes back.
     pub fn try_apply(&mut self, parcel: Parcel) -> Result<Outcomes, Parcel>
         ensures ok { IfOk result (λ outcomes. apply_result self.new outcomes ≡ apply_step false self.old parcel) }

@@ -46,7 +46,7 @@ all_pop P (y ∷ xs) x all =
     let rest = all_pop P xs x all.1 in
     ((all.0, rest.0), rest.1)
 
--- one entry more, where the facts with it are lawful, and one less
+-- one entry more, if the facts with it are lawful, and one less
 pub lawful_push : (changes : List Change) (change : Change) (old new : Lists) → cut_back change new ≡ old
     → IsLawful (facts_of new) → AreLawful (plain_history changes old)
     → AreLawful (plain_history (changes ++ change ∷ []) new)

@@ -133,7 +133,7 @@ expired-set test (r ∷ rows) (suc index) x at same =
           (λ p row at'. grind (arith, nat_tests, same (suc p) row at')),
     )
 
--- those before an index have expired where they are due
+-- those before an index have expired if they are due
 pub record AreMarked (clock : ℕ) (old now : Rows) (index : ℕ) : Type 0 where
   pub lawful : IsLawful (facts_in now)
   pub same : expire_due clock (facts_in now) ≡ expire_due clock (facts_in old)

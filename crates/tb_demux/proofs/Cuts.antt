@@ -133,7 +133,7 @@ replies_after end place offset failures (job ∷ jobs) past =
     ∙ ap (λ replies. reply_at place offset (drop (count_below end failures) failures) job ∷ replies)
     (replies_after end (place + 1) (offset + count_of job.packet) failures jobs (omega (arith, past)))
 
--- where no failures are left the offset doesn't matter
+-- if no failures are left the offset doesn't matter
 replies_empty : (place offset other : ℕ) (jobs : List Numbered)
     → cut_replies_from place offset [] jobs ≡ cut_replies_from place other [] jobs
 replies_empty place offset other [] = refl

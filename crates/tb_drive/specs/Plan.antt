@@ -7,7 +7,7 @@ use Rattle.tb_work.specs.declared.item.Item.{Item}
 use Rattle.tb_work.specs.declared.item.Item.TheVariants as item
 use Rattle.tb_drive.specs.declared.plan.PlanDriver.{PlanDriver}
 
--- a pulse is refused where its moment is out of range
+-- a pulse is refused if its moment is out of range
 abbrev pub is_refused : ℕ → Bool
 is_refused moment = nat_lt moment_max moment
 

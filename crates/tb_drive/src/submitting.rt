@@ -79,7 +79,7 @@ impl<D: Driver> Promise<SubmitterResult<D>> for SubmitterPromise<D> {
     ghost kept_by = { λ p r. IsResultOf p.task.value r };
 }
 
-/// Submits a packet once, as `Submitter::submit` does; where it is refused it comes back. After 2^56 packets the queue
+/// Submits a packet once, as `Submitter::submit` does; if it is refused it comes back. After 2^56 packets the queue
 /// is full, whatever else there is to refuse.
 pub(crate) fn submit_once<R: Wait>(
     rt: &R,

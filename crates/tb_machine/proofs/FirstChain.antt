@@ -159,7 +159,7 @@ left_more operation clock old events now n index facts next rest out more some i
           ∙ ap (λ k. more ++ failures_from (index + k) later.results) size;
     }
 
--- the same for events that chunks of bytes hold, where what is left of the chunks has a name
+-- the same for events that chunks of bytes hold, with a name for what is left of the chunks
 pub left_more_chunks : {Chunk Event : Type 0} (operation : Operation Event) (f : Chunk → Event) (clock : ℕ)
     (old : Facts) (chunks rest : List Chunk) (now after n index : ℕ) (facts next : Facts)
     (out more : List Failure) →

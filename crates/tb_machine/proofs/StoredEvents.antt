@@ -26,7 +26,7 @@ use Rattle.tb_machine.specs.AccountVerdict.{u128_max, first_row}
 use Rattle.tb_machine.specs.TransferVerdict.{transfer_verdict, event_checks, against_id, check_new_transfer, new_id_checks, resolving_checks, resolving_verdict, against_named, pending_checks, against_status, moving_checks, moving_verdict, check_accounts_found, balance_checks, resolved_transfer, resolved_transfer_of, stored_transfer, has_exclusive_flags}
 use Rattle.tb_machine.specs.Examining.{new_transfer_verdict}
 
--- ---- where a table doesn't end in a failure, none of its checks applies
+-- ---- if a table doesn't end in a failure, none of its checks applies
 
 -- no code of the table is that of a success
 abbrev fails : List (Bool × TransferCode) → Bool
@@ -78,7 +78,7 @@ fine facts timestamp event ok =
     else moving_verdict facts timestamp event) refl new_ok in
     record { apart = p.none.1.0; rest = p.rest }
 
--- where its id is new, the verdict is that on a new one
+-- if its id is new, the verdict is that on a new one
 pub check_new_account : (facts : Facts) (timestamp : ℕ) (event : Transfer) → transfer_with facts event.id ≡ None
     → transfer_verdict facts timestamp event ≡ new_transfer_verdict facts timestamp event
 check_new_account facts timestamp event new =

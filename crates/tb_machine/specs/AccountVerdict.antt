@@ -45,7 +45,7 @@ abbrev pub against : Option Account → Account → AccountCode
 against (Some existing) event = compare_with_existing existing event
 against None event = check_new_account event
 
--- an event, where the account with its id is the other, if there is one
+-- an event, given the account with its id, if there is one
 abbrev pub verdict_given : Option Account → Account → AccountCode
 verdict_given found event =
     first_row (

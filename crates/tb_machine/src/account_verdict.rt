@@ -60,7 +60,7 @@ fn check_new_account(event: &Account) -> AccountCode
     AccountCode::Ok
 }
 
-/// Returns the first check that an event fails, or Ok, where the account with its id is the other, if there is one.
+/// Returns the first check that an event fails, or Ok; `found` is the account with its id, if there is one.
 #[inline(always)]
 fn verdict_given(found: Option<Account>, event: &Account) -> AccountCode
     ensures { result ≡ spec.verdict_given found event.now }

@@ -211,7 +211,7 @@ fn examine_moving(
     Ok(transfer_verdict(tables, Target::Between(sides), timestamp, event).number())
 }
 
-/// Stores a post or a void, with its fields resolved, where its checks find nothing; whether it is stored. Its id is
+/// Stores a post or a void, with its fields resolved, if its checks find nothing; whether it is stored. Its id is
 /// looked up where it is stored, as that of a plain or pending transfer, and the transfer that it names is read once.
 #[inline(always)]
 fn store_resolved(

@@ -102,7 +102,7 @@ fn check_accounts(
     TransferCode::Ok
 }
 
-/// Returns the first check that a plain or pending transfer fails, or Ok, where one of its accounts may not be there.
+/// Returns the first check that a plain or pending transfer fails, or Ok, if one of its accounts may not be there.
 #[inline(always)]
 fn check_accounts_found(
     tables: &Tables,

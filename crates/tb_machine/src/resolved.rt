@@ -8,28 +8,28 @@ ghost use Rattle.tb_machine.specs.TransferVerdict as spec;
 use tb_layout::Transfer;
 use tb_tables::Tables;
 
-/// Returns a field of 128 bits, or where it is 0 what the pending transfer has.
+/// Returns a field of 128 bits, or if it is 0 what the pending transfer has.
 fn unless_zero_u128(field: u128, otherwise: u128) -> u128
     ensures { result ≡ spec.unless_zero field otherwise }
 {
     if field == 0 { otherwise } else { field }
 }
 
-/// Returns a field of 64 bits, or where it is 0 what the pending transfer has.
+/// Returns a field of 64 bits, or if it is 0 what the pending transfer has.
 fn unless_zero_u64(field: u64, otherwise: u64) -> u64
     ensures { result ≡ spec.unless_zero field otherwise }
 {
     if field == 0 { otherwise } else { field }
 }
 
-/// Returns a field of 32 bits, or where it is 0 what the pending transfer has.
+/// Returns a field of 32 bits, or if it is 0 what the pending transfer has.
 fn unless_zero_u32(field: u32, otherwise: u32) -> u32
     ensures { result ≡ spec.unless_zero field otherwise }
 {
     if field == 0 { otherwise } else { field }
 }
 
-/// Returns a field of 16 bits, or where it is 0 what the pending transfer has.
+/// Returns a field of 16 bits, or if it is 0 what the pending transfer has.
 fn unless_zero_u16(field: u16, otherwise: u16) -> u16
     ensures { result ≡ spec.unless_zero field otherwise }
 {
@@ -84,7 +84,7 @@ fn resolved_against(tables: &Tables, pending_id: u128, event: Transfer) -> Trans
     }
 }
 
-/// Returns an event with its fields resolved against the transfer with an id, where it is a post or a void.
+/// Returns an event with its fields resolved against the transfer with an id, if it is a post or a void.
 pub fn resolved_by(tables: &Tables, pending_id: u128, event: &Transfer) -> Transfer
     ensures { result ≡ spec.resolved_transfer_of (transfer_with tables.now.now pending_id) event.now }
 {

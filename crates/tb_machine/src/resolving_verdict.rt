@@ -23,7 +23,7 @@ fn is_due(clock: u64, transfer: &Transfer) -> bool
 }
 
 /// Returns what a pending transfer's status leaves of a post or a void: only one that is pending still, and not due,
-/// may be resolved. One that is due expired, also where no pulse came since.
+/// may be resolved. One that is due expired, also if no pulse came since.
 fn against_status(tables: &Tables, index: usize, pending: &Transfer, due: bool) -> TransferCode
     requires there { slice_get tables.now.now.transfers index ≡ Some pending.now }
     requires pending { is_pending pending.now ≡ true }
@@ -98,7 +98,7 @@ fn naming_fault(event: &Transfer) -> Option<TransferCode>
     None
 }
 
-/// Returns a post or a void as it is stored, where its checks find nothing, or else the first one that it fails. The
+/// Returns a post or a void as it is stored, if its checks find nothing, or else the first one that it fails. The
 /// transfer that it names is read once.
 #[inline(always)]
 pub fn resolve(

@@ -160,7 +160,7 @@ pub fn new_transfer_verdict(
     check_new_transfer(tables, target, timestamp, event)
 }
 
-/// Returns a post or a void as it is stored, where its checks find nothing if no transfer has its id.
+/// Returns a post or a void as it is stored, if it passes its checks, apart from those against a transfer with its id.
 #[inline(always)]
 pub fn new_resolving(
     tables: &Tables,

@@ -72,8 +72,8 @@ impl Served {
 impl Pipeline {
     /// Commits what is queued and hands the replies out, until each submitter and the control have ended; so each
     /// driver ends its sender, whatever fails in it. The calling thread is the batcher; it starts the committer and
-    /// then the demultiplexer, and joins both. Where one of them can't be started (`NoThread`) nothing was taken: the
-    /// intake comes back, to take what is queued, and the pipeline is spent. Where memory is refused the pipeline
+    /// then the demultiplexer, and joins both. If one of them can't be started (`NoThread`) nothing was taken: the
+    /// intake comes back, to take what is queued, and the pipeline is spent. If memory runs out the pipeline
     /// stops, and answers.
     pub fn serve<R: Threads + Wait + Sync, G: Gate>(
         self,

@@ -145,7 +145,7 @@ impl Stages {
         })
     }
 
-    /// Runs the stages until each sender has ended. The calling thread is the batcher. Where a thread can't be
+    /// Runs the stages until each sender has ended. The calling thread is the batcher. If a thread can't be
     /// started the intake comes back.
     pub(crate) fn serve<R: Threads + Wait + Sync, G: Gate>(
         self,

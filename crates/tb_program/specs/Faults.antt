@@ -1,4 +1,4 @@
--- Why the program gives up where the threads did.
+-- Why the program gives up if the threads did.
 use Rattle.tb_drive.specs.declared.driving.DriveFault.{DriveFault}
 use Rattle.tb_drive.specs.declared.driving.DriveFault.TheVariants as drive
 use Rattle.tb_program_text.specs.declared.program_fault.ProgramFault.{ProgramFault}

@@ -151,7 +151,7 @@ pub fn run_threads<T: Threads + Wait + Sync, R: Read, W: Write>(
     // Of any other the text of a lawful run of what the script says.
     ensures ran { IfOk result (λ faultless. IfSome (R.remaining reader.old) (λ bytes. is_faultless bytes ≡ true
         → (text : List ℕ) × IsRunOf bytes text × Appends (W.contents writer.old) (W.contents writer.new) text)) }
-    // Nothing is written where the reader failed, memory ran out or a thread couldn't be started.
+    // Nothing is written if the reader failed, memory ran out or a thread couldn't be started.
     ensures read { IsErrOf result ProgramFault.Read → Keeps (W.contents writer.old) (W.contents writer.new) }
     ensures memory { IsErrOf result ProgramFault.NoMemory → Keeps (W.contents writer.old) (W.contents writer.new) }
     ensures thread { IsErrOf result ProgramFault.NoThread → Keeps (W.contents writer.old) (W.contents writer.new) }

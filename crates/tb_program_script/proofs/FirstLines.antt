@@ -35,7 +35,7 @@ begins_line text front others none e =
       rest = rw (e, at) (drop-append-add front others (line_end others));
     }
 
--- the same, where the bytes are counted
+-- the same, with the bytes counted
 pub cut_line : (text : List ℕ) (count : ℕ) → has_no_end (take count text) ≡ true
     → BeginsLine text (take count text) (drop count text)
 cut_line text count none =

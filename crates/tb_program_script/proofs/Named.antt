@@ -69,7 +69,7 @@ parts_of word h =
     (passes_at_first (λ byte. byte == 61) word 0 h) in
     at ∙ ap (λ byte. before_first (λ byte. byte == 61) word ++ (byte ∷ rest_after (λ byte. byte == 61) word)) sign
 
--- where they don't, the others decide
+-- if they don't, the others decide
 pub found_later : (word name : List ℕ) (f : Field) (rows : List (List ℕ × Field))
     → ((number : List ℕ) → word ≡ name ++ 61 ∷ number → ⊥) →
     named word ((name, f) ∷ rows) ≡ named word rows

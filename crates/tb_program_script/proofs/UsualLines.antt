@@ -50,7 +50,7 @@ one_line (byte ∷ bytes) h =
     let one : 1 + line_end bytes ≡ suc (line_end bytes) = omega arith in
     rw (no_line_end byte parts.0, one) (ap (λ line. byte ∷ line) (one_line bytes parts.1))
 
--- ---- a line is text where its words are
+-- ---- a line is text if its words are
 
 text_space : (byte : ℕ) → (byte == 32) ≡ true → is_text_byte byte ≡ true
 text_space byte h = grind (arith, common_steps, h)
@@ -225,7 +225,7 @@ keyword_first text name rest none bare some e =
       others = begins.rest ∙ rw one refl;
     }
 
--- such a line, where its words are text and in their place
+-- such a line, if its words are text and in their place
 pub usual_line : (parsed next : ParsedScript) (text name rest : List ℕ) (keyword : Keyword) → KeywordFirst text name rest →
     length (first_line text) ≤ line_max → is_text name ≡ true → is_text (first_line rest) ≡ true →
     (slice_index name 0 == 35) ≡ false → keyword_of name ≡ Some keyword → may_stand parsed keyword ≡ true

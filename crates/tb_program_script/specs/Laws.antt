@@ -10,7 +10,7 @@ use Rattle.tb_program_script.specs.declared.item.ScriptItem.{ScriptItem}
 use Rattle.tb_program_script.specs.Script.{ParsedScript, after_line, after_lines, items_of, script_of, submitters_of, with_bytes}
 use Rattle.tb_program_script.specs.Spelling.{spelling_of, CanBeSet, CanAllBeWritten, IsOfItsSize, named_of_account, named_of_transfer, fields_line, id_line}
 
--- where some lines have no fault and the next has one, that fault decides, whatever follows, with the number of its
+-- if some lines have no fault and the next has one, that fault decides, whatever follows, with the number of its
 -- line
 abbrev pub FirstFaultDecides : Type 0
 FirstFaultDecides =
@@ -24,7 +24,7 @@ NoLineIsFaulty number parsed lines =
     (front back : List (List ℕ)) (line : List ℕ) (next : ParsedScript) →
     lines ≡ front ++ line ∷ back → after_lines number parsed front ≡ Ok next → IsOk (after_line next line)
 
--- where no line is faulty, the lines have no fault
+-- if no line is faulty, the lines have no fault
 abbrev pub FaultlessLinesAreParsed : Type 0
 FaultlessLinesAreParsed =
     (number : ℕ) (parsed : ParsedScript) (lines : List (List ℕ)) → NoLineIsFaulty number parsed lines

@@ -73,7 +73,7 @@ may_stand parsed word.Hex = is_some parsed.packet
 may_stand parsed word.Pulse = not parsed.shut
 may_stand parsed word.Shut = not parsed.shut
 
--- the settings that hold where a script gives none
+-- the settings that hold if a script gives none
 abbrev pub clock_of : Settings → ℕ
 clock_of settings = unwrap_or settings.clock 0
 

@@ -182,7 +182,7 @@ fn greatest(size: usize) -> u128
     }
 }
 
-/// Returns the field, where it wasn't given before.
+/// Returns the field, if it wasn't given before.
 fn new_field(draft: &Draft, f: Field) -> Result<Field, Fault>
     requires { Lies f }
     ensures field { result ≡ new_field draft.now (Some f) }

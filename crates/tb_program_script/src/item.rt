@@ -18,35 +18,35 @@ pub struct Settings {
 }
 
 impl Settings {
-    /// Returns what the clock starts at, in nanoseconds: 0 where the script doesn't say.
+    /// Returns what the clock starts at, in nanoseconds: 0 if the script doesn't say.
     pub fn clock(&self) -> u64
         ensures { result ≡ clock_of self.now }
     {
         self.clock.unwrap_or(0)
     }
 
-    /// Returns the most events of a batch: as many as there can be where the script doesn't say.
+    /// Returns the most events of a batch: as many as there can be if the script doesn't say.
     pub fn limit(&self) -> u32
         ensures { result ≡ limit_of self.now }
     {
         self.limit.unwrap_or(BATCH_MAX)
     }
 
-    /// Returns the places of the queue: 64 where the script doesn't say.
+    /// Returns the places of the queue: 64 if the script doesn't say.
     pub fn capacity(&self) -> u32
         ensures { result ≡ capacity_of self.now }
     {
         self.capacity.unwrap_or(64)
     }
 
-    /// Returns the credit of a submitter: 16 where the script doesn't say.
+    /// Returns the credit of a submitter: 16 if the script doesn't say.
     pub fn credit(&self) -> u32
         ensures { result ≡ credit_of self.now }
     {
         self.credit.unwrap_or(16)
     }
 
-    /// Returns how many submitters there are: 2 where the script doesn't say.
+    /// Returns how many submitters there are: 2 if the script doesn't say.
     pub fn submitters(&self) -> u32
         ensures { result ≡ submitters_of self.now }
     {

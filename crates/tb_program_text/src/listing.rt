@@ -24,7 +24,7 @@ struct Pending<'a> {
 }
 
 impl<'a> Pending<'a> {
-    /// Goes on to the next place, where there is one.
+    /// Goes on to the next place, if there is one.
     fn go_on(&mut self)
         requires { IfSome self.old.place (λ place. place < places_max) }
         ensures place { self.new.place ≡ one_further self.old.place }

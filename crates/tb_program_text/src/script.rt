@@ -83,7 +83,7 @@ pub fn run_script<R: Read, W: Write>(
     // is written.
     ensures written { IfOk result (λ faultless. IfSome (R.remaining reader.old) (λ bytes.
         Appends (W.contents writer.old) (W.contents writer.new) (out bytes) × (faultless ≡ is_faultless bytes))) }
-    // Nothing is written where the reader failed or memory ran out.
+    // Nothing is written if the reader failed or memory ran out.
     ensures read { IsErrOf result ProgramFault.Read → Keeps (W.contents writer.old) (W.contents writer.new) }
     ensures memory { IsErrOf result ProgramFault.NoMemory → Keeps (W.contents writer.old) (W.contents writer.new) }
     // No thread is started.

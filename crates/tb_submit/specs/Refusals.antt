@@ -11,7 +11,7 @@ use Rattle.tb_work.specs.declared.refusal.Refusal.{Refusal}
 use Rattle.tb_work.specs.declared.refusal.Refusal.TheVariants.{InFlight, Full, NoMemory, Shutdown, Stopped, BadLimit, BadCapacity, BadSubmitters}
 use Rattle.tb_submit.specs.Ends.{SubmitterState}
 
--- the refusal is the one that is due, or where none is due, one of the others
+-- the refusal is the one that is due, or if none is due, one of the others
 abbrev pub IsRefusal : Option Refusal → (Refusal → Type 0) → Refusal → Type 0
 IsRefusal None Other refusal = Other refusal
 IsRefusal (Some due) Other refusal = refusal ≡ due

@@ -71,7 +71,7 @@ impl Control {
         }
     }
 
-    /// Queues its end, so that all that is queued is committed unless the pipeline stops. Where the queue was full
+    /// Queues its end, so that all that is queued is committed unless the pipeline stops. If the queue was full
     /// (`Full`) the control comes back. Takes no memory.
     pub fn end<R: Wait>(self, rt: &R) -> Result<ControlEnd, (Control, Refusal)>
         ensures ok { IfOk result (λ end. end ≡ sender_with self item.End) }

@@ -50,7 +50,7 @@ impl Intake {
         }
     }
 
-    /// Takes the front of the queue; None only where the queue was empty at some moment of the call;
+    /// Takes the front of the queue; None only if the queue was empty at some moment of the call;
     /// `seen_empty` records each None. Takes no memory.
     pub fn take<R: Wait>(&mut self, rt: &R) -> Option<Ticket>
         ensures some { IfSome result (λ ticket. self.new ≡ with_taken self.old ticket) }

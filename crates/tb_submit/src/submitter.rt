@@ -164,7 +164,7 @@ impl Submitter {
         self.inlet.waker()
     }
 
-    /// Queues its end. Where the queue was full (`Full`) the submitter comes back. Takes no memory.
+    /// Queues its end. If the queue was full (`Full`) the submitter comes back. Takes no memory.
     pub fn end<R: Wait>(self, rt: &R) -> Result<Ended, (Submitter, Refusal)>
         ensures ok { IfOk result (λ ended. ended ≡ ended_with self item.End) }
         ensures full { IfErr result (λ refused. (refused.0 ≡ self) × (refused.1 ≡ refusal.Full)) }

@@ -72,7 +72,7 @@ module _ {t : Transfer} {indices : Indices} (s : Step t indices) where
   abbrev after : Facts
   after = add_transfer s.facts t
 
-  -- an amount can be added where both balances have room for it, and taken out of sums that it was added to
+  -- an amount can be added if both balances have room for it, and taken out of sums that it was added to
   adds : (sums : Sums) {entries : List (ℕ × Account)} (kind : Phase) {amount : ℕ}
       → entries ≡ account_rows sums s.facts.accounts →
       balance_of (debits_in kind) (with_sums sums s.allow.are_at.debit_account) + amount < 2 ^ 128

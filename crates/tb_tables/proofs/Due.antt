@@ -20,7 +20,7 @@ filter-at f g (x ∷ xs) same = grind (arith, same 0 x refl, filter-at f g xs (�
 abbrev pub expires : ℕ → Facts → Transfer → Bool
 expires clock facts transfer = is_expired facts transfer.id || (is_reserving facts transfer && is_due clock transfer)
 
--- where none that reserves its amount is due, none is left to expire
+-- if none that reserves its amount is due, none is left to expire
 pub none-left : (clock : ℕ) (facts : Facts) → facts.expired
     ≡ map (λ (t : Transfer). t.id) (filter (λ t. is_expired facts t.id) facts.transfers) →
     ((p : ℕ) (y : Transfer) → slice_get facts.transfers p ≡ Some y
@@ -277,7 +277,7 @@ module _ {accounts : List (ℕ × Account)} {transfers : List (ℕ × Row)} {ind
       same = same;
     }
 
--- where no pair is due, nothing that reserves its amount is
+-- if no pair is due, nothing that reserves its amount is
 none-due : (clock : ℕ) (indexed : ℕ → ℕ → Bool) (facts : Facts) → IsSound indexed facts
     → ((m p : ℕ) → indexed m p ≡ true → clock < m) → (p : ℕ) (y : Transfer) → slice_get facts.transfers p ≡ Some y
     → (is_reserving facts y && is_due clock y) ≡ false

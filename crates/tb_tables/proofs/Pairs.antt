@@ -35,7 +35,7 @@ has_id-at id [] index x at is = cc
 has_id-at id (y ∷ xs) zero x at is = grind arith
 has_id-at id (y ∷ xs) (suc index) x at is = grind (arith, has_id-at id xs index x at is)
 
--- where its own id finds it
+-- if its own id finds it
 pub find-at : (xs : List Transfer) (index : ℕ) (x : Transfer) → ids_distinct xs ≡ true → slice_get xs index ≡ Some x
     → find (λ (t : Transfer). t.id == x.id) xs ≡ Some x
 find-at [] index x distinct at = cc
@@ -62,7 +62,7 @@ module _ (facts : Facts) (t : Transfer) where
   pairs-push moment index =
       grind (arith, nat_tests, slice_get-push facts.transfers t index, slice_get_past facts.transfers index)
 
-  -- where none reserves its amount that didn't before
+  -- if none reserves its amount that didn't before
   pub is_open_pair-push : ((y : Transfer) → is_reserving (add_transfer facts t) y ≡ true → is_reserving facts y ≡ true)
       → (moment index : ℕ) → is_open_pair (add_transfer facts t) moment index ≡ true
       → (its_pair facts t moment index || is_open_pair facts moment index) ≡ true

@@ -18,7 +18,7 @@ module _ {facts : Facts} {t : Transfer} {entries : List (ℕ × Row)} {index : �
   pub fits : is_timed t ≡ true → expires_at t < 2 ^ 64
   fits timed = can.expiry_fits (grind (arith, timed))
 
-  -- its pair is spent, where it has one and its status isn't pending
+  -- its pair is spent, if it has one and its status isn't pending
   pub spent-is : (m p : ℕ) → ((index == p) && is_spent facts m p)
       ≡ (is_timed t && not (is_open_status (row_in facts t).status) && same_pair (expires_at t) index m p)
   spent-is m p = grind (arith, nat_tests, can.at, resolved_either t.id facts.transfers)

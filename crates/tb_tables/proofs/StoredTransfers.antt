@@ -134,7 +134,7 @@ pub back : (facts : Facts) (t : TransferRecord) (indices : Indices)
     → before (Transfer indices) (add_transfer facts t) ≡ facts
 back facts t indices = ap (λ ts. record facts { transfers = ts }) (without_last-push facts.transfers t)
 
--- where the set has the same pairs
+-- if the set has the same pairs
 pub same-held : {accounts : List (ℕ × Account)} {transfers : List (ℕ × Row)} {indexed other : ℕ → ℕ → Bool}
     {facts : Facts} → ((m p : ℕ) → other m p ≡ indexed m p) → AreContained accounts transfers indexed facts
     → AreContained accounts transfers other facts

@@ -4,7 +4,7 @@ use Rattle.std.proofs.lemmas.List.Elements.{filter-append, filter_agree}
 use Rattle.std.proofs.lemmas.List.Sums.{sum_by-append, sum_by-cons}
 use Rattle.tb_tables.proofs.Words.{nat_tests, Transfer, has_id, ids_distinct}
 
--- the amount of a transfer, where it passes a test
+-- the amount of a transfer, if it passes a test
 abbrev pub amount_if : (Transfer → Bool) → Transfer → ℕ
 amount_if test transfer = if test transfer then transfer.amount else 0
 
@@ -25,7 +25,7 @@ pub amounts-same : (test other : Transfer → Bool) (xs : List Transfer) → ((x
     → amounts test xs ≡ amounts other xs
 amounts-same test other xs same = ap (sum_by (λ (t : Transfer). t.amount)) (filter_agree test other same xs)
 
--- one transfer more, where the test stays the same for the others
+-- one transfer more, if the test stays the same for the others
 pub amounts-push : (old new : Transfer → Bool) (xs : List Transfer) (x : Transfer)
     → ((y : Transfer) → new y ≡ old y) → amounts new (xs ++ x ∷ []) ≡ amounts old xs + amount_if new x
 amounts-push old new xs x same =
@@ -39,7 +39,7 @@ amounts-push old new xs x same =
 abbrev pub but_for : ℕ → (Transfer → Bool) → Transfer → Bool
 but_for id test transfer = test transfer && not (transfer.id == id)
 
--- where no transfer has the id, none is taken out
+-- if no transfer has the id, none is taken out
 but_for-absent : (test : Transfer → Bool) (id : ℕ) (xs : List Transfer) → has_id id xs ≡ false
     → amounts (but_for id test) xs ≡ amounts test xs
 but_for-absent test id [] h = refl

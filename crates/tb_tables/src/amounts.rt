@@ -68,7 +68,7 @@ pub fn subtract_amount(accounts: &mut ById<Account>, indices: Indices, phase: Ph
     lower_at(accounts, indices.debit, debits_in(phase), amount);
 }
 
-/// Adds what a post posts, where it is a post.
+/// Adds what a post posts, if it is a post.
 pub fn post_if(accounts: &mut ById<Account>, indices: Indices, is_post: bool, amount: u128)
     requires { is_post ≡ true → CanAdd accounts.old.entries indices Posted amount }
     ensures { (sums : Sums) (records : List AccountRecord) (debit credit : ℕ) → AreAt records indices debit credit
@@ -80,7 +80,7 @@ pub fn post_if(accounts: &mut ById<Account>, indices: Indices, is_post: bool, am
     }
 }
 
-/// Takes out what a post posted, where it is a post.
+/// Takes out what a post posted, if it is a post.
 pub fn unpost_if(accounts: &mut ById<Account>, indices: Indices, is_post: bool, amount: u128)
     requires { is_post ≡ true → CanTake accounts.old.entries indices Posted amount }
     ensures { (sums : Sums) (records : List AccountRecord) (debit credit : ℕ) → AreAt records indices debit credit

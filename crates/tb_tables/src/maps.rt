@@ -100,7 +100,7 @@ impl Maps {
     }
 
     /// Adds a transfer with this timestamp, whose accounts, and whose pending transfer, have these indices, unless one
-    /// with its id is there; whether it was added. When it expires goes into the set first, and out again where it isn't
+    /// with its id is there; whether it was added. When it expires goes into the set first, and out again if it isn't
     /// added.
     pub fn store(
         &mut self,

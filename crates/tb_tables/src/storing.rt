@@ -37,7 +37,7 @@ fn expires_at(transfer: &Transfer, timestamp: u64) -> u64
     timestamp + u64::from(transfer.timeout) * NANOSECONDS_PER_SECOND
 }
 
-/// Puts the pair of a transfer with this timestamp, at an index, into the set, where it has one.
+/// Puts the pair of a transfer with this timestamp, at an index, into the set, if it has one.
 pub fn insert_expiry(
     expiries: &mut Expiries,
     transfer: &Transfer,
@@ -153,7 +153,7 @@ fn is_spent(row: &Row) -> bool
     is_timed(&row.transfer) && !row.is_open()
 }
 
-/// Takes the pair of the transfer at an index out of the set, where it reserves nothing any more.
+/// Takes the pair of the transfer at an index out of the set, if it reserves nothing any more.
 fn remove_expiry_at(expiries: &mut Expiries, transfers: &Transfers, index: usize)
     requires { (facts : Facts) × (transfer : TransferRecord)
         × IsRemovable facts transfer transfers.now index }
@@ -180,7 +180,7 @@ fn remove_expiry_of(expiries: &mut Expiries, transfers: &Transfers, change: &Cha
     }
 }
 
-/// Takes the pairs of the transfers that some changes resolved out of the set. Where that is empty, the changes
+/// Takes the pairs of the transfers that some changes resolved out of the set. If that is empty, the changes
 /// aren't gone through.
 pub fn remove_resolved(expiries: &mut Expiries, transfers: &Transfers, changes: &[Change<Indices>])
     requires { (facts : Facts) × AllByRecursion (λ change. CanRemove facts change transfers.now) changes.now }

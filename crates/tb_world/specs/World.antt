@@ -54,7 +54,7 @@ push world ticket =
 
 -- ---- the batcher
 
--- it takes a ticket where it has no parcel to push
+-- it takes a ticket if it has no parcel to push
 abbrev pub pop : Bool → WorldState → List Parcel → List Ticket → Option WorldState
 pop refused world [] (ticket ∷ queue) =
     let next = take_step refused world.front ticket.sender ticket.item in
@@ -82,7 +82,7 @@ pending_of (outcomes.One reply) = Some (outcomes.One reply)
 pending_of outcomes.Nothing = None
 pending_of outcomes.Last = Some outcomes.Last
 
--- it applies a parcel where it has no outcome to push
+-- it applies a parcel if it has no outcome to push
 abbrev pub batch_pop : Bool → WorldState → Option Outcomes → List Parcel → Option WorldState
 batch_pop refused world None (parcel ∷ batches) =
     let next = apply_step refused world.ledger parcel in
@@ -96,7 +96,7 @@ outcome_push world (Some outcome) = Some (record world { outcome = None; outcome
 
 -- ---- the demultiplexer
 
--- it cuts an outcome where it has no reply to push
+-- it cuts an outcome if it has no reply to push
 abbrev pub outcome_pop : WorldState → List ReplyValue → List Outcomes → Option WorldState
 outcome_pop world [] (outcome ∷ outcomes) = Some (record world { outcomes = outcomes; replies = replies_in outcome })
 outcome_pop world [] [] = None

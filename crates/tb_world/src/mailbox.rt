@@ -34,7 +34,7 @@ impl Mailbox {
         }
     }
 
-    /// Puts a reply into the ring. Where memory is refused it comes back, and nothing has changed.
+    /// Puts a reply into the ring. If memory runs out it comes back, and nothing has changed.
     fn give(&mut self, reply: Reply) -> Result<(), Reply>
         ensures ok { OnOk result (self.new ≡ with_reply self.old reply) }
         ensures err { IfErr result (λ back. (back ≡ reply) × (self.new ≡ self.old)) }
@@ -42,7 +42,7 @@ impl Mailbox {
         self.ring.push_back(reply).map_err(|failed| failed.value)
     }
 
-    /// Takes the first reply of the ring, where there is one.
+    /// Takes the first reply of the ring, if there is one.
     fn take(&mut self) -> Result<bool, NoMemory>
         ensures moves { IfOk result (λ moves. moves ≡ is_some (after_pop self.old)) }
         ensures mailbox { OnOk result (self.new ≡ unwrap_or (after_pop self.old) self.old) }
@@ -86,7 +86,7 @@ impl Mailboxes {
         Ok(Mailboxes { mailboxes })
     }
 
-    /// Puts a reply into its submitter's ring; it is dropped where there is no such submitter. Where memory is
+    /// Puts a reply into its submitter's ring; it is dropped if there is no such submitter. If memory is
     /// refused it comes back, and nothing has changed.
     pub(crate) fn give(&mut self, reply: Reply) -> Result<(), Reply>
         ensures ok { OnOk result (self.new ≡ mailboxes_with self.old reply) }
@@ -101,7 +101,7 @@ impl Mailboxes {
         mailbox.give(reply)
     }
 
-    /// Takes the first reply of a submitter's ring, where there is one.
+    /// Takes the first reply of a submitter's ring, if there is one.
     pub(crate) fn take(&mut self, submitter: u32) -> Result<bool, NoMemory>
         ensures moves { IfOk result (λ moves. moves ≡ is_some (after_pop (mailbox_at self.old submitter))) }
         ensures mailboxes { OnOk result (self.new ≡ slice_set self.old submitter
@@ -117,7 +117,7 @@ impl Mailboxes {
         mailbox.take()
     }
 
-    /// Returns what a submitter received; nothing where there is no such submitter.
+    /// Returns what a submitter received; nothing if there is no such submitter.
     pub(crate) fn received(&self, submitter: u32) -> &[Reply]
         ensures { result.now ≡ (mailbox_at self.now submitter).received }
     {

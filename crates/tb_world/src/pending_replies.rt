@@ -76,7 +76,7 @@ impl PendingReplies {
         self.next.is_none()
     }
 
-    /// Gives the next reply, where there is one, to its submitter.
+    /// Gives the next reply, if there is one, to its submitter.
     pub(crate) fn give(&mut self, mailboxes: &mut Mailboxes) -> Result<bool, NoMemory>
         ensures ok { IfOk result (λ moves. IsGiven moves self.old self.new mailboxes.old mailboxes.new) }
         ensures err { OnErr result ((is_none self.old ≡ false) × (self.new ≡ self.old) × (mailboxes.new ≡ mailboxes.old)) }

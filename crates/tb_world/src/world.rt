@@ -167,7 +167,7 @@ impl World {
         })
     }
 
-    /// Returns what a submitter received, in order; nothing where there is no such submitter.
+    /// Returns what a submitter received, in order; nothing if there is no such submitter.
     pub fn received(&self, sender: u32) -> &[Reply]
         ensures { result.now ≡ received_of self.now sender }
     {
@@ -181,7 +181,7 @@ impl World {
         &self.ledger
     }
 
-    /// Puts a ticket at the end of the queue, where its sender may push it. Where memory is refused it comes back.
+    /// Puts a ticket at the end of the queue, if its sender may push it. If memory runs out it comes back.
     fn push(&mut self, ticket: Ticket) -> Result<bool, Ticket>
         ensures ok { IfOk result (λ moves. IsMove self.old (event.Push ticket) moves self.new) }
         ensures err { IfErr result (λ back. (is_some (moved self.old (event.Push ticket)) ≡ true) × (back ≡ ticket)
@@ -207,7 +207,7 @@ impl World {
         }
     }
 
-    /// Takes the queue's first ticket through the front, where no parcel is left to push.
+    /// Takes the queue's first ticket through the front, if no parcel is left to push.
     fn pop(&mut self, refused: bool) -> Result<bool, NoMemory>
         ensures ok { IfOk result (λ moves. IsMove self.old (event.Pop refused) moves self.new) }
         ensures err { OnErr result ((is_some (moved self.old (event.Pop refused)) ≡ true) × (self.new ≡ self.old)) }
@@ -267,7 +267,7 @@ impl World {
         Ok(true)
     }
 
-    /// Applies the batch ring's first parcel to the ledger, where no outcome is left to push.
+    /// Applies the batch ring's first parcel to the ledger, if no outcome is left to push.
     fn batch_pop(&mut self, refused: bool) -> Result<bool, NoMemory>
         ensures ok { IfOk result (λ moves. IsMove self.old (event.BatchPop refused) moves self.new) }
         ensures err { OnErr result ((is_some (moved self.old (event.BatchPop refused)) ≡ true)
@@ -311,7 +311,7 @@ impl World {
         Ok(true)
     }
 
-    /// Takes the outcome ring's first outcome apart into replies, where no reply is left to push.
+    /// Takes the outcome ring's first outcome apart into replies, if no reply is left to push.
     fn outcome_pop(&mut self) -> bool
         ensures { IsMove self.old event.OutcomePop result self.new }
     {

@@ -45,7 +45,7 @@ fn ticket(alloc: Global, sender: u32, made: Made) -> Result<Ticket, Refusal>
     Ok(Ticket { sender, item })
 }
 
-/// Returns a ticket, where memory isn't refused.
+/// Returns a ticket, unless memory runs out.
 pub(super) fn ticket_of(rt: &(impl Abort + Alloc<A = Global>), sender: u32, made: Made) -> Ticket
     ensures { result.sender ≡ sender }
 {
@@ -254,7 +254,7 @@ fn parcels_of_the_caller(rt: HostRuntime) {
     drop(front);
 }
 
-/// Lets the front take a ticket into parcels; true where it hands nothing on.
+/// Lets the front take a ticket into parcels; true if it hands nothing on.
 fn joins(front: &mut Front, parcels: &mut ArrayVec<Parcel, 2>, ticket: Ticket) -> bool
     requires sender { ticket.sender ≤ front.old.submitters }
     requires empty { parcels.old.items ≡ [] }

@@ -32,7 +32,7 @@ mod sizes;
 /// How often a test gives way before it gives up.
 const MOST_TURNS: u32 = 1_000_000;
 
-/// Returns a packet of accounts with this one account, or without events where the id is 0. The user word is the id.
+/// Returns a packet of accounts with this one account, or without events if the id is 0. The user word is the id.
 fn packet_of(alloc: Global, operation: u8, id: u8) -> Result<Packet, NoMemory> {
     let accounts = [account(u128::from(id), 0)];
     let mut packet = accounts_packet(alloc, &accounts[usize::from(id == 0)..])?;
@@ -127,7 +127,7 @@ fn open_lone(rt: &impl Abort, alloc: Global, capacity: u32, credit: u32) -> Lone
     }
 }
 
-/// Submits a packet: its number. Where it is refused it comes back.
+/// Submits a packet: its number. If it is refused it comes back.
 fn submit<R: Wait + Abort>(
     rt: &R,
     alloc: Global,
@@ -154,7 +154,7 @@ fn answer_to<R: Wait + Abort>(
     submit(rt, alloc, submitter, packet).map_err(|refused| refused.1)
 }
 
-/// Queues a packet of an operation with one account, or without events where the id is 0.
+/// Queues a packet of an operation with one account, or without events if the id is 0.
 fn queue<R: Wait + Abort>(rt: &R, alloc: Global, submitter: &mut Submitter, operation: u8, id: u8)
     ensures { origin_of submitter.new ≡ origin_of submitter.old }
 {
@@ -274,7 +274,7 @@ fn finish_lone<R: Threads + Wait + Sync + Abort, G: Gate>(
     finish_started(rt, pipeline, ends, gate)
 }
 
-/// Serves and settles as `finish` does, where threads can be started.
+/// Serves and settles as `finish` does, if threads can be started.
 fn finish_started<R: Threads + Wait + Sync + Abort, G: Gate>(
     rt: &R,
     pipeline: Pipeline,

@@ -16,7 +16,7 @@ const WAITS: [Step; 8] = [
     Step::Receive,
 ];
 
-/// Between two askings there is one reply at most, and none only where no packet's reply is unread.
+/// Between two askings there is one reply at most, and none only if no packet's reply is unread.
 const WAITS_SEEN: [Saw; 15] = [
     Saw::Asked,
     Saw::Asked,

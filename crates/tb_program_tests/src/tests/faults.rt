@@ -133,7 +133,7 @@ const FIELD_BOUNDS: [(&str, &str, &str); 4] = [
     ("code", "65535", "65536"),
 ];
 
-/// Asserts what is written where a field of an account has this number. The packet is of no operation.
+/// Asserts what is written if a field of an account has this number. The packet is of no operation.
 fn assert_field(rt: &(impl Abort + Alloc<A = Global>), field: &str, number: &str, output: &str) {
     let script = format!(in rt.alloc(); "packet 0 200\naccount {field}={number}\n").expect(
         rt, "memory",

@@ -64,7 +64,7 @@ impl Write for TakesNothing {
     }
 }
 
-/// Takes all, and fails where it is to hand it on.
+/// Takes all, and fails if it is to hand it on.
 #[derive(Drop)]
 struct FailsToFlush;
 

@@ -238,7 +238,7 @@ sent_applied queue applied front parcels batches p sent =
       batch_jobs = sent.batch_jobs.1;
     }
 
--- the next parcel is applied without a stop where nothing was refused
+-- the next parcel is applied without a stop if nothing was refused
 abbrev pub NextIsApplied : Type 0 → Bool → WorldState → Type 0
 NextIsApplied Unrefused refused w =
     Unrefused → (p : Parcel) (batches : List Parcel) → w.batches ≡ p ∷ batches
@@ -323,7 +323,7 @@ outcome_pop_holds Unrefused clock n pushed w [] (outcome ∷ outcomes) r o h =
     ∙ ap (λ (os : List Outcomes). unrouted [] os w.outcome) o
     ∙ append_assoc (replies_in outcome) (of_all outcomes) (of_one w.outcome)) h.routed)
 
--- a submitter has the same where a mailbox was replaced, and its own replies with what is on the way
+-- a submitter has the same if a mailbox was replaced, and its own replies with what is on the way
 replaced : (n submitter own : ℕ) (mailboxes : List Mailbox) (new : Mailbox) (old way : List ReplyValue) → length mailboxes ≡ n
     → submitter < n → shelved own mailboxes old ≡ new.received ++ (new.ring ++ replies_to way own) →
     (own ≢ submitter → replies_to old submitter ≡ replies_to way submitter)

@@ -26,7 +26,7 @@ use Rattle.tb_core.proofs.Runs.{so_far}
 use Rattle.tb_world.proofs.orders.Pushed.{none_pushed}
 use Rattle.tb_world.proofs.orders.Holding.{on_the_way, Holds, NextIsApplied, push_holds, pop_holds, batch_push_holds, batch_pop_holds, outcome_push_holds, outcome_pop_holds, reply_push_holds, reply_pop_holds}
 
--- ---- where nothing was refused the next parcel is committed: there are fewer places than 2^63
+-- ---- if nothing was refused the next parcel is committed: there are fewer places than 2^63
 
 length-ahead : (items : List Item) → length (ahead items) ≤ length items
 length-ahead [] = omega arith

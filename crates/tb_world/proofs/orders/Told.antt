@@ -1,4 +1,4 @@
--- What a World's steps tell: so far, where nothing was refused, and at rest.
+-- What a World's steps tell: so far, if nothing was refused, and at rest.
 use Rattle.std.proofs.Common.{refl, sym, ap, subst, ◌∙◌, ◌≡◌, ℕ, ◌^◌, ◌<◌, ◌≤◌, ◌==◌, false, List, [], ◌∷◌, ◌++◌, map, length, append_assoc, append-nil, Option, Some, None}
 use Rattle.std.specs.List.{list_any}
 use Rattle.std.proofs.lemmas.List.{map-append}

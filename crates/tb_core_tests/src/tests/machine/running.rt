@@ -102,7 +102,7 @@ fn raised(balance: u128, belongs: bool, amount: u128) -> u128 {
     }
 }
 
-/// Returns an account with the amount of a transfer in its balances, where it belongs there.
+/// Returns an account with the amount of a transfer in its balances, if it belongs there.
 fn with_amount(account: Account, status: Option<Status>, made: &Transfer) -> Account {
     let is_debit = made.debit_account_id == account.id;
     let is_credit = made.credit_account_id == account.id;

@@ -49,7 +49,7 @@ fn resolving(counter: u64, rule: Rule, pending: &Transfer, flags: u16) -> Transf
     }
 }
 
-/// Returns the transfer that a counter leads to; a post or a void names one of the last ids, where that has a transfer.
+/// Returns the transfer that a counter leads to; a post or a void names one of the last ids, if that has a transfer.
 fn event(counter: u64, rule: Rule, maps: &Tables) -> Transfer {
     let named = rule.id_at(counter.saturating_sub(pick(counter, 9, 16)));
     match (pick(counter, 2, 4), maps.transfer(named)) {
@@ -137,7 +137,7 @@ fn may_resolve(tables: &Tables, transfer: &Transfer) -> bool
     transfer.amount <= pending.amount
 }
 
-/// Adds an account to both, where there is none with its id.
+/// Adds an account to both, if there is none with its id.
 fn add(maps: &mut Tables, lists: &mut PlainTables, made: Account) -> Result<(), NoMemory>
     requires same { maps.old ≡ lists.old }
     requires no_balances { HasNoBalances made }
@@ -150,7 +150,7 @@ fn add(maps: &mut Tables, lists: &mut PlainTables, made: Account) -> Result<(), 
     Ok(())
 }
 
-/// Stores a transfer in both where they may take it, and else its id among those that failed.
+/// Stores a transfer in both if they may take it, and else its id among those that failed.
 fn store(maps: &mut Tables, lists: &mut PlainTables, transfer: Transfer) -> Result<(), NoMemory>
     requires { maps.old ≡ lists.old }
     ensures same { OnOk result (maps.new ≡ lists.new) }

@@ -294,7 +294,7 @@ fn settle(rt: &(impl Abort + Alloc<A = Global>), world: &mut World, submitters: 
     panic!(rt; "the World never rests");
 }
 
-/// Asserts that at rest each packet has its reply, and all that is ahead was committed where nothing was refused.
+/// Asserts that at rest each packet has its reply, and all that is ahead was committed if nothing was refused.
 fn assert_whole(rt: &(impl Abort + Alloc<A = Global>), world: &World, known: &Known) {
     let left = assert_lawful(rt, world, known);
     // If no allocation failed, all that is ahead was committed.

@@ -100,7 +100,7 @@ fn chain() -> [Transfer; 3] {
     ]
 }
 
-/// Puts the push of a packet by submitter 0 after the others, where the packet was admitted.
+/// Puts the push of a packet by submitter 0 after the others, if the packet was admitted.
 fn add_push(events: &mut Vec<Event>, job: Result<Job, Refusal>) -> Result<(), Refusal> {
     let item = Item::Packet(job?);
     add(events, Event::Push(Ticket { sender: 0, item }))

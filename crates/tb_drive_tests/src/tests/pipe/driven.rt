@@ -29,7 +29,7 @@ pub(super) enum Course {
     RoundClose,
     /// Two replies are read to what was queued before, and then a packet is submitted.
     ReadTwo,
-    /// Fifty packets, each tried again where the queue is full or a reply is still unread.
+    /// Fifty packets, each tried again if the queue is full or a reply is still unread.
     Fifty,
     /// Two packets whose batches the gate holds: each reply is looked for and doesn't come, then the gate lets that batch
     /// through, and it comes.
@@ -184,7 +184,7 @@ fn drive_read_two<R: Wait + Abort>(
     }
 }
 
-/// Reads a reply where there is one, and counts it where it is committed at the next place.
+/// Reads a reply if there is one, and counts it if it is committed at the next place.
 fn read_one(submitter: &mut Submitter, next: &mut u64)
     ensures { origin_of submitter.new ≡ origin_of submitter.old }
 {

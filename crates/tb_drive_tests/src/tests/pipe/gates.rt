@@ -12,7 +12,7 @@ use std::thread::Threads;
 use tb_layout::{CREATE_ACCOUNTS, CREATE_TRANSFERS};
 use tb_pipe::Gate;
 
-/// Gives way until a counter has reached a number; false where it doesn't in time.
+/// Gives way until a counter has reached a number; false if it doesn't in time.
 fn waits_for(counter: &AtomicU64, number: u64) -> bool {
     for _ in 0..MOST_TURNS {
         if counter.load(SeqCst) >= number {

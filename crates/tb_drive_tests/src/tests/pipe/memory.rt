@@ -72,7 +72,7 @@ fn queue_seven<R: Wait + Abort>(
     Ok(())
 }
 
-/// Ends both, and serves: the report, or the intake where a thread couldn't be started. There is room for the end.
+/// Ends both, and serves: the report, or the intake if a thread couldn't be started. There is room for the end.
 fn serve_seven<R: Threads + Wait + Sync + Abort>(
     rt: &R,
     lone: Lone,

@@ -20,7 +20,7 @@ use tb_work::Refusal;
 /// What is queued ahead of the control's end.
 #[derive(Clone, Copy)]
 pub(super) enum Step {
-    /// A packet of an operation with one account, or without events where the id is 0.
+    /// A packet of an operation with one account, or without events if the id is 0.
     Packet(u8, u8),
     /// A pulse with its moment.
     Pulse(u64),

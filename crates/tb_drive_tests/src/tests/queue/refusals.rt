@@ -163,7 +163,7 @@ fn fill(rt: &(impl Abort + Wait), control: &mut Control, places: u64) {
     assert_eq!(rt; pulse(rt, control, 0), Err(Refusal::Full));
 }
 
-/// The queue has as many places as were asked for, also where that is no power of two, or the most that there may be.
+/// The queue has as many places as were asked for, also if that is no power of two, or the most that there may be.
 #[test]
 fn full_queue_of_a_hundred(rt: HostRuntime) {
     for places in [100, 65_536] {
