@@ -112,5 +112,8 @@ pub fn open_queue(
     if submitters < 1 || submitters > SUBMITTERS_MAX {
         return Err(Refusal::BadSubmitters);
     }
-    open_ends(alloc, limit, capacity, credit, submitters).map_err(|_| Refusal::NoMemory)
+    let Ok(ends) = open_ends(alloc, limit, capacity, credit, submitters) else {
+        return Err(Refusal::NoMemory);
+    };
+    Ok(ends)
 }
