@@ -71,7 +71,10 @@ fn open(
         return Err(Refusal::MomentTooLarge);
     }
     let engine = Engine::with_seed(alloc, clock, limit, submitters, seed)?;
-    Box::new(alloc, engine).map_err(|_| Refusal::NoMemory)
+    let Ok(engine) = Box::new(alloc, engine) else {
+        return Err(Refusal::NoMemory);
+    };
+    Ok(engine)
 }
 
 /// Opens a closed handle and hashes ids with a seed.
