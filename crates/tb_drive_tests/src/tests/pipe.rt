@@ -183,7 +183,10 @@ fn end_control<R: Wait + Abort>(rt: &R, control: Control, shut: bool) -> Control
 fn room_for_ends(alloc: Global) -> Result<Vec<Ended>, AllocError>
     ensures { IfOk result (λ ends. ends.items ≡ []) }
 {
-    Vec::with_capacity(alloc, 16).or_else(|_| Vec::with_capacity(alloc, 16))
+    match Vec::with_capacity(alloc, 16) {
+        Ok(ends) => Ok(ends),
+        Err(_) => Vec::with_capacity(alloc, 16),
+    }
 }
 
 /// Ends a submitter, and adds its end after the others; there is room for it.

@@ -22,7 +22,10 @@ use tb_submit::{Control, Ended, Intake, Submitter};
 use tb_work::{Item, Packet, Refusal, Ticket};
 
 fn packet_again(alloc: Global, id: u8) -> Result<Packet, NoMemory> {
-    packet_of(alloc, CREATE_ACCOUNTS, id).or_else(|_| packet_of(alloc, CREATE_ACCOUNTS, id))
+    match packet_of(alloc, CREATE_ACCOUNTS, id) {
+        Ok(packet) => Ok(packet),
+        Err(_) => packet_of(alloc, CREATE_ACCOUNTS, id),
+    }
 }
 
 /// Returns a pipeline of one submitter, opened again if memory ran out, and whether it did.
