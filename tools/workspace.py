@@ -15,13 +15,20 @@ PROOF_MAX = 3 << 30
 
 def named_crates(usage, how_many):
     """Returns the crates that the command line names. `--help` prints the usage and ends; so does another word, with status 2."""
+    return options_with_crates(usage, how_many).crates
+
+
+def options_with_crates(usage, how_many, *options):
+    """Returns the options of the command line, each with its value or None, and as `crates` the crates that it names."""
     parser = argparse.ArgumentParser(usage=usage, formatter_class=argparse.RawDescriptionHelpFormatter)
     parser.add_argument("crates", nargs=how_many, metavar="CRATE")
-    crates = parser.parse_args().crates
-    for crate in crates:
+    for option in options:
+        parser.add_argument(option)
+    found = parser.parse_args()
+    for crate in found.crates:
         if crate not in dependencies():
             parser.error(f"crates.txt has no crate {crate}")
-    return crates
+    return found
 
 
 @functools.cache

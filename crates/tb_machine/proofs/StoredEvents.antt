@@ -5,7 +5,6 @@ use Rattle.std.specs.List.{AllByRecursion, list_all}
 use Rattle.std.specs.Option.{option_map}
 use Rattle.std.proofs.lemmas.Bool.{eqb-true}
 use Rattle.std.proofs.lemmas.Bool.Decides.{nat_tests}
-use Rattle.std.specs.declared.result.Result.TheVariants as result
 use Rattle.tb_layout.specs.declared.account.Account.{Account}
 use Rattle.tb_layout.specs.declared.transfer.Transfer.{Transfer}
 use Rattle.tb_layout.specs.declared.transfer_code.TransferCode.{TransferCode}
