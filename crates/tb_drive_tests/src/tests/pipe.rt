@@ -244,8 +244,10 @@ fn finish<R: Threads + Wait + Sync, G: Gate>(
     ensures { IfOk result (λ report. IsRun pipeline.clock pipeline.intake.limit pipeline.intake.submitters
         report.ledger report.ends.items) }
 {
-    let served = pipeline.serve(rt, gate)?;
-    Ok(settle(served, ends.submitters, ends.control))
+    match pipeline.serve(rt, gate) {
+        Ok(served) => Ok(settle(served, ends.submitters, ends.control)),
+        Err(back) => Err(back),
+    }
 }
 
 /// Ends the control, queues accounts after that, ends the submitter, serves what is queued, and settles.
