@@ -51,19 +51,17 @@ fn run<R: Threads + Wait + Sync>(
     opening: Opening,
     load: Load,
 ) -> Option<Finished<LoadDriver, PlanDriver>> {
-    let Opening {
-        submitters,
-        capacity,
-        limit,
-    } = opening;
-    let drivers = drivers(alloc, submitters, load)?;
-    match open(alloc, 0, limit, capacity, load.credit, submitters) {
-        Ok(opened) => {
-            let control = ControlPlan::none(alloc).driver();
-            drive_all(rt, alloc, opened, drivers, control).ok()
-        }
-        Err(_) => None,
-    }
+    let drivers = drivers(alloc, opening.submitters, load)?;
+    let opened = open(
+        alloc,
+        0,
+        opening.limit,
+        opening.capacity,
+        load.credit,
+        opening.submitters,
+    );
+    let control = ControlPlan::none(alloc).driver();
+    drive_all(rt, alloc, opened.ok()?, drivers, control).ok()
 }
 
 /// Returns the sums over all replies.
@@ -81,14 +79,9 @@ fn line_of_run(
     finished: Finished<LoadDriver, PlanDriver>,
     submitters: u32,
 ) -> Option<String> {
-    let Finished {
-        report,
-        drivers,
-        ..
-    } = finished;
-    let tally = tally_of(drivers);
+    let tally = tally_of(finished.drivers);
     let accounts = u64::from(submitters).wrapping_mul(ACCOUNTS);
-    let balances = sum_of_balances(report.ledger.machine(), accounts);
+    let balances = sum_of_balances(finished.report.ledger.machine(), accounts);
     let replies = tally.replies;
     let failures = tally.failures;
     let places = tally.places;

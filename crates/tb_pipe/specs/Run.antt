@@ -1,5 +1,5 @@
 -- What callers see of a pipeline before it runs, and after.
-use Rattle.std.specs.Prelude.{◌≡◌, ℕ, List, length}
+use Rattle.std.specs.Prelude.{◌≡◌, ℕ, List, [], length}
 use Rattle.tb_core.specs.Journal.{LedgerState}
 use Rattle.tb_rings.specs.Ends.{given, taken, IsRing}
 use Rattle.tb_submit.specs.Ends.{IntakeState, Origin, origins}
@@ -25,6 +25,7 @@ pipeline_of stages =
 
 pub record IsPipeline (stages : Stages) : Type 0 where
   pub ready : IsReady stages
+  pub unserved : (taken stages.parcels ≡ []) × (given stages.made ≡ [])
   pub rings : IsRing stages.batches stages.parcels × IsRing stages.made stages.outcomes
   pub number : length stages.outlets.items ≡ stages.intake.submitters
 

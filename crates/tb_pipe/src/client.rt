@@ -23,17 +23,10 @@ use tb_work::{Packet, Refusal, Reply};
 
 /// A submitter in a thread of the application's own. Its calls wait until they are done or the run is given up. A
 /// contract sees it as its submitter.
+#[derive(Drop)]
 pub struct Client<'s> {
     submitter: Submitter,
     stop: &'s Stop,
-}
-
-impl<'s> Drop for Client<'s> {
-    /// Frees the submitter in one call, so that no owner's proof repeats it.
-    fn drop(self) {
-        let Client { submitter, stop: _ } = self;
-        drop(submitter);
-    }
 }
 
 impl<'s> Model for Client<'s> {
@@ -204,17 +197,10 @@ impl<'s> Client<'s> {
 
 /// The control in a thread of the application's own. Its calls wait until they are done or the run is given up. A
 /// contract sees it as its control.
+#[derive(Drop)]
 pub struct ControlClient<'s> {
     control: Control,
     stop: &'s Stop,
-}
-
-impl<'s> Drop for ControlClient<'s> {
-    /// Frees the control in one call, so that no owner's proof repeats it.
-    fn drop(self) {
-        let ControlClient { control, stop: _ } = self;
-        drop(control);
-    }
 }
 
 impl<'s> Model for ControlClient<'s> {

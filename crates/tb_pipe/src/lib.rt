@@ -1,8 +1,8 @@
 //! The pipeline: batcher, committer and demultiplexer as threads, between the submission queue and the reply rings.
 //!
-//! `open` makes a pipeline with its submitters and its control (`opens`, `refusal`, `own`, `seats`), `open_with` over a ledger with a
-//! seed or with reserved capacity. `Pipeline::serve` runs the stages until all senders have ended. If a thread can't be started it
-//! returns the intake, and nothing was taken from it (`refused`).
+//! `open` makes a pipeline with its submitters and its control (`opens`, `refusal`, `own`, `seats`); `Pipeline::with_ledger` gives it
+//! a ledger with a seed or with reserved capacity. `Pipeline::serve` runs the stages until all senders have ended. If a thread can't
+//! be started it returns the intake, and nothing was taken from it (`refused`).
 //! `settle` makes the report, which is lawful and has the headline (`report`, `headline`, `grouping`, `pulses`): its caller ensures
 //! by two equations that the ends are those that were opened with the pipeline, in order.
 //!
@@ -37,7 +37,7 @@ mod waiting;
 
 pub use client::{Client, ControlClient};
 pub use gate::{Gate, Open};
-pub use opening::{Opened, open, open_with};
+pub use opening::{Opened, open};
 pub use own_end::{OwnControlEnd, OwnEnd};
 pub use serving::{Pipeline, Served};
 pub use settling::{Report, settle};

@@ -1,7 +1,6 @@
 //! Opening a pipeline.
 
 ghost use Rattle.std.specs.Prelude.{◌≡◌, ◌≤◌, ◌<◌, ℕ, [], map, length, slice_index_or, None, OnOk, IfOk, IfErr, IfSome};
-ghost use Rattle.tb_core.specs.Ledger.{new_ledger};
 ghost use Rattle.tb_layout.specs.Limits.{clock_max};
 ghost use Rattle.tb_rings.specs.Ends.{given, taken, IsRing};
 ghost use Rattle.tb_submit.specs.Ends.{Origin, new_submitter, new_control, new_intake, origin_of, seat_at};
@@ -12,7 +11,7 @@ use crate::stages::Stages;
 use std::alloc::Global;
 use tb_core::{Front, Ledger, Outcomes, Parcel};
 use tb_rings::{Inlet, Outlet, ring};
-use tb_submit::{Control, Ends, Submitter, open_queue};
+use tb_submit::{Control, Submitter, open_queue};
 use tb_work::Refusal;
 
 /// How many parcels or outcomes a ring between two stages holds.
@@ -84,41 +83,6 @@ pub fn open(
     ensures opens { OnOk result (queue_refusal limit capacity credit submitters ≡ None) }
     ensures refusal { IfErr result (IsQueueRefusal limit capacity credit submitters) }
 {
-    open_with(
-        alloc,
-        Ledger::new(alloc, clock),
-        limit,
-        capacity,
-        credit,
-        submitters,
-    )
-}
-
-/// Returns the same over a new ledger that the caller made, with its clock. It may have a seed (`Ledger::with_seed`),
-/// if ids come from someone who may choose them to make commits slow. It may have reserved capacity
-/// (`Ledger::reserve`), so that no commit waits for a map to grow.
-pub fn open_with(
-    alloc: Global,
-    ledger: Ledger,
-    limit: u32,
-    capacity: u32,
-    credit: u32,
-    submitters: u32,
-) -> Result<Opened, Refusal>
-    requires { ledger ≡ new_ledger ledger.opening }
-    ensures clock { IfOk result (λ opened. opened.pipeline.clock ≡ ledger.opening) }
-    ensures intake { IfOk result (λ opened. opened.pipeline.intake
-        ≡ new_intake opened.pipeline.intake.queue submitters limit capacity) }
-    ensures submitters { IfOk result (λ opened. opened.submitters.items
-        ≡ map (new_submitter credit) opened.pipeline.submitters) }
-    ensures own { IfOk result (λ opened. map origin_of opened.submitters.items ≡ opened.pipeline.submitters) }
-    ensures number { IfOk result (λ opened. length opened.pipeline.submitters ≡ submitters) }
-    ensures seats { IfOk result (λ opened. (k : ℕ) (d : Origin) → k < submitters
-        → (slice_index_or opened.pipeline.submitters k d).seat ≡ seat_at opened.pipeline.intake k) }
-    ensures control { IfOk result (λ opened. opened.control ≡ new_control opened.pipeline.intake) }
-    ensures opens { OnOk result (queue_refusal limit capacity credit submitters ≡ None) }
-    ensures refusal { IfErr result (IsQueueRefusal limit capacity credit submitters) }
-{
     let ends = open_queue(alloc, limit, capacity, credit, submitters)?;
     let Some(rings) = open_rings(alloc) else {
         drop(ends);
@@ -127,31 +91,19 @@ pub fn open_with(
     let Ok(front) = Front::new(alloc, limit, submitters) else {
         unreachable!()
     };
-    let Ends {
-        submitters: opened,
-        control,
-        intake,
-        outlets,
-    } = ends;
-    let Rings {
-        batches,
-        parcels,
-        made,
-        outcomes,
-    } = rings;
     let stages = Stages {
-        intake,
+        intake: ends.intake,
         front,
-        batches,
-        parcels,
-        ledger,
-        made,
-        outcomes,
-        outlets,
+        batches: rings.batches,
+        parcels: rings.parcels,
+        ledger: Ledger::new(alloc, clock),
+        made: rings.made,
+        outcomes: rings.outcomes,
+        outlets: ends.outlets,
     };
     Ok(Opened {
         pipeline: Pipeline { stages },
-        submitters: opened,
-        control,
+        submitters: ends.submitters,
+        control: ends.control,
     })
 }

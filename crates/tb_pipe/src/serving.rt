@@ -1,6 +1,7 @@
 //! A pipeline, as its callers see it.
 
 ghost use Rattle.std.specs.Prelude.{◌≡◌, IfOk, IfErr};
+ghost use Rattle.tb_core.specs.Ledger.{new_ledger};
 ghost use Rattle.tb_work.specs.declared.refusal.Refusal.TheVariants.{NoThread as NoThreadRefusal};
 ghost use Rattle.tb_pipe.specs.Run.{IsServed, served_of};
 
@@ -9,6 +10,7 @@ use crate::stages::{Remains, Stages};
 use std::marker::Model;
 use std::sync::Wait;
 use std::thread::Threads;
+use tb_core::Ledger;
 use tb_submit::Intake;
 use tb_work::Refusal;
 
@@ -70,6 +72,18 @@ impl Served {
 }
 
 impl Pipeline {
+    /// Returns the pipeline over a new ledger that the caller made, with its clock. It may have a seed
+    /// (`Ledger::with_seed`), if ids come from someone who may choose them to make commits slow. It may have reserved
+    /// capacity (`Ledger::reserve`), so that no commit waits for a map to grow.
+    pub fn with_ledger(self, ledger: Ledger) -> Pipeline
+        requires { ledger ≡ new_ledger ledger.opening }
+        ensures { result ≡ record self { clock = ledger.opening } }
+    {
+        let Pipeline { mut stages } = self;
+        stages.ledger = ledger;
+        Pipeline { stages }
+    }
+
     /// Commits what is queued and hands the replies out, until each submitter and the control have ended; so each
     /// driver ends its sender, whatever fails in it. The calling thread is the batcher; it starts the committer and
     /// then the demultiplexer, and joins both. If one of them can't be started (`NoThread`) nothing was taken: the

@@ -93,18 +93,14 @@ fn lone_of(opened: Opened) -> Lone
     ensures { (result.pipeline ≡ opened.pipeline) × (result.submitter ∷ [] ≡ opened.submitters.items)
         × (result.control ≡ opened.control) }
 {
-    let Opened {
-        pipeline,
-        mut submitters,
-        control,
-    } = opened;
-    let Some(submitter) = submitters.pop() else {
+    let mut opened = opened;
+    let Some(submitter) = opened.submitters.pop() else {
         unreachable!()
     };
     Lone {
-        pipeline,
+        pipeline: opened.pipeline,
         submitter,
-        control,
+        control: opened.control,
     }
 }
 
@@ -263,20 +259,16 @@ fn finish_lone<R: Threads + Wait + Sync + Abort, G: Gate>(
     ensures { IsRun lone.pipeline.clock lone.pipeline.intake.limit lone.pipeline.intake.submitters
         result.ledger result.ends.items }
 {
-    let Lone {
-        pipeline,
-        mut submitter,
-        control,
-    } = lone;
-    let control = end_control(rt, control, shut);
-    queue_accounts(rt, alloc, &mut submitter, remainder);
+    let mut lone = lone;
+    let control = end_control(rt, lone.control, shut);
+    queue_accounts(rt, alloc, &mut lone.submitter, remainder);
     let mut submitters = room_for_ends(alloc).expect(rt, "memory");
-    end_one(rt, &mut submitters, submitter);
+    end_one(rt, &mut submitters, lone.submitter);
     let ends = Ends {
         submitters,
         control,
     };
-    finish_started(rt, pipeline, ends, gate)
+    finish_started(rt, lone.pipeline, ends, gate)
 }
 
 /// Serves and settles as `finish` does, if threads can be started.

@@ -40,15 +40,11 @@ impl ScriptDriver {
         ensures notes { IfSome result (λ notes. notes ≡ self.notes) }
         ensures done { IsSome result → IsDone self }
     {
-        let ScriptDriver {
-            mut packets,
-            notes,
-            ..
-        } = self;
-        if !notes.complete || packets.next().is_some() {
+        let mut packets = self.packets;
+        if !self.notes.complete || packets.next().is_some() {
             return None;
         }
-        Some(notes)
+        Some(self.notes)
     }
 }
 

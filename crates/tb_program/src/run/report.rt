@@ -229,15 +229,15 @@ fn with_run(text: String, finished: Finished<ScriptDriver, PlanDriver>) -> Resul
         (inputs finished.report.ledger) finished.control.refused
         finished.report.ledger.state) }
 {
-    let Finished {
-        report,
-        drivers,
-        control,
-        ..
-    } = finished;
-    let Report { ledger, ends } = report;
+    let Report { ledger, ends } = finished.report;
     let mut out = text;
-    let put = put_run(&mut out, &ledger, drivers, ends, control.refused);
+    let put = put_run(
+        &mut out,
+        &ledger,
+        finished.drivers,
+        ends,
+        finished.control.refused,
+    );
     drop(ledger);
     put?;
     Ok(out)

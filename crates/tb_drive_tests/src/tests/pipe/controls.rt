@@ -15,8 +15,8 @@ use std::sync::Wait;
 use std::thread;
 use std::thread::Threads;
 use tb_layout::CREATE_ACCOUNTS;
-use tb_pipe::{ControlClient, Open, OwnControlEnd, Report, Stop, settle};
-use tb_submit::{Control, ControlEnd};
+use tb_pipe::{ControlClient, Open, OwnControlEnd, Pipeline, Report, Stop, settle};
+use tb_submit::{Control, ControlEnd, Ended};
 use tb_work::Refusal;
 
 /// More nanoseconds than a pulse may have.
@@ -38,22 +38,17 @@ fn pulse_thrice<R: Wait + Abort>(rt: &R, control: &mut ControlClient<'_>)
     pulse(rt, control, 3);
 }
 
-/// Serves a control that pulses in a thread of its own. The submitter's end is in the queue's only slot until then.
+/// Serves a control that pulses in a thread of its own.
 fn serve_pulses<R: Threads + Wait + Sync + Abort>(
     rt: &R,
-    alloc: Global,
-    lone: Lone,
+    pipeline: Pipeline,
+    ends: Vec<Ended>,
+    control: Control,
     stop: &Stop,
 ) -> Report
-    requires { AreTogether lone.pipeline (lone.submitter ∷ []) lone.control }
+    requires own { map end_origin ends.items ≡ pipeline.submitters }
+    requires control { control.seat ≡ control_seat pipeline.intake }
 {
-    let Lone {
-        pipeline,
-        submitter,
-        control,
-    } = lone;
-    let mut ends = room_for_ends(alloc).expect(rt, "memory");
-    end_one(rt, &mut ends, submitter);
     thread::scope(
         thread::scope_env(),
         rt,
@@ -73,10 +68,13 @@ fn serve_pulses<R: Threads + Wait + Sync + Abort>(
     )
 }
 
+/// The submitter's end is in the queue's only slot until the pipeline is served.
 #[test]
 fn control_in_a_thread_with_one_slot(rt: HostRuntime) {
     let (lone, stop) = open_narrow(&rt, rt.alloc(), 1);
-    let report = serve_pulses(&rt, rt.alloc(), lone, &stop);
+    let mut ends = room_for_ends(rt.alloc()).expect(&rt, "memory");
+    end_one(&rt, &mut ends, lone.submitter);
+    let report = serve_pulses(&rt, lone.pipeline, ends, lone.control, &stop);
     assert_entries(&rt, &report, &[0, 0, 0]);
     assert_run(&rt, report, 3, &[]);
 }
@@ -112,21 +110,17 @@ fn shut_in_thread<R: Threads + Wait + Sync + Abort>(
 fn serve_shut<R: Threads + Wait + Sync + Abort>(rt: &R, alloc: Global, lone: Lone) -> Report
     requires { AreTogether lone.pipeline (lone.submitter ∷ []) lone.control }
 {
-    let Lone {
-        pipeline,
-        mut submitter,
-        control,
-    } = lone;
+    let mut lone = lone;
     let stop = Stop::of(alloc, &[]).expect(rt, "memory");
-    let control = shut_in_thread(rt, control, &stop);
-    queue(rt, alloc, &mut submitter, CREATE_ACCOUNTS, 1);
+    let control = shut_in_thread(rt, lone.control, &stop);
+    queue(rt, alloc, &mut lone.submitter, CREATE_ACCOUNTS, 1);
     let mut submitters = room_for_ends(alloc).expect(rt, "memory");
-    end_one(rt, &mut submitters, submitter);
+    end_one(rt, &mut submitters, lone.submitter);
     let ends = Ends {
         submitters,
         control,
     };
-    finish_started(rt, pipeline, ends, &Open)
+    finish_started(rt, lone.pipeline, ends, &Open)
 }
 
 #[test]

@@ -15,7 +15,7 @@ use std::sync::Wait;
 use std::thread;
 use std::thread::{Promise, Threads};
 use tb_layout::{CREATE_ACCOUNTS, CREATE_TRANSFERS};
-use tb_pipe::{Opened, Pipeline, Report, settle};
+use tb_pipe::{Pipeline, Report, settle};
 use tb_submit::{Control, ControlEnd, Ended, Submitter};
 use tb_work::{Packet, Refusal};
 
@@ -144,46 +144,6 @@ fn refusal<R: Wait + Abort>(rt: &R, alloc: Global, submitter: &mut Submitter) ->
     }
 }
 
-fn drive_round_close<R: Wait + Abort>(
-    rt: &R,
-    alloc: Global,
-    submitter: Submitter,
-    control: Control,
-) -> Driven
-    ensures { (end_origin result.ended ≡ origin_of submitter) × (result.control.seat ≡ control.seat) }
-{
-    let mut submitter = submitter;
-    let first = round(rt, alloc, &mut submitter, 1);
-    let control = end_control(rt, control, true);
-    let second = round(rt, alloc, &mut submitter, 2);
-    let third = refusal(rt, alloc, &mut submitter);
-    Driven {
-        ended: end(rt, submitter),
-        control,
-        saw: Saw::Replies(first, second, third),
-    }
-}
-
-fn drive_read_two<R: Wait + Abort>(
-    rt: &R,
-    alloc: Global,
-    submitter: Submitter,
-    control: Control,
-) -> Driven
-    ensures { (end_origin result.ended ≡ origin_of submitter) × (result.control.seat ≡ control.seat) }
-{
-    let mut submitter = submitter;
-    let control = end_control(rt, control, false);
-    let first = wait_for_reply(&mut submitter);
-    let second = wait_for_reply(&mut submitter);
-    let third = refusal(rt, alloc, &mut submitter);
-    Driven {
-        ended: end(rt, submitter),
-        control,
-        saw: Saw::Replies(first, second, third),
-    }
-}
-
 /// Reads a reply if there is one, and counts it if it is committed at the next place.
 fn read_one(submitter: &mut Submitter, next: &mut u64)
     ensures { origin_of submitter.new ≡ origin_of submitter.old }
@@ -218,6 +178,7 @@ fn submit_trying<R: Wait + Abort>(
     }
 }
 
+/// Submits fifty packets, and returns how many replies were committed at the next place each.
 fn submit_fifty<R: Wait + Abort>(rt: &R, alloc: Global, submitter: &mut Submitter) -> u64
     ensures { origin_of submitter.new ≡ origin_of submitter.old }
 {
@@ -227,28 +188,10 @@ fn submit_fifty<R: Wait + Abort>(rt: &R, alloc: Global, submitter: &mut Submitte
             submit_trying(rt, alloc, submitter, packet, &mut next);
         }
     }
+    if wait_for_reply(submitter) == Some(Told::Committed(next)) {
+        next = next.wrapping_add(1);
+    }
     next
-}
-
-fn drive_fifty<R: Wait + Abort>(
-    rt: &R,
-    alloc: Global,
-    submitter: Submitter,
-    control: Control,
-) -> Driven
-    ensures { (end_origin result.ended ≡ origin_of submitter) × (result.control.seat ≡ control.seat) }
-{
-    let mut submitter = submitter;
-    let mut places = submit_fifty(rt, alloc, &mut submitter);
-    if wait_for_reply(&mut submitter) == Some(Told::Committed(places)) {
-        places = places.wrapping_add(1);
-    }
-    let control = end_control(rt, control, false);
-    Driven {
-        ended: end(rt, submitter),
-        control,
-        saw: Saw::Indices(places),
-    }
 }
 
 /// Returns whether a reply comes while the gate holds a batch, and the next reply once it lets that through.
@@ -261,26 +204,46 @@ fn hold(submitter: &mut Submitter, gate: &Counted, batch: u64) -> (bool, Option<
     (early, wait_for_reply(submitter))
 }
 
-fn drive_held<R: Wait + Abort>(
+/// Does what comes ahead of the control's end.
+fn drive_first<R: Wait + Abort>(
     rt: &R,
     alloc: Global,
-    submitter: Submitter,
-    control: Control,
+    submitter: &mut Submitter,
+    course: Course,
     gate: &Counted,
-) -> Driven
-    ensures { (end_origin result.ended ≡ origin_of submitter) × (result.control.seat ≡ control.seat) }
+) -> Saw
+    ensures { origin_of submitter.new ≡ origin_of submitter.old }
 {
-    let mut submitter = submitter;
-    queue(rt, alloc, &mut submitter, CREATE_ACCOUNTS, 1);
-    queue(rt, alloc, &mut submitter, CREATE_TRANSFERS, 0);
-    let first = hold(&mut submitter, gate, 0);
-    let second = hold(&mut submitter, gate, 1);
-    let control = end_control(rt, control, false);
-    Driven {
-        ended: end(rt, submitter),
-        control,
-        saw: Saw::Held([first, second]),
+    match course {
+        Course::RoundClose => Saw::Replies(round(rt, alloc, submitter, 1), None, None),
+        Course::ReadTwo => Saw::Replies(wait_for_reply(submitter), None, None),
+        Course::Fifty => Saw::Indices(submit_fifty(rt, alloc, submitter)),
+        Course::Held => {
+            queue(rt, alloc, submitter, CREATE_ACCOUNTS, 1);
+            queue(rt, alloc, submitter, CREATE_TRANSFERS, 0);
+            Saw::Held([hold(submitter, gate, 0), hold(submitter, gate, 1)])
+        }
     }
+}
+
+/// Does what follows the control's end.
+fn drive_last<R: Wait + Abort>(
+    rt: &R,
+    alloc: Global,
+    submitter: &mut Submitter,
+    course: Course,
+    saw: Saw,
+) -> Saw
+    ensures { origin_of submitter.new ≡ origin_of submitter.old }
+{
+    let Saw::Replies(first, _, _) = saw else {
+        return saw;
+    };
+    let second = match course {
+        Course::RoundClose => round(rt, alloc, submitter, 2),
+        _ => wait_for_reply(submitter),
+    };
+    Saw::Replies(first, second, refusal(rt, alloc, submitter))
 }
 
 fn drive<R: Wait + Abort>(
@@ -293,11 +256,14 @@ fn drive<R: Wait + Abort>(
 ) -> Driven
     ensures { (end_origin result.ended ≡ origin_of submitter) × (result.control.seat ≡ control.seat) }
 {
-    match course {
-        Course::RoundClose => drive_round_close(rt, alloc, submitter, control),
-        Course::ReadTwo => drive_read_two(rt, alloc, submitter, control),
-        Course::Fifty => drive_fifty(rt, alloc, submitter, control),
-        Course::Held => drive_held(rt, alloc, submitter, control, gate),
+    let mut submitter = submitter;
+    let saw = drive_first(rt, alloc, &mut submitter, course, gate);
+    let control = end_control(rt, control, matches!(course, Course::RoundClose));
+    let saw = drive_last(rt, alloc, &mut submitter, course, saw);
+    Driven {
+        ended: end(rt, submitter),
+        control,
+        saw,
     }
 }
 
@@ -310,8 +276,8 @@ pub(super) struct Driving {
     pub(super) control: Control,
 }
 
-/// Returns a thread drives the last submitter and the control. The report, and what the driver saw; there is room for
-/// the last end. From opening to the report it is proved lawful by the clauses of the calls.
+/// Serves while a thread drives the last submitter and the control, and returns the report and what the driver saw.
+/// There is room for the last end. From opening to the report it is proved lawful by the clauses of the calls.
 pub(super) fn run<R: Threads + Wait + Sync + Abort>(
     rt: &R,
     alloc: Global,
@@ -358,13 +324,9 @@ pub(super) fn run<R: Threads + Wait + Sync + Abort>(
                 drop(ends);
                 return Err(Refusal::NoThread);
             };
-            let Driven {
-                ended,
-                control,
-                saw,
-            } = driver.join(rt);
-            put(rt, &mut ends, ended);
-            Ok((settle(served, ends, control), saw))
+            let driven = driver.join(rt);
+            put(rt, &mut ends, driven.ended);
+            Ok((settle(served, ends, driven.control), driven.saw))
         },
     )
 }
@@ -376,16 +338,11 @@ pub(super) fn drive_lone(lone: Lone, ends: Vec<Ended>) -> Driving
     ensures own { map end_origin result.ends.items ++ origin_of result.last ∷ [] ≡ result.pipeline.submitters }
     ensures control { result.control.seat ≡ control_seat result.pipeline.intake }
 {
-    let Lone {
-        pipeline,
-        submitter: last,
-        control,
-    } = lone;
     Driving {
-        pipeline,
+        pipeline: lone.pipeline,
         ends,
-        last,
-        control,
+        last: lone.submitter,
+        control: lone.control,
     }
 }
 
@@ -400,17 +357,13 @@ fn opened_driving<R: Wait + Abort>(
     ensures own { map end_origin result.ends.items ++ origin_of result.last ∷ [] ≡ result.pipeline.submitters }
     ensures control { result.control.seat ≡ control_seat result.pipeline.intake }
 {
-    let Opened {
-        pipeline,
-        mut submitters,
-        control,
-    } = opened(alloc, 4, capacity, credit, submitters).expect(rt, "it is opened");
-    let last = submitters.pop().expect(rt, "there is a submitter");
+    let mut opened = opened(alloc, 4, capacity, credit, submitters).expect(rt, "it is opened");
+    let last = opened.submitters.pop().expect(rt, "there is a submitter");
     Driving {
-        pipeline,
-        ends: end_all(rt, alloc, submitters),
+        pipeline: opened.pipeline,
+        ends: end_all(rt, alloc, opened.submitters),
         last,
-        control,
+        control: opened.control,
     }
 }
 

@@ -56,7 +56,7 @@ fn submit_account<R: Wait + Abort>(
     Ok(())
 }
 
-/// Returns two accounts, a pulse, and four accounts, each in its packet.
+/// Queues two accounts, a pulse, and four accounts, each in its packet.
 fn queue_seven<R: Wait + Abort>(
     rt: &R,
     alloc: Global,
@@ -84,19 +84,14 @@ fn serve_seven<R: Threads + Wait + Sync + Abort>(
     requires together { AreTogether lone.pipeline (lone.submitter ∷ []) lone.control }
     requires none { room.items ≡ [] }
 {
-    let Lone {
-        pipeline,
-        submitter,
-        control,
-    } = lone;
-    let control = end_control(rt, control, false);
+    let control = end_control(rt, lone.control, false);
     let mut submitters = room;
-    end_one(rt, &mut submitters, submitter);
+    end_one(rt, &mut submitters, lone.submitter);
     let ends = Ends {
         submitters,
         control,
     };
-    finish(rt, pipeline, ends, &Open)
+    finish(rt, lone.pipeline, ends, &Open)
 }
 
 /// What a ticket says: a packet with its number, or a pulse with its moment.
@@ -217,7 +212,7 @@ const ALL_TICKETS: [Option<(u32, ParsedScript)>; 10] = [
     None,
 ];
 
-/// Returns two accounts, each in its packet, and a pulse.
+/// Queues two accounts, each in its packet, and a pulse.
 fn queue_three<R: Wait + Abort>(
     rt: &R,
     alloc: Global,

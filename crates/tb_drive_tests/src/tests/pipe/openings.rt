@@ -1,11 +1,14 @@
 //! Openings and submissions that are refused, before anything is served.
 
-use super::{answer_to, look_of, open_lone, packet_of, queue_pulse, submit};
+use super::{
+    Told, answer_to, assert_run, finish_lone, look_of, open_lone, packet_of, queue_pulse, submit,
+};
 use std::alloc::Global;
 use std::process::Abort;
 use std::sync::Wait;
+use tb_core::Ledger;
 use tb_layout::CREATE_ACCOUNTS;
-use tb_pipe::open;
+use tb_pipe::{Open, open};
 use tb_submit::{Control, Submitter};
 use tb_work::Refusal;
 
@@ -67,6 +70,17 @@ fn full_queues(rt: HostRuntime) {
         fill(&rt, &mut lone.control, capacity);
         drop(lone);
     }
+}
+
+/// The new ledger has reserved capacity and another clock.
+#[test]
+fn serves_over_a_new_ledger(rt: HostRuntime) {
+    let mut ledger = Ledger::new(rt.alloc(), 5);
+    assert!(rt; ledger.reserve(10, 10).is_ok());
+    let mut lone = open_lone(&rt, rt.alloc(), 4, 4);
+    lone.pipeline = lone.pipeline.with_ledger(ledger);
+    let report = finish_lone(&rt, rt.alloc(), lone, false, &[1], &Open);
+    assert_run(&rt, report, 6, &[Told::Committed(0)]);
 }
 
 /// The credit is looked at after the packet's operation.

@@ -45,8 +45,7 @@ pub(super) fn queue_steps<R: Wait + Abort>(
     }
 }
 
-/// Returns a run in which steps are queued, then the control's end or its Close, and then accounts, each in a packet of
-/// its own.
+/// Queues steps, then the control's end or its Close, and then accounts, each in a packet of its own. Serves them.
 pub(super) fn run_queued<R: Threads + Wait + Sync + Abort, G: Gate>(
     rt: &R,
     alloc: Global,
@@ -99,7 +98,7 @@ fn packet_behind_shut(rt: HostRuntime) {
     assert_run(&rt, report, 1, &[Told::Committed(0), Told::Shutdown]);
 }
 
-/// Returns whether this number of six packets are ahead of the Close.
+/// Runs six packets, of which this number is ahead of the Close.
 fn closes_after<R: Threads + Wait + Sync + Abort>(rt: &R, alloc: Global, count: usize) -> Report {
     assert!(rt; count <= 6);
     let ids = [1, 2, 3, 4, 5, 6];
@@ -157,7 +156,7 @@ fn replies_after_settle(rt: HostRuntime) {
     assert_run(&rt, report, 3, &told);
 }
 
-/// Returns each submitter queues a packet with the account after its number.
+/// Has each submitter queue a packet with the account after its number, and returns them.
 fn queue_each<R: Wait + Abort>(rt: &R, alloc: Global, submitters: Vec<Submitter>) -> Vec<Submitter>
     ensures { map origin_of result.items ≡ map origin_of submitters.items }
 {
@@ -190,19 +189,14 @@ fn end_each<R: Wait + Abort>(
     }
 }
 
-/// Returns each of the submitters queues a packet and ends, and the pipeline serves them.
+/// Has each submitter queue a packet and end, and serves them.
 fn finish_each<R: Threads + Wait + Sync + Abort>(rt: &R, alloc: Global, opened: Opened) -> Report
     requires { AreTogether opened.pipeline opened.submitters.items opened.control }
     ensures { IsRun opened.pipeline.clock opened.pipeline.intake.limit opened.pipeline.intake.submitters
         result.ledger result.ends.items }
 {
-    let Opened {
-        pipeline,
-        submitters,
-        control,
-    } = opened;
-    let ends = end_each(rt, alloc, submitters, control);
-    finish_started(rt, pipeline, ends, &Open)
+    let ends = end_each(rt, alloc, opened.submitters, opened.control);
+    finish_started(rt, opened.pipeline, ends, &Open)
 }
 
 fn one_of_each<R: Threads + Wait + Sync + Abort>(rt: &R, alloc: Global) -> Report

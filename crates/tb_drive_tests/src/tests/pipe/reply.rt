@@ -66,15 +66,11 @@ fn queue_one<R: Wait + Abort>(rt: &R, alloc: Global, packet: Packet) -> Queued
 {
     match open(alloc, 0, 4, 64, 64, 1) {
         Ok(opened) => {
-            let Lone {
-                pipeline,
-                submitter,
-                control,
-            } = lone_of(opened);
-            let ended = queue_and_end(rt, alloc, submitter, packet);
-            let control = end_alone(rt, control);
+            let lone = lone_of(opened);
+            let ended = queue_and_end(rt, alloc, lone.submitter, packet);
+            let control = end_alone(rt, lone.control);
             Queued {
-                pipeline,
+                pipeline: lone.pipeline,
                 ended,
                 control,
             }
@@ -100,14 +96,9 @@ fn settle_one<R: Threads + Wait + Sync + Abort>(rt: &R, alloc: Global, queued: Q
     ensures { (packet : PacketValue) → queued.ended.queued ≡ one_and_end packet → queued.ended.read ≡ []
         → IsRunOfOne 0 packet result.ledger result.ends.items }
 {
-    let Queued {
-        pipeline,
-        ended,
-        control,
-    } = queued;
-    let ends = only_end(rt, alloc, ended);
-    match pipeline.serve(rt, &Open) {
-        Ok(served) => settle(served, ends, control),
+    let ends = only_end(rt, alloc, queued.ended);
+    match queued.pipeline.serve(rt, &Open) {
+        Ok(served) => settle(served, ends, queued.control),
         Err(_) => panic!(rt; "a thread can't be started"),
     }
 }
@@ -127,7 +118,7 @@ fn only_reply(report: &mut Report) -> Reply
     reply
 }
 
-/// Returns one packet from `open` to its reply. What the reply says is known only from the clauses of the calls.
+/// Takes one packet from `open` to its reply. What the reply says is known only from the clauses of the calls.
 fn reply_to_one<R: Threads + Wait + Sync + Abort>(rt: &R, alloc: Global, packet: Packet) -> Reply
     ensures { IsReplyToOne 0 packet result }
 {

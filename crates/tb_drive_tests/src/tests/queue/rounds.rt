@@ -3,7 +3,7 @@ use std::alloc::Global;
 use std::process::Abort;
 use std::sync::Wait;
 use tb_submit::{Control, Ends, Intake, Submitter};
-use tb_work::{Item, Packet, Reply};
+use tb_work::{Item, Packet};
 
 /// Passes a packet through the queue and returns its number, and the packet of its reply.
 fn round(
@@ -16,13 +16,7 @@ fn round(
     let submitted = submitter.submit(rt, rt.alloc(), packet);
     let number = submitted.ok().expect(rt, "the packet is queued");
     answer(rt, ends, Says::Committed);
-    let Reply {
-        packet,
-        outcome,
-        ..
-    } = submitter.reply().expect(rt, "a reply");
-    drop(outcome);
-    (number, packet)
+    (number, submitter.reply().expect(rt, "a reply").packet)
 }
 
 /// Passes one packet round this number of times: credit and slots are free again with each reply.
@@ -49,23 +43,13 @@ fn pulses(rt: &(impl Abort + Wait), control: &mut Control, intake: &mut Intake, 
 
 /// Queues as many pulses as there were packets, and then both ends.
 fn finish(rt: &(impl Abort + Wait), submitter: Submitter, ends: Ends, count: u64) {
-    let Ends {
-        submitters,
-        mut control,
-        mut intake,
-        outlets,
-    } = ends;
-    pulses(rt, &mut control, &mut intake, count);
-    let ended = submitter.end(rt).ok().expect(rt, "a place for the end");
-    assert!(rt; is_taken(rt, &mut intake, 0));
-    let closed = control.shut(rt).ok().expect(rt, "a place for the Close");
-    assert!(rt; is_taken(rt, &mut intake, 1));
-    assert!(rt; intake.take(rt).is_none());
-    drop(ended);
-    drop(closed);
-    drop(submitters);
-    drop(intake);
-    drop(outlets);
+    let mut ends = ends;
+    pulses(rt, &mut ends.control, &mut ends.intake, count);
+    assert!(rt; submitter.end(rt).is_ok());
+    assert!(rt; is_taken(rt, &mut ends.intake, 0));
+    assert!(rt; ends.control.shut(rt).is_ok());
+    assert!(rt; is_taken(rt, &mut ends.intake, 1));
+    assert!(rt; ends.intake.take(rt).is_none());
 }
 
 /// Takes the front of the queue, and returns whether it is the End of submitter 0, or the control's Close.

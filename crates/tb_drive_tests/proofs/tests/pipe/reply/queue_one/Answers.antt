@@ -5,8 +5,8 @@ use Rattle.tb_drive_tests.proofs.tests.pipe.reply.queue_one.Goals as goal
 pub returns-clause-queued : goal.returns-clause-queued
 returns-clause-queued g c =
     let opened = c.in-Ok.ensures in
-    let first = c.lone_of-pipeline.result.submitter in
+    let first = c.lone_of-lone.result.submitter in
     queued_one c.args.packet first c.queue_and_end-ended.result
     (new_one 64 c.in-Ok.opened.pipeline.intake c.in-Ok.opened.pipeline.submitters first
-    (c.lone_of-pipeline.ensures.1 ∙ opened.submitters) (λ d. opened.seats 0 d (omega arith)))
+    (c.lone_of-lone.ensures.1 ∙ opened.submitters) (λ d. opened.seats 0 d (omega arith)))
     c.queue_and_end-ended.ensures

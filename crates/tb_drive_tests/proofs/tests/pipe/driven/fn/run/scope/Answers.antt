@@ -7,5 +7,5 @@ returns g c =
     let served = c.in-Ok-serve.ensures in
     let settled = c.settle.ensures in
     is_run c.captures.pipeline c.in-Ok-serve.served
-    (queued_by c.put.new.ends.items c.join-ended.result.control) c.settle.result.ledger
+    (queued_by c.put.new.ends.items c.join-driven.result.control) c.settle.result.ledger
     c.settle.result.ends.items served.clock served.intake settled.report settled.grouping

@@ -1,14 +1,11 @@
-use Rattle.std.proofs.Common.{◌∙◌, ap, arith, rules, subst, sym, ℕ, []}
+use Rattle.std.proofs.Common.{◌∙◌, ap, arith, rules, sym}
 use Rattle.tb_core.specs.Front.{FrontState}
-use Rattle.tb_core.specs.Grouping.{AreJoined}
-use Rattle.tb_core.specs.Journal.{LedgerState}
-use Rattle.tb_core.specs.Run.{Commits}
 use Rattle.tb_rings.specs.Ends.{given}
 use Rattle.tb_submit.specs.Ends.{IntakeState, seat_at}
 use Rattle.tb_pipe.specs.Carried.{IsBatched}
 use Rattle.tb_pipe.proofs.Fresh.{fresh_batched}
 use Rattle.tb_pipe.proofs.Origins.{length-origins, seat-origins}
-use Rattle.tb_pipe.proofs.opening.open_with.Goals as goal
+use Rattle.tb_pipe.proofs.opening.open.Goals as goal
 
 pub returns-clause-number : goal.returns-clause-number
 returns-clause-number c =
@@ -20,15 +17,8 @@ returns-clause-seats c =
     λ k d below. seat-origins (seat_at c.in_ok-ends.ends.intake) 0 c.in_ok-ends.ends.outlets.items k d
     (omega (arith, below, c.in_ok-ends.ensures.outlets.0)) ∙ ap (seat_at c.in_ok-ends.ends.intake) (omega arith)
 
-pub returns-clause-clock : goal.returns-clause-clock
-returns-clause-clock c = search rules
-
 pub invariant_of-result : goal.invariant_of-result
 invariant_of-result c =
-    let commits : Commits c.args.ledger.opening [] c.args.ledger [] =
-    subst (λ ledger. Commits c.args.ledger.opening [] ledger []) (sym c.requires) (search rules) in
-    let joined : (limit : ℕ) → AreJoined limit c.args.ledger.groups =
-    subst (λ (ledger : LedgerState). (limit : ℕ) → AreJoined limit ledger.groups) (sym c.requires) (search rules) in
     let intake = c.in_ok-ends.ends.intake in
     let intake_is = c.in_ok-ends.ensures.intake in
     let front = c.in-Ok.front in
@@ -39,4 +29,4 @@ invariant_of-result c =
     (ap (λ (f : FrontState). f.submitters) front_is ∙ sym (ap (λ (i : IntakeState). i.submitters) intake_is))
     c.in-Ok.ensures.passes c.in-Ok.ensures.ends (ap (λ (f : FrontState). f.held) front_is)
     (ap (λ (i : IntakeState). i.taken) intake_is) c.in-Some.ensures.empty.0 in
-    search (rules, commits, joined, batched)
+    search (rules, batched)
