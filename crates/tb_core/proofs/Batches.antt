@@ -16,7 +16,8 @@ use Rattle.tb_machine.specs.Replay.{State, accounts_found, answer_of, after_pack
 use Rattle.tb_layout.specs.declared.answer.Answer.TheVariants.{Accounts as Looked_up}
 use Rattle.tb_work.specs.declared.outcome.Outcome.TheVariants.{Committed}
 use Rattle.tb_work.specs.Admission.{event_size, admission_of_size, count_of, count_of_size}
-use Rattle.tb_work.specs.Packet.{Numbered, events_in, reply_with, input_of}
+use Rattle.tb_work.specs.Packet.{Numbered, events_in, input_of}
+use Rattle.tb_work.specs.Answer.{reply_with}
 use Rattle.tb_work.specs.Job.{count_of_all, is_lookup, stub_of, is_open as is_open_packet}
 use Rattle.tb_work.specs.declared.stub.Stub.{Stub}
 use Rattle.tb_batch.specs.Grouping.{can_share, are_of}

@@ -8,7 +8,8 @@ use Rattle.tb_layout.specs.declared.answer.Answer.{Answer}
 use Rattle.tb_layout.specs.Events.{Input, Packet, Pulse}
 use Rattle.tb_machine.specs.Replay.{replay, answer_of}
 use Rattle.tb_machine.specs.AnswerAt.{answer_to}
-use Rattle.tb_work.specs.Packet.{Numbered, events_in, ReplyValue, reply_with, input_of}
+use Rattle.tb_work.specs.Packet.{Numbered, events_in, ReplyValue, input_of}
+use Rattle.tb_work.specs.Answer.{reply_with}
 use Rattle.tb_work.specs.Ahead.{ahead, items_in}
 use Rattle.tb_work.specs.Queue.{part, AreSubmitted, IsSubmitted}
 use Rattle.tb_work.specs.declared.outcome.Outcome.{Outcome}

@@ -15,7 +15,8 @@ use Rattle.tb_machine.specs.Joining.{events_in_turn, none_open, cuts, failures_e
 use Rattle.tb_layout.specs.declared.answer.Answer.TheVariants.{Failures}
 use Rattle.tb_work.specs.declared.outcome.Outcome.TheVariants.{Committed}
 use Rattle.tb_work.specs.Admission.{event_size, count_of, count_of_size}
-use Rattle.tb_work.specs.Packet.{Numbered, events_in, ReplyValue, reply_with}
+use Rattle.tb_work.specs.Packet.{Numbered, events_in, ReplyValue}
+use Rattle.tb_work.specs.Answer.{reply_with}
 use Rattle.tb_work.specs.Job.{count_of_all}
 use Rattle.tb_batch.specs.Grouping.{can_share, are_of}
 use Rattle.tb_batch.specs.Batch.{body_of, AreAdmitted}

@@ -10,7 +10,8 @@ use Rattle.std.proofs.lemmas.Option.{slice_get_past}
 use Rattle.tb_layout.specs.Events.{Input}
 use Rattle.tb_layout.specs.Events as input
 use Rattle.tb_machine.specs.Replay.{State, opening, answer_of, replay, after_input, after_packet}
-use Rattle.tb_work.specs.Packet.{Numbered, events_in, ReplyValue, reply_with, input_of}
+use Rattle.tb_work.specs.Packet.{Numbered, events_in, ReplyValue, input_of}
+use Rattle.tb_work.specs.Answer.{reply_with}
 use Rattle.tb_work.specs.declared.outcome.Outcome.TheVariants as outcome
 use Rattle.tb_core.specs.declared.parcel.Parcel.{Parcel}
 use Rattle.tb_core.specs.declared.parcel.Parcel.TheVariants as parcel

@@ -1,7 +1,8 @@
 -- What the machine answers to packets one after the other.
 use Rattle.std.specs.Prelude.{ℕ, ◌+◌, List, [], ◌∷◌}
 use Rattle.tb_machine.specs.Replay.{State, answer_of, after_packet}
-use Rattle.tb_work.specs.Packet.{Numbered, events_in, ReplyValue, reply_with}
+use Rattle.tb_work.specs.Packet.{Numbered, events_in, ReplyValue}
+use Rattle.tb_work.specs.Answer.{reply_with}
 use Rattle.tb_work.specs.declared.outcome.Outcome.TheVariants.{Committed}
 
 -- packets from a place on: each is answered in the state that those before it left

@@ -8,7 +8,8 @@ use Rattle.tb_machine.specs.Replay.{State, failures_of, accounts_found}
 use Rattle.tb_layout.specs.declared.answer.Answer.TheVariants.{Accounts}
 use Rattle.tb_work.specs.declared.outcome.Outcome.TheVariants.{Committed}
 use Rattle.tb_work.specs.Admission.{count_of}
-use Rattle.tb_work.specs.Packet.{Numbered, reply_with}
+use Rattle.tb_work.specs.Packet.{Numbered}
+use Rattle.tb_work.specs.Answer.{reply_with}
 use Rattle.tb_work.specs.Job.{is_lookup, count_of_all}
 use Rattle.tb_batch.specs.Grouping.{are_of}
 use Rattle.tb_batch.specs.declared.parts.Parts.{Parts}

@@ -10,7 +10,8 @@ use Rattle.tb_layout.specs.Events as input
 use Rattle.tb_machine.specs.Replay.{replay}
 use Rattle.tb_work.specs.Ahead.{ahead, items_in}
 use Rattle.tb_work.specs.Queue.{IsSubmitted, AreSubmitted}
-use Rattle.tb_work.specs.Packet.{ReplyValue, reply_with, input_of}
+use Rattle.tb_work.specs.Packet.{ReplyValue, input_of}
+use Rattle.tb_work.specs.Answer.{reply_with}
 use Rattle.tb_work.specs.declared.outcome.Outcome.TheVariants as outcome
 use Rattle.tb_work.specs.declared.item.Item.{Item}
 use Rattle.tb_work.specs.declared.item.Item.TheVariants as item

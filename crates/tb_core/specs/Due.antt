@@ -3,7 +3,8 @@ use Rattle.std.specs.Prelude.{ℕ, ◌+◌, ◌==◌, List, [], ◌∷◌, ◌++
 use Rattle.tb_layout.specs.declared.answer.Answer.{Answer}
 use Rattle.tb_layout.specs.Events.{Input}
 use Rattle.tb_machine.specs.AnswerAt.{answer_at}
-use Rattle.tb_work.specs.Packet.{ReplyValue, reply_with}
+use Rattle.tb_work.specs.Packet.{ReplyValue}
+use Rattle.tb_work.specs.Answer.{reply_with}
 use Rattle.tb_work.specs.Ahead.{items_in}
 use Rattle.tb_work.specs.declared.item.Item.{Item}
 use Rattle.tb_work.specs.declared.item.Item.TheVariants as item

@@ -1,17 +1,17 @@
--- A run whose threads have ended. No definition here mentions a batch.
+-- A run whose threads have ended.
 use Rattle.std.specs.Prelude.{◌≡◌, ℕ, ◌<◌, Bool, true, false, List, ◌++◌}
 use Rattle.std.specs.List.{list_any}
 use Rattle.tb_layout.specs.Events.{Input}
 use Rattle.tb_work.specs.Ahead.{ahead, items_in}
 use Rattle.tb_work.specs.Packet.{ReplyValue}
 use Rattle.tb_work.specs.declared.outcome.Outcome.{Outcome}
-use Rattle.tb_work.specs.declared.outcome.Outcome.TheVariants.{Committed, Shutdown, Stopped}
+use Rattle.tb_work.specs.declared.outcome.Outcome.TheVariants.{Stopped}
 use Rattle.tb_work.specs.declared.item.Item.{Item}
 use Rattle.tb_work.specs.declared.item.Ticket.{Ticket}
 use Rattle.tb_core.specs.Journal.{LedgerState, inputs}
 
--- A run: what it was opened with; the queue, as the intake popped it; what each sender queued itself; the ledger at the
--- end; and the replies to each submitter. The control is the sender after the last submitter.
+-- `queue` is as the intake popped it, `queued` what each sender queued itself. The control is the sender after the last
+-- submitter.
 pub record Run : Type 0 where
   pub clock : ℕ
   pub limit : ℕ
@@ -21,11 +21,9 @@ pub record Run : Type 0 where
   pub ledger : LedgerState
   pub replies : ℕ → List ReplyValue
 
--- the packets and pulses that were committed, in order
 abbrev pub committed_in : Run → List Input
 committed_in run = inputs run.ledger
 
--- the packets and pulses that were queued ahead of the Close, in order
 abbrev pub ahead_in : Run → List Input
 ahead_in run = ahead (items_in run.queue)
 
@@ -33,14 +31,12 @@ abbrev pub IsPrefix : {A : Type 0} → List A → List A → Type 0
 IsPrefix {A} front all = (rest : List A) × (front ++ rest ≡ all)
 
 abbrev pub is_stopped : Outcome → Bool
-is_stopped (Committed place answer) = false
-is_stopped Shutdown = false
 is_stopped Stopped = true
+is_stopped outcome = false
 
 abbrev pub any_stopped : List ReplyValue → Bool
 any_stopped replies = list_any (λ (reply : ReplyValue). is_stopped reply.outcome) replies
 
--- the ledger didn't stop, and no reply is Stopped
 pub record NothingStopped (run : Run) : Type 0 where
   pub ledger : run.ledger.stopped ≡ false
   pub replies : (submitter : ℕ) → submitter < run.submitters → any_stopped (run.replies submitter) ≡ false

@@ -1,4 +1,4 @@
--- The headline: what is so of each submitter once a run has ended, in the words of the README.
+-- The headline.
 use Rattle.std.specs.Prelude.{◌≡◌, ◌<◌, ℕ, ◌==◌, Bool, false, List, [], ◌∷◌, map, filter, take, slice_get, Some}
 use Rattle.tb_layout.specs.declared.answer.Answer.{Answer}
 use Rattle.tb_layout.specs.Events.{Input, Packet, Pulse}
@@ -9,54 +9,39 @@ use Rattle.tb_work.specs.declared.item.Item.TheVariants as item
 use Rattle.tb_work.specs.declared.outcome.Outcome.TheVariants.{Committed}
 use Rattle.tb_core.specs.EndedRun.{Run, committed_in, ahead_in, IsPrefix, NothingStopped}
 
--- ---- the packets and the pulses of a list
-
 abbrev pub is_packet_of : ℕ → Input → Bool
 is_packet_of submitter (Packet its_submitter number events) = its_submitter == submitter
 is_packet_of submitter (Pulse moment) = false
 
--- a submitter's packets, in order
 abbrev pub packets_of : ℕ → List Input → List Input
 packets_of submitter inputs = filter (is_packet_of submitter) inputs
 
--- the moments of the pulses, in order
 abbrev pub moments_in : List Input → List ℕ
 moments_in [] = []
 moments_in (Packet submitter number events ∷ inputs) = moments_in inputs
 moments_in (Pulse moment ∷ inputs) = moment ∷ moments_in inputs
 
--- the packets that a sender queued, in order
 abbrev pub packets_queued : List Item → List Numbered
 packets_queued [] = []
 packets_queued (item.Packet packet ∷ items) = packet ∷ packets_queued items
-packets_queued (item.Pulse moment ∷ items) = packets_queued items
-packets_queued (item.End ∷ items) = packets_queued items
-packets_queued (item.Close ∷ items) = packets_queued items
+packets_queued (other ∷ items) = packets_queued items
 
--- the moments of the pulses that a sender queued, in order
 abbrev pub moments_queued : List Item → List ℕ
 moments_queued [] = []
-moments_queued (item.Packet packet ∷ items) = moments_queued items
 moments_queued (item.Pulse moment ∷ items) = moment ∷ moments_queued items
-moments_queued (item.End ∷ items) = moments_queued items
-moments_queued (item.Close ∷ items) = moments_queued items
+moments_queued (other ∷ items) = moments_queued items
 
--- the packet that a reply gives back, with its submitter and number
 abbrev pub packet_of : ReplyValue → Numbered
 packet_of reply = record { submitter = reply.submitter; number = reply.number; packet = reply.packet }
 
--- the packet of this reply has this place, and this is what the state machine gives that packet alone, in the state
--- that the packets and pulses before it left
+-- the state machine gives this answer to the reply's packet alone, at its place
 pub record IsAnsweredAt (run : Run) (place : ℕ) (reply : ReplyValue) (answer : Answer) : Type 0 where
   pub stands : slice_get (committed_in run) place ≡ Some (input_of (packet_of reply))
   pub alone : answer ≡ answer_of (replay run.clock (take place (committed_in run))) (events_in reply.packet)
 
--- ---- the headline
-
 -- The packets committed of each submitter are a prefix of those ahead of the Close, which are a prefix of what it
--- queued. They are all of them unless something stopped. Its replies are one per queued packet, in order. Each
--- committed reply is what the state machine gives that packet alone at its place. Committed pulses are a prefix of the
--- control's.
+-- queued; all of them unless something stopped. Its replies are one per queued packet, in order. Each committed one is
+-- what the state machine gives that packet alone. Committed pulses are a prefix of the control's.
 pub record Headline (run : Run) : Type 0 where
   pub committed : (submitter : ℕ) → submitter < run.submitters
       → IsPrefix (packets_of submitter (committed_in run)) (packets_of submitter (ahead_in run))

@@ -5,7 +5,8 @@ use Rattle.tb_layout.specs.Events.{events_of, Input, Packet, Pulse}
 use Rattle.tb_layout.specs.inside.Limits.{batch_max, places_max}
 use Rattle.tb_machine.specs.Replay.{after_input, opening as no_inputs}
 use Rattle.tb_work.specs.Admission.{event_size}
-use Rattle.tb_work.specs.Packet.{Numbered, reply_with, input_of}
+use Rattle.tb_work.specs.Packet.{Numbered, input_of}
+use Rattle.tb_work.specs.Answer.{reply_with}
 use Rattle.tb_work.specs.declared.stub.Stub.{Stub}
 use Rattle.tb_work.specs.declared.outcome.Outcome.TheVariants as outcome
 use Rattle.tb_core.specs.declared.parcel.Parcel.{Parcel}

@@ -9,7 +9,8 @@ use Rattle.tb_layout.specs.declared.answer.Answer.TheVariants.{Failures, Account
 use Rattle.tb_work.specs.declared.outcome.Outcome.{Outcome}
 use Rattle.tb_work.specs.declared.outcome.Outcome.TheVariants.{Committed, Shutdown, Stopped}
 use Rattle.tb_work.specs.Admission.{count_of}
-use Rattle.tb_work.specs.Packet.{Numbered, ReplyValue, reply_with}
+use Rattle.tb_work.specs.Packet.{Numbered, ReplyValue}
+use Rattle.tb_work.specs.Answer.{reply_with}
 use Rattle.tb_work.specs.Job.{count_of_all, is_lookup}
 
 -- the reply to one packet of a batch that failed so: its own failures, counted from its first event

@@ -6,8 +6,8 @@ use Rattle.tb_layout.specs.declared.failure.Failure.{Failure}
 use Rattle.tb_layout.specs.Failures.{RiseWithin}
 use Rattle.tb_work.specs.declared.outcome.Outcome.{Outcome}
 use Rattle.tb_work.specs.declared.outcome.Outcome.TheVariants.{Shutdown as ShutdownOutcome, Stopped as StoppedOutcome}
-use Rattle.tb_work.specs.Answer.{IsOutcomeOf}
-use Rattle.tb_work.specs.Packet.{Numbered, ReplyValue, reply_with}
+use Rattle.tb_work.specs.Answer.{IsOutcomeOf, reply_with}
+use Rattle.tb_work.specs.Packet.{Numbered, ReplyValue}
 use Rattle.tb_work.specs.Job.{count_of_all, is_lookup}
 use Rattle.tb_demux.specs.declared.remaining_failures.RemainingFailures.{RemainingFailures}
 use Rattle.tb_demux.specs.declared.source.ReplySource.{ReplySource}

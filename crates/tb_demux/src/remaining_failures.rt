@@ -5,7 +5,7 @@ ghost use Rattle.tb_layout.specs.inside.Limits.{places_max};
 ghost use Rattle.tb_layout.specs.Failures.{RiseWithin, failures_within};
 ghost use Rattle.tb_work.specs.Admission.{count_of};
 ghost use Rattle.tb_work.specs.Job.{is_lookup};
-ghost use Rattle.tb_work.specs.Packet.{reply_with};
+ghost use Rattle.tb_work.specs.Answer.{reply_with};
 ghost use Rattle.tb_layout.specs.declared.answer.Answer.TheVariants.{Failures as FailuresOf};
 ghost use Rattle.tb_work.specs.declared.outcome.Outcome.TheVariants.{Committed as CommittedAt};
 ghost use Rattle.tb_demux.specs.Leading.{count_below};

@@ -7,7 +7,8 @@ use Rattle.tb_layout.specs.Events.{Input}
 use Rattle.tb_work.specs.Job.{numbered_packet}
 use Rattle.tb_work.specs.Ahead.{items_in, ahead, ahead_of}
 use Rattle.tb_work.specs.Queue.{part}
-use Rattle.tb_work.specs.Packet.{ReplyValue, reply_with, input_of}
+use Rattle.tb_work.specs.Packet.{ReplyValue, input_of}
+use Rattle.tb_work.specs.Answer.{reply_with}
 use Rattle.tb_work.specs.declared.item.Item.{Item}
 use Rattle.tb_work.specs.declared.item.Item.TheVariants as item
 use Rattle.tb_work.specs.declared.item.Ticket.{Ticket}

@@ -5,7 +5,8 @@ use Rattle.tb_core.specs.Report.{LawfulReport}
 use Rattle.tb_machine.specs.Replay.{answer_of, opening}
 use Rattle.tb_submit.specs.Ends.{EndedState}
 use Rattle.tb_drive_tests.specs.Together.{run_with}
-use Rattle.tb_work.specs.Packet.{events_in, ReplyValue, reply_with}
+use Rattle.tb_work.specs.Packet.{events_in, ReplyValue}
+use Rattle.tb_work.specs.Answer.{reply_with}
 use Rattle.tb_work.specs.Job.{numbered_packet}
 use Rattle.tb_work.specs.declared.item.Item.{Item}
 use Rattle.tb_work.specs.declared.item.Item.TheVariants as item

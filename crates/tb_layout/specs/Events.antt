@@ -1,4 +1,4 @@
--- What the state machine works on: packets, each a list of events, and pulses.
+-- What the state machine works on.
 use Rattle.std.specs.Prelude.{ℕ, ◌/◌, ◌==◌, Bool, false, List, [], ◌∷◌, length, map, if◌then◌else◌}
 use Rattle.std.specs.Simd.{first_chunks}
 use Rattle.tb_layout.specs.declared.account.Account.{Account}
@@ -7,7 +7,6 @@ use Rattle.tb_layout.specs.Account.{account_of}
 use Rattle.tb_layout.specs.Transfer.{transfer_of}
 use Rattle.tb_layout.specs.Bytes.{little_endian}
 
--- the operations, by the numbers that a packet carries
 abbrev pub create_accounts : ℕ
 create_accounts = 129
 
@@ -26,7 +25,7 @@ transfers_of body = map transfer_of (chunks 128 body)
 abbrev pub ids_of : List ℕ → List ℕ
 ids_of body = map little_endian (chunks 16 body)
 
--- events of one operation; those of a lookup are ids
+-- the events of a packet; those of a lookup are ids
 pub data Events : Type 0 where
   Accounts : List Account → Events
   Transfers : List Transfer → Events
@@ -43,7 +42,7 @@ is_last_linked is_linked [] = false
 is_last_linked is_linked (event ∷ []) = is_linked event
 is_last_linked is_linked (event ∷ next ∷ events) = is_last_linked is_linked (next ∷ events)
 
--- a packet has its submitter and its number among that submitter's packets, but no user word and no buffer
+-- a packet has its number among its submitter's packets
 pub data Input : Type 0 where
   Packet : (submitter : ℕ) → (number : ℕ) → Events → Input
   Pulse : (moment : ℕ) → Input

@@ -1,7 +1,7 @@
 -- The clock's bound and unit.
 use Rattle.std.specs.Prelude.{ℕ, ◌^◌, ◌-◌}
 
--- the greatest clock, in nanoseconds
+-- in nanoseconds
 abbrev pub clock_max : ℕ
 clock_max = 2 ^ 63 - 1
 

@@ -7,7 +7,7 @@ use Rattle.tb_layout.specs.declared.transfer.Transfer.{Transfer}
 use Rattle.tb_layout.specs.declared.failure.Failure.{Failure}
 use Rattle.tb_layout.specs.Events.{Events, Accounts, Transfers, Ids, Input, Packet, Pulse}
 use Rattle.tb_tables.specs.Facts.{no_facts}
-use Rattle.tb_tables.specs.Balances.{debits_pending, debits_posted, credits_pending, credits_posted}
+use Rattle.tb_tables.specs.inside.Balances.{debits_pending, debits_posted, credits_pending, credits_posted}
 use Rattle.tb_tables.specs.inside.Status.{status_with}
 use Rattle.tb_tables.specs.declared.status.Status.TheVariants.{Pending, Voided, Expired}
 use Rattle.tb_layout.specs.declared.answer.Answer.TheVariants as answer

@@ -7,24 +7,26 @@ use Rattle.tb_layout.specs.Account.{debits_must_not_exceed_credits, credits_must
 use Rattle.tb_layout.specs.Bytes.{has_reserved_flag}
 use Rattle.tb_tables.specs.Facts.{Facts, account_with}
 
--- the code of the first row that applies, or what follows the table
+-- the code of the first row that applies
 abbrev pub first_row : {Code : Type 0} → List (Bool × Code) → Code → Code
 first_row [] otherwise = otherwise
 first_row ((applies, code) ∷ rows) otherwise = if applies then code else first_row rows otherwise
 
+abbrev pub differ : ℕ → ℕ → Bool
+differ a b = not (a == b)
+
 abbrev pub u128_max : ℕ
 u128_max = 340282366920938463463374607431768211455
 
--- an event whose id is that of an account
 abbrev pub compare_with_existing : Account → Account → AccountCode
 compare_with_existing existing event =
     first_row (
-    (not (event.flags == existing.flags), ExistsWithDifferentFlags) ∷
-    (not (event.user_data_128 == existing.user_data_128), ExistsWithDifferentUserData128) ∷
-    (not (event.user_data_64 == existing.user_data_64), ExistsWithDifferentUserData64) ∷
-    (not (event.user_data_32 == existing.user_data_32), ExistsWithDifferentUserData32) ∷
-    (not (event.ledger == existing.ledger), ExistsWithDifferentLedger) ∷
-    (not (event.code == existing.code), ExistsWithDifferentCode) ∷
+    (differ event.flags existing.flags, ExistsWithDifferentFlags) ∷
+    (differ event.user_data_128 existing.user_data_128, ExistsWithDifferentUserData128) ∷
+    (differ event.user_data_64 existing.user_data_64, ExistsWithDifferentUserData64) ∷
+    (differ event.user_data_32 existing.user_data_32, ExistsWithDifferentUserData32) ∷
+    (differ event.ledger existing.ledger, ExistsWithDifferentLedger) ∷
+    (differ event.code existing.code, ExistsWithDifferentCode) ∷
     []
     ) Exists
 
@@ -32,10 +34,10 @@ abbrev pub check_new_account : Account → AccountCode
 check_new_account event =
     first_row (
     (debits_must_not_exceed_credits event && credits_must_not_exceed_debits event, FlagsAreMutuallyExclusive) ∷
-    (not (event.debits_pending == 0), DebitsPendingMustBeZero) ∷
-    (not (event.debits_posted == 0), DebitsPostedMustBeZero) ∷
-    (not (event.credits_pending == 0), CreditsPendingMustBeZero) ∷
-    (not (event.credits_posted == 0), CreditsPostedMustBeZero) ∷
+    (differ event.debits_pending 0, DebitsPendingMustBeZero) ∷
+    (differ event.debits_posted 0, DebitsPostedMustBeZero) ∷
+    (differ event.credits_pending 0, CreditsPendingMustBeZero) ∷
+    (differ event.credits_posted 0, CreditsPostedMustBeZero) ∷
     (event.ledger == 0, LedgerMustNotBeZero) ∷
     (event.code == 0, CodeMustNotBeZero) ∷
     []
@@ -45,12 +47,11 @@ abbrev pub against : Option Account → Account → AccountCode
 against (Some existing) event = compare_with_existing existing event
 against None event = check_new_account event
 
--- an event, given the account with its id, if there is one
 abbrev pub verdict_given : Option Account → Account → AccountCode
 verdict_given found event =
     first_row (
-    (not (event.timestamp == 0), TimestampMustBeZero) ∷
-    (not (event.reserved == 0), ReservedField) ∷
+    (differ event.timestamp 0, TimestampMustBeZero) ∷
+    (differ event.reserved 0, ReservedField) ∷
     (has_reserved_flag event.flags, ReservedFlag) ∷
     (event.id == 0, IdMustNotBeZero) ∷
     (event.id == u128_max, IdMustNotBeIntMax) ∷

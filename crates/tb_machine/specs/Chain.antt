@@ -1,4 +1,4 @@
--- Chains of linked events: where they end, and the results of each and of a packet.
+-- Chains of linked events.
 use Rattle.std.specs.Prelude.{ℕ, ◌+◌, ◌-◌, ◌==◌, Bool, List, [], ◌∷◌, ◌++◌, length, take, replicate, Option, Some, None, if◌then◌else◌, min, nat_lt}
 use Rattle.tb_layout.specs.Events.{is_last_linked}
 use Rattle.tb_tables.specs.Facts.{Facts}
@@ -21,15 +21,14 @@ linked_event_chain_open = 2
 abbrev pub clock_exhausted : ℕ
 clock_exhausted = 201
 
--- what an operation makes of its events: which are linked, the number of the verdict on one at a timestamp, the
--- facts once it is stored, and the facts that its failing with a code leaves
+-- `verdict` and `stored` are at a timestamp; `remembered` are the facts that a failure with a code leaves
 pub record Operation (Event : Type 0) : Type 0 where
   pub is_linked : Event → Bool
   pub verdict : Facts → ℕ → Event → ℕ
   pub stored : Facts → ℕ → Event → Facts
   pub remembered : Facts → ℕ → Event → Facts
 
--- the results of events, one for each, and the facts after them
+-- a result for each event
 pub record Outcome : Type 0 where
   pub results : List ℕ
   pub facts : Facts
@@ -39,14 +38,14 @@ module _ {Event : Type 0} where
   before_chains event [] = (event ∷ []) ∷ []
   before_chains event (chain ∷ chains) = (event ∷ chain) ∷ chains
 
-  -- the events cut after each one that is not linked, and at their end
+  -- a chain ends with an event that isn't linked
   abbrev pub chains_of : (Event → Bool) → List Event → List (List Event)
   chains_of is_linked [] = []
   chains_of is_linked (event ∷ events) =
       if is_linked event then before_chains event (chains_of is_linked events)
       else (event ∷ []) ∷ chains_of is_linked events
 
-  -- the results of `count` events that fail together: the first fault has its own code
+  -- `count` events fail together; the first fault has its own code
   abbrev pub failed_results : ℕ → Option (ChainFault Event) → List ℕ
   failed_results count None = replicate count linked_event_failed
   failed_results count (Some fault) =
@@ -68,7 +67,7 @@ module _ {Event : Type 0} (operation : Operation Event) where
   facts_with_all clock facts (event ∷ events) =
       facts_with_all (clock_after clock 1) (facts_with facts (next_timestamp clock) event) events
 
-  -- the first event whose verdict, on the facts with those before it stored, is a fault; the first event has this index
+  -- the first event that fails once those before it are stored
   abbrev pub first_fault : ℕ → ℕ → Facts → List Event → Option (ChainFault Event)
   first_fault index clock facts [] = None
   first_fault index clock facts (event ∷ events) =
@@ -81,7 +80,6 @@ module _ {Event : Type 0} (operation : Operation Event) where
   facts_after_failure facts None = facts
   facts_after_failure facts (Some fault) = operation.remembered facts fault.code fault.event
 
-  -- a chain that is not open succeeds if it has no fault
   abbrev pub closed_outcome : ℕ → Facts → List Event
       → Option (ChainFault Event) → Outcome
   closed_outcome clock facts chain None =
@@ -92,7 +90,7 @@ module _ {Event : Type 0} (operation : Operation Event) where
         facts = facts_after_failure facts (Some fault);
       }
 
-  -- an open chain fails, and its last event is not examined
+  -- an open chain fails; its last event isn't examined
   abbrev pub open_outcome : Facts → List Event → Option (ChainFault Event) → Outcome
   open_outcome facts front fault =
       record {
@@ -106,7 +104,6 @@ module _ {Event : Type 0} (operation : Operation Event) where
       if is_last_linked operation.is_linked chain then open_outcome facts front (first_fault 0 clock facts front)
       else closed_outcome clock facts chain (first_fault 0 clock facts chain)
 
-  -- chain by chain, each on the facts and at the clock that the one before left
   abbrev pub chains_outcome : ℕ → Facts → List (List Event) → Outcome
   chains_outcome clock facts [] = record { results = []; facts = facts }
   chains_outcome clock facts (chain ∷ chains) =
@@ -118,7 +115,7 @@ module _ {Event : Type 0} (operation : Operation Event) where
   events_outcome clock facts events =
       chains_outcome clock facts (chains_of operation.is_linked events)
 
--- the results that are not 0, with their indices from an index on
+-- the results that aren't 0
 abbrev pub failures_from : ℕ → List ℕ → List Failure
 failures_from index [] = []
 failures_from index (code ∷ codes) =

@@ -1,4 +1,4 @@
--- What the two operations that change the facts make of their events.
+-- The operations that change the facts.
 use Rattle.std.specs.Prelude.{ℕ, ◌==◌, Bool, [], ◌∷◌, if◌then◌else◌}
 use Rattle.std.specs.List.{list_any}
 use Rattle.tb_layout.specs.declared.account.Account.{Account}
@@ -13,7 +13,6 @@ use Rattle.tb_machine.specs.AccountVerdict.{account_verdict}
 use Rattle.tb_machine.specs.TransferVerdict.{transfer_verdict, stored_transfer}
 use Rattle.tb_machine.specs.Chain.{Operation}
 
--- an account is stored with its timestamp, and a fault leaves nothing
 abbrev pub accounts_operation : Operation Account
 accounts_operation = record {
   is_linked = is_linked_account;
@@ -22,7 +21,7 @@ accounts_operation = record {
   remembered = λ facts code event. facts;
 }
 
--- whether later events could change this result: an account or a pending transfer wasn't found, or a limit would be passed
+-- later events could change this result
 abbrev pub is_transient : ℕ → Bool
 is_transient code =
     list_any (λ transient. code == transfer_number transient)
@@ -31,7 +30,7 @@ is_transient code =
 abbrev pub with_failed : Facts → ℕ → Facts
 with_failed facts id = if is_failed facts id then facts else add_failed facts id
 
--- a transfer is stored with its resolved fields, and a transient fault leaves its id among the failed ones
+-- a transient fault leaves its id among the failed ones
 abbrev pub transfers_operation : Operation Transfer
 transfers_operation = record {
   is_linked = is_linked_transfer;

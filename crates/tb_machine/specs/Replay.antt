@@ -19,28 +19,23 @@ pub record State : Type 0 where
 abbrev pub opening : ℕ → State
 opening clock = record { clock = clock; facts = no_facts }
 
--- ---- a packet
-
--- the results of a packet's events, and the facts after them; a lookup has no results
+-- a lookup has no results
 abbrev pub outcome_of : State → Events → Outcome
 outcome_of state (Accounts events) = events_outcome accounts_operation state.clock state.facts events
 outcome_of state (Transfers events) = events_outcome transfers_operation state.clock state.facts events
 outcome_of state (Ids ids) = record { results = []; facts = state.facts }
 
--- the events that failed, in rising index
 abbrev pub failures_of : State → Events → List Failure
 failures_of state events = failures_from 0 (outcome_of state events).results
 
--- the accounts with these ids, with their balances, in the order asked
 abbrev pub accounts_found : Facts → List ℕ → List Account
 accounts_found facts ids = filter_map (balanced_account facts) ids
 
 abbrev pub answer_of : State → Events → Answer
-answer_of state (Accounts events) = answer.Failures (failures_of state (Accounts events))
-answer_of state (Transfers events) = answer.Failures (failures_of state (Transfers events))
 answer_of state (Ids ids) = answer.Accounts (accounts_found state.facts ids)
+answer_of state events = answer.Failures (failures_of state events)
 
--- each event of accounts or transfers raises the clock by one, whatever its result
+-- each event raises the clock by one, whatever its result
 abbrev pub after_events : State → ℕ → Facts → State
 after_events state count facts = record { clock = clock_after state.clock count; facts = facts }
 
@@ -49,19 +44,14 @@ after_packet state (Accounts events) = after_events state (length events) (outco
 after_packet state (Transfers events) = after_events state (length events) (outcome_of state (Transfers events)).facts
 after_packet state (Ids ids) = state
 
--- ---- a pulse
-
--- the clock is raised to the moment, and whatever is due then expires
+-- what is due at the moment expires
 abbrev pub after_pulse : State → ℕ → State
 after_pulse state moment =
     record { clock = max state.clock moment; facts = expire_due (max state.clock moment) state.facts }
-
--- ---- packets and pulses
 
 abbrev pub after_input : State → Input → State
 after_input state (Packet submitter number events) = after_packet state events
 after_input state (Pulse moment) = after_pulse state moment
 
--- the state after packets and pulses in order, from a clock and no facts
 abbrev pub replay : ℕ → List Input → State
 replay clock inputs = fold after_input (opening clock) inputs

@@ -1,4 +1,4 @@
--- The verdict on an event that asks for a transfer, and the transfer that is stored if it is ok.
+-- The verdict on an event that asks for a transfer.
 use Rattle.std.specs.Prelude.{ℕ, ◌+◌, Bool, not, ◌&&◌, ◌||◌, ◌==◌, nat_lt, List, [], ◌∷◌, Option, Some, None, if◌then◌else◌}
 use Rattle.tb_layout.specs.declared.account.Account.{Account}
 use Rattle.tb_layout.specs.declared.transfer.Transfer.{Transfer}
@@ -12,15 +12,14 @@ use Rattle.tb_tables.specs.Balances.{balanced_account}
 use Rattle.tb_tables.specs.Status.{status_of, is_due, expires_at}
 use Rattle.tb_tables.specs.declared.status.Status.{Status}
 use Rattle.tb_tables.specs.declared.status.Status.TheVariants.{Pending, Posted, Voided, Expired}
-use Rattle.tb_machine.specs.AccountVerdict.{u128_max, first_row}
+use Rattle.tb_machine.specs.AccountVerdict.{u128_max, first_row, differ}
 use Rattle.tb_layout.specs.Limits.{clock_max}
 
--- ---- what a post or a void leaves to the transfer that it names
+-- ---- fields that a post or a void leaves out
 
 abbrev pub unless_zero : ℕ → ℕ → ℕ
 unless_zero field otherwise = if field == 0 then otherwise else field
 
--- whether the amount means all of the pending transfer's: the greatest in a post, 0 in a void
 abbrev pub means_whole_amount : Transfer → Bool
 means_whole_amount event = (is_post event && (event.amount == u128_max)) || (is_void event && (event.amount == 0))
 
@@ -37,51 +36,46 @@ resolved_transfer pending event =
       code = unless_zero event.code pending.code;
     }
 
--- any other event has no fields to resolve
 abbrev pub resolved_transfer_of : Option Transfer → Transfer → Transfer
 resolved_transfer_of (Some pending) event = if is_resolving event then resolved_transfer pending event else event
 resolved_transfer_of None event = event
 
--- what is stored: the event with its timestamp, and a post or a void with its fields resolved
 abbrev pub stored_transfer : Facts → ℕ → Transfer → Transfer
 stored_transfer facts timestamp event =
     record (resolved_transfer_of (transfer_with facts event.pending_id) event) { timestamp = timestamp }
 
--- ---- each table has its checks in their order
-
--- an event, with its fields resolved, whose id is that of a stored transfer
+-- against the transfer with its id; `event` has its fields resolved
 abbrev pub stored_checks : Transfer → Transfer → List (Bool × TransferCode)
 stored_checks stored event =
-    (not (event.flags == stored.flags), ExistsWithDifferentFlags) ∷
-    (not (event.pending_id == stored.pending_id), ExistsWithDifferentPendingId) ∷
-    (not (event.debit_account_id == stored.debit_account_id), ExistsWithDifferentDebitAccountId) ∷
-    (not (event.credit_account_id == stored.credit_account_id), ExistsWithDifferentCreditAccountId) ∷
-    (not (event.amount == stored.amount), ExistsWithDifferentAmount) ∷
-    (not (event.user_data_128 == stored.user_data_128), ExistsWithDifferentUserData128) ∷
-    (not (event.user_data_64 == stored.user_data_64), ExistsWithDifferentUserData64) ∷
-    (not (event.user_data_32 == stored.user_data_32), ExistsWithDifferentUserData32) ∷
-    (not (event.timeout == stored.timeout), ExistsWithDifferentTimeout) ∷
-    (not (event.ledger == stored.ledger), ExistsWithDifferentLedger) ∷
-    (not (event.code == stored.code), ExistsWithDifferentCode) ∷
+    (differ event.flags stored.flags, ExistsWithDifferentFlags) ∷
+    (differ event.pending_id stored.pending_id, ExistsWithDifferentPendingId) ∷
+    (differ event.debit_account_id stored.debit_account_id, ExistsWithDifferentDebitAccountId) ∷
+    (differ event.credit_account_id stored.credit_account_id, ExistsWithDifferentCreditAccountId) ∷
+    (differ event.amount stored.amount, ExistsWithDifferentAmount) ∷
+    (differ event.user_data_128 stored.user_data_128, ExistsWithDifferentUserData128) ∷
+    (differ event.user_data_64 stored.user_data_64, ExistsWithDifferentUserData64) ∷
+    (differ event.user_data_32 stored.user_data_32, ExistsWithDifferentUserData32) ∷
+    (differ event.timeout stored.timeout, ExistsWithDifferentTimeout) ∷
+    (differ event.ledger stored.ledger, ExistsWithDifferentLedger) ∷
+    (differ event.code stored.code, ExistsWithDifferentCode) ∷
     []
 
 -- ---- a post or a void
 
--- against the status of the transfer that it names, and whether that one is due
 abbrev pub against_status : Status → Bool → TransferCode
 against_status Posted due = PendingTransferAlreadyPosted
 against_status Voided due = PendingTransferAlreadyVoided
 against_status Expired due = PendingTransferExpired
 against_status Pending due = if due then PendingTransferExpired else Ok
 
--- against the transfer that it names; `event` has its fields resolved
+-- likewise against the transfer that it names
 abbrev pub pending_checks : Transfer → Transfer → List (Bool × TransferCode)
 pending_checks pending event =
     (not (is_pending pending), PendingTransferNotPending) ∷
-    (not (event.debit_account_id == pending.debit_account_id), PendingTransferHasDifferentDebitAccountId) ∷
-    (not (event.credit_account_id == pending.credit_account_id), PendingTransferHasDifferentCreditAccountId) ∷
-    (not (event.ledger == pending.ledger), PendingTransferHasDifferentLedger) ∷
-    (not (event.code == pending.code), PendingTransferHasDifferentCode) ∷
+    (differ event.debit_account_id pending.debit_account_id, PendingTransferHasDifferentDebitAccountId) ∷
+    (differ event.credit_account_id pending.credit_account_id, PendingTransferHasDifferentCreditAccountId) ∷
+    (differ event.ledger pending.ledger, PendingTransferHasDifferentLedger) ∷
+    (differ event.code pending.code, PendingTransferHasDifferentCode) ∷
     (nat_lt pending.amount event.amount, ExceedsPendingTransferAmount) ∷
     (is_void event && nat_lt event.amount pending.amount, PendingTransferHasDifferentAmount) ∷
     []
@@ -91,12 +85,12 @@ resolving_checks event =
     (event.pending_id == 0, PendingIdMustNotBeZero) ∷
     (event.pending_id == u128_max, PendingIdMustNotBeIntMax) ∷
     (event.pending_id == event.id, PendingIdMustBeDifferent) ∷
-    (not (event.timeout == 0), TimeoutReservedForPendingTransfer) ∷
+    (differ event.timeout 0, TimeoutReservedForPendingTransfer) ∷
     []
 
 -- ---- a plain or pending transfer
 
--- an account's debits, pending and posted, with this amount; sums have no bound
+-- sums have no bound
 abbrev pub debits_with : Account → ℕ → ℕ
 debits_with account amount = account.debits_pending + account.debits_posted + amount
 
@@ -105,15 +99,15 @@ credits_with account amount = account.credits_pending + account.credits_posted +
 
 abbrev pub balance_checks : ℕ → Account → Account → Transfer → List (Bool × TransferCode)
 balance_checks timestamp debit credit event =
-    (not (debit.ledger == credit.ledger), AccountsMustHaveTheSameLedger) ∷
-    (not (event.ledger == debit.ledger), TransferMustHaveTheSameLedgerAsAccounts) ∷
+    (differ debit.ledger credit.ledger, AccountsMustHaveTheSameLedger) ∷
+    (differ event.ledger debit.ledger, TransferMustHaveTheSameLedgerAsAccounts) ∷
     (is_pending event && nat_lt u128_max (debit.debits_pending + event.amount), OverflowsDebitsPending) ∷
     (is_pending event && nat_lt u128_max (credit.credits_pending + event.amount), OverflowsCreditsPending) ∷
     (nat_lt u128_max (debit.debits_posted + event.amount), OverflowsDebitsPosted) ∷
     (nat_lt u128_max (credit.credits_posted + event.amount), OverflowsCreditsPosted) ∷
     (nat_lt u128_max (debits_with debit event.amount), OverflowsDebits) ∷
     (nat_lt u128_max (credits_with credit event.amount), OverflowsCredits) ∷
-    (not (event.timeout == 0) && nat_lt clock_max (expires_at (record event { timestamp = timestamp })), OverflowsTimeout) ∷
+    (differ event.timeout 0 && nat_lt clock_max (expires_at (record event { timestamp = timestamp })), OverflowsTimeout) ∷
     (debits_must_not_exceed_credits debit && nat_lt debit.credits_posted (debits_with debit event.amount), ExceedsCredits) ∷
     (credits_must_not_exceed_debits credit && nat_lt credit.debits_posted (credits_with credit event.amount), ExceedsDebits) ∷
     []
@@ -131,8 +125,8 @@ moving_checks event =
     (event.credit_account_id == 0, CreditAccountIdMustNotBeZero) ∷
     (event.credit_account_id == u128_max, CreditAccountIdMustNotBeIntMax) ∷
     (event.debit_account_id == event.credit_account_id, AccountsMustBeDifferent) ∷
-    (not (event.pending_id == 0), PendingIdMustBeZero) ∷
-    (not (is_pending event) && not (event.timeout == 0), TimeoutReservedForPendingTransfer) ∷
+    (differ event.pending_id 0, PendingIdMustBeZero) ∷
+    (not (is_pending event) && differ event.timeout 0, TimeoutReservedForPendingTransfer) ∷
     (event.ledger == 0, LedgerMustNotBeZero) ∷
     (event.code == 0, CodeMustNotBeZero) ∷
     []
@@ -151,16 +145,13 @@ new_id_checks facts event =
 
 abbrev pub event_checks : Transfer → List (Bool × TransferCode)
 event_checks event =
-    (not (event.timestamp == 0), TimestampMustBeZero) ∷
+    (differ event.timestamp 0, TimestampMustBeZero) ∷
     (has_reserved_flag event.flags, ReservedFlag) ∷
     (event.id == 0, IdMustNotBeZero) ∷
     (event.id == u128_max, IdMustNotBeIntMax) ∷
     []
 
--- ---- the verdicts, on the facts and at a timestamp
-
 module _ (facts : Facts) (timestamp : ℕ) where
-  -- against the transfer that a post or a void names
   abbrev pub against_named : Option Transfer → Transfer → TransferCode
   against_named None event = PendingTransferNotFound
   against_named (Some pending) event =
@@ -182,7 +173,6 @@ module _ (facts : Facts) (timestamp : ℕ) where
       first_row (new_id_checks facts event)
       (if is_resolving event then resolving_verdict event else moving_verdict event)
 
-  -- against the transfer that has its id
   abbrev pub against_id : Option Transfer → Transfer → TransferCode
   against_id (Some stored) event =
       first_row (stored_checks stored (resolved_transfer_of (transfer_with facts stored.pending_id) event)) Exists

@@ -4,7 +4,8 @@ use Rattle.std.specs.Prelude.{Result, Ok, Err, OnOk, IsOk, codes}
 use Rattle.tb_machine.specs.Replay.{State, replay}
 use Rattle.tb_work.specs.Job.{numbered_packet}
 use Rattle.tb_work.specs.Ahead.{ahead}
-use Rattle.tb_work.specs.Packet.{ReplyValue, reply_with}
+use Rattle.tb_work.specs.Packet.{ReplyValue}
+use Rattle.tb_work.specs.Answer.{reply_with}
 use Rattle.tb_layout.specs.Events.{Input}
 use Rattle.tb_work.specs.declared.item.Item as work
 use Rattle.tb_work.specs.declared.packet.Packet as packets

@@ -7,7 +7,8 @@ use Rattle.tb_machine.specs.Replay.{State, replay}
 use Rattle.tb_machine.specs.inside.Accounts.{balanced_accounts}
 use Rattle.tb_work.specs.Ahead.{ahead}
 use Rattle.tb_work.specs.Refusal.{number_of, name_of}
-use Rattle.tb_work.specs.Packet.{ReplyValue, reply_with}
+use Rattle.tb_work.specs.Packet.{ReplyValue}
+use Rattle.tb_work.specs.Answer.{reply_with}
 use Rattle.tb_layout.specs.Events.{Input}
 use Rattle.tb_layout.specs.declared.answer.Answer.{Answer}
 use Rattle.tb_layout.specs.declared.answer.Answer.TheVariants.{Failures, Accounts}

@@ -4,9 +4,7 @@ use Rattle.std.specs.List.{list_any}
 use Rattle.tb_layout.specs.declared.account.Account.{Account}
 use Rattle.tb_layout.specs.declared.transfer.Transfer.{Transfer}
 
--- Accounts and transfers are in the order in which they were made, with their timestamps, and a post or a void with its
--- resolved fields. `expired` has the ids of the pending transfers that expired, in the order in which those were made.
--- `failed` has the ids that failed.
+-- Accounts, transfers and the ids of expired ones are in order of making. A post or a void has its resolved fields.
 pub record Facts : Type 0 where
   pub accounts : List Account
   pub transfers : List Transfer

@@ -8,37 +8,30 @@ use Rattle.tb_tables.specs.Facts.{Facts, is_expired}
 use Rattle.tb_tables.specs.declared.status.Status.{Status}
 use Rattle.tb_tables.specs.declared.status.Status.TheVariants.{Pending, Posted, Voided, Expired}
 
--- whether a post, or a void, names the transfer with this id
-abbrev pub is_posted : Facts → ℕ → Bool
-is_posted facts id = list_any (λ other. is_post other && (other.pending_id == id)) facts.transfers
-
-abbrev pub is_voided : Facts → ℕ → Bool
-is_voided facts id = list_any (λ other. is_void other && (other.pending_id == id)) facts.transfers
+-- a transfer that passes the test names the one with this id
+abbrev pub is_named_by : (Transfer → Bool) → Facts → ℕ → Bool
+is_named_by test facts id = list_any (λ other. test other && (other.pending_id == id)) facts.transfers
 
 abbrev pub status_of : Facts → ℕ → Status
 status_of facts id =
-    if is_posted facts id then Posted
-    else if is_voided facts id then Voided
+    if is_named_by is_post facts id then Posted
+    else if is_named_by is_void facts id then Voided
     else if is_expired facts id then Expired
     else Pending
 
--- whether a post or a void names the transfer with this id
-abbrev pub is_resolved : Facts → ℕ → Bool
-is_resolved facts id = list_any (λ other. is_resolving other && (other.pending_id == id)) facts.transfers
-
--- whether a transfer still reserves its amount: a pending one whose status is Pending
+-- a pending transfer whose status is Pending reserves its amount
 abbrev pub is_reserving : Facts → Transfer → Bool
 is_reserving facts transfer =
-    is_pending transfer && not (is_resolved facts transfer.id) && not (is_expired facts transfer.id)
+    is_pending transfer && not (is_named_by is_resolving facts transfer.id) && not (is_expired facts transfer.id)
 
--- when a transfer with a timeout expires, in nanoseconds; the timeout is in seconds
+-- the timeout is in seconds
 abbrev pub expires_at : Transfer → ℕ
 expires_at transfer = transfer.timestamp + transfer.timeout * nanoseconds_per_second
 
 abbrev pub is_due : ℕ → Transfer → Bool
 is_due clock transfer = not (transfer.timeout == 0) && nat_le (expires_at transfer) clock
 
--- the facts once each transfer that still reserves its amount and is due has expired
+-- each transfer that reserves its amount and is due expires
 abbrev pub expire_due : ℕ → Facts → Facts
 expire_due clock facts =
     let expires : Transfer → Bool = λ transfer. is_expired facts transfer.id

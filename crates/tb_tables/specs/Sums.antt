@@ -4,7 +4,7 @@ use Rattle.tb_layout.specs.declared.account.Account.{Account}
 use Rattle.tb_layout.specs.declared.transfer.Transfer.{Transfer}
 use Rattle.tb_layout.specs.Transfer.{is_pending}
 use Rattle.tb_tables.specs.Facts.{Facts}
-use Rattle.tb_tables.specs.Balances.{debits_pending as debits_pending_of, debits_posted as debits_posted_of, credits_pending as credits_pending_of, credits_posted as credits_posted_of}
+use Rattle.tb_tables.specs.inside.Balances.{debits_pending as debits_pending_of, debits_posted as debits_posted_of, credits_pending as credits_pending_of, credits_posted as credits_posted_of}
 use Rattle.tb_tables.specs.declared.amounts.Phase.{Phase}
 use Rattle.tb_tables.specs.declared.amounts.Phase.TheVariants.{Pending, Posted}
 use Rattle.tb_tables.specs.declared.balance.Balance.{Balance}

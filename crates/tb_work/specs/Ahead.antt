@@ -7,7 +7,6 @@ use Rattle.tb_work.specs.declared.item.Item.{Item}
 use Rattle.tb_work.specs.declared.item.Item.TheVariants.{Packet, Pulse, End, Close}
 use Rattle.tb_work.specs.declared.item.Ticket.{Ticket}
 
--- the items of a queue, without their senders
 abbrev pub items_in : List Ticket → List Item
 items_in queue = map (λ (ticket : Ticket). ticket.item) queue
 
@@ -17,7 +16,6 @@ ahead_of (Pulse moment) others = input.Pulse moment ∷ others
 ahead_of End others = others
 ahead_of Close others = []
 
--- the packets and pulses ahead of the first Close
 abbrev pub ahead : List Item → List Input
 ahead [] = []
 ahead (item ∷ items) = ahead_of item (ahead items)

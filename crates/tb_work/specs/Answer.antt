@@ -1,4 +1,4 @@
--- What may be answered to a packet.
+-- What may be answered to a packet, and its reply.
 use Rattle.std.specs.Prelude.{◌≡◌, ◌≤◌, true, length}
 use Rattle.tb_layout.specs.Failures.{RiseWithin}
 use Rattle.tb_work.specs.declared.packet.Packet.{Packet}
@@ -8,6 +8,11 @@ use Rattle.tb_work.specs.declared.outcome.Outcome.{Outcome}
 use Rattle.tb_work.specs.declared.outcome.Outcome.TheVariants.{Committed, Shutdown, Stopped}
 use Rattle.tb_work.specs.Admission.{count_of}
 use Rattle.tb_work.specs.Job.{is_lookup}
+use Rattle.tb_work.specs.Packet.{Numbered, ReplyValue}
+
+abbrev pub reply_with : Outcome → Numbered → ReplyValue
+reply_with outcome job =
+    record { submitter = job.submitter; number = job.number; packet = job.packet; outcome = outcome }
 
 -- failures rise below the packet's count; accounts are the answer to a lookup, and are no more than its ids
 abbrev pub IsAnswerTo : Packet → Answer → Type 0

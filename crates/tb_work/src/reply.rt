@@ -57,7 +57,7 @@ fn rebase_into(room: &mut FailureRoom, failures: &[Failure], offset: u32, count:
 }
 
 impl Reply {
-    ghost use Rattle.tb_work.specs.Packet.{reply_with};
+    ghost use Rattle.tb_work.specs.Answer.{reply_with};
 
     /// Returns the reply to a job's packet, with this outcome. Takes no memory; the job's room is freed.
     pub fn of(job: Job, outcome: Outcome) -> Reply

@@ -2,7 +2,8 @@
 
 ghost use Rattle.std.specs.Prelude.{◌≡◌, ◌==◌, ◌<◌, ◌^◌, ◌&&◌};
 ghost use Rattle.tb_tables.specs.Lawful.{IsLawful};
-ghost use Rattle.tb_tables.specs.Balances.{is_posting as is_posting_of, debits_pending as debits_pending_of, debits_posted as debits_posted_of, credits_pending as credits_pending_of, credits_posted as credits_posted_of, with_balances as with_balances_of};
+ghost use Rattle.tb_tables.specs.Balances.{is_posting as is_posting_of, with_balances as with_balances_of};
+ghost use Rattle.tb_tables.specs.inside.Balances.{debits_pending as debits_pending_of, debits_posted as debits_posted_of, credits_pending as credits_pending_of, credits_posted as credits_posted_of};
 ghost use Rattle.tb_core_tests.specs.Plain.{facts_in};
 
 use super::statuses::is_reserving;

@@ -1,7 +1,7 @@
 use Rattle.std.proofs.Common.{◌≡◌, arith, ap, sym, ◌∙◌, refl, ◌+◌, map, take, drop}
 use Rattle.tb_layout.specs.Failures.{from_offset}
 use Rattle.tb_work.specs.Admission.{count_of}
-use Rattle.tb_work.specs.Packet.{reply_with}
+use Rattle.tb_work.specs.Answer.{reply_with}
 use Rattle.tb_work.specs.declared.stub.Stub.{Stub}
 use Rattle.tb_layout.specs.declared.answer.Answer.TheVariants.{Failures}
 use Rattle.tb_work.specs.declared.outcome.Outcome.TheVariants.{Committed}
