@@ -2,12 +2,12 @@
 use Rattle.std.specs.Prelude.{◌≡◌, ℕ, ◌==◌, Bool, true, false, List, [], ◌∷◌, Some, slice_get, cond}
 use Rattle.std.specs.List.{count_by, flat_map}
 use Rattle.std.specs.Vec.Iter.{into_iter_items}
-use Rattle.tb_layout.specs.declared.answer.Answer.TheVariants.{Failures, Accounts}
+use Rattle.tb_layout.specs.declared.answer.Answer.TheVariants.{Failures}
 use Rattle.tb_layout.specs.declared.failure.Failure.{Failure}
 use Rattle.tb_submit.specs.Ends.{EndedState}
 use Rattle.tb_work.specs.Packet.{Numbered, ReplyValue}
 use Rattle.tb_work.specs.declared.outcome.Outcome.{Outcome}
-use Rattle.tb_work.specs.declared.outcome.Outcome.TheVariants.{Committed, Shutdown, Stopped}
+use Rattle.tb_work.specs.declared.outcome.Outcome.TheVariants.{Committed}
 use Rattle.tb_work.specs.declared.packet.Packet as packets
 use Rattle.example_payments.specs.declared.desk.Desk.{Desk}
 use Rattle.example_payments.specs.declared.order.Order.{Order}
@@ -26,9 +26,7 @@ word_of (Void id hold) = VOID
 
 abbrev pub failures_of : Outcome → List Failure
 failures_of (Committed place (Failures failures)) = failures
-failures_of (Committed place (Accounts accounts)) = []
-failures_of Shutdown = []
-failures_of Stopped = []
+failures_of other = []
 
 -- the failed events of a reply's packet
 abbrev pub failures_in : ReplyValue → List Failure
@@ -41,9 +39,7 @@ is_result_of asked word (failure ∷ others) = false
 
 abbrev pub is_outcome_of : ℕ → ℕ → Outcome → Bool
 is_outcome_of asked word (Committed place (Failures failures)) = is_result_of asked word failures
-is_outcome_of asked word (Committed place (Accounts accounts)) = false
-is_outcome_of asked word Shutdown = false
-is_outcome_of asked word Stopped = false
+is_outcome_of asked word other = false
 
 -- whether a packet with this user word was committed, and none of its events failed
 abbrev pub is_done : ℕ → ReplyValue → Bool

@@ -18,8 +18,7 @@ answer_bytes (Accounts accounts) = flat_map account_bytes accounts
 -- a packet that isn't committed has no results
 abbrev pub result_bytes : Outcome → List ℕ
 result_bytes (Committed place answer) = answer_bytes answer
-result_bytes Shutdown = []
-result_bytes Stopped = []
+result_bytes other = []
 
 abbrev pub answer_size : Answer → ℕ
 answer_size (Failures failures) = 8 * length failures
@@ -27,8 +26,7 @@ answer_size (Accounts accounts) = 128 * length accounts
 
 abbrev pub result_size : Outcome → ℕ
 result_size (Committed place answer) = answer_size answer
-result_size Shutdown = 0
-result_size Stopped = 0
+result_size other = 0
 
 -- these bytes were written at the start of a buffer
 abbrev pub AreWritten : List ℕ → ℕ → List ℕ → List ℕ → Type 0
@@ -41,8 +39,7 @@ number_of_outcome Stopped = 8
 
 abbrev pub place_of : Outcome → ℕ
 place_of (Committed place answer) = place
-place_of Shutdown = 0
-place_of Stopped = 0
+place_of other = 0
 
 -- the head describes this reply
 pub record IsHeadOf (head : KipReply) (reply : ReplyValue) : Type 0 where

@@ -80,9 +80,7 @@ Records refused handed old outcomes entry new =
 -- a batch: nothing else can lack memory, since without a journal a pulse allocates nothing
 abbrev pub IsBatch : Parcel → Type 0
 IsBatch (parcel.Batch jobs) = Unit {0}
-IsBatch (parcel.Pulse moment) = ⊥
-IsBatch (parcel.Return job cause) = ⊥
-IsBatch parcel.Last = ⊥
+IsBatch other = ⊥
 
 -- A parcel was applied, whatever was committed before. If memory ran out, it was a batch.
 abbrev pub Applies : Parcel → BareLedgerState → Outcomes → BareLedgerState → Type 0

@@ -37,9 +37,7 @@ outcome_at clock inputs Behind = Shutdown
 
 abbrev pub reply_due : Outcome → Item → List ReplyValue
 reply_due outcome (item.Packet job) = reply_with outcome job ∷ []
-reply_due outcome (item.Pulse moment) = []
-reply_due outcome item.End = []
-reply_due outcome item.Close = []
+reply_due outcome other = []
 
 abbrev pub all_due_from : ℕ → List Input → Place → List Item → List ReplyValue
 all_due_from clock inputs place [] = []

@@ -91,9 +91,7 @@ take_step refused front sender item.Close = step_of_close front sender
 -- whether a ticket takes memory: a packet that is returned takes none
 abbrev pub takes_memory : FrontState → Item → Bool
 takes_memory front (item.Packet job) = not (front.closed || front.stopped)
-takes_memory front (item.Pulse moment) = false
-takes_memory front item.End = false
-takes_memory front item.Close = false
+takes_memory front other = false
 
 -- ---- without batches
 

@@ -68,9 +68,7 @@ pub record IsGrouping (limit : ℕ) (groups : List (List Input)) : Type 0 where
 -- the packets of a batch joined one another
 abbrev pub IsJoinedParcel : ℕ → Parcel → Type 0
 IsJoinedParcel limit (parcel.Batch jobs) = IsGroup limit jobs
-IsJoinedParcel limit (parcel.Pulse moment) = Unit {0}
-IsJoinedParcel limit (parcel.Return job cause) = Unit {0}
-IsJoinedParcel limit parcel.Last = Unit {0}
+IsJoinedParcel limit other = Unit {0}
 
 abbrev pub AreJoinedParcels : ℕ → List Parcel → Type 0
 AreJoinedParcels limit parcels = AllByRecursion (IsJoinedParcel limit) parcels

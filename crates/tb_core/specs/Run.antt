@@ -29,9 +29,7 @@ replies_in Last = []
 -- a batch has packets, and these were admitted
 abbrev pub HasPackets : Parcel → Type 0
 HasPackets (parcel.Batch jobs) = (0 < length jobs) × AreAdmitted jobs
-HasPackets (parcel.Pulse moment) = Unit {0}
-HasPackets (parcel.Return job cause) = Unit {0}
-HasPackets parcel.Last = Unit {0}
+HasPackets other = Unit {0}
 
 -- a ledger took these decisions from its opening clock: it committed the first of them, and all of them exactly if it
 -- hasn't stopped; and these are the replies

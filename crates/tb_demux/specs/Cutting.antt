@@ -43,5 +43,4 @@ IsAnswerToAll (Accounts accounts) jobs =
 
 abbrev pub IsOutcomeOfAll : Outcome → List Numbered → Type 0
 IsOutcomeOfAll (Committed place answer) jobs = (place + length jobs ≤ places_max) × IsAnswerToAll answer jobs
-IsOutcomeOfAll Shutdown jobs = Unit {0}
-IsOutcomeOfAll Stopped jobs = Unit {0}
+IsOutcomeOfAll other jobs = Unit {0}

@@ -4,14 +4,12 @@ use Rattle.std.specs.List.{flat_map}
 use Rattle.tb_submit.specs.Ends.{SubmitterState, EndedState}
 use Rattle.tb_work.specs.Packet.{Numbered, ReplyValue}
 use Rattle.tb_work.specs.declared.item.Item.{Item}
-use Rattle.tb_work.specs.declared.item.Item.TheVariants.{Packet, Pulse, End, Close}
+use Rattle.tb_work.specs.declared.item.Item.TheVariants.{Packet}
 use Rattle.tb_work.specs.declared.packet.Packet as packets
 
 abbrev pub job_in : Item → List Numbered
 job_in (Packet job) = job ∷ []
-job_in (Pulse moment) = []
-job_in End = []
-job_in Close = []
+job_in other = []
 
 -- the packets among what was queued, with their numbers
 abbrev pub jobs_in : List Item → List Numbered

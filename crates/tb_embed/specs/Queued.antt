@@ -10,9 +10,7 @@ use Rattle.tb_work.specs.declared.packet.Packet.{Packet}
 abbrev pub packets_in : List Item → ℕ
 packets_in [] = 0
 packets_in (item.Packet job ∷ items) = packets_in items + 1
-packets_in (item.Pulse moment ∷ items) = packets_in items
-packets_in (item.End ∷ items) = packets_in items
-packets_in (item.Close ∷ items) = packets_in items
+packets_in (other ∷ items) = packets_in items
 
 abbrev pub HasEnded : Bool → List Item → Type 0
 HasEnded true items = IsEnded items

@@ -17,16 +17,12 @@ use Rattle.tb_core.specs.Run.{Commits, replies_in}
 use Rattle.tb_submit.specs.Ends.{IntakeState}
 
 abbrev pub is_last : Parcel → Bool
-is_last (parcel.Batch jobs) = false
-is_last (parcel.Pulse moment) = false
-is_last (parcel.Return job cause) = false
 is_last parcel.Last = true
+is_last other = false
 
 abbrev pub is_batch : Parcel → Bool
 is_batch (parcel.Batch jobs) = true
-is_batch (parcel.Pulse moment) = false
-is_batch (parcel.Return job cause) = false
-is_batch parcel.Last = false
+is_batch other = false
 
 -- the number of the batch after a parcel; batches are counted from 0, in 64 bits
 abbrev pub next_number : ℕ → Parcel → ℕ
@@ -54,10 +50,8 @@ abbrev pub has_last : List Parcel → Bool
 has_last parcels = list_any is_last parcels
 
 abbrev pub is_final : Outcomes → Bool
-is_final (outcomes.Cut replies) = false
-is_final (outcomes.One reply) = false
-is_final outcomes.Nothing = false
 is_final outcomes.Last = true
+is_final other = false
 
 abbrev pub has_final : List Outcomes → Bool
 has_final given = list_any is_final given

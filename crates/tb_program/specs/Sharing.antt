@@ -8,25 +8,22 @@ use Rattle.tb_program_script.specs.declared.item.ScriptItem.TheVariants.{Packet,
 
 abbrev pub packet_by : ℕ → ScriptItem → List packets.Packet
 packet_by submitter (Packet owner packet) = if owner == submitter then packet ∷ [] else []
-packet_by submitter (Pulse moment) = []
-packet_by submitter Shut = []
+packet_by submitter other = []
 
 -- the packets of a submitter, in the order of the script
 abbrev pub packets_by : ℕ → List ScriptItem → List packets.Packet
 packets_by submitter items = flat_map (packet_by submitter) items
 
 abbrev pub moment_in : ScriptItem → List ℕ
-moment_in (Packet submitter packet) = []
 moment_in (Pulse moment) = moment ∷ []
-moment_in Shut = []
+moment_in other = []
 
 abbrev pub moments_asked : List ScriptItem → List ℕ
 moments_asked items = flat_map moment_in items
 
 abbrev pub is_shut : ScriptItem → Bool
-is_shut (Packet submitter packet) = false
-is_shut (Pulse moment) = false
 is_shut Shut = true
+is_shut other = false
 
 abbrev pub shuts_in : List ScriptItem → Bool
 shuts_in items = list_any is_shut items

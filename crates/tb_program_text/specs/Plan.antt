@@ -34,9 +34,7 @@ queue_of plan = flat_map queued_items plan
 -- a submitter's queued packets are numbered from 0
 abbrev pub is_of : ℕ → work.Item → Bool
 is_of submitter (queue.Packet job) = job.submitter == submitter
-is_of submitter (queue.Pulse moment) = false
-is_of submitter queue.End = false
-is_of submitter queue.Close = false
+is_of submitter other = false
 
 abbrev pub number_in : ℕ → List work.Item → ℕ
 number_in submitter items = count_by (is_of submitter) items

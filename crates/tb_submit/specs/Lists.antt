@@ -4,15 +4,13 @@ use Rattle.std.specs.List.{AllByRecursion}
 use Rattle.tb_work.specs.Admission.{admission_of}
 use Rattle.tb_work.specs.Queue.{IsSubmitted, AreNumbered, IsEnded}
 use Rattle.tb_work.specs.declared.item.Item.{Item}
-use Rattle.tb_work.specs.declared.item.Item.TheVariants.{Packet, Pulse, End, Close}
+use Rattle.tb_work.specs.declared.item.Item.TheVariants.{Packet, Pulse}
 use Rattle.tb_work.specs.declared.item.Ticket.{Ticket}
 
 -- a packet was admitted, and so has at most `limit` events
 abbrev pub IsWithin : ℕ → Item → Type 0
 IsWithin limit (Packet job) = IsOk (admission_of limit job.packet)
-IsWithin limit (Pulse moment) = Unit {0}
-IsWithin limit End = Unit {0}
-IsWithin limit Close = Unit {0}
+IsWithin limit other = Unit {0}
 
 abbrev pub AreWithin : ℕ → List Ticket → Type 0
 AreWithin limit queue = AllByRecursion (λ (ticket : Ticket). IsWithin limit ticket.item) queue
@@ -23,17 +21,13 @@ ArePackets limit sender number [] = Unit {0}
 ArePackets limit sender number (Packet job ∷ items) =
     (job.submitter ≡ sender) × (job.number ≡ number) × IsOk (admission_of limit job.packet)
     × ArePackets limit sender (number + 1) items
-ArePackets limit sender number (Pulse moment ∷ items) = ⊥
-ArePackets limit sender number (End ∷ items) = ⊥
-ArePackets limit sender number (Close ∷ items) = ⊥
+ArePackets limit sender number (other ∷ items) = ⊥
 
 -- only pulses
 abbrev pub ArePulses : List Item → Type 0
 ArePulses [] = Unit {0}
-ArePulses (Packet job ∷ items) = ⊥
 ArePulses (Pulse moment ∷ items) = ArePulses items
-ArePulses (End ∷ items) = ⊥
-ArePulses (Close ∷ items) = ⊥
+ArePulses (other ∷ items) = ⊥
 
 -- all that a sender queued, with its end: each item is its own, and packets are numbered from 0 and within the limit
 pub record IsCompleteQueue (limit submitters sender : ℕ) (items : List Item) : Type 0 where

@@ -65,10 +65,10 @@ module _ {facts : Facts} {accounts : List (ℕ × Account)} {transfers : List (�
       made (slice_get facts.accounts index)
       (is ∙ ap (λ rows. slice_get rows index) hold.accounts_are
       ∙ slice_get-map (λ (a : Account). (a.id, with_sums (sums_of facts) a)) facts.accounts index) where
-    made : (found : Option Account) → Some entry ≡ option_map (λ a. (a.id, with_sums (sums_of facts) a)) found
-        → Some entry.1 ≡ option_map (with_sums (sums_of facts)) found
-    made None none = cc
-    made (Some account) same = ap (λ (e : Option (ℕ × Account)). option_map (λ e. e.1) e) same
+        made : (found : Option Account) → Some entry ≡ option_map (λ a. (a.id, with_sums (sums_of facts) a)) found
+            → Some entry.1 ≡ option_map (with_sums (sums_of facts)) found
+        made None none = cc
+        made (Some account) same = ap (λ (e : Option (ℕ × Account)). option_map (λ e. e.1) e) same
 
   account-index : (index : ℕ) {id : ℕ} → slice_get (keys_of accounts) index ≡ Some id
       → (a : Account) × (slice_get facts.accounts index ≡ Some a) × (a.id ≡ id)

@@ -12,7 +12,7 @@ use Rattle.tb_tables.specs.declared.change.Change.{Change}
 use Rattle.tb_tables.specs.declared.indices.Indices.{Indices}
 use Rattle.tb_tables.specs.declared.row.Row.{Row}
 use Rattle.tb_tables.specs.declared.status.Status.{Status}
-use Rattle.tb_tables.specs.declared.status.Status.TheVariants.{Pending, Posted, Voided, Expired}
+use Rattle.tb_tables.specs.declared.status.Status.TheVariants.{Pending, Posted, Voided}
 
 -- the status of a transfer that nothing resolved, and its row
 abbrev pub status_first : Transfer → Option Status
@@ -56,10 +56,7 @@ status_after false = Voided
 -- whether a status is that of a transfer that still reserves its amount
 abbrev pub is_open_status : Option Status → Bool
 is_open_status (Some Pending) = true
-is_open_status (Some Posted) = false
-is_open_status (Some Voided) = false
-is_open_status (Some Expired) = false
-is_open_status None = false
+is_open_status other = false
 
 -- a transfer is at an index, and the moment at which it expires can be written down
 pub record IsRemovable (facts : Facts) (transfer : Transfer) (transfer_entries : List (ℕ × Row))

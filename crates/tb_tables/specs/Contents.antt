@@ -18,9 +18,9 @@ use Rattle.tb_tables.specs.Sums.{sums_of, account_rows, AreAt}
 use Rattle.tb_tables.specs.declared.indices.Indices.{Indices}
 use Rattle.tb_tables.specs.declared.row.Row.{Row}
 use Rattle.tb_tables.specs.declared.status.Status.{Status}
-use Rattle.tb_tables.specs.declared.status.Status.TheVariants.{Pending, Posted, Voided, Expired}
+use Rattle.tb_tables.specs.declared.status.Status.TheVariants.{Expired}
 use Rattle.tb_tables.specs.declared.change.Change.{Change}
-use Rattle.tb_tables.specs.declared.change.Change.TheVariants.{Account, Transfer, Failed}
+use Rattle.tb_tables.specs.declared.change.Change.TheVariants.{Transfer}
 
 -- the maps' entries, the failed ids, and which pairs of moment and index the set has
 pub record Contents : Type 0 where
@@ -35,10 +35,7 @@ account_made entry = record entry.1 { debits_pending = 0; debits_posted = 0; cre
 
 abbrev pub has_expired : Option Status → Bool
 has_expired (Some Expired) = true
-has_expired (Some Pending) = false
-has_expired (Some Posted) = false
-has_expired (Some Voided) = false
-has_expired None = false
+has_expired other = false
 
 -- the facts that they are seen as
 abbrev pub facts_of : Contents → Facts
@@ -168,9 +165,8 @@ pub record Allow (facts : Facts) (transfer : TransferRecord) (indices : Indices)
 
 -- the index of the transfer that a change resolved
 abbrev pub named_by : Change Indices → Option ℕ
-named_by Account = None
 named_by (Transfer indices) = indices.pending
-named_by Failed = None
+named_by other = None
 
 abbrev pub names_index : ℕ → Option ℕ → Bool
 names_index index None = false
@@ -188,9 +184,8 @@ pub record WasStored (indices : Indices) (old new : Facts) : Type 0 where
   pub allow : Allow old transfer indices
 
 abbrev pub WasMade : Change Indices → Facts → Facts → Type 0
-WasMade Account old new = Unit {0}
 WasMade (Transfer indices) old new = WasStored indices old new
-WasMade Failed old new = Unit {0}
+WasMade other old new = Unit {0}
 
 -- what a change says of the facts after it
 abbrev pub IsUndoable : (ℕ → ℕ → Bool) → Change Indices → Facts → Type 0

@@ -5,7 +5,7 @@ use Rattle.tb_work.specs.declared.packet.Packet.{Packet}
 use Rattle.tb_layout.specs.declared.answer.Answer.{Answer}
 use Rattle.tb_layout.specs.declared.answer.Answer.TheVariants.{Failures, Accounts}
 use Rattle.tb_work.specs.declared.outcome.Outcome.{Outcome}
-use Rattle.tb_work.specs.declared.outcome.Outcome.TheVariants.{Committed, Shutdown, Stopped}
+use Rattle.tb_work.specs.declared.outcome.Outcome.TheVariants.{Committed}
 use Rattle.tb_work.specs.Admission.{count_of}
 use Rattle.tb_work.specs.Job.{is_lookup}
 use Rattle.tb_work.specs.Packet.{Numbered, ReplyValue}
@@ -21,5 +21,4 @@ IsAnswerTo packet (Accounts accounts) = (is_lookup packet ≡ true) × (length a
 
 abbrev pub IsOutcomeOf : Packet → Outcome → Type 0
 IsOutcomeOf packet (Committed place answer) = IsAnswerTo packet answer
-IsOutcomeOf packet Shutdown = Unit {0}
-IsOutcomeOf packet Stopped = Unit {0}
+IsOutcomeOf packet other = Unit {0}

@@ -43,9 +43,7 @@ abbrev pub AreNumbered : ℕ → ℕ → List Item → Type 0
 AreNumbered sender number [] = Unit {0}
 AreNumbered sender number (Packet job ∷ items) =
     (job.submitter ≡ sender) × (job.number ≡ number) × AreNumbered sender (number + 1) items
-AreNumbered sender number (Pulse moment ∷ items) = AreNumbered sender number items
-AreNumbered sender number (End ∷ items) = AreNumbered sender number items
-AreNumbered sender number (Close ∷ items) = AreNumbered sender number items
+AreNumbered sender number (other ∷ items) = AreNumbered sender number items
 
 -- Senders 0 to `submitters`, the control being the last, put exactly what each of them queued into the queue, in order
 -- and its end last. Packets are numbered from 0.

@@ -5,7 +5,7 @@ use Rattle.tb_work.specs.Ahead.{ahead, items_in}
 use Rattle.tb_work.specs.Queue.{part, AreSubmitted, AreNumbered}
 use Rattle.tb_work.specs.declared.item.Ticket.{Ticket}
 use Rattle.tb_world.specs.declared.event.Event.{Event}
-use Rattle.tb_world.specs.declared.event.Event.TheVariants.{Push, Pop, BatchPush, BatchPop, OutcomePush, OutcomePop, ReplyPush, ReplyPop}
+use Rattle.tb_world.specs.declared.event.Event.TheVariants.{Push, Pop, BatchPop}
 use Rattle.tb_core.specs.Due.{due}
 use Rattle.tb_core.specs.Front.{HaveAllEnded}
 use Rattle.tb_core.specs.Journal.{inputs}
@@ -16,13 +16,7 @@ use Rattle.tb_world.specs.World.{WorldState, is_lawful, received_of, moved, afte
 -- the ticket that an event pushes
 abbrev pub pushed_at : WorldState → Event → List Ticket
 pushed_at world (Push ticket) = if is_lawful world ticket then ticket ∷ [] else []
-pushed_at world (Pop refused) = []
-pushed_at world BatchPush = []
-pushed_at world (BatchPop refused) = []
-pushed_at world OutcomePush = []
-pushed_at world OutcomePop = []
-pushed_at world ReplyPush = []
-pushed_at world (ReplyPop submitter) = []
+pushed_at world other = []
 
 -- all tickets that events push, in order
 abbrev pub history : WorldState → List Event → List Ticket
@@ -31,27 +25,16 @@ history world (event ∷ events) = pushed_at world event ++ history (after_event
 
 abbrev pub is_push : Event → Bool
 is_push (Push ticket) = true
-is_push (Pop refused) = false
-is_push BatchPush = false
-is_push (BatchPop refused) = false
-is_push OutcomePush = false
-is_push OutcomePop = false
-is_push ReplyPush = false
-is_push (ReplyPop submitter) = false
+is_push other = false
 
 -- only a push can return true
 abbrev pub IsAtRest : WorldState → Type 0
 IsAtRest world = (event : Event) → is_push event ≡ false → moved world event ≡ None
 
 abbrev pub is_refused : Event → Bool
-is_refused (Push ticket) = false
 is_refused (Pop refused) = refused
-is_refused BatchPush = false
 is_refused (BatchPop refused) = refused
-is_refused OutcomePush = false
-is_refused OutcomePop = false
-is_refused ReplyPush = false
-is_refused (ReplyPop submitter) = false
+is_refused other = false
 
 -- whatever happened: who pushed what, what was committed of it, and what each submitter received
 pub record IsLawfulSoFar (clock submitters : ℕ) (queue : List Ticket) (world : WorldState) : Type 0 where

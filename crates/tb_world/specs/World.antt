@@ -137,15 +137,11 @@ first_takes takes (first ∷ others) = takes first
 -- Whether an event may fail for memory: a push if its ring grows, a pop if a packet begins or joins a group, or if the
 -- ledger commits. A step with `refused` takes none.
 abbrev pub takes_memory : WorldState → Event → Bool
-takes_memory world (Push ticket) = true
 takes_memory world (Pop refused) =
     not refused && first_takes (λ (ticket : Ticket). ticket_takes world.front ticket.item) world.queue
-takes_memory world BatchPush = true
 takes_memory world (BatchPop refused) = not refused && first_takes (parcel_takes world.ledger) world.batches
-takes_memory world OutcomePush = true
 takes_memory world OutcomePop = false
-takes_memory world ReplyPush = true
-takes_memory world (ReplyPop submitter) = true
+takes_memory world other = true
 
 -- false changes nothing
 abbrev pub after_event : WorldState → Event → WorldState

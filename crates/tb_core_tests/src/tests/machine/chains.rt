@@ -62,7 +62,7 @@ fn empty_bodies(rt: HostRuntime) {
     drop(machine);
 }
 
-/// A chain at the end of a packet, behind a number of single events.
+/// A chain at the end of a packet, after a number of single events.
 #[derive(Clone, Copy)]
 struct Chain {
     before: u32,

@@ -159,8 +159,8 @@ fn id_already_failed_refused_memory(rt: HostRuntime) {
     drop(machine);
 }
 
-/// Returns a void that names nothing leaves its id among the failed ones, and so is refused for that when it comes
-/// again.
+/// Commits a void that names nothing, twice. It leaves its id among the failed ones, and the second time is refused for
+/// that.
 fn void_twice(rt: &(impl Abort + Alloc<A = Global>), machine: &mut Machine) -> bool {
     let void = [resolving(1, 8, 0, 8)];
     commits_transfers(rt, machine, &void, &[(0, PendingTransferNotFound)])
