@@ -10,8 +10,8 @@ use Rattle.tb_machine.specs.Replay.{replay, answer_of}
 use Rattle.tb_machine.specs.AnswerAt.{answer_to}
 use Rattle.tb_work.specs.Packet.{Numbered, events_in, ReplyValue, input_of}
 use Rattle.tb_work.specs.Answer.{reply_with}
-use Rattle.tb_work.specs.Ahead.{ahead, items_in}
-use Rattle.tb_work.specs.Queue.{part, AreSubmitted, IsSubmitted}
+use Rattle.tb_work.specs.Ahead.{ahead, items_in, part}
+use Rattle.tb_work.specs.Queue.{AreSubmitted, IsSubmitted}
 use Rattle.tb_work.specs.declared.outcome.Outcome.{Outcome}
 use Rattle.tb_work.specs.declared.outcome.Outcome.TheVariants.{Committed, Stopped}
 use Rattle.tb_work.specs.declared.item.Item.{Item}
@@ -19,7 +19,7 @@ use Rattle.tb_work.specs.declared.item.Item.TheVariants as item
 use Rattle.tb_work.specs.declared.item.Ticket.{Ticket}
 use Rattle.tb_core.specs.Due.{outcome_at, outcome_with, all_due_from, replies_to, Place, Ahead, Behind, next_place}
 use Rattle.tb_core.specs.Report.{ReportsHeadline}
-use Rattle.tb_core.specs.Headline.{is_packet_of, packets_of, moments_in, packets_queued, moments_queued, packet_of}
+use Rattle.tb_core.specs.Headline.{is_packet_of, packets_of, moments_in, packets_queued, moments_queued, numbered_of}
 use Rattle.tb_core.specs.EndedRun.{Run, committed_in, ahead_in, IsPrefix}
 use Rattle.tb_core.specs.Report.{LawfulReport}
 
@@ -78,7 +78,7 @@ queued-ahead submitters submitter (ticket ∷ queue) all =
 -- one reply for each packet of a submitter, in order
 one-each : (clock submitters submitter : ℕ) (inputs : List Input) (place : Place) (queue : List Ticket)
     → AreSubmitted submitters queue →
-    map packet_of (replies_to (all_due_from clock inputs place (items_in queue)) submitter)
+    map numbered_of (replies_to (all_due_from clock inputs place (items_in queue)) submitter)
     ≡ packets_queued (part submitter queue)
 one-each clock submitters submitter inputs place [] all = refl
 one-each clock submitters submitter inputs place (ticket ∷ queue) all =
@@ -90,8 +90,8 @@ one-each clock submitters submitter inputs place (ticket ∷ queue) all =
     replies_with x = replies_to (all_due_from clock inputs (next_place place x) (items_in queue)) submitter
 
     one : (own : Bool) (x : Item) → (ticket.sender == submitter) ≡ own → IsSubmitted submitters ticket.sender x →
-        map packet_of (replies_with x) ≡ packets_queued (part submitter queue) →
-        map packet_of (replies_to (all_due_from clock inputs place (x ∷ items_in queue)) submitter)
+        map numbered_of (replies_with x) ≡ packets_queued (part submitter queue) →
+        map numbered_of (replies_to (all_due_from clock inputs place (x ∷ items_in queue)) submitter)
         ≡ packets_queued (part_with own x (part submitter queue))
     one true (item.Packet job) is own others =
         rw (ap (λ n. n == submitter) own.0 ∙ is) (ap (λ jobs. job ∷ jobs) others)
@@ -109,7 +109,7 @@ one-each clock submitters submitter inputs place (ticket ∷ queue) all =
 abbrev IsAnswered : ℕ → List Input → ReplyValue → Type 0
 IsAnswered clock inputs reply =
     (place : ℕ) (answer : Answer) → reply.outcome ≡ Committed place answer →
-    (slice_get inputs place ≡ Some (input_of (packet_of reply)))
+    (slice_get inputs place ≡ Some (input_of (numbered_of reply)))
     × (answer ≡ answer_of (replay clock (take place inputs)) (events_in reply.packet))
 
 abbrev AreAnswered : ℕ → List Input → List ReplyValue → Type 0
@@ -242,13 +242,15 @@ pulses-prefix run is =
 pub headline : ReportsHeadline
 headline run is =
     record {
+      filled = is.filled.parts;
+      no_other_sender = is.filled.no_other_sender;
       committed = λ submitter below. prefix-filter (is_packet_of submitter) (committed_in run) (ahead_in run) is.committed;
       queued = λ submitter below.
           subst (λ items. IsPrefix (packets_of submitter (ahead_in run)) (map input_of (packets_queued items)))
           (is.filled.parts submitter (omega (arith, below)))
           (queued-ahead run.submitters submitter run.queue is.filled.submitted);
       all = λ nothing submitter below. ap (packets_of submitter) (is.complete.0 nothing);
-      replied = λ submitter below. ap (map packet_of) (is.replied submitter below)
+      replied = λ submitter below. ap (map numbered_of) (is.replied submitter below)
           ∙ one-each run.clock run.submitters submitter (committed_in run) (Ahead 0) run.queue is.filled.submitted
           ∙ ap packets_queued (is.filled.parts submitter (omega (arith, below)));
       answered = λ submitter index place reply answer below got committed.

@@ -10,7 +10,8 @@ use Rattle.std.proofs.lemmas.List.Elements.{filter-append}
 use Rattle.std.proofs.lemmas.List.Folds.{list_any-append}
 use Rattle.std.proofs.lemmas.Grind.{flat_map-append}
 use Rattle.tb_work.specs.Packet.{Numbered}
-use Rattle.tb_work.specs.Queue.{part, is_end}
+use Rattle.tb_work.specs.Ahead.{part}
+use Rattle.tb_work.specs.Queue.{is_end}
 use Rattle.tb_work.specs.declared.item.Item.{Item}
 use Rattle.tb_work.specs.declared.item.Ticket.{Ticket}
 use Rattle.tb_work.specs.declared.item.Item.TheVariants as item

@@ -10,8 +10,8 @@ use Rattle.tb_work.specs.declared.item.Item.{Item}
 use Rattle.tb_work.specs.declared.item.Ticket.{Ticket}
 use Rattle.tb_core.specs.Journal.{LedgerState, inputs}
 
--- `queue` is as the intake popped it, `queued` what each sender queued itself. The control is the sender after the last
--- submitter.
+-- `clock` is the opening's, `queue` is as the intake popped it, `queued` what each sender queued itself. The control is
+-- the sender after the last submitter.
 pub record Run : Type 0 where
   pub clock : ℕ
   pub limit : ℕ

@@ -3,7 +3,8 @@ use Rattle.std.specs.Prelude.{◌≡◌, ℕ, ◌+◌, ◌≤◌, Bool, true, fa
 use Rattle.std.specs.List.{list_all, list_any, flat_map}
 use Rattle.tb_layout.specs.inside.Limits.{batch_max, submitters_max}
 use Rattle.tb_work.specs.Packet.{Numbered}
-use Rattle.tb_work.specs.Queue.{part, is_end}
+use Rattle.tb_work.specs.Ahead.{part}
+use Rattle.tb_work.specs.Queue.{is_end}
 use Rattle.tb_work.specs.declared.item.Ticket.{Ticket}
 use Rattle.tb_work.specs.declared.item.Item.{Item}
 use Rattle.tb_work.specs.declared.item.Item.TheVariants as item

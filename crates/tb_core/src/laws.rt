@@ -10,7 +10,7 @@ pub fn run_is_lawful()
     ensures { RunIsLawful }
 {}
 
-/// Establishes that a lawful report says of each submitter what the headline says.
+/// Establishes that a lawful report has the headline.
 pub fn headline()
     ensures { ReportsHeadline }
 {}

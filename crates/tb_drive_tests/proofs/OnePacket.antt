@@ -5,8 +5,7 @@ use Rattle.std.specs.List.{AllByRecursion}
 use Rattle.std.proofs.lemmas.Bool.{eq-eqb, ne_eqb}
 use Rattle.tb_layout.specs.Events.{Input}
 use Rattle.tb_work.specs.Job.{numbered_packet}
-use Rattle.tb_work.specs.Ahead.{items_in, ahead, ahead_of}
-use Rattle.tb_work.specs.Queue.{part}
+use Rattle.tb_work.specs.Ahead.{items_in, ahead, ahead_of, part}
 use Rattle.tb_work.specs.Packet.{ReplyValue, input_of}
 use Rattle.tb_work.specs.Answer.{reply_with}
 use Rattle.tb_work.specs.declared.item.Item.{Item}

@@ -5,8 +5,8 @@ use Rattle.std.proofs.lemmas.List.{get_or-set_same, map-append}
 use Rattle.std.proofs.lemmas.List.Folds.{list_all-append}
 use Rattle.std.proofs.lemmas.Bool.{cases_eq, eq-eqb, ne_eqb}
 use Rattle.tb_work.specs.Packet.{Numbered}
-use Rattle.tb_work.specs.Ahead.{items_in}
-use Rattle.tb_work.specs.Queue.{part, is_end, IsUnended, IsSubmitted, AreSubmitted, AreNumbered, IsQueueOf}
+use Rattle.tb_work.specs.Ahead.{items_in, part}
+use Rattle.tb_work.specs.Queue.{is_end, IsUnended, IsSubmitted, AreSubmitted, AreNumbered, IsQueueOf}
 use Rattle.tb_work.specs.declared.item.Item.{Item}
 use Rattle.tb_work.specs.declared.item.Item.TheVariants as item
 use Rattle.tb_work.specs.declared.item.Ticket.{Ticket}

@@ -1,7 +1,8 @@
 -- What the senders of an engine queued.
 use Rattle.std.specs.Prelude.{◌≡◌, ◌<◌, ℕ, zero, suc, ◌+◌, Bool, true, false, if◌then◌else◌, List, [], ◌∷◌, ◌++◌, get_or}
 use Rattle.tb_work.specs.Job.{numbered_packet}
-use Rattle.tb_work.specs.Queue.{part, AreNumbered, AreSubmitted, IsEnded, IsUnended}
+use Rattle.tb_work.specs.Ahead.{part}
+use Rattle.tb_work.specs.Queue.{AreNumbered, AreSubmitted, IsEnded, IsUnended}
 use Rattle.tb_work.specs.declared.item.Item.{Item}
 use Rattle.tb_work.specs.declared.item.Item.TheVariants as item
 use Rattle.tb_work.specs.declared.item.Ticket.{Ticket}

@@ -25,7 +25,7 @@ transfers_of body = map transfer_of (chunks 128 body)
 abbrev pub ids_of : List ℕ → List ℕ
 ids_of body = map little_endian (chunks 16 body)
 
--- the events of a packet; those of a lookup are ids
+-- a packet's events; those of any other operation, a lookup, are ids
 pub data Events : Type 0 where
   Accounts : List Account → Events
   Transfers : List Transfer → Events
@@ -42,7 +42,7 @@ is_last_linked is_linked [] = false
 is_last_linked is_linked (event ∷ []) = is_linked event
 is_last_linked is_linked (event ∷ next ∷ events) = is_last_linked is_linked (next ∷ events)
 
--- a packet has its number among its submitter's packets
+-- numbered among its submitter's queued packets
 pub data Input : Type 0 where
   Packet : (submitter : ℕ) → (number : ℕ) → Events → Input
   Pulse : (moment : ℕ) → Input

@@ -6,7 +6,7 @@ use Rattle.std.proofs.lemmas.Bool.Decides.{eqb_tells}
 use Rattle.tb_layout.specs.Events.{is_last_linked}
 use Rattle.tb_tables.specs.Facts.{Facts}
 use Rattle.tb_machine.specs.declared.fault.ChainFault.{ChainFault}
-use Rattle.tb_machine.specs.Chain.{next_timestamp, clock_after, Operation, Outcome, verdict_at, facts_with, first_fault, failed_results, closed_outcome, chain_outcome}
+use Rattle.tb_machine.specs.Chain.{next_timestamp, clock_after, Operation, Results, verdict_at, facts_with, first_fault, failed_results, closed_outcome, chain_outcome}
 use Rattle.tb_machine.specs.Examining.{LiesBelow, fault_as}
 
 pub eqb-false : (a b : ℕ) → a ≢ b → (a == b) ≡ false
@@ -76,7 +76,7 @@ length-closed : {Event : Type 0} (operation : Operation Event) (clock : ℕ) (fa
 length-closed operation clock facts chain None below = length-replicate (length chain) 0
 length-closed operation clock facts chain (Some fault) below = length-failed_results (length chain) (Some fault) below
 
-length-chosen : (b : Bool) (x y : Outcome) (n : ℕ) → (b ≡ true → length x.results ≡ n)
+length-chosen : (b : Bool) (x y : Results) (n : ℕ) → (b ≡ true → length x.results ≡ n)
     → (b ≡ false → length y.results ≡ n) → length (if b then x else y).results ≡ n
 length-chosen true x y n h k = h refl
 length-chosen false x y n h k = k refl

@@ -5,7 +5,7 @@ use Rattle.std.proofs.lemmas.List.{length-map, take-map, get_or-map, take_rest, 
 use Rattle.tb_layout.specs.declared.failure.Failure.{Failure}
 use Rattle.tb_layout.specs.Events.{is_last_linked}
 use Rattle.tb_tables.specs.Facts.{Facts}
-use Rattle.tb_machine.specs.Chain.{Operation, Outcome, before_chains, chains_of, chain_outcome, chains_outcome, open_outcome, closed_outcome, first_fault, clock_after, events_outcome, failures_from}
+use Rattle.tb_machine.specs.Chain.{Operation, Results, before_chains, chains_of, chain_outcome, chains_outcome, open_outcome, closed_outcome, first_fault, clock_after, events_outcome, failures_from}
 use Rattle.tb_machine.specs.Examining.{first_chain_length, then_outcome}
 use Rattle.tb_machine.proofs.Faults.{length-chain_outcome}
 use Rattle.tb_machine.proofs.Failures.{failures_from-append}
@@ -149,9 +149,9 @@ left_more operation clock old events now n index facts next rest out more some i
     let size : length first.results ≡ n = length-chain_outcome operation now facts (take n rest)
     ∙ length-take-le n rest fits in
     record {
-      facts_after = left.facts_after ∙ ap (λ (o : Outcome). o.facts) whole;
+      facts_after = left.facts_after ∙ ap (λ (o : Results). o.facts) whole;
       failures =
-          left.failures ∙ ap (λ (o : Outcome). out ++ failures_from index o.results) whole
+          left.failures ∙ ap (λ (o : Results). out ++ failures_from index o.results) whole
           ∙ ap (λ fs. out ++ fs) (failures_from-append index first.results later.results)
           ∙ sym (append_assoc out (failures_from index first.results)
           (failures_from (index + length first.results) later.results))

@@ -8,7 +8,7 @@ use Rattle.tb_layout.specs.Events.{Events, is_last_linked}
 use Rattle.tb_layout.specs.Failures.{RiseWithin, is_within, from_offset, failures_within}
 use Rattle.tb_tables.specs.Facts.{Facts}
 use Rattle.tb_layout.specs.Limits.{clock_max}
-use Rattle.tb_machine.specs.Chain.{clock_after, Operation, Outcome, before_chains, chains_of, chain_outcome, chains_outcome, events_outcome, failures_from}
+use Rattle.tb_machine.specs.Chain.{clock_after, Operation, Results, before_chains, chains_of, chain_outcome, chains_outcome, events_outcome, failures_from}
 use Rattle.tb_machine.specs.Replay.{State, outcome_of, after_events, after_packet, failures_of}
 use Rattle.tb_machine.specs.Joining.{events_in_turn, none_open, cuts, failures_each, GiveAsEach, JoiningIsInvisible}
 use Rattle.tb_machine.specs.Examining.{then_outcome}
@@ -80,7 +80,7 @@ length-results operation clock facts (chain ∷ chains) =
           (clock_after clock (length chain)) first.facts chains,
     )
 
-then_outcome-assoc : (a b c : Outcome) → then_outcome a (then_outcome b c) ≡ then_outcome (then_outcome a b) c
+then_outcome-assoc : (a b c : Results) → then_outcome a (then_outcome b c) ≡ then_outcome (then_outcome a b) c
 then_outcome-assoc a b c =
     ap (λ results. record { results = results; facts = c.facts }) (sym (append_assoc a.results b.results c.results))
 
@@ -251,7 +251,7 @@ pub record ArePacketsOf {Event : Type 0} (operation : Operation Event) (packet_o
 
 module _ {Event : Type 0} (operation : Operation Event) (packet_of : List Event → Events)
     (are : ArePacketsOf operation packet_of) where
-  abbrev outcome_in : State → List Event → Outcome
+  abbrev outcome_in : State → List Event → Results
   outcome_in state events = events_outcome operation state.clock state.facts events
 
   in_range : (state : State) (events : List Event) → (after_packet state (packet_of events)).clock ≤ clock_max
@@ -282,7 +282,7 @@ module _ {Event : Type 0} (operation : Operation Event) (packet_of : List Event 
       let rest = outcome_in next (events_in_turn packets) in
       let count = length-outcome operation state.clock state.facts packet in
       let failures = failures_from 0 (before ++ (first.results ++ rest.results)) in
-      let results = ap (λ (o : Outcome). o.results)
+      let results = ap (λ (o : Results). o.results)
       (first_and_rest state packet packets h (closed-first (is_last_linked operation.is_linked packet)
       (none_open operation.is_linked packets) closed)) in
       let offset : length (before ++ first.results)
@@ -290,7 +290,7 @@ module _ {Event : Type 0} (operation : Operation Event) (packet_of : List Event 
       length-append before first.results ∙ ap (λ n. length before + n) count in
       let own : failures_within (length before) (length packet) failures ≡ failures_of state (packet_of packet) =
       ap (λ n. failures_within (length before) n failures) (sym count) ∙ cut-middle before first.results rest.results
-      ∙ ap (λ (o : Outcome). failures_from 0 o.results) (sym (are.outcome state packet)) in
+      ∙ ap (λ (o : Results). failures_from 0 o.results) (sym (are.outcome state packet)) in
       let later : cuts (length before + length packet) packets failures ≡ failures_each next (map packet_of packets) =
       ap (λ n. cuts n packets failures) (sym offset)
       ∙ ap (λ codes. cuts (length (before ++ first.results)) packets (failures_from 0 codes))
@@ -310,7 +310,7 @@ module _ {Event : Type 0} (operation : Operation Event) (packet_of : List Event 
       are.after state [] ∙ ap (λ c. record { clock = c; facts = state.facts }) same
   state_after state (packet ∷ packets) h closed =
       let next = after_packet state (packet_of packet) in
-      let facts = ap (λ (o : Outcome). o.facts) (first_and_rest state packet packets h
+      let facts = ap (λ (o : Results). o.facts) (first_and_rest state packet packets h
       (closed-first (is_last_linked operation.is_linked packet)
       (none_open operation.is_linked packets) closed)) in
       let clock : clock_after state.clock (length (packet ++ events_in_turn packets))
@@ -331,7 +331,7 @@ module _ {Event : Type 0} (operation : Operation Event) (packet_of : List Event 
       let results = (outcome_in state (events_in_turn packets)).results in
       let count : 0 + length results ≡ length (events_in_turn packets) = omega
       (arith, length-outcome operation state.clock state.facts (events_in_turn packets)) in
-      subst (λ (o : Outcome). RiseWithin 0 (length (events_in_turn packets)) (failures_from 0 o.results))
+      subst (λ (o : Results). RiseWithin 0 (length (events_in_turn packets)) (failures_from 0 o.results))
       (sym (are.outcome state (events_in_turn packets)))
       (subst (λ high. RiseWithin 0 high (failures_from 0 results)) count (failures_rise 0 results))
 
@@ -340,7 +340,7 @@ module _ {Event : Type 0} (operation : Operation Event) (packet_of : List Event 
       → none_open operation.is_linked packets ≡ true → GiveAsEach packet_of state packets
   joining state packets h closed = record {
     rise = rise state packets;
-    failures = ap (λ (o : Outcome). cuts 0 packets (failures_from 0 o.results))
+    failures = ap (λ (o : Results). cuts 0 packets (failures_from 0 o.results))
         (are.outcome state (events_in_turn packets)) ∙ cuts_after [] state packets h closed;
     state_after = state_after state packets h closed;
   }
@@ -350,7 +350,7 @@ module _ {Event : Type 0} (operation : Operation Event) (packet_of : List Event 
   alone state packet =
       let results = (outcome_of state (packet_of packet)).results in
       let count : length packet ≡ length results =
-      sym (ap (λ (o : Outcome). length o.results) (are.outcome state packet)
+      sym (ap (λ (o : Results). length o.results) (are.outcome state packet)
       ∙ length-outcome operation state.clock state.facts packet) in
       record {
         rise = rise state (packet ∷ []);

@@ -1,4 +1,4 @@
--- The verdict on an event that asks for an account.
+-- The verdict on an account.
 use Rattle.std.specs.Prelude.{ℕ, not, ◌&&◌, ◌==◌, [], ◌∷◌, Option, Some, None, Bool, List, if◌then◌else◌}
 use Rattle.tb_layout.specs.declared.account.Account.{Account}
 use Rattle.tb_layout.specs.declared.account_code.AccountCode.{AccountCode}

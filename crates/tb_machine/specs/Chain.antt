@@ -29,7 +29,7 @@ pub record Operation (Event : Type 0) : Type 0 where
   pub remembered : Facts → ℕ → Event → Facts
 
 -- a result for each event
-pub record Outcome : Type 0 where
+pub record Results : Type 0 where
   pub results : List ℕ
   pub facts : Facts
 
@@ -38,7 +38,7 @@ module _ {Event : Type 0} where
   before_chains event [] = (event ∷ []) ∷ []
   before_chains event (chain ∷ chains) = (event ∷ chain) ∷ chains
 
-  -- a chain ends with an event that isn't linked
+  -- an event that isn't linked ends its chain
   abbrev pub chains_of : (Event → Bool) → List Event → List (List Event)
   chains_of is_linked [] = []
   chains_of is_linked (event ∷ events) =
@@ -81,7 +81,7 @@ module _ {Event : Type 0} (operation : Operation Event) where
   facts_after_failure facts (Some fault) = operation.remembered facts fault.code fault.event
 
   abbrev pub closed_outcome : ℕ → Facts → List Event
-      → Option (ChainFault Event) → Outcome
+      → Option (ChainFault Event) → Results
   closed_outcome clock facts chain None =
       record { results = replicate (length chain) 0; facts = facts_with_all clock facts chain }
   closed_outcome clock facts chain (Some fault) =
@@ -91,27 +91,27 @@ module _ {Event : Type 0} (operation : Operation Event) where
       }
 
   -- an open chain fails; its last event isn't examined
-  abbrev pub open_outcome : Facts → List Event → Option (ChainFault Event) → Outcome
+  abbrev pub open_outcome : Facts → List Event → Option (ChainFault Event) → Results
   open_outcome facts front fault =
       record {
         results = failed_results (length front) fault ++ linked_event_chain_open ∷ [];
         facts = facts_after_failure facts fault;
       }
 
-  abbrev pub chain_outcome : ℕ → Facts → List Event → Outcome
+  abbrev pub chain_outcome : ℕ → Facts → List Event → Results
   chain_outcome clock facts chain =
       let front = take (length chain - 1) chain in
       if is_last_linked operation.is_linked chain then open_outcome facts front (first_fault 0 clock facts front)
       else closed_outcome clock facts chain (first_fault 0 clock facts chain)
 
-  abbrev pub chains_outcome : ℕ → Facts → List (List Event) → Outcome
+  abbrev pub chains_outcome : ℕ → Facts → List (List Event) → Results
   chains_outcome clock facts [] = record { results = []; facts = facts }
   chains_outcome clock facts (chain ∷ chains) =
       let first = chain_outcome clock facts chain in
       let next = chains_outcome (clock_after clock (length chain)) first.facts chains in
       record { results = first.results ++ next.results; facts = next.facts }
 
-  abbrev pub events_outcome : ℕ → Facts → List Event → Outcome
+  abbrev pub events_outcome : ℕ → Facts → List Event → Results
   events_outcome clock facts events =
       chains_outcome clock facts (chains_of operation.is_linked events)
 

@@ -2,7 +2,7 @@
 use Rattle.std.specs.Prelude.{◌≢◌, ◌<◌, ℕ, suc, Bool, List, [], ◌∷◌, ◌++◌, Option, Some, None, if◌then◌else◌}
 use Rattle.tb_tables.specs.Facts.{Facts}
 use Rattle.tb_machine.specs.declared.fault.ChainFault.{ChainFault}
-use Rattle.tb_machine.specs.Chain.{Operation, Outcome, closed_outcome, first_fault}
+use Rattle.tb_machine.specs.Chain.{Operation, Results, closed_outcome, first_fault}
 use Rattle.tb_layout.specs.declared.transfer.Transfer.{Transfer}
 use Rattle.tb_layout.specs.declared.transfer_code.TransferCode.{TransferCode}
 use Rattle.tb_machine.specs.AccountVerdict.{first_row}
@@ -24,12 +24,12 @@ fault_as become None = None
 fault_as become (Some fault) = Some (record { index = fault.index; event = become fault.event; code = fault.code })
 
 -- the outcome of an event that is a chain by itself and isn't linked
-abbrev pub event_outcome : {Event : Type 0} → Operation Event → ℕ → Facts → Event → Outcome
+abbrev pub event_outcome : {Event : Type 0} → Operation Event → ℕ → Facts → Event → Results
 event_outcome operation clock facts event =
     closed_outcome operation clock facts (event ∷ []) (first_fault operation 0 clock facts (event ∷ []))
 
 -- the outcome of some events, and then of others on what they left
-abbrev pub then_outcome : Outcome → Outcome → Outcome
+abbrev pub then_outcome : Results → Results → Results
 then_outcome first next = record { results = first.results ++ next.results; facts = next.facts }
 
 -- the verdict on an event, if its id is new

@@ -21,7 +21,7 @@ accounts_operation = record {
   remembered = λ facts code event. facts;
 }
 
--- later events could change this result
+-- after such a failure code 68 refuses the id
 abbrev pub is_transient : ℕ → Bool
 is_transient code =
     list_any (λ transient. code == transfer_number transient)
@@ -30,7 +30,6 @@ is_transient code =
 abbrev pub with_failed : Facts → ℕ → Facts
 with_failed facts id = if is_failed facts id then facts else add_failed facts id
 
--- a transient fault leaves its id among the failed ones
 abbrev pub transfers_operation : Operation Transfer
 transfers_operation = record {
   is_linked = is_linked_transfer;

@@ -1,4 +1,4 @@
--- The state machine over packets and pulses.
+-- The state machine.
 use Rattle.std.specs.Prelude.{ℕ, max, List, [], fold, length}
 use Rattle.std.specs.List.{filter_map}
 use Rattle.tb_layout.specs.declared.account.Account.{Account}
@@ -8,7 +8,7 @@ use Rattle.tb_layout.specs.Events.{Events, Accounts, Transfers, Ids, Input, Pack
 use Rattle.tb_tables.specs.Facts.{Facts, no_facts}
 use Rattle.tb_tables.specs.Status.{expire_due}
 use Rattle.tb_tables.specs.Balances.{balanced_account}
-use Rattle.tb_machine.specs.Chain.{Outcome, events_outcome, failures_from, clock_after}
+use Rattle.tb_machine.specs.Chain.{Results, events_outcome, failures_from, clock_after}
 use Rattle.tb_machine.specs.Operations.{accounts_operation, transfers_operation}
 use Rattle.tb_layout.specs.declared.answer.Answer.TheVariants as answer
 
@@ -20,7 +20,7 @@ abbrev pub opening : ℕ → State
 opening clock = record { clock = clock; facts = no_facts }
 
 -- a lookup has no results
-abbrev pub outcome_of : State → Events → Outcome
+abbrev pub outcome_of : State → Events → Results
 outcome_of state (Accounts events) = events_outcome accounts_operation state.clock state.facts events
 outcome_of state (Transfers events) = events_outcome transfers_operation state.clock state.facts events
 outcome_of state (Ids ids) = record { results = []; facts = state.facts }
@@ -35,7 +35,7 @@ abbrev pub answer_of : State → Events → Answer
 answer_of state (Ids ids) = answer.Accounts (accounts_found state.facts ids)
 answer_of state events = answer.Failures (failures_of state events)
 
--- each event raises the clock by one, whatever its result
+-- each event raises the clock, if it can, whatever its result
 abbrev pub after_events : State → ℕ → Facts → State
 after_events state count facts = record { clock = clock_after state.clock count; facts = facts }
 
@@ -44,7 +44,7 @@ after_packet state (Accounts events) = after_events state (length events) (outco
 after_packet state (Transfers events) = after_events state (length events) (outcome_of state (Transfers events)).facts
 after_packet state (Ids ids) = state
 
--- what is due at the moment expires
+-- what is due at that clock expires
 abbrev pub after_pulse : State → ℕ → State
 after_pulse state moment =
     record { clock = max state.clock moment; facts = expire_due (max state.clock moment) state.facts }

@@ -1,4 +1,4 @@
--- The verdict on an event that asks for a transfer.
+-- The verdict on a transfer.
 use Rattle.std.specs.Prelude.{ℕ, ◌+◌, Bool, not, ◌&&◌, ◌||◌, ◌==◌, nat_lt, List, [], ◌∷◌, Option, Some, None, if◌then◌else◌}
 use Rattle.tb_layout.specs.declared.account.Account.{Account}
 use Rattle.tb_layout.specs.declared.transfer.Transfer.{Transfer}
@@ -44,7 +44,7 @@ abbrev pub stored_transfer : Facts → ℕ → Transfer → Transfer
 stored_transfer facts timestamp event =
     record (resolved_transfer_of (transfer_with facts event.pending_id) event) { timestamp = timestamp }
 
--- against the transfer with its id; `event` has its fields resolved
+-- against the transfer with its id; `event` is resolved
 abbrev pub stored_checks : Transfer → Transfer → List (Bool × TransferCode)
 stored_checks stored event =
     (differ event.flags stored.flags, ExistsWithDifferentFlags) ∷
@@ -68,7 +68,7 @@ against_status Voided due = PendingTransferAlreadyVoided
 against_status Expired due = PendingTransferExpired
 against_status Pending due = if due then PendingTransferExpired else Ok
 
--- likewise against the transfer that it names
+-- against the named transfer; `event` is resolved
 abbrev pub pending_checks : Transfer → Transfer → List (Bool × TransferCode)
 pending_checks pending event =
     (not (is_pending pending), PendingTransferNotPending) ∷
@@ -90,7 +90,6 @@ resolving_checks event =
 
 -- ---- a plain or pending transfer
 
--- sums have no bound
 abbrev pub debits_with : Account → ℕ → ℕ
 debits_with account amount = account.debits_pending + account.debits_posted + amount
 

@@ -6,8 +6,8 @@ use Rattle.tb_core.specs.Due.{outcome_at, reply_due, all_due_from, replies_to, P
 use Rattle.tb_core.specs.Journal.{LedgerState, inputs}
 use Rattle.tb_layout.specs.Events.{Input}
 use Rattle.tb_submit.specs.Ends.{EndedState, SenderState, SubmitterState, queued_by, replies_of}
-use Rattle.tb_work.specs.Ahead.{items_in}
-use Rattle.tb_work.specs.Queue.{AreSubmitted, IsSubmitted, part}
+use Rattle.tb_work.specs.Ahead.{items_in, part}
+use Rattle.tb_work.specs.Queue.{AreSubmitted, IsSubmitted}
 use Rattle.tb_work.specs.declared.item.Item.{Item}
 use Rattle.tb_work.specs.declared.item.Item.TheVariants as item
 use Rattle.tb_work.specs.declared.item.Ticket.{Ticket}

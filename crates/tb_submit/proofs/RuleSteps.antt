@@ -9,7 +9,7 @@ use mathlib.Core.Option.{some, some-injective, some-ne-none}
 use lib.ListN.{get_elem?}
 use Rattle.crossbeam_queue.specs.Fifo.{Pushes, Pops, Forks, Merges, Learns}
 use Rattle.crossbeam_queue.proofs.Lists.{at_set, set_else, at_longer, at_last}
-use Rattle.tb_work.specs.Queue.{part}
+use Rattle.tb_work.specs.Ahead.{part}
 use Rattle.tb_work.specs.declared.item.Item.{Item}
 use Rattle.tb_work.specs.declared.item.Ticket.{Ticket}
 use Rattle.tb_submit.specs.declared.rule.PassEntry.{PassEntry}

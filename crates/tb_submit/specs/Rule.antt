@@ -3,7 +3,7 @@ use Rattle.std.specs.Prelude.{◌≡◌, ℕ, ◌+◌, ◌<◌, ◌≤◌, ◌�
 use Rattle.std.specs.List.{AllByRecursion}
 use mathlib.Core.Option.{some}
 use lib.ListN.{get_elem?}
-use Rattle.tb_work.specs.Queue.{part}
+use Rattle.tb_work.specs.Ahead.{part}
 use Rattle.tb_work.specs.declared.item.Item.{Item}
 use Rattle.tb_work.specs.declared.item.Ticket.{Ticket}
 use Rattle.tb_submit.specs.declared.rule.PassEntry.{PassEntry}

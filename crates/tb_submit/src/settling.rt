@@ -7,7 +7,8 @@ ghost use Rattle.tb_rings.specs.declared.Outlet.{Outlet as OutletValue};
 ghost use Rattle.tb_submit.specs.Ends.{EndedState, IntakeState, control_seat, end_origin, origins, queued_by, replies_of, seat_at};
 ghost use Rattle.tb_submit.specs.Inside.{entry_of};
 ghost use Rattle.tb_submit.specs.Lists.{AreWithin, IsCompleteQueue};
-ghost use Rattle.tb_work.specs.Queue.{IsQueueOf, is_end, part};
+ghost use Rattle.tb_work.specs.Ahead.{part};
+ghost use Rattle.tb_work.specs.Queue.{IsQueueOf, is_end};
 ghost use Rattle.tb_work.specs.Packet.{ReplyValue};
 
 use crate::control::ControlEnd;

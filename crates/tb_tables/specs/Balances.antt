@@ -1,4 +1,4 @@
--- An account's balances, as sums over the facts.
+-- Balances, as sums.
 use Rattle.std.specs.Prelude.{ℕ, Bool, not, ◌&&◌, ◌==◌, filter, sum_by, Option}
 use Rattle.std.specs.Option.{option_map}
 use Rattle.tb_layout.specs.declared.account.Account.{Account}

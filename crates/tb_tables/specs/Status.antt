@@ -8,7 +8,7 @@ use Rattle.tb_tables.specs.Facts.{Facts, is_expired}
 use Rattle.tb_tables.specs.declared.status.Status.{Status}
 use Rattle.tb_tables.specs.declared.status.Status.TheVariants.{Pending, Posted, Voided, Expired}
 
--- a transfer that passes the test names the one with this id
+-- one that passes the test names this id
 abbrev pub is_named_by : (Transfer → Bool) → Facts → ℕ → Bool
 is_named_by test facts id = list_any (λ other. test other && (other.pending_id == id)) facts.transfers
 

@@ -1,5 +1,5 @@
 -- What is ahead of the Close.
-use Rattle.std.specs.Prelude.{List, [], ◌∷◌, map}
+use Rattle.std.specs.Prelude.{ℕ, ◌==◌, List, [], ◌∷◌, map, filter}
 use Rattle.tb_layout.specs.Events.{Input}
 use Rattle.tb_layout.specs.Events as input
 use Rattle.tb_work.specs.Packet.{input_of}
@@ -9,6 +9,9 @@ use Rattle.tb_work.specs.declared.item.Ticket.{Ticket}
 
 abbrev pub items_in : List Ticket → List Item
 items_in queue = map (λ (ticket : Ticket). ticket.item) queue
+
+abbrev pub part : ℕ → List Ticket → List Item
+part sender queue = items_in (filter (λ (ticket : Ticket). ticket.sender == sender) queue)
 
 abbrev pub ahead_of : Item → List Input → List Input
 ahead_of (Packet job) others = input_of job ∷ others

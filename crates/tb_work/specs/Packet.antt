@@ -5,7 +5,6 @@ use Rattle.tb_layout.specs.Events as input
 use Rattle.tb_work.specs.declared.outcome.Outcome.{Outcome}
 use Rattle.tb_work.specs.declared.packet.Packet.{Packet}
 
--- numbered among its submitter's queued packets
 pub record Numbered : Type 0 where
   pub submitter : ℕ
   pub number : ℕ
@@ -14,7 +13,6 @@ pub record Numbered : Type 0 where
 abbrev pub events_in : Packet → Events
 events_in packet = events_of packet.operation packet.bytes
 
--- what the state machine sees of a packet
 abbrev pub input_of : Numbered → Input
 input_of job = input.Packet job.submitter job.number (events_in job.packet)
 

@@ -1,13 +1,10 @@
 -- Queues of tickets, as their senders fill them.
-use Rattle.std.specs.Prelude.{◌≡◌, ◌<◌, ◌≤◌, ℕ, ◌+◌, ◌==◌, Bool, true, false, not, List, [], ◌∷◌, ◌++◌, map, filter}
+use Rattle.std.specs.Prelude.{◌≡◌, ◌<◌, ◌≤◌, ℕ, ◌+◌, Bool, true, false, not, List, [], ◌∷◌, ◌++◌}
 use Rattle.std.specs.List.{list_all, AllByRecursion}
+use Rattle.tb_work.specs.Ahead.{part}
 use Rattle.tb_work.specs.declared.item.Item.{Item}
 use Rattle.tb_work.specs.declared.item.Item.TheVariants.{Packet, Pulse, End, Close}
 use Rattle.tb_work.specs.declared.item.Ticket.{Ticket}
-
--- what a sender has in a queue, in order
-abbrev pub part : ℕ → List Ticket → List Item
-part sender queue = map (λ (ticket : Ticket). ticket.item) (filter (λ (ticket : Ticket). ticket.sender == sender) queue)
 
 -- whether an item is its sender's last
 abbrev pub is_end : Item → Bool

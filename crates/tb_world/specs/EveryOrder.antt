@@ -1,8 +1,8 @@
 -- Every order of pushes and pops.
 use Rattle.std.specs.Prelude.{◌≡◌, ◌<◌, ◌≤◌, ℕ, Bool, true, false, if◌then◌else◌, List, [], ◌∷◌, ◌++◌, None}
 use Rattle.std.specs.List.{list_any}
-use Rattle.tb_work.specs.Ahead.{ahead, items_in}
-use Rattle.tb_work.specs.Queue.{part, AreSubmitted, AreNumbered}
+use Rattle.tb_work.specs.Ahead.{ahead, items_in, part}
+use Rattle.tb_work.specs.Queue.{AreSubmitted, AreNumbered}
 use Rattle.tb_work.specs.declared.item.Ticket.{Ticket}
 use Rattle.tb_world.specs.declared.event.Event.{Event}
 use Rattle.tb_world.specs.declared.event.Event.TheVariants.{Push, Pop, BatchPop}

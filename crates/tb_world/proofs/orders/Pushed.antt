@@ -4,7 +4,8 @@ use Rattle.std.specs.List.{list_all, list_any}
 use Rattle.std.proofs.lemmas.List.{get_or-set_same}
 use Rattle.std.proofs.lemmas.List.Folds.{list_all-append}
 use Rattle.std.proofs.lemmas.Bool.{and_parts, cases_eq, eq-eqb, eqb-true, leb-true, ltb-true, ne_eqb, not-true}
-use Rattle.tb_work.specs.Queue.{part, is_end, IsUnended, IsEnded, IsSubmitted, AreSubmitted, AreNumbered, IsQueueOf}
+use Rattle.tb_work.specs.Ahead.{part}
+use Rattle.tb_work.specs.Queue.{is_end, IsUnended, IsEnded, IsSubmitted, AreSubmitted, AreNumbered, IsQueueOf}
 use Rattle.tb_work.specs.declared.item.Item.{Item}
 use Rattle.tb_work.specs.declared.item.Item.TheVariants as item
 use Rattle.tb_work.specs.declared.item.Ticket.{Ticket}
