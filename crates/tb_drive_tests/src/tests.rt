@@ -173,7 +173,8 @@ fn replies_left(alloc: Global, ended: &mut Ended) -> Result<Vec<Option<Saw>>, Al
 /// Returns what was seen of each submitter, the drivers and the ends both in the order in which they came back.
 fn seen_in(alloc: Global, finished: Finished<Noter, PlanDriver>) -> Result<Vec<Seen>, AllocError> {
     let mut seen = Vec::new(alloc);
-    for (driver, mut ended) in finished.drivers.into_iter().zip(finished.report.ends) {
+    let report = finished.report;
+    for (driver, mut ended) in finished.drivers.into_iter().zip(report.ends) {
         let left = replies_left(alloc, &mut ended)?;
         seen.push(Seen {
             user: driver.user,
