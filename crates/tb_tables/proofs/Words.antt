@@ -18,7 +18,7 @@ pub use Rattle.tb_tables.specs.History.{back_to, mark_of, with_change}
 pub use Rattle.tb_tables.specs.Contents.{Allow, AreExpiries, AreGrounded, AreContained, AreUndoable, HaveIndices, Contain, MapsState, IsGrounded, AreConsistent, IsSound, IsUndoable, KeepsPairs, MayPost, MayStore, NamesOne, Contents, WasMade, WasStored, account_made, is_open_pair, facts_of, has_account, has_expired, history_in, is_pair, is_pair_of, is_resolved_at, is_spent, is_timed, its_pair, names_index, reserves_at, resolves_at, row_in, transfer_rows}
 pub use Rattle.tb_tables.specs.Lawful.{IsLawful, has_id, ids_distinct}
 pub use Rattle.tb_tables.specs.Status.{expire_due, expires_at, is_due, is_reserving, status_of}
-pub use Rattle.tb_tables.specs.inside.Status.{is_posted, is_resolved, is_voided, status_if_pending, status_in, status_with}
+pub use Rattle.tb_tables.specs.inside.Status.{is_resolved, status_if_pending, status_in, status_with}
 pub use Rattle.tb_tables.specs.Changing.{CanExpire, CanRemove, IsRemovable, AreOf, IsAfter, IsBefore, IsStored, Step, expire_one, is_open_status, new_row, status_after}
 pub use Rattle.tb_tables.specs.Sums.{AreAt, CanAdd, CanTake, HasAmount, HasRoom, Sums, account_rows, balance_of, credits_in, debits_in, lower_balance, phase_of, posted_if, raise_balance, sums_of, with_amount, with_more, with_sums}
 pub use Rattle.tb_tables.specs.declared.amounts.Phase.{Phase}

@@ -7,9 +7,8 @@ use Rattle.tb_layout.specs.Transfer.{is_pending, is_resolving}
 use Rattle.std.specs.declared.cmp.Reverse.{Reverse}
 use Rattle.tb_tables.specs.Facts.{Facts, transfer_with, is_expired, add_transfer}
 use Rattle.tb_tables.specs.History.{History}
-use Rattle.tb_tables.specs.inside.Status.{status_in}
 use Rattle.tb_tables.specs.Status.{is_reserving, expires_at}
-use Rattle.tb_tables.specs.inside.Status.{is_resolved}
+use Rattle.tb_tables.specs.inside.Status.{is_resolved, status_in}
 use Rattle.tb_tables.specs.Expiries.{same_pair}
 use Rattle.tb_tables.specs.Changes.{before, oldest, history_of}
 use Rattle.tb_tables.specs.Conditions.{HasNoBalances, MayAdd, MayResolve}

@@ -1,16 +1,10 @@
 -- Whether a transfer is resolved, and the status that one with an id has.
 use Rattle.std.specs.Prelude.{ℕ, Bool, if◌then◌else◌, Option, Some, None}
 use Rattle.tb_layout.specs.declared.transfer.Transfer.{Transfer}
-use Rattle.tb_layout.specs.Transfer.{is_pending, is_post, is_void, is_resolving}
+use Rattle.tb_layout.specs.Transfer.{is_pending, is_resolving}
 use Rattle.tb_tables.specs.Facts.{Facts, transfer_with}
 use Rattle.tb_tables.specs.declared.status.Status.{Status}
 use Rattle.tb_tables.specs.Status.{status_of, is_named_by}
-
-abbrev pub is_posted : Facts → ℕ → Bool
-is_posted facts id = is_named_by is_post facts id
-
-abbrev pub is_voided : Facts → ℕ → Bool
-is_voided facts id = is_named_by is_void facts id
 
 abbrev pub is_resolved : Facts → ℕ → Bool
 is_resolved facts id = is_named_by is_resolving facts id
