@@ -16,7 +16,7 @@ fn account(id: u64) -> [u8; 128] {
 }
 
 /// Returns the bytes of a plain transfer of the amount 1 between two accounts, which are counted from 0.
-fn between(id: u64, debit: u64, credit: u64) -> [u8; 128] {
+fn plain_transfer(id: u64, debit: u64, credit: u64) -> [u8; 128] {
     let mut event = [0u8; 128];
     event[0..8].copy_from_slice(&id.to_le_bytes());
     event[16..24].copy_from_slice(&debit.wrapping_add(1).to_le_bytes());
@@ -32,7 +32,7 @@ fn plain(made: u64, accounts: u64) -> [u8; 128] {
     let accounts = accounts.max(3);
     let debit = made.wrapping_mul(7) % accounts;
     let credit = debit.wrapping_add(1).wrapping_add(made % (accounts - 2)) % accounts;
-    between(made.wrapping_add(1), debit, credit)
+    plain_transfer(made.wrapping_add(1), debit, credit)
 }
 
 /// Returns a number in no order.
@@ -48,7 +48,7 @@ fn random(made: u64, accounts: u64) -> [u8; 128] {
         .wrapping_add(1)
         .wrapping_add(scattered(made ^ 0xffff) % (accounts - 2))
         % accounts;
-    between(made.wrapping_add(1), debit, credit)
+    plain_transfer(made.wrapping_add(1), debit, credit)
 }
 
 /// Returns a pending transfer with a timeout in seconds.

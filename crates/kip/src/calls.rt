@@ -12,7 +12,7 @@ use crate::handle::Kip;
 use crate::reading::{KipReply, head_of, put_results};
 use std::alloc::{AllocError, Global};
 use tb_embed::{Engine, Seed};
-use tb_layout::{CLOCK_MAX, write_account};
+use tb_layout::{CLOCK_MAX, U64_VALUES, write_account};
 use tb_work::{Bytes, Packet, Refusal};
 
 /// Version 0.1.0, a byte for each number.
@@ -32,9 +32,6 @@ const TOO_SMALL: u32 = 103;
 
 /// There is no such account.
 const NOT_FOUND: u32 = 104;
-
-/// What half of an id stays below.
-const HALF: u128 = 1 << 64;
 
 /// Returns the version of the library: major, minor and patch in a byte each, patch lowest.
 #[unsafe(no_mangle)]
@@ -367,7 +364,7 @@ pub extern "C" fn kip_lookup_account(
     let Some(engine) = kip.take(alloc) else {
         return CLOSED;
     };
-    let id = u128::from(id_high) * HALF + u128::from(id_low);
+    let id = u128::from(id_high) * U64_VALUES + u128::from(id_low);
     let status = lookup(&engine, id, account);
     kip.put(engine);
     status

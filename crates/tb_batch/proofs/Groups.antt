@@ -15,7 +15,7 @@ use Rattle.tb_batch.specs.declared.parts.Parts.{Parts}
 use Rattle.tb_batch.specs.Grouping.{can_share, are_of, joins, is_taken, join_in_turn, IsGroup}
 use Rattle.tb_batch.specs.declared.offered.Offered.{Offered}
 use Rattle.tb_batch.specs.declared.offered.Offered.TheVariants.{Joined, Sealed, Refused}
-use Rattle.tb_batch.specs.Held.{Held, IsHeld}
+use Rattle.tb_batch.specs.BatcherState.{BatcherState, IsBatcherState}
 use Rattle.tb_batch.specs.Offering.{Offers}
 use Rattle.tb_batch.specs.Batch.{HasRoom, IsGroupOf, AreAdmitted, body_of}
 
@@ -77,7 +77,7 @@ group_more limit [] job h j = refl
 group_more limit (first ∷ jobs) job h j = joined_after limit (first ∷ []) jobs job h j
 
 -- what is held after an offer is a group
-pub offered_group : (old new : Held) (job : Numbered) (offered : Offered) → IsGroup old.limit old.jobs
+pub offered_group : (old new : BatcherState) (job : Numbered) (offered : Offered) → IsGroup old.limit old.jobs
     → Offers old job offered new → IsGroup new.limit new.jobs
 offered_group old new job Joined group is = rw is.0 (group_more old.limit old.jobs job group is.1)
 offered_group old new job (Sealed batch) group is = rw is.1 refl
@@ -85,8 +85,8 @@ offered_group old new job (Refused back refused) group is = rw is.1 group
 
 -- a group joined by a packet, or left as it was, is held
 pub still_held : {E : Type 0} (result : Result (Unit {0}) E) (limit : ℕ) (old new : List Numbered) (job : Numbered)
-    → IsHeld limit old → is_taken limit old job ≡ true →
-    OnOk result (new ≡ old ++ job ∷ []) → OnErr result (new ≡ old) → IsHeld limit new
+    → IsBatcherState limit old → is_taken limit old job ≡ true →
+    OnOk result (new ≡ old ++ job ∷ []) → OnErr result (new ≡ old) → IsBatcherState limit new
 still_held (Ok done) limit old new job h taken joined same =
     record {
       limit_low = h.limit_low;

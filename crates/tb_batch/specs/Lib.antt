@@ -1,4 +1,4 @@
 pub mod Grouping
 pub mod Batch
-pub mod Held
+pub mod BatcherState
 pub mod Offering

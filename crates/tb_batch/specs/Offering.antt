@@ -3,15 +3,15 @@ use Rattle.std.specs.Prelude.{◌≡◌, true, false, List, [], ◌∷◌, ◌++
 use Rattle.tb_work.specs.Packet.{Numbered}
 use Rattle.tb_batch.specs.declared.offered.Offered.{Offered}
 use Rattle.tb_batch.specs.declared.offered.Offered.TheVariants.{Joined, Sealed, Refused}
-use Rattle.tb_batch.specs.Held.{Held}
+use Rattle.tb_batch.specs.BatcherState.{BatcherState}
 use Rattle.tb_batch.specs.Grouping.{is_taken}
 
-abbrev pub with_group : Held → List Numbered → Held
+abbrev pub with_group : BatcherState → List Numbered → BatcherState
 with_group held jobs = record { limit = held.limit; jobs = jobs }
 
 -- If nothing is held, a packet begins the group. Otherwise it joins the group, or the group is sealed and the packet
 -- begins the next one. A refused packet is returned, and nothing changed.
-abbrev pub Offers : Held → Numbered → Offered → Held → Type 0
+abbrev pub Offers : BatcherState → Numbered → Offered → BatcherState → Type 0
 Offers old job Joined new = (new ≡ with_group old (old.jobs ++ job ∷ [])) × (is_taken old.limit old.jobs job ≡ true)
 Offers old job (Sealed batch) new =
     (batch ≡ old.jobs) × (new ≡ with_group old (job ∷ [])) × (is_taken old.limit old.jobs job ≡ false)

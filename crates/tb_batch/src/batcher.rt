@@ -41,13 +41,13 @@ impl Drop for Batcher {
 }
 
 impl Model for Batcher {
-    ghost use Rattle.tb_batch.specs.Held.{Held, IsHeld, jobs_of};
+    ghost use Rattle.tb_batch.specs.BatcherState.{BatcherState, IsBatcherState, jobs_of};
 
-    ghost Value = { Held };
+    ghost Value = { BatcherState };
 
     ghost view = { λ batcher. record { limit = batcher.limit; jobs = jobs_of batcher.held } };
 
-    ghost invariant = { λ batcher. IsHeld batcher.limit (jobs_of batcher.held) };
+    ghost invariant = { λ batcher. IsBatcherState batcher.limit (jobs_of batcher.held) };
 }
 
 impl Batcher {

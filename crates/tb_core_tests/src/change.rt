@@ -2,7 +2,7 @@
 
 /// What a change added.
 #[derive(Clone, Copy)]
-pub enum Change {
+pub(crate) enum Change {
     Account,
     Transfer,
     Failed,

@@ -57,6 +57,13 @@ impl<D: Driver> Model for SubmitterResults<D> {
         × HaveSeenEnds D.has_ended results.drivers.items results.ends.items };
 }
 
+/// What all threads returned.
+#[derive(Drop)]
+struct Joined<D: Driver, C: ControlDriver> {
+    submitters: SubmitterResults<D>,
+    control: ControlResult<C>,
+}
+
 type SubmitterThread<D> = PromisedHandle<SubmitterResult<D>, SubmitterPromise<D>>;
 
 type ControlThread<C> = PromisedHandle<Option<ControlResult<C>>, ControlPromise<C>>;
@@ -183,7 +190,10 @@ impl<D: Driver + Send, C: ControlDriver + Send> Tasks<D, C> {
         let Ok(served) = pipeline.serve(rt, &Open) else {
             return Err(DriveFault::NoThread);
         };
-        let (results, control) = running.join(rt)?;
+        let Joined {
+            submitters: results,
+            control,
+        } = running.join(rt)?;
         let SubmitterResults { ends, drivers } = results;
         let ControlResult { end, driver } = control;
         let unsettled = Snapshot::of(&ends);
@@ -231,9 +241,9 @@ impl<D: Driver + Send, C: ControlDriver + Send> Tasks<D, C> {
 
 impl<D: Driver, C: ControlDriver> Running<D, C> {
     /// Joins all threads, the submitters' in their order.
-    fn join<R: Threads>(self, rt: &R) -> Result<(SubmitterResults<D>, ControlResult<C>), DriveFault>
-        ensures submitters { IfOk result (λ joined. AreResultsOf self.submitters joined.0) }
-        ensures control { IfOk result (λ joined. IsControlResultOf C.has_ended self.control joined.1) }
+    fn join<R: Threads>(self, rt: &R) -> Result<Joined<D, C>, DriveFault>
+        ensures submitters { IfOk result (λ joined. AreResultsOf self.submitters joined.submitters) }
+        ensures control { IfOk result (λ joined. IsControlResultOf C.has_ended self.control joined.control) }
     {
         let Running {
             submitters,
@@ -252,6 +262,9 @@ impl<D: Driver, C: ControlDriver> Running<D, C> {
         let Some(control) = control.join(rt) else {
             return Err(DriveFault::NoThread);
         };
-        Ok((SubmitterResults { ends, drivers }, control))
+        Ok(Joined {
+            submitters: SubmitterResults { ends, drivers },
+            control,
+        })
     }
 }

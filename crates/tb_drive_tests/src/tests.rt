@@ -144,10 +144,8 @@ fn run<R: Threads + Wait + Sync>(
     let submitters = u32::try_from(drivers.len())?;
     let opened = open(alloc, 0, 4, capacity, credit, submitters)?;
     let control = ControlPlan::none(alloc).driver();
-    match drive_all(rt, alloc, opened, drivers, control) {
-        Ok(finished) => Ok(finished),
-        Err(_) => Err("the run is given up")?,
-    }
+    let finished = drive_all(rt, alloc, opened, drivers, control);
+    Ok(finished.map_err(|_| "the run is given up")?)
 }
 
 /// What was seen of a submitter in a run: by its driver, and of the replies that its end still has.

@@ -5,7 +5,7 @@ ghost use Rattle.std.specs.Option.{option_map};
 ghost use Rattle.tb_layout.specs.inside.Codes.{first_with, code_in, name_in, read_row};
 
 /// A result of an event.
-pub trait Code: Copy {
+pub(crate) trait Code: Copy {
     ghost number_of: { Self → ℕ };
 
     /// Returns the number that a failure carries.
@@ -14,7 +14,10 @@ pub trait Code: Copy {
 }
 
 /// Returns the first result with this number, and its name.
-pub fn row_with<C: Code>(rows: &[(C, &'static str)], number: u32) -> Option<(C, &'static str)>
+pub(crate) fn row_with<C: Code>(
+    rows: &[(C, &'static str)],
+    number: u32,
+) -> Option<(C, &'static str)>
     ensures { option_map read_row result ≡ first_with C.number_of number (map read_row rows.now) }
 {
     for row in rows {
@@ -26,7 +29,7 @@ pub fn row_with<C: Code>(rows: &[(C, &'static str)], number: u32) -> Option<(C, 
 }
 
 /// Returns the first result with this number.
-pub fn code_with<C: Code>(rows: &[(C, &'static str)], number: u32) -> Option<C>
+pub(crate) fn code_with<C: Code>(rows: &[(C, &'static str)], number: u32) -> Option<C>
     ensures { result ≡ code_in (first_with C.number_of number (map read_row rows.now)) }
 {
     let (code, _) = row_with(rows, number)?;
@@ -34,7 +37,7 @@ pub fn code_with<C: Code>(rows: &[(C, &'static str)], number: u32) -> Option<C>
 }
 
 /// Returns the name of a result that has a row.
-pub fn name_with<C: Code>(rows: &[(C, &'static str)], code: C) -> &'static str
+pub(crate) fn name_with<C: Code>(rows: &[(C, &'static str)], code: C) -> &'static str
     requires { is_some (first_with C.number_of (C.number_of code) (map read_row rows.now)) ≡ true }
     ensures { result.now ≡ name_in (first_with C.number_of (C.number_of code) (map read_row rows.now)) }
 {

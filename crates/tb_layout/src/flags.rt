@@ -8,7 +8,7 @@ ghost use Rattle.tb_layout.specs.Bytes as spec;
 const KNOWN_FLAGS: u16 = 0b1111;
 
 /// Returns whether a bit is set that stands for nothing, one of 4 to 15.
-pub fn has_reserved_flag(flags: u16) -> bool
+pub(crate) fn has_reserved_flag(flags: u16) -> bool
     ensures { result ≡ spec.has_reserved_flag flags }
 {
     flags > KNOWN_FLAGS

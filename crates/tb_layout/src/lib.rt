@@ -36,6 +36,7 @@ pub use limits::{
     SUBMITTERS_MAX,
 };
 pub use no_memory::NoMemory;
+pub use number::U64_VALUES;
 pub use operation::{CREATE_ACCOUNTS, CREATE_TRANSFERS, LOOKUP_ACCOUNTS, Operation};
 pub use transfer::{Transfer, read_transfer, write_transfer};
 pub use transfer_code::TransferCode;

@@ -7,7 +7,7 @@ ghost use Rattle.tb_layout.specs.inside.Bytes.{bytes_of};
 use byteorder::{ByteOrder, LittleEndian};
 
 /// Returns the number in the 16 bytes at an offset.
-pub fn read_u128(bytes: &[u8], offset: usize) -> u128
+pub(crate) fn read_u128(bytes: &[u8], offset: usize) -> u128
     requires { offset + 16 ≤ length bytes.now }
     ensures { result ≡ number_at bytes.now offset 16 }
 {
@@ -15,7 +15,7 @@ pub fn read_u128(bytes: &[u8], offset: usize) -> u128
 }
 
 /// Returns the number in the 8 bytes at an offset.
-pub fn read_u64(bytes: &[u8], offset: usize) -> u64
+pub(crate) fn read_u64(bytes: &[u8], offset: usize) -> u64
     requires { offset + 8 ≤ length bytes.now }
     ensures { result ≡ number_at bytes.now offset 8 }
 {
@@ -23,7 +23,7 @@ pub fn read_u64(bytes: &[u8], offset: usize) -> u64
 }
 
 /// Returns the number in the 4 bytes at an offset.
-pub fn read_u32(bytes: &[u8], offset: usize) -> u32
+pub(crate) fn read_u32(bytes: &[u8], offset: usize) -> u32
     requires { offset + 4 ≤ length bytes.now }
     ensures { result ≡ number_at bytes.now offset 4 }
 {
@@ -31,29 +31,29 @@ pub fn read_u32(bytes: &[u8], offset: usize) -> u32
 }
 
 /// Returns the number in the 2 bytes at an offset.
-pub fn read_u16(bytes: &[u8], offset: usize) -> u16
+pub(crate) fn read_u16(bytes: &[u8], offset: usize) -> u16
     requires { offset + 2 ≤ length bytes.now }
     ensures { result ≡ number_at bytes.now offset 2 }
 {
     LittleEndian::read_u16(&bytes[offset..offset + 2])
 }
 
-/// What the lower half of a number of 128 bits stays below.
-const HALF: u128 = 1 << 64;
+/// How many values 64 bits have: a number of 128 bits is its upper half times this, and its lower half.
+pub const U64_VALUES: u128 = 1 << 64;
 
 /// Writes the number into the 16 bytes at an offset, in two halves: writing all at once is several
 /// times slower.
-pub fn write_u128(bytes: &mut [u8], offset: usize, number: u128)
+pub(crate) fn write_u128(bytes: &mut [u8], offset: usize, number: u128)
     requires { offset + 16 ≤ length bytes.old }
     ensures front { take (offset + 16) bytes.new ≡ take offset bytes.old ++ bytes_of 16 number }
     ensures fits { number < 256 ^ 16 }
 {
-    write_u64(bytes, offset, (number % HALF) as u64);
-    write_u64(bytes, offset + 8, (number / HALF) as u64);
+    write_u64(bytes, offset, (number % U64_VALUES) as u64);
+    write_u64(bytes, offset + 8, (number / U64_VALUES) as u64);
 }
 
 /// Writes the number into the 8 bytes at an offset.
-pub fn write_u64(bytes: &mut [u8], offset: usize, number: u64)
+pub(crate) fn write_u64(bytes: &mut [u8], offset: usize, number: u64)
     requires { offset + 8 ≤ length bytes.old }
     ensures front { take (offset + 8) bytes.new ≡ take offset bytes.old ++ bytes_of 8 number }
     ensures fits { number < 256 ^ 8 }
@@ -62,7 +62,7 @@ pub fn write_u64(bytes: &mut [u8], offset: usize, number: u64)
 }
 
 /// Writes the number into the 4 bytes at an offset.
-pub fn write_u32(bytes: &mut [u8], offset: usize, number: u32)
+pub(crate) fn write_u32(bytes: &mut [u8], offset: usize, number: u32)
     requires { offset + 4 ≤ length bytes.old }
     ensures front { take (offset + 4) bytes.new ≡ take offset bytes.old ++ bytes_of 4 number }
     ensures fits { number < 256 ^ 4 }
@@ -71,7 +71,7 @@ pub fn write_u32(bytes: &mut [u8], offset: usize, number: u32)
 }
 
 /// Writes the number into the 2 bytes at an offset.
-pub fn write_u16(bytes: &mut [u8], offset: usize, number: u16)
+pub(crate) fn write_u16(bytes: &mut [u8], offset: usize, number: u16)
     requires { offset + 2 ≤ length bytes.old }
     ensures front { take (offset + 2) bytes.new ≡ take offset bytes.old ++ bytes_of 2 number }
     ensures fits { number < 256 ^ 2 }

@@ -88,7 +88,7 @@ fn verdict_given(found: Option<Account>, event: &Account) -> AccountCode
 
 /// Returns the first check that the event fails if no account has its id, or Ok.
 #[inline(always)]
-pub fn new_account_verdict(event: &Account) -> AccountCode
+pub(crate) fn new_account_verdict(event: &Account) -> AccountCode
     ensures { result ≡ spec.verdict_given None event.now }
 {
     verdict_given(None, event)
@@ -96,7 +96,7 @@ pub fn new_account_verdict(event: &Account) -> AccountCode
 
 /// Returns the first check that the event fails, or Ok.
 #[inline(never)]
-pub fn account_verdict(tables: &Tables, event: &Account) -> AccountCode
+pub(crate) fn account_verdict(tables: &Tables, event: &Account) -> AccountCode
     ensures { result ≡ spec.account_verdict tables.now.now event.now }
 {
     verdict_given(tables.account(event.id), event)

@@ -10,17 +10,17 @@ use crate::event::CreateEvent;
 
 /// Where a chain starts.
 #[derive(Clone, Copy)]
-pub struct ChainStart {
+pub(crate) struct ChainStart {
     /// The clock before its first event.
-    pub clock: u64,
+    pub(crate) clock: u64,
 
     /// The index of its first event in the packet.
-    pub index: usize,
+    pub(crate) index: usize,
 }
 
 impl ChainStart {
     /// Returns the start of the next chain, if this one has `count` events.
-    pub fn next(self, count: usize) -> ChainStart
+    pub(crate) fn next(self, count: usize) -> ChainStart
         requires clock { self.clock ≤ clock_max }
         requires fits { self.index + count < 2 ^ 64 }
         ensures clock { result.clock ≡ spec.clock_after self.clock count }
@@ -35,7 +35,7 @@ impl ChainStart {
 }
 
 /// Returns how many events the first chain has.
-pub fn first_chain_length<E: CreateEvent>(chunks: &[[u8; 128]]) -> usize
+pub(crate) fn first_chain_length<E: CreateEvent>(chunks: &[[u8; 128]]) -> usize
     ensures value { result ≡ first_chain_length E.operation.is_linked (map E.event_of chunks.now) }
     ensures within { result ≤ length chunks.now }
     ensures some { 0 < length chunks.now → 0 < result }

@@ -7,7 +7,7 @@ ghost use Rattle.tb_machine.specs.Chain as spec;
 use tb_layout::{CLOCK_MAX, NANOSECONDS_PER_SECOND};
 
 /// Returns the timestamp of the next event, in nanoseconds: the clock raised by one, or None if it is `CLOCK_MAX`.
-pub fn next_timestamp(clock: u64) -> Option<u64>
+pub(crate) fn next_timestamp(clock: u64) -> Option<u64>
     requires { clock ≤ clock_max }
     ensures { result ≡ spec.next_timestamp clock }
 {
@@ -19,7 +19,7 @@ pub fn next_timestamp(clock: u64) -> Option<u64>
 }
 
 /// Returns the clock after a number of events: raised by that number, to `CLOCK_MAX` at most.
-pub fn clock_after(clock: u64, count: usize) -> u64
+pub(crate) fn clock_after(clock: u64, count: usize) -> u64
     requires { clock ≤ clock_max }
     ensures value { result ≡ spec.clock_after clock count }
     ensures bound { result ≤ clock_max }
@@ -32,7 +32,7 @@ pub fn clock_after(clock: u64, count: usize) -> u64
 }
 
 /// Returns when a timeout, in seconds, is over that began at a timestamp, in nanoseconds.
-pub fn expires_at(timestamp: u64, timeout: u32) -> u128
+pub(crate) fn expires_at(timestamp: u64, timeout: u32) -> u128
     ensures { result ≡ timestamp + timeout * nanoseconds_per_second }
 {
     u128::from(timestamp) + u128::from(timeout) * u128::from(NANOSECONDS_PER_SECOND)

@@ -302,7 +302,7 @@ fn look_ahead<E: CreateEvent>(tables: &Tables, chunks: &[[u8; 128]], index: usiz
 
 /// Takes the chains of a packet in order, and reports the events that failed. On an error, part of
 /// the changes may have been made.
-pub fn commit_chains<E: CreateEvent>(
+pub(crate) fn commit_chains<E: CreateEvent>(
     clock: u64,
     tables: &mut Tables,
     chunks: &[[u8; 128]],

@@ -24,7 +24,7 @@ use tb_layout::{
 use tb_tables::Tables;
 
 /// An event of an operation.
-pub trait CreateEvent: Copy {
+pub(crate) trait CreateEvent: Copy {
     ghost event_of: { List ℕ → Self };
 
     ghost operation: { Operation Self };

@@ -1,7 +1,7 @@
 /// The first fault of a chain: its index there, the event, and the number of its result.
 #[derive(Clone, Copy)]
-pub struct ChainFault<E> {
-    pub index: usize,
-    pub event: E,
-    pub code: u32,
+pub(crate) struct ChainFault<E> {
+    pub(crate) index: usize,
+    pub(crate) event: E,
+    pub(crate) code: u32,
 }

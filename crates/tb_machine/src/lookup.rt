@@ -20,7 +20,7 @@ fn put_found(tables: &Tables, chunk: &[u8; 16], out: &mut Vec<Account>)
 }
 
 /// Puts the accounts with these ids one after another, with their balances.
-pub fn look_up(tables: &Tables, chunks: &[[u8; 16]], out: &mut Vec<Account>)
+pub(crate) fn look_up(tables: &Tables, chunks: &[[u8; 16]], out: &mut Vec<Account>)
     requires empty { out.old.items ≡ [] }
     requires room { length chunks.now ≤ vec_capacity out.old }
     ensures found { out.new.items ≡ accounts_found tables.now.now (map little_endian chunks.now) }

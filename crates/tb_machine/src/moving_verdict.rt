@@ -125,7 +125,7 @@ fn check_accounts_found(
 
 /// Returns the first check that a plain or pending transfer fails, or Ok.
 #[inline(always)]
-pub fn moving_verdict(
+pub(crate) fn moving_verdict(
     tables: &Tables,
     sides: Sides,
     timestamp: u64,

@@ -11,14 +11,14 @@ use tb_tables::Tables;
 
 /// The indices of two accounts, if they are there.
 #[derive(Clone, Copy)]
-pub struct Sides {
-    pub debit: Option<usize>,
-    pub credit: Option<usize>,
+pub(crate) struct Sides {
+    pub(crate) debit: Option<usize>,
+    pub(crate) credit: Option<usize>,
 }
 
 /// What a transfer acts on. From here on it is found only by its index.
 #[derive(Clone, Copy)]
-pub enum Target {
+pub(crate) enum Target {
     /// The accounts of a plain or pending transfer.
     Between(Sides),
 
@@ -28,7 +28,7 @@ pub enum Target {
 
 impl Target {
     /// Looks up what an event acts on.
-    pub fn of(tables: &Tables, event: &Transfer) -> Target
+    pub(crate) fn of(tables: &Tables, event: &Transfer) -> Target
         ensures { IsTarget tables.now.now event.now result }
     {
         if is_resolving(event) {
@@ -43,7 +43,7 @@ impl Target {
 }
 
 /// Returns the account at an index, with its balances.
-pub fn account_at(tables: &Tables, index: Option<usize>) -> Option<Account>
+pub(crate) fn account_at(tables: &Tables, index: Option<usize>) -> Option<Account>
     ensures { (id : ℕ) → IsIndexOf tables.now.now id index → result ≡ balanced_account tables.now.now id }
 {
     tables.account_at(index?)

@@ -26,7 +26,7 @@ fn report_linked(out: &mut Vec<Failure>, index: usize, count: usize)
 }
 
 /// Reports events that failed together.
-pub fn report_failed<E: Copy>(
+pub(crate) fn report_failed<E: Copy>(
     out: &mut Vec<Failure>,
     index: usize,
     count: usize,

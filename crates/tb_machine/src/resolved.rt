@@ -37,7 +37,7 @@ fn unless_zero_u16(field: u16, otherwise: u16) -> u16
 }
 
 /// Returns whether an event is a post or a void.
-pub fn is_resolving(event: &Transfer) -> bool
+pub(crate) fn is_resolving(event: &Transfer) -> bool
     ensures { result ≡ is_resolving_event event.now }
 {
     event.is_post() || event.is_void()
@@ -52,7 +52,7 @@ fn means_whole_amount(event: &Transfer) -> bool
 }
 
 /// Returns a post or a void with its fields resolved.
-pub fn resolved(pending: &Transfer, event: &Transfer) -> Transfer
+pub(crate) fn resolved(pending: &Transfer, event: &Transfer) -> Transfer
     ensures { result ≡ spec.resolved_transfer pending.now event.now }
 {
     Transfer {
@@ -85,7 +85,7 @@ fn resolved_against(tables: &Tables, pending_id: u128, event: Transfer) -> Trans
 }
 
 /// Returns an event with its fields resolved against the transfer with an id, if it is a post or a void.
-pub fn resolved_by(tables: &Tables, pending_id: u128, event: &Transfer) -> Transfer
+pub(crate) fn resolved_by(tables: &Tables, pending_id: u128, event: &Transfer) -> Transfer
     ensures { result ≡ spec.resolved_transfer_of (transfer_with tables.now.now pending_id) event.now }
 {
     if is_resolving(event) {

@@ -101,7 +101,7 @@ fn naming_fault(event: &Transfer) -> Option<TransferCode>
 /// Returns a post or a void as it is stored, if its checks find nothing, or else the first one that it fails. The
 /// transfer that it names is read once.
 #[inline(always)]
-pub fn resolve(
+pub(crate) fn resolve(
     tables: &Tables,
     pending: Option<usize>,
     timestamp: u64,
@@ -139,7 +139,7 @@ pub fn resolve(
 
 /// Returns the first check that a post or a void fails, or Ok.
 #[inline(never)]
-pub fn resolving_verdict(
+pub(crate) fn resolving_verdict(
     tables: &Tables,
     pending: Option<usize>,
     timestamp: u64,

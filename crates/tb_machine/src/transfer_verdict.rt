@@ -145,7 +145,7 @@ fn check_new_transfer(
 
 /// Returns the first check that the event fails if no transfer has its id, or Ok.
 #[inline(always)]
-pub fn new_transfer_verdict(
+pub(crate) fn new_transfer_verdict(
     tables: &Tables,
     target: Target,
     timestamp: u64,
@@ -162,7 +162,7 @@ pub fn new_transfer_verdict(
 
 /// Returns a post or a void as it is stored, if it passes its checks, apart from those against a transfer with its id.
 #[inline(always)]
-pub fn new_resolving(
+pub(crate) fn new_resolving(
     tables: &Tables,
     pending: Option<usize>,
     timestamp: u64,
@@ -181,7 +181,7 @@ pub fn new_resolving(
 
 /// Returns the first check that the event fails, or Ok.
 #[inline(never)]
-pub fn transfer_verdict(
+pub(crate) fn transfer_verdict(
     tables: &Tables,
     target: Target,
     timestamp: u64,

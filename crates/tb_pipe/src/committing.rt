@@ -16,18 +16,18 @@ use tb_rings::{Inlet, Outlet, SpinWait};
 
 /// What the committer returns.
 #[derive(Drop)]
-pub struct Committed {
-    pub inlet: Inlet<Parcel>,
-    pub outlet: Outlet<Outcomes>,
-    pub ledger: Ledger,
+pub(crate) struct Committed {
+    pub(crate) inlet: Inlet<Parcel>,
+    pub(crate) outlet: Outlet<Outcomes>,
+    pub(crate) ledger: Ledger,
 }
 
 /// The promise that the returned ring ends are those of this stage, and that all that was taken is committed.
 #[derive(Drop)]
-pub struct Commitment {
-    pub inlet: Snapshot<Inlet<Parcel>>,
-    pub outlet: Snapshot<Outlet<Outcomes>>,
-    pub clock: u64,
+pub(crate) struct Commitment {
+    pub(crate) inlet: Snapshot<Inlet<Parcel>>,
+    pub(crate) outlet: Snapshot<Outlet<Outcomes>>,
+    pub(crate) clock: u64,
 }
 
 impl Promise<Committed> for Commitment {

@@ -16,16 +16,16 @@ use tb_work::Reply;
 
 /// What the demultiplexer returns.
 #[derive(Drop)]
-pub struct Routed {
-    pub inlet: Inlet<Outcomes>,
-    pub outlets: Vec<Outlet<Reply>>,
+pub(crate) struct Routed {
+    pub(crate) inlet: Inlet<Outcomes>,
+    pub(crate) outlets: Vec<Outlet<Reply>>,
 }
 
 /// The promise that the returned ring ends are those of this stage, and that all that was taken is passed on.
 #[derive(Drop)]
-pub struct Routing {
-    pub inlet: Snapshot<Inlet<Outcomes>>,
-    pub outlets: Snapshot<Vec<Outlet<Reply>>>,
+pub(crate) struct Routing {
+    pub(crate) inlet: Snapshot<Inlet<Outcomes>>,
+    pub(crate) outlets: Snapshot<Vec<Outlet<Reply>>>,
 }
 
 impl Promise<Routed> for Routing {

@@ -23,24 +23,24 @@ use tb_work::Reply;
 /// The stages before they run: the batcher's intake, front and end of the batch ring, the committer's ends and
 /// ledger, the demultiplexer's end and the reply rings.
 #[derive(Drop)]
-pub struct Stages {
-    pub intake: Intake,
-    pub front: Front,
-    pub batches: Outlet<Parcel>,
-    pub parcels: Inlet<Parcel>,
-    pub ledger: Ledger,
-    pub made: Outlet<Outcomes>,
-    pub outcomes: Inlet<Outcomes>,
-    pub outlets: Vec<Outlet<Reply>>,
+pub(crate) struct Stages {
+    pub(crate) intake: Intake,
+    pub(crate) front: Front,
+    pub(crate) batches: Outlet<Parcel>,
+    pub(crate) parcels: Inlet<Parcel>,
+    pub(crate) ledger: Ledger,
+    pub(crate) made: Outlet<Outcomes>,
+    pub(crate) outcomes: Inlet<Outcomes>,
+    pub(crate) outlets: Vec<Outlet<Reply>>,
 }
 
 /// What the stages leave.
 #[derive(Drop)]
-pub struct Remains {
-    pub intake: Intake,
-    pub batches: Outlet<Parcel>,
-    pub committed: Committed,
-    pub routed: Routed,
+pub(crate) struct Remains {
+    pub(crate) intake: Intake,
+    pub(crate) batches: Outlet<Parcel>,
+    pub(crate) committed: Committed,
+    pub(crate) routed: Routed,
 }
 
 /// Starts the committer.

@@ -28,8 +28,8 @@ use std::thread::Threads;
 use tb_drive::{ControlPlan, drive_all};
 use tb_layout::NoMemory;
 use tb_pipe::{Opened, open};
-use tb_program_script::{Script, Settings};
-use tb_program_text::{ProgramFault, Source, read_source, write_out};
+use tb_program_script::{Script, ScriptParts, Settings};
+use tb_program_text::{Output, ProgramFault, Source, read_source, write_out};
 use tb_work::{Packet, Refusal};
 
 /// Returns the pipeline that a script's settings open. They are all in range, so only NoMemory refuses it.
@@ -105,7 +105,7 @@ fn output_for<T: Threads + Wait + Sync>(
 ) -> Result<String, ProgramFault>
     ensures { IfOk result (λ text. IsTextOf script (string_bytes text)) }
 {
-    let (settings, items) = script.finish()?;
+    let ScriptParts { settings, items } = script.finish()?;
     let Shares { packets, lines } = share_out(alloc, settings.submitters(), items)?;
     let drivers = drivers(alloc, packets)?;
     match open_for(alloc, &settings) {
@@ -119,16 +119,23 @@ fn output_of<T: Threads + Wait + Sync, R: Read>(
     rt: &T,
     alloc: Global,
     reader: &mut R,
-) -> Result<(String, bool), ProgramFault>
-    ensures faultless { IfOk result (λ both. IfSome (R.remaining reader.old) (λ bytes. both.1 ≡ is_faultless bytes)) }
-    ensures faulty { IfOk result (λ both. IfSome (R.remaining reader.old) (λ bytes. is_faultless bytes ≡ false
-        → string_bytes both.0 ≡ out bytes)) }
-    ensures ran { IfOk result (λ both. IfSome (R.remaining reader.old) (λ bytes. is_faultless bytes ≡ true
-        → IsRunOf bytes (string_bytes both.0))) }
+) -> Result<Output, ProgramFault>
+    ensures faultless { IfOk result (λ output.
+        IfSome (R.remaining reader.old) (λ bytes. output.faultless ≡ is_faultless bytes)) }
+    ensures faulty { IfOk result (λ output. IfSome (R.remaining reader.old) (λ bytes. is_faultless bytes ≡ false
+        → string_bytes output.text ≡ out bytes)) }
+    ensures ran { IfOk result (λ output. IfSome (R.remaining reader.old) (λ bytes. is_faultless bytes ≡ true
+        → IsRunOf bytes (string_bytes output.text))) }
 {
     match read_source(alloc, reader)? {
-        Source::Script(script) => Ok((output_for(rt, alloc, script)?, true)),
-        Source::Faulty(line) => Ok((line, false)),
+        Source::Script(script) => Ok(Output {
+            text: output_for(rt, alloc, script)?,
+            faultless: true,
+        }),
+        Source::Faulty(line) => Ok(Output {
+            text: line,
+            faultless: false,
+        }),
     }
 }
 
@@ -156,7 +163,7 @@ pub fn run_threads<T: Threads + Wait + Sync, R: Read, W: Write>(
     ensures memory { IsErrOf result ProgramFault.NoMemory → Keeps (W.contents writer.old) (W.contents writer.new) }
     ensures thread { IsErrOf result ProgramFault.NoThread → Keeps (W.contents writer.old) (W.contents writer.new) }
 {
-    let (text, faultless) = output_of(rt, alloc, reader)?;
-    write_out(writer, &text)?;
-    Ok(faultless)
+    let output = output_of(rt, alloc, reader)?;
+    write_out(writer, &output.text)?;
+    Ok(output.faultless)
 }

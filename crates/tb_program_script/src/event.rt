@@ -12,32 +12,33 @@ use crate::number::{in_bounds, leading_number, long_first};
 use crate::text::{is_at_line_end, strip_word, trim_spaces};
 use hex::FromHexError;
 use std::alloc::Global;
+use tb_layout::U64_VALUES;
 
 /// What an event asks for, and so what its fields are.
 #[derive(Clone, Copy)]
-pub enum Layout {
+pub(crate) enum Layout {
     Account,
     Transfer,
 }
 
 /// A field: its index among the fields, and its bytes in the event.
 #[derive(Clone, Copy)]
-pub struct Field {
-    pub index: usize,
-    pub offset: usize,
-    pub size: usize,
+pub(crate) struct Field {
+    pub(crate) index: usize,
+    pub(crate) offset: usize,
+    pub(crate) size: usize,
 }
 
 /// An event so far: its bytes, and which of its fields were given.
 #[derive(Clone, Copy)]
-pub struct Draft {
-    pub bytes: [u8; 128],
-    pub given: [bool; 13],
+pub(crate) struct Draft {
+    pub(crate) bytes: [u8; 128],
+    pub(crate) given: [bool; 13],
 }
 
 impl Draft {
     /// Returns an event, none of whose fields was given.
-    pub fn new() -> Draft
+    pub(crate) fn new() -> Draft
         ensures { result ≡ blank }
     {
         Draft {
@@ -195,9 +196,6 @@ fn new_field(draft: &Draft, f: Field) -> Result<Field, Fault>
     }
 }
 
-/// What the lower half of a number of 128 bits stays below.
-const HALF: u128 = 1 << 64;
-
 /// Returns the bytes of a number, the lowest first. Two halves take fewer instructions than the whole.
 #[inline(always)]
 #[tactic(auto, using(crate::proofs::Numbers::halves))]
@@ -205,8 +203,8 @@ fn bytes_of(n: u128) -> [u8; 16]
     ensures { result ≡ to_le_bytes w128 n }
 {
     let mut bytes = [0; 16];
-    bytes[..8].copy_from_slice(&((n % HALF) as u64).to_le_bytes());
-    bytes[8..].copy_from_slice(&((n / HALF) as u64).to_le_bytes());
+    bytes[..8].copy_from_slice(&((n % U64_VALUES) as u64).to_le_bytes());
+    bytes[8..].copy_from_slice(&((n / U64_VALUES) as u64).to_le_bytes());
     bytes
 }
 
@@ -312,7 +310,11 @@ fn assign_words<'a>(
 }
 
 /// Takes all words of a text's first line, each a field with its number, and returns the text from the end of that line on.
-pub fn assign_all<'a>(layout: Layout, draft: &mut Draft, text: &'a [u8]) -> Result<&'a [u8], Fault>
+pub(crate) fn assign_all<'a>(
+    layout: Layout,
+    draft: &mut Draft,
+    text: &'a [u8],
+) -> Result<&'a [u8], Fault>
     ensures draft { Makes result draft.new (after_words layout draft.old (words_of (first_line text.now))) }
     ensures rest { IfOk result (λ rest. rest.now ≡ after_first_line text.now) }
 {
@@ -324,7 +326,7 @@ pub fn assign_all<'a>(layout: Layout, draft: &mut Draft, text: &'a [u8]) -> Resu
 
 /// Returns the bytes that hexadecimal digits give; there must be exactly as many pairs of these.
 #[tactic(auto, unfolding(crate::specs::Event::hex_bytes))]
-pub fn hex_bytes(alloc: Global, word: &[u8]) -> Result<Vec<u8>, LineError>
+pub(crate) fn hex_bytes(alloc: Global, word: &[u8]) -> Result<Vec<u8>, LineError>
     ensures { Gives (λ v. v.items) result (hex_bytes word.now) }
 {
     hex::decode(alloc, word).map_err(|error| match error {

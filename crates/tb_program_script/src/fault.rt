@@ -43,7 +43,7 @@ impl Fault {
 
 /// Why a line could not be taken.
 #[derive(Clone, Copy)]
-pub enum LineError {
+pub(crate) enum LineError {
     NoMemory,
     Fault(Fault),
 }

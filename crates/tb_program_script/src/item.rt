@@ -67,8 +67,8 @@ pub enum ScriptItem {
 
 /// A packet to which lines still add bytes.
 #[derive(Drop)]
-pub struct OpenPacket {
-    pub submitter: SubmitterNumber,
-    pub operation: u8,
-    pub bytes: Vec<u8>,
+pub(crate) struct OpenPacket {
+    pub(crate) submitter: SubmitterNumber,
+    pub(crate) operation: u8,
+    pub(crate) bytes: Vec<u8>,
 }

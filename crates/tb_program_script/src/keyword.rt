@@ -7,7 +7,7 @@ use crate::table::look_up;
 
 /// What a line says, by its first word.
 #[derive(Clone, Copy)]
-pub enum Keyword {
+pub(crate) enum Keyword {
     Clock,
     Limit,
     Capacity,
@@ -40,7 +40,7 @@ const KEYWORDS: [(&[u8], Keyword); 12] = [
 
 /// Returns the keyword that a word spells.
 #[tactic(auto, unfolding(crate::specs::Keyword::keyword_of))]
-pub fn keyword_of(word: &[u8]) -> Option<Keyword>
+pub(crate) fn keyword_of(word: &[u8]) -> Option<Keyword>
     ensures { result ≡ keyword_of word.now }
 {
     look_up(&KEYWORDS, word)

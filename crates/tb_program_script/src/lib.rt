@@ -26,5 +26,5 @@ pub use laws::{
     spelled_ids_are_laid_out, spelled_scripts_are_read, spelled_transfers_are_laid_out,
 };
 pub use parsing::{ScriptError, parse};
-pub use script::Script;
+pub use script::{Script, ScriptParts};
 pub use submitter_number::SubmitterNumber;

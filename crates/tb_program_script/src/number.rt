@@ -17,7 +17,7 @@ fn are_digits(word: &[u8]) -> bool
 }
 
 /// Returns a number, if it is there and in bounds.
-pub fn in_bounds(n: Option<u128>, low: u128, high: u128) -> Result<u128, Fault>
+pub(crate) fn in_bounds(n: Option<u128>, low: u128, high: u128) -> Result<u128, Fault>
     ensures value { result ≡ within low high n }
     ensures bounds { IfOk result (λ n. (low ≤ n) × (n ≤ high)) }
 {
@@ -45,7 +45,7 @@ const SHORT: usize = 19;
 /// Returns the number that the first word of a text spells in 1 to 19 digits, and the rest of the text. The end of the
 /// word is seen as its digits are read.
 #[inline(always)]
-pub fn leading_number(text: &[u8]) -> Option<(u64, &[u8])>
+pub(crate) fn leading_number(text: &[u8]) -> Option<(u64, &[u8])>
     ensures number { IfSome result (λ both. number_of (first_word (first_line text.now)) ≡ Some both.0) }
     ensures rest { IfSome result (λ both. first_line both.1.now ≡ after_first_word (first_line text.now)) }
     ensures others { IfSome result (λ both. after_first_line both.1.now ≡ after_first_line text.now) }
@@ -66,16 +66,16 @@ pub fn leading_number(text: &[u8]) -> Option<(u64, &[u8])>
 
 /// Two numbers, and the text from the end of their line on.
 #[derive(Clone, Copy)]
-pub struct TwoNumbers<'a> {
-    pub first: u64,
-    pub second: u64,
-    pub rest: &'a [u8],
+pub(crate) struct TwoNumbers<'a> {
+    pub(crate) first: u64,
+    pub(crate) second: u64,
+    pub(crate) rest: &'a [u8],
 }
 
 /// Returns the numbers that the words of a text's first line spell, if these are two, of 1 to 19 digits each. The ends
 /// of the words and of the line are seen as the digits are read.
 #[inline(always)]
-pub fn two_short_numbers(text: &[u8]) -> Option<TwoNumbers>
+pub(crate) fn two_short_numbers(text: &[u8]) -> Option<TwoNumbers>
     ensures numbers { IfSome result (λ two. map number_of (words_of (first_line text.now))
         ≡ Some two.first ∷ Some two.second ∷ []) }
     ensures rest { IfSome result (λ two. two.rest.now ≡ after_first_line text.now) }
@@ -122,7 +122,7 @@ fn fitting_number(word: &[u8]) -> Option<u128>
 
 /// Returns the number that a word spells in 1 to 39 digits, if it is in bounds.
 #[inline(always)]
-pub fn number_within(word: &[u8], low: u128, high: u128) -> Result<u128, Fault>
+pub(crate) fn number_within(word: &[u8], low: u128, high: u128) -> Result<u128, Fault>
     ensures value { result ≡ number_within low high word.now }
     ensures bounds { IfOk result (λ n. (low ≤ n) × (n ≤ high)) }
 {
@@ -131,7 +131,7 @@ pub fn number_within(word: &[u8], low: u128, high: u128) -> Result<u128, Fault>
 
 /// Returns the number that the first word of a text spells, if it fits, of any length, and the rest of the text.
 #[inline(never)]
-pub fn long_first(text: &[u8]) -> (Option<u128>, &[u8])
+pub(crate) fn long_first(text: &[u8]) -> (Option<u128>, &[u8])
     ensures number { result.0 ≡ fitting (number_of (first_word (first_line text.now))) }
     ensures rest { first_line result.1.now ≡ after_first_word (first_line text.now) }
     ensures others { after_first_line result.1.now ≡ after_first_line text.now }

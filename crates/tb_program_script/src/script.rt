@@ -23,6 +23,13 @@ use tb_work::{Bytes, Packet};
 /// The most bytes of a line, its ending byte not counted.
 const LINE_MAX: usize = 65_536;
 
+/// A whole script: its settings, and its items in their order.
+#[derive(Drop)]
+pub struct ScriptParts {
+    pub settings: Settings,
+    pub items: Vec<ScriptItem>,
+}
+
 /// What the lines so far say.
 #[derive(Drop)]
 pub struct Script {
@@ -125,7 +132,7 @@ fn is_text(line: &[u8]) -> bool
 
 impl Script {
     /// Returns a script without lines so far. Takes no memory.
-    pub fn new(alloc: Global) -> Script
+    pub(crate) fn new(alloc: Global) -> Script
         ensures { result ≡ nothing_parsed }
     {
         Script {
@@ -303,7 +310,7 @@ impl Script {
 
     /// Parses a line after those so far. After an error the script must not be used.
     #[tactic(auto, unfolding(crate::specs::Script::after_line))]
-    pub fn line(&mut self, alloc: Global, line: &[u8]) -> Result<(), LineError>
+    fn line(&mut self, alloc: Global, line: &[u8]) -> Result<(), LineError>
         ensures { Leaves result self.new (after_line self.old line.now) }
     {
         if line.len() > LINE_MAX {
@@ -418,12 +425,18 @@ impl Script {
     }
 
     /// Returns the settings, and all items. The packet to which lines still added is the last of them.
-    pub fn finish(self) -> Result<(Settings, Vec<ScriptItem>), NoMemory>
-        ensures all { IfOk result (λ both. (both.0 ≡ self.settings) × (both.1.items ≡ items_of self)) }
-        ensures bounds { IfOk result (λ both. InBounds both.0) }
+    pub fn finish(self) -> Result<ScriptParts, NoMemory>
+        ensures settings { IfOk result (λ whole. whole.settings ≡ self.settings) }
+        ensures items { IfOk result (λ whole. whole.items.items ≡ items_of self) }
+        ensures bounds { IfOk result (λ whole. InBounds whole.settings) }
     {
         let mut script = self;
         script.end_packet()?;
-        Ok((script.settings, script.items))
+        let Script {
+            settings,
+            items,
+            ..
+        } = script;
+        Ok(ScriptParts { settings, items })
     }
 }

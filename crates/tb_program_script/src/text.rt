@@ -16,7 +16,7 @@ fn offset_of_other(bytes: &[u8], byte: u8) -> Option<usize>
 
 /// Returns the number of bytes before the first that is `byte`.
 #[tactic(auto, using(crate::proofs::Texts::before_found))]
-pub fn length_before(bytes: &[u8], byte: u8) -> usize
+pub(crate) fn length_before(bytes: &[u8], byte: u8) -> usize
     ensures value { result ≡ position_or_len (λ b. b == byte) bytes.now }
     ensures bound { result ≤ length bytes.now }
 {
@@ -58,7 +58,7 @@ fn leading_spaces(bytes: &[u8]) -> usize
 
 /// Returns what follows the spaces at the front.
 #[tactic(auto, using(crate::proofs::Texts::words_trimmed, crate::proofs::Texts::trimmed_begins))]
-pub fn trim_spaces(line: &[u8]) -> &[u8]
+pub(crate) fn trim_spaces(line: &[u8]) -> &[u8]
     ensures same { words_of result.now ≡ words_of line.now }
     ensures begins { (length result.now ≡ 0) ⊎ (0 < position_or_len (λ b. b == 32) result.now) }
     ensures within { length result.now ≤ length line.now }
@@ -78,7 +78,7 @@ fn split_word(line: &[u8]) -> (&[u8], &[u8])
 
 /// Returns whether the first line of a text has no byte.
 #[inline(always)]
-pub fn is_at_line_end(text: &[u8]) -> bool
+pub(crate) fn is_at_line_end(text: &[u8]) -> bool
     ensures { result ≡ (length (first_line text.now) == 0) }
 {
     match text {
@@ -89,7 +89,7 @@ pub fn is_at_line_end(text: &[u8]) -> bool
 
 /// Returns whether the first word of a text's first line has no byte.
 #[inline(always)]
-pub fn is_at_word_end(text: &[u8]) -> bool
+pub(crate) fn is_at_word_end(text: &[u8]) -> bool
     ensures { result ≡ (length (first_word (first_line text.now)) == 0) }
 {
     match text {
@@ -118,7 +118,7 @@ fn length_before_word_end(text: &[u8]) -> usize
 
 /// Returns the first word of a text that begins with one, and the rest of the text.
 #[tactic(auto, using(crate::proofs::FirstLines::word_cut))]
-pub fn split_first_word(text: &[u8]) -> (&[u8], &[u8])
+pub(crate) fn split_first_word(text: &[u8]) -> (&[u8], &[u8])
     ensures word { result.0.now ≡ first_word (first_line text.now) }
     ensures rest { first_line result.1.now ≡ after_first_word (first_line text.now) }
     ensures others { after_first_line result.1.now ≡ after_first_line text.now }
@@ -128,7 +128,7 @@ pub fn split_first_word(text: &[u8]) -> (&[u8], &[u8])
 
 /// Returns what follows a word and a byte that ends it, if the text begins with these.
 #[inline(always)]
-pub fn strip_word<'a>(text: &'a [u8], word: &[u8], end: u8) -> Option<&'a [u8]>
+pub(crate) fn strip_word<'a>(text: &'a [u8], word: &[u8], end: u8) -> Option<&'a [u8]>
     ensures { MatchOption result ((others : List ℕ) → text.now ≡ word.now ++ end ∷ others → ⊥)
         (λ others. text.now ≡ word.now ++ end ∷ others.now) }
 {
@@ -141,7 +141,7 @@ pub fn strip_word<'a>(text: &'a [u8], word: &[u8], end: u8) -> Option<&'a [u8]>
 }
 
 /// Returns what follows the first byte, which ends a line, if there is one.
-pub fn skip_line_end(text: &[u8]) -> &[u8]
+pub(crate) fn skip_line_end(text: &[u8]) -> &[u8]
     ensures { result.now ≡ drop 1 text.now }
 {
     match text {
@@ -151,7 +151,7 @@ pub fn skip_line_end(text: &[u8]) -> &[u8]
 }
 
 /// Returns the first line, and what follows the byte that ends it.
-pub fn split_line(text: &[u8]) -> (&[u8], &[u8])
+pub(crate) fn split_line(text: &[u8]) -> (&[u8], &[u8])
     ensures line { result.0.now ≡ first_line text.now }
     ensures others { result.1.now ≡ drop 1 (after_first_line text.now) }
 {
@@ -165,13 +165,13 @@ pub fn split_line(text: &[u8]) -> (&[u8], &[u8])
 
 /// The first word of a line, and the rest of the line.
 #[derive(Clone, Copy)]
-pub struct FirstWord<'a> {
-    pub word: &'a [u8],
-    pub rest: &'a [u8],
+pub(crate) struct FirstWord<'a> {
+    pub(crate) word: &'a [u8],
+    pub(crate) rest: &'a [u8],
 }
 
 /// Returns the first word of a line, if it has one.
-pub fn first_word(line: &[u8]) -> Option<FirstWord>
+pub(crate) fn first_word(line: &[u8]) -> Option<FirstWord>
     ensures words { MatchOption result (words_of line.now ≡ [])
         (λ first. words_of line.now ≡ first.word.now ∷ words_of first.rest.now) }
     ensures bytes { IfSome result (λ first. (passes : ℕ → Bool) → list_all passes line.now ≡ true
@@ -187,8 +187,8 @@ pub fn first_word(line: &[u8]) -> Option<FirstWord>
 
 /// The words of a line.
 #[derive(Drop)]
-pub struct Words<'a> {
-    pub rest: &'a [u8],
+pub(crate) struct Words<'a> {
+    pub(crate) rest: &'a [u8],
 }
 
 impl<'a> Iterator for Words<'a> {

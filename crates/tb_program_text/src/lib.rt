@@ -21,7 +21,7 @@ mod source;
 
 pub use ending::{Ending, ending_of};
 pub use output::{
-    put_close, put_pulse, put_refused, put_refused_pulse, put_reply, put_state, write_out,
+    Output, put_close, put_pulse, put_refused, put_refused_pulse, put_reply, put_state, write_out,
 };
 pub use program_fault::ProgramFault;
 pub use read::read_script;

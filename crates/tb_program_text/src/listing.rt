@@ -103,7 +103,11 @@ fn put_lines(out: &mut String, lines: &[Line], replies: &[Reply]) -> Result<(), 
 }
 
 /// Adds all lines of a plan that was listed: those of its items, the clock after them and the accounts.
-pub fn put_listing(out: &mut String, lines: &[Line], listed: &Listed) -> Result<(), AllocError>
+pub(crate) fn put_listing(
+    out: &mut String,
+    lines: &[Line],
+    listed: &Listed,
+) -> Result<(), AllocError>
     ensures { (clock : ℕ) (plan : List Planned) → lines.now ≡ map line_of plan
         → IsListed clock (queue_of plan) listed.now.ledger listed.now.replies.items
         → OnOk result (string_bytes out.new ≡ string_bytes out.old ++ plan_text clock plan) }

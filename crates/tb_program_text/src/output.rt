@@ -15,6 +15,14 @@ use tb_layout::{Account, Failure};
 use tb_machine::Machine;
 use tb_work::{Answer, Outcome, Refusal, Reply};
 
+/// All that is written of a script.
+#[derive(Drop)]
+pub struct Output {
+    pub text: String,
+    /// Whether the script has no fault; else the text is the line of its first.
+    pub faultless: bool,
+}
+
 /// Adds a number in decimal. This takes fewer instructions than `write!`.
 fn put_number<I: Integer>(out: &mut String, number: I) -> Result<(), AllocError>
     ensures { OnOk result (string_bytes out.new ≡ string_bytes out.old ++ I.text number) }
@@ -33,7 +41,7 @@ fn put_field<I: Integer>(out: &mut String, text: &str, number: I) -> Result<(), 
 }
 
 /// Adds the line of a fault, which has the number of the script's line, or 0.
-pub fn put_fault(out: &mut String, line: usize, text: &str) -> Result<(), AllocError>
+pub(crate) fn put_fault(out: &mut String, line: usize, text: &str) -> Result<(), AllocError>
     ensures { OnOk result (string_bytes out.new ≡ string_bytes out.old ++ fault_line line text.now) }
 {
     write!(out, "fault {line} {text}\n")

@@ -6,7 +6,7 @@ use tb_work::Refusal;
 /// What an item prints: a packet that is queued its reply, a pulse its place, any other a line that
 /// the script fixes.
 #[derive(Clone, Copy)]
-pub enum Line {
+pub(crate) enum Line {
     Packet,
     Pulse,
     Shut,

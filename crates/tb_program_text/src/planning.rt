@@ -15,14 +15,14 @@ use tb_work::{Job, Moment, Packet, Refusal};
 
 /// A plan in its parts: what is queued, and what is printed of each item.
 #[derive(Drop)]
-pub struct PlanParts {
-    pub queue: Vec<tb_work::Item>,
-    pub lines: Vec<Line>,
+pub(crate) struct PlanParts {
+    pub(crate) queue: Vec<tb_work::Item>,
+    pub(crate) lines: Vec<Line>,
 }
 
 /// What the items so far queue, and what is printed of each.
 #[derive(Drop)]
-pub struct Plan {
+pub(crate) struct Plan {
     queue: Vec<tb_work::Item>,
     lines: Vec<Line>,
     numbers: [u64; 16],
@@ -129,7 +129,7 @@ impl Plan {
     }
 
     /// Returns the parts of the plan.
-    pub fn into_parts(self) -> PlanParts
+    pub(crate) fn into_parts(self) -> PlanParts
         ensures queue { result.queue.items ≡ self.queue }
         ensures lines { result.lines.items ≡ self.lines }
     {
@@ -143,7 +143,11 @@ impl Plan {
 /// Returns the plan of a script's items. A packet is moved into its job, with room for its failures; none of its bytes
 /// is copied. The items are taken out of the list, which keeps its own memory.
 #[tactic(auto, unfolding(crate::specs::Plan::plan_after))]
-pub fn plan_all(alloc: Global, limit: u32, items: &mut Vec<ScriptItem>) -> Result<Plan, NoMemory>
+pub(crate) fn plan_all(
+    alloc: Global,
+    limit: u32,
+    items: &mut Vec<ScriptItem>,
+) -> Result<Plan, NoMemory>
     requires { limit ≤ batch_max }
     ensures { IfOk result (λ plan. plan ≡ split_plan (plan_after limit [] items.old.items)) }
 {

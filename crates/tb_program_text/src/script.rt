@@ -9,7 +9,7 @@ ghost use Rattle.tb_program_text.specs.SplitPlan.{line_of};
 ghost use Rattle.tb_program_text.specs.Plan.{Planned, queue_of};
 
 use crate::listing::put_listing;
-use crate::output::write_out;
+use crate::output::{Output, write_out};
 use crate::plan::Line;
 use crate::planning::{PlanParts, plan_all};
 use crate::program_fault::ProgramFault;
@@ -19,7 +19,7 @@ use std::alloc::Global;
 use std::io::{Read, Write};
 use tb_core::run_list;
 use tb_layout::NoMemory;
-use tb_program_script::Script;
+use tb_program_script::{Script, ScriptParts};
 use tb_work::Item;
 
 /// As many bytes as the line of a committed packet without failures mostly has.
@@ -51,7 +51,10 @@ fn text_of(
 fn output_for(alloc: Global, script: Script) -> Result<String, NoMemory>
     ensures { IfOk result (λ text. string_bytes text ≡ listing script) }
 {
-    let (settings, mut items) = script.finish()?;
+    let ScriptParts {
+        settings,
+        mut items,
+    } = script.finish()?;
     let limit = settings.limit();
     let PlanParts { queue, lines } = plan_all(alloc, limit, &mut items)?.into_parts();
     text_of(alloc, settings.clock(), limit, queue, &lines)
@@ -59,15 +62,21 @@ fn output_for(alloc: Global, script: Script) -> Result<String, NoMemory>
 
 /// Returns the output for everything that a reader has, and whether its script has no fault. The text and its list of
 /// items are freed last: once large blocks were freed, the C library copies what grows, where it would move its pages.
-fn output_of<R: Read>(alloc: Global, reader: &mut R) -> Result<(String, bool), ProgramFault>
-    ensures output { IfOk result (λ both. IfSome (R.remaining reader.old) (λ bytes.
-        (string_bytes both.0 ≡ out bytes) × (both.1 ≡ is_faultless bytes))) }
+fn output_of<R: Read>(alloc: Global, reader: &mut R) -> Result<Output, ProgramFault>
+    ensures output { IfOk result (λ output. IfSome (R.remaining reader.old) (λ bytes.
+        (string_bytes output.text ≡ out bytes) × (output.faultless ≡ is_faultless bytes))) }
     ensures thread { IfErr result (λ fault. fault ≢ ProgramFault.NoThread) }
 {
     let text = read_script(alloc, reader)?;
     match source_of(alloc, &text)? {
-        Source::Script(script) => Ok((output_for(alloc, script)?, true)),
-        Source::Faulty(line) => Ok((line, false)),
+        Source::Script(script) => Ok(Output {
+            text: output_for(alloc, script)?,
+            faultless: true,
+        }),
+        Source::Faulty(line) => Ok(Output {
+            text: line,
+            faultless: false,
+        }),
     }
 }
 
@@ -89,7 +98,7 @@ pub fn run_script<R: Read, W: Write>(
     // No thread is started.
     ensures thread { IfErr result (λ fault. fault ≢ ProgramFault.NoThread) }
 {
-    let (text, faultless) = output_of(alloc, reader)?;
-    write_out(writer, &text)?;
-    Ok(faultless)
+    let output = output_of(alloc, reader)?;
+    write_out(writer, &output.text)?;
+    Ok(output.faultless)
 }

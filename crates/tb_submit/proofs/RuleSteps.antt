@@ -15,7 +15,7 @@ use Rattle.tb_work.specs.declared.item.Ticket.{Ticket}
 use Rattle.tb_submit.specs.declared.rule.PassEntry.{PassEntry}
 use Rattle.tb_submit.specs.declared.rule.IntakeMark.{IntakeMark}
 use Rattle.tb_submit.specs.declared.rule.View.{View}
-use Rattle.tb_submit.specs.Rule.{sender, intake, opening, empty_view, next_of, view_counting_on, newcomer, view_seen_empty, both_views, with_pushed, with_taken, Stands, FitsEntry, FitsMark, Fits, InView, Kept, IsWhole, Tells}
+use Rattle.tb_submit.specs.Rule.{sender, intake, opening, empty_view, next_of, view_counting_on, newcomer, view_seen_empty, both_views, with_pushed, with_taken, Stands, FitsEntry, FitsMark, Fits, InView, QueueInvariant, IsWhole, Tells}
 
 -- a new value at a place that is taken
 put_here : {A : Type 0} (l : List A) (i : ℕ) (a b : A) → get_elem? l i ≡ some a → get_elem? (set l i b) i ≡ some b
@@ -98,7 +98,7 @@ none_there u zero n e = n refl
 none_there u (suc j) n e = some-ne-none u (sym e)
 
 pushes_here : (n pass : ℕ) (x : Ticket) (k : ℕ) (l : List Item) → x.sender ≡ k
-    → Pushes Kept n pass (sender k l) x (λ w. w ≡ with_pushed (sender k l) x)
+    → Pushes QueueInvariant n pass (sender k l) x (λ w. w ≡ with_pushed (sender k l) x)
 pushes_here n pass x k l own items views _ h at =
     let w : View = sender k (l ++ x.item ∷ []) in
     let mine = (h.fits pass (sender k l) at).0.0 in
@@ -136,7 +136,7 @@ mark_apart : (reader count next : ℕ) (got more : List Ticket) (j pass : ℕ) (
 mark_apart reader count next got more j pass None other is f = tt
 mark_apart reader count next got more j pass (Some m) other is f = absurd (other (f.0 ∙ sym is))
 
-pub begins : Kept [] (opening ∷ [])
+pub begins : QueueInvariant [] (opening ∷ [])
 begins = record {
   pass_of = λ s. 0;
   reader = 0;
@@ -149,9 +149,9 @@ begins = record {
 }
 
 pub pushes : (n pass : ℕ) (v : View) (x : Ticket) (k : ℕ) (l : List Item) → v ≡ sender k l → x.sender ≡ k
-    → Pushes Kept n pass v x (λ w. w ≡ with_pushed v x)
+    → Pushes QueueInvariant n pass v x (λ w. w ≡ with_pushed v x)
 pushes n pass v x k l is mine =
-    subst (λ (u : View). Pushes Kept n pass u x (λ w. w ≡ with_pushed u x)) (sym is) (pushes_here n pass x k l mine)
+    subst (λ (u : View). Pushes QueueInvariant n pass u x (λ w. w ≡ with_pushed u x)) (sym is) (pushes_here n pass x k l mine)
 
 nothing_in : {A : Type 0} (xs ys : List A) (y : A) → xs ++ y ∷ ys ≡ [] → ⊥
 nothing_in [] ys y e = cc
@@ -180,7 +180,7 @@ given_out got items x count none = by (nat_lt x.sender count) refl
     by false e = absurd (stands_in got items x (none x.sender (above e)))
 
 takes_here : (pass : ℕ) (es : List PassEntry) (got : List Ticket) (n : ℕ) (seen : List ℕ)
-    → Pops Kept pass (intake es got n seen) (λ x w. (w ≡ with_taken (intake es got n seen) x) × (x.sender < n))
+    → Pops QueueInvariant pass (intake es got n seen) (λ x w. (w ≡ with_taken (intake es got n seen) x) × (x.sender < n))
 takes_here pass es got n seen x items views h at =
     let w : View = intake es (got ++ x ∷ []) n seen in
     let mine = h.fits pass (intake es got n seen) at in
@@ -210,9 +210,9 @@ takes_here pass es got n seen x items views h at =
     )
 
 pub takes : (pass : ℕ) (v : View) (es : List PassEntry) (got : List Ticket) (n : ℕ) (seen : List ℕ)
-    → v ≡ intake es got n seen → Pops Kept pass v (λ x w. (w ≡ with_taken v x) × (x.sender < next_of v.mark))
+    → v ≡ intake es got n seen → Pops QueueInvariant pass v (λ x w. (w ≡ with_taken v x) × (x.sender < next_of v.mark))
 takes pass v es got n seen is =
-    subst (λ (u : View). Pops Kept pass u (λ x w. (w ≡ with_taken u x) × (x.sender < next_of u.mark))) (sym is)
+    subst (λ (u : View). Pops QueueInvariant pass u (λ x w. (w ≡ with_taken u x) × (x.sender < next_of u.mark))) (sym is)
     (takes_here pass es got n seen)
 
 -- one number is in another pass
@@ -229,7 +229,7 @@ in_longer : (views : List View) (r : View) (p s : ℕ) → InView views p s → 
 in_longer views r p s h = (h.0, at_longer views (r ∷ []) p h.0 h.1, h.2)
 
 forks_here : (pass : ℕ) (es : List PassEntry) (got : List Ticket) (n : ℕ) (seen : List ℕ)
-    → Forks Kept pass (intake es got n seen) (view_counting_on (intake es got n seen)) (newcomer (intake es got n seen))
+    → Forks QueueInvariant pass (intake es got n seen) (view_counting_on (intake es got n seen)) (newcomer (intake es got n seen))
 forks_here pass es got n seen items views h at =
     let l : View = intake es got (n + 1) seen in
     let r : View = sender n [] in
@@ -291,13 +291,13 @@ forks_here pass es got n seen items views h at =
     }
 
 pub forks : (pass : ℕ) (v : View) (es : List PassEntry) (got : List Ticket) (n : ℕ) (seen : List ℕ)
-    → v ≡ intake es got n seen → Forks Kept pass v (view_counting_on v) (newcomer v)
+    → v ≡ intake es got n seen → Forks QueueInvariant pass v (view_counting_on v) (newcomer v)
 forks pass v es got n seen is =
-    subst (λ (u : View). Forks Kept pass u (view_counting_on u) (newcomer u)) (sym is) (forks_here pass es got n seen)
+    subst (λ (u : View). Forks QueueInvariant pass u (view_counting_on u) (newcomer u)) (sym is) (forks_here pass es got n seen)
 
 -- the reader's pass notes that the queue was seen empty: the second pass knows nothing
 notes_here : (pass : ℕ) (es : List PassEntry) (got : List Ticket) (n : ℕ) (seen : List ℕ)
-    → Forks Kept pass (intake es got n seen) (view_seen_empty (intake es got n seen)) empty_view
+    → Forks QueueInvariant pass (intake es got n seen) (view_seen_empty (intake es got n seen)) empty_view
 notes_here pass es got n seen items views h at =
     let l : View = view_seen_empty (intake es got n seen) in
     let vs : List View = set views pass l in
@@ -319,12 +319,12 @@ notes_here pass es got n seen items views h at =
     }
 
 pub notes : (pass : ℕ) (v : View) (es : List PassEntry) (got : List Ticket) (n : ℕ) (seen : List ℕ)
-    → v ≡ intake es got n seen → Forks Kept pass v (view_seen_empty v) empty_view
+    → v ≡ intake es got n seen → Forks QueueInvariant pass v (view_seen_empty v) empty_view
 notes pass v es got n seen is =
-    subst (λ (u : View). Forks Kept pass u (view_seen_empty u) empty_view) (sym is) (notes_here pass es got n seen)
+    subst (λ (u : View). Forks QueueInvariant pass u (view_seen_empty u) empty_view) (sym is) (notes_here pass es got n seen)
 
 -- any two passes may be joined: the numbers of the second one are in the first from then on
-pub merges : (pass : ℕ) (v : View) (other : ℕ) (u : View) → Merges Kept pass v other u (both_views v u) empty_view
+pub merges : (pass : ℕ) (v : View) (other : ℕ) (u : View) → Merges QueueInvariant pass v other u (both_views v u) empty_view
 merges pass v other u items views h at two at' =
     let both : View = both_views v u in
     let vs : List View = set views pass both in
@@ -384,7 +384,7 @@ merges pass v other u items views h at two at' =
     }
 
 learns_here : (pass : ℕ) (es : List PassEntry) (got : List Ticket) (n : ℕ) (seen : List ℕ)
-    → Learns Kept pass (intake es got n seen) (IsWhole es got n)
+    → Learns QueueInvariant pass (intake es got n seen) (IsWhole es got n)
 learns_here pass es got n seen items views h at =
     let mine = h.fits pass (intake es got n seen) at in
     let same : h.taken ++ items ≡ got ++ items = ap (λ g. g ++ items) (sym mine.1.1) in (
@@ -395,6 +395,6 @@ learns_here pass es got n seen items views h at =
     )
 
 pub learns : (pass : ℕ) (v : View) (es : List PassEntry) (got : List Ticket) (n : ℕ) (seen : List ℕ)
-    → v ≡ intake es got n seen → Learns Kept pass v (Tells v)
+    → v ≡ intake es got n seen → Learns QueueInvariant pass v (Tells v)
 learns pass v es got n seen is =
-    subst (λ (u : View). Learns Kept pass u (Tells u)) (sym is) (learns_here pass es got n seen)
+    subst (λ (u : View). Learns QueueInvariant pass u (Tells u)) (sym is) (learns_here pass es got n seen)

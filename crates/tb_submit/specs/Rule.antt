@@ -103,7 +103,7 @@ abbrev pub InView : List View → ℕ → ℕ → Type 0
 InView views pass number = (view : View) × (get_elem? views pass ≡ some view) × Stands number view.entries
 
 -- Each number given out is in a pass, and no other has a part.
-pub record Kept (items : List Ticket) (views : List View) : Type 0 where
+pub record QueueInvariant (items : List Ticket) (views : List View) : Type 0 where
   pub pass_of : ℕ → ℕ
   pub reader : ℕ
   pub count : ℕ

@@ -25,23 +25,30 @@ pub struct Ends {
     pub outlets: Vec<Outlet<Reply>>,
 }
 
-/// Returns the submitters of a queue, each with the ring of its replies.
+/// The submitters of a queue, each with the ring of its replies.
+#[derive(Drop)]
+struct SubmitterEnds {
+    submitters: Vec<Submitter>,
+    outlets: Vec<Outlet<Reply>>,
+}
+
+/// Returns the submitters of a queue.
 fn open_submitters(
     alloc: Global,
     reader: &mut Reader,
     limit: u32,
     credit: u32,
     submitters: u32,
-) -> Result<(Vec<Submitter>, Vec<Outlet<Reply>>), NoMemory>
+) -> Result<SubmitterEnds, NoMemory>
     requires range { (limit ≤ batch_max) × (credit ≤ capacity_max) }
     requires fresh { (reader.old.entries ≡ []) × (reader.old.taken ≡ []) × (reader.old.count ≡ 0) }
     ensures reader { OnOk result (reader.new ≡ record reader.old { count = submitters }) }
-    ensures submitters { IfOk result (λ ends. ends.0.items
+    ensures submitters { IfOk result (λ ends. ends.submitters.items
         ≡ map (new_submitter credit) (origins (new_intake reader.old.queue submitters limit
-        reader.old.capacity) ends.1.items)) }
-    ensures outlets { IfOk result (λ ends. (length ends.1.items ≡ submitters)
-        × All (λ outlet. given outlet ≡ []) ends.1.items) }
-    ensures slots { IfOk result (λ ends. All (λ outlet. slots outlet ≡ credit) ends.1.items) }
+        reader.old.capacity) ends.outlets.items)) }
+    ensures outlets { IfOk result (λ ends. (length ends.outlets.items ≡ submitters)
+        × All (λ outlet. given outlet ≡ []) ends.outlets.items) }
+    ensures slots { IfOk result (λ ends. All (λ outlet. slots outlet ≡ credit) ends.outlets.items) }
 {
     let mut opened = Vec::new(alloc);
     let mut outlets = Vec::new(alloc);
@@ -51,7 +58,10 @@ fn open_submitters(
         outlets.push(outlet)?;
         opened.push(Submitter::new(sender, inlet, credit))?;
     }
-    Ok((opened, outlets))
+    Ok(SubmitterEnds {
+        submitters: opened,
+        outlets,
+    })
 }
 
 /// Returns all ends of a queue whose bounds were checked.
@@ -65,6 +75,7 @@ fn open_ends(
     requires range { (limit ≤ batch_max) × (0 < capacity) × (credit ≤ capacity_max) × (submitters ≤ submitters_max) }
     ensures submitters { IfOk result (λ ends. ends.submitters.items
         ≡ map (new_submitter credit) (origins ends.intake ends.outlets.items)) }
+    ensures own { IfOk result (λ ends. map origin_of ends.submitters.items ≡ origins ends.intake ends.outlets.items) }
     ensures control { IfOk result (λ ends. ends.control ≡ new_control ends.intake) }
     ensures intake { IfOk result (λ ends. ends.intake ≡ new_intake ends.intake.queue submitters limit capacity) }
     ensures outlets { IfOk result (λ ends. (length ends.outlets.items ≡ submitters)
@@ -72,13 +83,13 @@ fn open_ends(
     ensures slots { IfOk result (λ ends. All (λ outlet. slots outlet ≡ credit) ends.outlets.items) }
 {
     let mut reader = Reader::new(alloc, capacity as usize)?;
-    let (opened, outlets) = open_submitters(alloc, &mut reader, limit, credit, submitters)?;
+    let opened = open_submitters(alloc, &mut reader, limit, credit, submitters)?;
     let control = Control::new(reader.sender(submitters, submitters, limit)?);
     Ok(Ends {
-        submitters: opened,
+        submitters: opened.submitters,
         control,
         intake: Intake::new(reader, submitters, limit),
-        outlets,
+        outlets: opened.outlets,
     })
 }
 
@@ -112,8 +123,5 @@ pub fn open_queue(
     if submitters < 1 || submitters > SUBMITTERS_MAX {
         return Err(Refusal::BadSubmitters);
     }
-    let Ok(ends) = open_ends(alloc, limit, capacity, credit, submitters) else {
-        return Err(Refusal::NoMemory);
-    };
-    Ok(ends)
+    open_ends(alloc, limit, capacity, credit, submitters).map_err(|_| Refusal::NoMemory)
 }

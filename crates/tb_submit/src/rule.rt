@@ -7,37 +7,37 @@ use std::collections::LinkedList;
 use tb_work::{Item, Ticket};
 
 /// What one sender pushed.
-pub struct PassEntry {
-    pub number: u32,
-    pub pushed: LinkedList<Item>,
+pub(crate) struct PassEntry {
+    pub(crate) number: u32,
+    pub(crate) pushed: LinkedList<Item>,
 }
 
 /// What the intake took, how many numbers were given out, and after how many tickets the queue was seen empty.
-pub struct IntakeMark {
-    pub taken: LinkedList<Ticket>,
-    pub count: u32,
-    pub seen_empty: LinkedList<u64>,
+pub(crate) struct IntakeMark {
+    pub(crate) taken: LinkedList<Ticket>,
+    pub(crate) count: u32,
+    pub(crate) seen_empty: LinkedList<u64>,
 }
 
 /// What a pass knows.
-pub struct View {
-    pub entries: LinkedList<PassEntry>,
-    pub mark: Option<IntakeMark>,
+pub(crate) struct View {
+    pub(crate) entries: LinkedList<PassEntry>,
+    pub(crate) mark: Option<IntakeMark>,
 }
 
 /// The rule, in the form in which the kit's queue asks for it.
-pub struct PerSender;
+pub(crate) struct PerSender;
 
 impl Protocol<Ticket, View> for PerSender {
-    ghost use Rattle.tb_submit.specs.Rule.{Kept, opening};
+    ghost use Rattle.tb_submit.specs.Rule.{QueueInvariant, opening};
 
-    ghost holds = { Kept };
+    ghost holds = { QueueInvariant };
 
     ghost first = { opening };
 }
 
 /// The intake's pass gives the next number to a new one.
-pub struct Newcomer;
+pub(crate) struct Newcomer;
 
 impl Split<View> for Newcomer {
     ghost use Rattle.tb_submit.specs.Rule.{view_counting_on, newcomer};
@@ -48,7 +48,7 @@ impl Split<View> for Newcomer {
 }
 
 /// The intake's pass records that the queue was seen empty; the new pass knows nothing.
-pub struct SeenEmpty;
+pub(crate) struct SeenEmpty;
 
 impl Split<View> for SeenEmpty {
     ghost use Rattle.tb_submit.specs.Rule.{view_seen_empty, empty_view};
@@ -59,7 +59,7 @@ impl Split<View> for SeenEmpty {
 }
 
 /// A pass takes in what another knows.
-pub struct Gathers;
+pub(crate) struct Gathers;
 
 impl Join<View> for Gathers {
     ghost use Rattle.tb_submit.specs.Rule.{both_views, empty_view};
@@ -70,7 +70,7 @@ impl Join<View> for Gathers {
 }
 
 /// A push puts its ticket at the end of what its own pass pushed.
-pub struct Pushed;
+pub(crate) struct Pushed;
 
 impl Outcome<Ticket, View> for Pushed {
     ghost use Rattle.std.specs.Prelude.{◌≡◌};
@@ -86,7 +86,7 @@ impl Lesson<Ticket, View> for Pushed {
 }
 
 /// A pop puts its ticket at the end of what was taken; its sender's number was given out before.
-pub struct Taken;
+pub(crate) struct Taken;
 
 impl Outcome<Ticket, View> for Taken {
     ghost use Rattle.std.specs.Prelude.{◌≡◌, ◌<◌};
@@ -102,7 +102,7 @@ impl Lesson<Ticket, View> for Taken {
 }
 
 /// What the intake's pass learns of what is queued.
-pub struct Queued;
+pub(crate) struct Queued;
 
 impl Lesson<Ticket, View> for Queued {
     ghost use Rattle.tb_submit.specs.Rule.{Tells};
@@ -111,7 +111,7 @@ impl Lesson<Ticket, View> for Queued {
 }
 
 /// The queue of tickets, under the rule.
-pub type Queue = RuledArrayQueue<Ticket, View, PerSender>;
+pub(crate) type Queue = RuledArrayQueue<Ticket, View, PerSender>;
 
 /// A sender's or the intake's pass.
-pub type QueuePass = Pass<Ticket, View>;
+pub(crate) type QueuePass = Pass<Ticket, View>;

@@ -12,13 +12,13 @@ use tb_layout::{Account, Transfer};
 
 /// What an amount is among the sums of its accounts.
 #[derive(Clone, Copy)]
-pub enum Phase {
+pub(crate) enum Phase {
     Pending,
     Posted,
 }
 
 /// Returns what the amount of a plain or pending transfer is.
-pub fn phase_of(transfer: &Transfer) -> Phase
+pub(crate) fn phase_of(transfer: &Transfer) -> Phase
     ensures { result ≡ phase_of transfer.now }
 {
     if transfer.is_pending() {
@@ -47,7 +47,7 @@ fn credits_in(phase: Phase) -> Balance
 }
 
 /// Adds an amount to what is pending, or to what is posted.
-pub fn add_amount(accounts: &mut ById<Account>, indices: Indices, phase: Phase, amount: u128)
+pub(crate) fn add_amount(accounts: &mut ById<Account>, indices: Indices, phase: Phase, amount: u128)
     requires { CanAdd accounts.old.entries indices phase amount }
     ensures { (sums : Sums) (records : List AccountRecord) (debit credit : ℕ) → AreAt records indices debit credit
         → accounts.old.entries ≡ account_rows sums records
@@ -58,7 +58,12 @@ pub fn add_amount(accounts: &mut ById<Account>, indices: Indices, phase: Phase, 
 }
 
 /// Takes an amount out again.
-pub fn subtract_amount(accounts: &mut ById<Account>, indices: Indices, phase: Phase, amount: u128)
+pub(crate) fn subtract_amount(
+    accounts: &mut ById<Account>,
+    indices: Indices,
+    phase: Phase,
+    amount: u128,
+)
     requires { CanTake accounts.old.entries indices phase amount }
     ensures { (sums : Sums) (records : List AccountRecord) (debit credit : ℕ) → AreAt records indices debit credit
         → accounts.old.entries ≡ account_rows (with_amount phase debit credit amount sums) records
@@ -69,7 +74,7 @@ pub fn subtract_amount(accounts: &mut ById<Account>, indices: Indices, phase: Ph
 }
 
 /// Adds what a post posts, if it is a post.
-pub fn post_if(accounts: &mut ById<Account>, indices: Indices, is_post: bool, amount: u128)
+pub(crate) fn post_if(accounts: &mut ById<Account>, indices: Indices, is_post: bool, amount: u128)
     requires { is_post ≡ true → CanAdd accounts.old.entries indices Posted amount }
     ensures { (sums : Sums) (records : List AccountRecord) (debit credit : ℕ) → AreAt records indices debit credit
         → accounts.old.entries ≡ account_rows sums records
@@ -81,7 +86,7 @@ pub fn post_if(accounts: &mut ById<Account>, indices: Indices, is_post: bool, am
 }
 
 /// Takes out what a post posted, if it is a post.
-pub fn unpost_if(accounts: &mut ById<Account>, indices: Indices, is_post: bool, amount: u128)
+pub(crate) fn unpost_if(accounts: &mut ById<Account>, indices: Indices, is_post: bool, amount: u128)
     requires { is_post ≡ true → CanTake accounts.old.entries indices Posted amount }
     ensures { (sums : Sums) (records : List AccountRecord) (debit credit : ℕ) → AreAt records indices debit credit
         → accounts.old.entries ≡ account_rows (posted_if is_post debit credit amount sums) records

@@ -9,7 +9,7 @@ use tb_layout::Account;
 
 /// Which of an account's balances.
 #[derive(Clone, Copy)]
-pub enum Balance {
+pub(crate) enum Balance {
     DebitsPending,
     DebitsPosted,
     CreditsPending,
@@ -43,7 +43,7 @@ fn lower_balance(account: &mut Account, balance: Balance, amount: u128)
 }
 
 /// Raises a balance of the account at an index.
-pub fn raise_at(accounts: &mut ById<Account>, index: usize, balance: Balance, amount: u128)
+pub(crate) fn raise_at(accounts: &mut ById<Account>, index: usize, balance: Balance, amount: u128)
     requires { HasRoom accounts.old.entries index balance amount }
     ensures { (sums : Sums) (records : List AccountRecord) (account : AccountRecord)
         → slice_get records index ≡ Some account
@@ -55,7 +55,7 @@ pub fn raise_at(accounts: &mut ById<Account>, index: usize, balance: Balance, am
 }
 
 /// Lowers a balance of the account at an index.
-pub fn lower_at(accounts: &mut ById<Account>, index: usize, balance: Balance, amount: u128)
+pub(crate) fn lower_at(accounts: &mut ById<Account>, index: usize, balance: Balance, amount: u128)
     requires { HasAmount accounts.old.entries index balance amount }
     ensures { (sums : Sums) (records : List AccountRecord) (account : AccountRecord)
         → slice_get records index ≡ Some account

@@ -4,7 +4,7 @@ use crate::hashing::IdHasher;
 use indexmap::{IndexMap, IndexSet};
 
 /// What maps have under ids, in order of making.
-pub type ById<V> = IndexMap<u128, V, IdHasher>;
+pub(crate) type ById<V> = IndexMap<u128, V, IdHasher>;
 
 /// Ids, in order of making.
-pub type Ids = IndexSet<u128, IdHasher>;
+pub(crate) type Ids = IndexSet<u128, IdHasher>;

@@ -2,7 +2,7 @@
 
 /// What a change added; for a transfer, with what else is needed to undo it.
 #[derive(Clone, Copy)]
-pub enum Change<T> {
+pub(crate) enum Change<T> {
     Account,
     Transfer(T),
     Failed,

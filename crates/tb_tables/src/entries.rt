@@ -13,7 +13,7 @@ use tb_layout::{Account, NoMemory};
 
 /// Adds an account with this timestamp after the others, unless its id is there; whether it was added. It is written in
 /// place.
-pub fn push_account(
+pub(crate) fn push_account(
     accounts: &mut ById<Account>,
     event: &Account,
     timestamp: u64,
@@ -40,7 +40,7 @@ pub fn push_account(
 }
 
 /// Puts a new failed id after the others.
-pub fn push_failed(failed: &mut Ids, id: u128) -> Result<(), NoMemory>
+pub(crate) fn push_failed(failed: &mut Ids, id: u128) -> Result<(), NoMemory>
     requires { list_any (λ other. other == id) failed.old.keys ≡ false }
     ensures ok { OnOk result (failed.new.keys ≡ failed.old.keys ++ id ∷ []) }
     ensures err { OnErr result (failed.new.keys ≡ failed.old.keys) }
@@ -50,21 +50,21 @@ pub fn push_failed(failed: &mut Ids, id: u128) -> Result<(), NoMemory>
 }
 
 /// Takes the last account off.
-pub fn pop_account(accounts: &mut ById<Account>)
+pub(crate) fn pop_account(accounts: &mut ById<Account>)
     ensures { accounts.new.entries ≡ without_last accounts.old.entries }
 {
     accounts.truncate(accounts.len().saturating_sub(1));
 }
 
 /// Takes the last failed id off.
-pub fn pop_failed(failed: &mut Ids)
+pub(crate) fn pop_failed(failed: &mut Ids)
     ensures { failed.new.keys ≡ without_last failed.old.keys }
 {
     failed.truncate(failed.len().saturating_sub(1));
 }
 
 /// Returns the index of the entry with this id.
-pub fn index_of<V: Drop>(entries: &ById<V>, id: u128) -> usize
+pub(crate) fn index_of<V: Drop>(entries: &ById<V>, id: u128) -> usize
     requires { IsSome (get nat_eq entries.now id) }
     ensures { slice_get (keys entries.now) result ≡ Some id }
 {
@@ -72,7 +72,7 @@ pub fn index_of<V: Drop>(entries: &ById<V>, id: u128) -> usize
 }
 
 /// Returns the status of what a post or a void names.
-pub fn resolved_status(is_post: bool) -> Status
+pub(crate) fn resolved_status(is_post: bool) -> Status
     ensures { result ≡ status_after is_post }
 {
     if is_post {

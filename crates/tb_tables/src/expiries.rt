@@ -10,10 +10,14 @@ use std::collections::BTreeSet;
 use tb_layout::NoMemory;
 
 /// The pairs, the latest first: those of new transfers are among the first, where a node of the tree is searched first.
-pub type Expiries = BTreeSet<Reverse<(u64, usize)>>;
+pub(crate) type Expiries = BTreeSet<Reverse<(u64, usize)>>;
 
 /// Puts a pair in.
-pub fn insert_pair(expiries: &mut Expiries, moment: u64, index: usize) -> Result<(), NoMemory>
+pub(crate) fn insert_pair(
+    expiries: &mut Expiries,
+    moment: u64,
+    index: usize,
+) -> Result<(), NoMemory>
     ensures ok { OnOk result ((m p : ℕ) → is_in_expiries expiries.new m p
         ≡ (same_pair moment index m p || is_in_expiries expiries.old m p)) }
     ensures err { OnErr result (expiries.new.keys ≡ expiries.old.keys) }
@@ -24,7 +28,7 @@ pub fn insert_pair(expiries: &mut Expiries, moment: u64, index: usize) -> Result
 
 /// Takes a pair out. It is often the last one: what is resolved before its timeout is over is mostly resolved in the
 /// order in which it would have expired.
-pub fn remove_pair(expiries: &mut Expiries, moment: u64, index: usize)
+pub(crate) fn remove_pair(expiries: &mut Expiries, moment: u64, index: usize)
     ensures { (m p : ℕ) → is_in_expiries expiries.new m p
         ≡ (not (same_pair moment index m p) && is_in_expiries expiries.old m p) }
 {
@@ -37,7 +41,7 @@ pub fn remove_pair(expiries: &mut Expiries, moment: u64, index: usize)
 }
 
 /// Takes the earliest pair out, which is the last one, if it is due at a clock.
-pub fn take_due(expiries: &mut Expiries, clock: u64) -> Option<usize>
+pub(crate) fn take_due(expiries: &mut Expiries, clock: u64) -> Option<usize>
     ensures due { IfSome result (λ index. (moment : ℕ) × (moment ≤ clock)
         × (is_in_expiries expiries.old moment index ≡ true)
         × ((m p : ℕ) → is_in_expiries expiries.new m p ≡ (not (same_pair moment index m p)

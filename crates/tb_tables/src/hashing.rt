@@ -6,7 +6,7 @@ ghost use Rattle.tb_layout.specs.Bytes.{little_endian};
 ghost use Rattle.tb_tables.specs.Hashing.{folded, with_id, with_ids};
 
 use std::hash::{BuildHasher, Hasher};
-use tb_layout::read_id;
+use tb_layout::{U64_VALUES, read_id};
 
 /// Two numbers that are mixed into the halves of every id before it is hashed. With `Seed::default()`, two zeros, anybody
 /// can choose ids that have one hash. With numbers that an attacker doesn't know, those ids have different hashes.
@@ -21,12 +21,9 @@ const LOW: u64 = 0x243f_6a88_85a3_08e3;
 
 const HIGH: u64 = 0x9e37_79b9_7f4a_7c15;
 
-/// What a number of 128 bits has above the lower half.
-const HALF: u128 = 1 << 64;
-
 /// A hasher of ids, and what makes one for each of them: a copy of itself.
 #[derive(Clone, Copy)]
-pub struct IdHasher {
+pub(crate) struct IdHasher {
     /// The hash so far, which is mixed into the lower half of the next id.
     low: u64,
     high: u64,
@@ -34,7 +31,7 @@ pub struct IdHasher {
 
 impl IdHasher {
     /// Returns the hasher with a seed.
-    pub fn new(seed: Seed) -> IdHasher
+    pub(crate) fn new(seed: Seed) -> IdHasher
         ensures low { result.low ≡ bit_xor seed.low 0x243f_6a88_85a3_08e3 }
         ensures high { result.high ≡ bit_xor seed.high 0x9e37_79b9_7f4a_7c15 }
     {
@@ -57,7 +54,7 @@ fn folded_product(a: u64, b: u64) -> u64
     ensures { result ≡ folded a b }
 {
     let product = u128::from(a) * u128::from(b);
-    (product % HALF) as u64 ^ (product / HALF) as u64
+    (product % U64_VALUES) as u64 ^ (product / U64_VALUES) as u64
 }
 
 impl Hasher for IdHasher {
@@ -81,8 +78,8 @@ impl Hasher for IdHasher {
         ensures id { self.new ≡ with_id self.old id }
         ensures fed { self.new ≡ fold with_ids self.old (fed.u128 id) }
     {
-        let low = (id % HALF) as u64 ^ self.low;
-        let high = (id / HALF) as u64 ^ self.high;
+        let low = (id % U64_VALUES) as u64 ^ self.low;
+        let high = (id / U64_VALUES) as u64 ^ self.high;
         self.low = folded_product(low, high);
     }
 }

@@ -3,8 +3,8 @@
 /// The indices of the rows that a transfer changes: its two accounts, and the pending transfer that a post or a void
 /// names.
 #[derive(Clone, Copy)]
-pub struct Indices {
-    pub debit: usize,
-    pub credit: usize,
-    pub pending: Option<usize>,
+pub(crate) struct Indices {
+    pub(crate) debit: usize,
+    pub(crate) credit: usize,
+    pub(crate) pending: Option<usize>,
 }

@@ -20,7 +20,7 @@ use tb_layout::{Account, NoMemory, Transfer};
 
 /// The facts now, with the set of when pending transfers expire.
 #[derive(Drop)]
-pub struct Maps {
+pub(crate) struct Maps {
     accounts: ById<Account>,
     transfers: Transfers,
     failed: Ids,
@@ -52,7 +52,7 @@ impl Maps {
     ghost use Rattle.tb_tables.specs.Contents.{MayStore, HaveIndices, IsSound, IsUndoable, KeepsPairs, NamesOne, is_resolved_at, is_spent};
 
     /// Maps without facts, whose ids are hashed with a seed. Takes no memory.
-    pub fn new(alloc: Global, seed: Seed) -> Maps
+    pub(crate) fn new(alloc: Global, seed: Seed) -> Maps
         ensures { result.facts ≡ no_facts }
     {
         let hasher = IdHasher::new(seed);
@@ -65,7 +65,7 @@ impl Maps {
     }
 
     /// Reserves capacity for more accounts and transfers, so that the maps don't grow while these are added.
-    pub fn reserve(&mut self, accounts: usize, transfers: usize) -> Result<(), NoMemory>
+    pub(crate) fn reserve(&mut self, accounts: usize, transfers: usize) -> Result<(), NoMemory>
         ensures { self.new ≡ self.old }
     {
         self.accounts.reserve(accounts)?;
@@ -74,7 +74,7 @@ impl Maps {
     }
 
     /// Adds an account with this timestamp, unless one with its id is there; whether it was added.
-    pub fn add_account(&mut self, event: &Account, timestamp: u64) -> Result<bool, NoMemory>
+    pub(crate) fn add_account(&mut self, event: &Account, timestamp: u64) -> Result<bool, NoMemory>
         requires { HasNoBalances event.now }
         ensures new { IfOk result (λ added. added ≡ not (is_some (account_with self.old.facts event.now.id))) }
         ensures added { result ≡ Ok true → self.new ≡ record self.old
@@ -89,7 +89,7 @@ impl Maps {
     }
 
     /// Adds an id to those that failed.
-    pub fn add_failed(&mut self, id: u128) -> Result<(), NoMemory>
+    pub(crate) fn add_failed(&mut self, id: u128) -> Result<(), NoMemory>
         requires { is_failed self.old.facts id ≡ false }
         ensures ok { OnOk result (self.new ≡ record self.old { facts = with_failed self.old.facts id }) }
         ensures err { OnErr result (self.new ≡ self.old) }
@@ -102,7 +102,7 @@ impl Maps {
     /// Adds a transfer with this timestamp, whose accounts, and whose pending transfer, have these indices, unless one
     /// with its id is there; whether it was added. When it expires goes into the set first, and out again if it isn't
     /// added.
-    pub fn store(
+    pub(crate) fn store(
         &mut self,
         event: &Transfer,
         timestamp: u64,
@@ -132,7 +132,7 @@ impl Maps {
     }
 
     /// Takes a change back, which is the last one.
-    pub fn undo(&mut self, change: Change<Indices>)
+    pub(crate) fn undo(&mut self, change: Change<Indices>)
         requires { IsUndoable (has_pair self.old.pairs) change self.old.facts }
         ensures facts { self.new.facts ≡ before change self.old.facts }
         ensures pairs { KeepsPairs (length (before change self.old.facts).transfers) (has_pair self.old.pairs)
@@ -153,7 +153,7 @@ impl Maps {
     }
 
     /// Forgets when what some changes resolved would have expired: they won't be taken back.
-    pub fn remove_resolved(&mut self, changes: &[Change<Indices>])
+    pub(crate) fn remove_resolved(&mut self, changes: &[Change<Indices>])
         requires { AllByRecursion (NamesOne self.old.facts) changes.now }
         ensures facts { self.new.facts ≡ self.old.facts }
         ensures gone { (moment index : ℕ) → has_pair self.new.pairs moment index
@@ -164,7 +164,7 @@ impl Maps {
     }
 
     /// Lets each pending transfer expire that nothing resolved and whose timeout is over at a clock, in nanoseconds.
-    pub fn expire_due(&mut self, clock: u64)
+    pub(crate) fn expire_due(&mut self, clock: u64)
         ensures { self.new.facts ≡ with_due_expired clock self.old.facts }
     {
         expire_all(
@@ -176,7 +176,7 @@ impl Maps {
     }
 
     /// Returns the indices of the accounts of a plain or pending transfer.
-    pub fn indices_of(&self, transfer: &Transfer) -> Indices
+    pub(crate) fn indices_of(&self, transfer: &Transfer) -> Indices
         requires { MayAdd self.now.facts transfer.now }
         ensures at { HaveIndices self.now.facts transfer.now result }
         ensures may { MayStore self.now.facts transfer.now result.pending }
@@ -189,7 +189,7 @@ impl Maps {
     }
 
     /// Returns the indices of the accounts of a post or a void, and of the transfer that it names.
-    pub fn resolved_indices(&self, transfer: &Transfer, pending: usize) -> Indices
+    pub(crate) fn resolved_indices(&self, transfer: &Transfer, pending: usize) -> Indices
         requires pending { IsIndexOfTransfer self.now.facts transfer.now.pending_id (Some pending) }
         requires may { MayResolve self.now.facts transfer.now }
         ensures at { HaveIndices self.now.facts transfer.now result }
@@ -204,21 +204,21 @@ impl Maps {
     }
 
     /// Returns the account with this id, with its balances.
-    pub fn account(&self, id: u128) -> Option<Account>
+    pub(crate) fn account(&self, id: u128) -> Option<Account>
         ensures { result ≡ balanced_account self.now.facts id }
     {
         self.accounts.get(&id).copied()
     }
 
     /// Returns the index of the account with this id.
-    pub fn account_index(&self, id: u128) -> Option<usize>
+    pub(crate) fn account_index(&self, id: u128) -> Option<usize>
         ensures { IsIndexOf self.now.facts id result }
     {
         self.accounts.get_index_of(&id)
     }
 
     /// Returns the account at an index, with its balances.
-    pub fn account_at(&self, index: usize) -> Option<Account>
+    pub(crate) fn account_at(&self, index: usize) -> Option<Account>
         ensures { result ≡ option_map (balanced self.now.facts) (slice_get self.now.facts.accounts index) }
     {
         let (_, account) = self.accounts.get_index(index)?;
@@ -226,49 +226,49 @@ impl Maps {
     }
 
     /// Returns how many accounts there are.
-    pub fn accounts(&self) -> usize
+    pub(crate) fn accounts(&self) -> usize
         ensures { result ≡ length self.now.facts.accounts }
     {
         self.accounts.len()
     }
 
     /// Returns the transfer with this id.
-    pub fn transfer(&self, id: u128) -> Option<Transfer>
+    pub(crate) fn transfer(&self, id: u128) -> Option<Transfer>
         ensures { result ≡ transfer_with self.now.facts id }
     {
         self.transfers.transfer(id)
     }
 
     /// Returns the index of the transfer with this id.
-    pub fn transfer_index(&self, id: u128) -> Option<usize>
+    pub(crate) fn transfer_index(&self, id: u128) -> Option<usize>
         ensures { IsIndexOfTransfer self.now.facts id result }
     {
         self.transfers.index_of(id)
     }
 
     /// Returns the transfer at an index.
-    pub fn transfer_at(&self, index: usize) -> Option<Transfer>
+    pub(crate) fn transfer_at(&self, index: usize) -> Option<Transfer>
         ensures { result ≡ slice_get self.now.facts.transfers index }
     {
         self.transfers.transfer_at(index)
     }
 
     /// Returns the status of the pending transfer with this id.
-    pub fn status(&self, id: u128) -> Option<Status>
+    pub(crate) fn status(&self, id: u128) -> Option<Status>
         ensures { result ≡ status_with self.now.facts id }
     {
         self.transfers.status(id)
     }
 
     /// Returns the status of the pending transfer at an index.
-    pub fn status_at(&self, index: usize) -> Option<Status>
+    pub(crate) fn status_at(&self, index: usize) -> Option<Status>
         ensures { result ≡ status_if_pending self.now.facts (slice_get self.now.facts.transfers index) }
     {
         self.transfers.status_at(index)
     }
 
     /// Returns whether an id is among those that failed.
-    pub fn failed(&self, id: u128) -> bool
+    pub(crate) fn failed(&self, id: u128) -> bool
         ensures { result ≡ is_failed self.now.facts id }
     {
         self.failed.contains(&id)

@@ -5,7 +5,7 @@ ghost use Rattle.std.specs.Prelude.{◌≡◌, ◌<◌, ◌++◌, ◌∷◌, [],
 use crate::change::Change;
 
 /// Notes a change, within the capacity.
-pub fn note<T: Drop>(changes: &mut Vec<Change<T>>, change: Change<T>)
+pub(crate) fn note<T: Drop>(changes: &mut Vec<Change<T>>, change: Change<T>)
     requires { vec_len changes.old < vec_capacity changes.old }
     ensures { changes.new.items ≡ changes.old.items ++ change ∷ [] }
 {

@@ -7,16 +7,16 @@ use tb_layout::Transfer;
 
 /// A transfer, and its status if it is a pending one.
 #[derive(Clone, Copy)]
-pub struct Row {
-    pub transfer: Transfer,
-    pub status: Option<Status>,
+pub(crate) struct Row {
+    pub(crate) transfer: Transfer,
+    pub(crate) status: Option<Status>,
 }
 
 impl Row {
     ghost use Rattle.tb_tables.specs.Changing.{is_open_status};
 
     /// Returns whether the transfer still reserves its amount.
-    pub fn is_open(&self) -> bool
+    pub(crate) fn is_open(&self) -> bool
         ensures { result ≡ is_open_status self.now.status }
     {
         matches!(self.status, Some(Status::Pending))

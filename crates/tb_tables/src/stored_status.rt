@@ -9,7 +9,7 @@ use tb_layout::Transfer;
 
 /// The status of a transfer, or that it has none: one byte. An `Option<Status>` has two.
 #[derive(Clone, Copy)]
-pub enum StoredStatus {
+pub(crate) enum StoredStatus {
     NotPending,
     Pending,
     Posted,
@@ -21,7 +21,7 @@ const _: () = prove!(size_of::<StoredStatus>() == 1);
 
 impl StoredStatus {
     /// Returns the status of a transfer that nothing resolved.
-    pub fn first(transfer: &Transfer) -> StoredStatus
+    pub(crate) fn first(transfer: &Transfer) -> StoredStatus
         ensures { status_of_stored result ≡ status_first transfer.now }
     {
         if transfer.is_pending() {
@@ -32,7 +32,7 @@ impl StoredStatus {
     }
 
     /// Returns a status as it is stored.
-    pub fn of(status: Status) -> StoredStatus
+    pub(crate) fn of(status: Status) -> StoredStatus
         ensures { status_of_stored result ≡ Some status }
     {
         match status {
@@ -44,7 +44,7 @@ impl StoredStatus {
     }
 
     /// Returns the status, if it is that of a pending transfer.
-    pub fn status(self) -> Option<Status>
+    pub(crate) fn status(self) -> Option<Status>
         ensures { result ≡ status_of_stored self }
     {
         match self {

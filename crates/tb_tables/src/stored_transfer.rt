@@ -6,7 +6,7 @@ use tb_layout::Transfer;
 
 /// A transfer without its id, which is its key in the map: 112 bytes.
 #[derive(Clone, Copy, Default)]
-pub struct StoredTransfer {
+pub(crate) struct StoredTransfer {
     debit_account_id: u128,
     credit_account_id: u128,
     amount: u128,
@@ -28,7 +28,7 @@ impl StoredTransfer {
     ghost use Rattle.tb_tables.specs.Conditions.{stamped};
 
     /// Copies the fields of an event, all but its id, with the timestamp at which it is stored.
-    pub fn of(event: &Transfer, timestamp: u64) -> StoredTransfer
+    pub(crate) fn of(event: &Transfer, timestamp: u64) -> StoredTransfer
         ensures { transfer_under event.now.id result ≡ stamped timestamp event.now }
     {
         StoredTransfer {
@@ -48,7 +48,7 @@ impl StoredTransfer {
     }
 
     /// Returns the transfer with this id.
-    pub fn transfer(&self, id: u128) -> Transfer
+    pub(crate) fn transfer(&self, id: u128) -> Transfer
         ensures { result ≡ transfer_under id self.now }
     {
         Transfer {

@@ -38,7 +38,7 @@ fn expires_at(transfer: &Transfer, timestamp: u64) -> u64
 }
 
 /// Puts the pair of a transfer with this timestamp, at an index, into the set, if it has one.
-pub fn insert_expiry(
+pub(crate) fn insert_expiry(
     expiries: &mut Expiries,
     transfer: &Transfer,
     timestamp: u64,
@@ -57,7 +57,12 @@ pub fn insert_expiry(
 }
 
 /// Takes the pair of a transfer with this timestamp, at an index, out of the set again.
-pub fn remove_expiry(expiries: &mut Expiries, transfer: &Transfer, timestamp: u64, index: usize)
+pub(crate) fn remove_expiry(
+    expiries: &mut Expiries,
+    transfer: &Transfer,
+    timestamp: u64,
+    index: usize,
+)
     requires { is_pending transfer.now ≡ true → expires_at_of (stamped timestamp transfer.now) < 2 ^ 64 }
     ensures { (m p : ℕ) → is_in_expiries expiries.new m p
         ≡ (not (is_timed_of transfer.now && same_pair (expires_at_of (stamped timestamp transfer.now)) index m p)
@@ -70,7 +75,7 @@ pub fn remove_expiry(expiries: &mut Expiries, transfer: &Transfer, timestamp: u6
 
 /// Adds a stored event's amounts to its accounts. A post or a void releases what was reserved, and sets the status of
 /// the transfer that it names.
-pub fn apply(
+pub(crate) fn apply(
     accounts: &mut ById<Account>,
     transfers: &mut Transfers,
     indices: Indices,
@@ -115,7 +120,7 @@ fn unapply(
 }
 
 /// Takes the last transfer off, with what it changed.
-pub fn undo_transfer(
+pub(crate) fn undo_transfer(
     accounts: &mut ById<Account>,
     transfers: &mut Transfers,
     expiries: &mut Expiries,
@@ -182,7 +187,11 @@ fn remove_expiry_of(expiries: &mut Expiries, transfers: &Transfers, change: &Cha
 
 /// Takes the pairs of the transfers that some changes resolved out of the set. If that is empty, the changes
 /// aren't gone through.
-pub fn remove_resolved(expiries: &mut Expiries, transfers: &Transfers, changes: &[Change<Indices>])
+pub(crate) fn remove_resolved(
+    expiries: &mut Expiries,
+    transfers: &Transfers,
+    changes: &[Change<Indices>],
+)
     requires { (facts : Facts) × AllByRecursion (λ change. CanRemove facts change transfers.now) changes.now }
     ensures { (facts : Facts) → AllByRecursion (λ change.
         CanRemove facts change transfers.now) changes.now → (m p : ℕ)

@@ -32,7 +32,7 @@ fn expire(accounts: &mut ById<Account>, transfers: &mut Transfers, index: usize)
 
 /// Lets each transfer expire that still reserves its amount and whose pair is due at a clock. Costs as much as what
 /// expires.
-pub fn expire_all(
+pub(crate) fn expire_all(
     accounts: &mut ById<Account>,
     transfers: &mut Transfers,
     expiries: &mut Expiries,

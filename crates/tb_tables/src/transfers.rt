@@ -24,7 +24,7 @@ use tb_layout::{NoMemory, Transfer};
 
 /// The transfers and their statuses, in two columns: a status next to its transfer would be padded to 16 bytes.
 #[derive(Drop)]
-pub struct Transfers {
+pub(crate) struct Transfers {
     rows: ById<StoredTransfer>,
     statuses: Vec<StoredStatus>,
 }
@@ -69,7 +69,7 @@ fn push_row(
 
 impl Transfers {
     /// Makes a map without transfers. Takes no memory.
-    pub fn new(alloc: Global, hasher: IdHasher) -> Transfers
+    pub(crate) fn new(alloc: Global, hasher: IdHasher) -> Transfers
         ensures { result ≡ [] }
     {
         Transfers {
@@ -79,7 +79,7 @@ impl Transfers {
     }
 
     /// Reserves capacity in both columns.
-    pub fn reserve(&mut self, additional: usize) -> Result<(), NoMemory>
+    pub(crate) fn reserve(&mut self, additional: usize) -> Result<(), NoMemory>
         ensures { self.new ≡ self.old }
     {
         self.rows.reserve(additional)?;
@@ -88,14 +88,14 @@ impl Transfers {
     }
 
     /// Returns how many transfers there are.
-    pub fn len(&self) -> usize
+    pub(crate) fn len(&self) -> usize
         ensures { result ≡ length self.now }
     {
         self.rows.len()
     }
 
     /// Adds an event after the others, unless its id is there; whether it was added. The id is looked up once.
-    pub fn push(&mut self, event: &Transfer, timestamp: u64) -> Result<bool, NoMemory>
+    pub(crate) fn push(&mut self, event: &Transfer, timestamp: u64) -> Result<bool, NoMemory>
         ensures new { IfOk result (λ added. added ≡ not (is_some (lookup (nat_eq event.now.id) self.old))) }
         ensures added { result ≡ Ok true → self.new
             ≡ self.old ++ (event.now.id, new_row (stamped timestamp event.now)) ∷ [] }
@@ -110,7 +110,7 @@ impl Transfers {
     }
 
     /// Takes the last transfer off.
-    pub fn pop(&mut self) -> Transfer
+    pub(crate) fn pop(&mut self) -> Transfer
         requires { 0 < length self.old }
         ensures { (id : ℕ) (row : RowRecord) (others : List (ℕ × RowRecord)) → self.old ≡ others ++ (id, row) ∷ []
             → (result ≡ row.transfer) × (self.new ≡ others) }
@@ -121,7 +121,7 @@ impl Transfers {
     }
 
     /// Sets the status of the transfer at an index, and returns that transfer.
-    pub fn set_status(&mut self, index: usize, status: Status) -> Transfer
+    pub(crate) fn set_status(&mut self, index: usize, status: Status) -> Transfer
         requires { IsSome (slice_get self.old index) }
         ensures transfer { (id : ℕ) (row : RowRecord) → slice_get self.old index ≡ Some (id, row)
             → result ≡ row.transfer }
@@ -135,7 +135,7 @@ impl Transfers {
     }
 
     /// Returns the transfer at an index, with its status.
-    pub fn row_at(&self, index: usize) -> Row
+    pub(crate) fn row_at(&self, index: usize) -> Row
         requires { IsSome (slice_get self.now index) }
         ensures { (id : ℕ) (row : RowRecord) → slice_get self.now index ≡ Some (id, row) → result ≡ row }
     {
@@ -147,7 +147,7 @@ impl Transfers {
     }
 
     /// Returns the transfer with this id.
-    pub fn transfer(&self, id: u128) -> Option<Transfer>
+    pub(crate) fn transfer(&self, id: u128) -> Option<Transfer>
         ensures { result ≡ option_map (λ (row : RowRecord). row.transfer) (lookup (nat_eq id) self.now) }
     {
         let stored = self.rows.get(&id)?;
@@ -155,14 +155,14 @@ impl Transfers {
     }
 
     /// Returns the index of the transfer with this id.
-    pub fn index_of(&self, id: u128) -> Option<usize>
+    pub(crate) fn index_of(&self, id: u128) -> Option<usize>
         ensures { result ≡ position (nat_eq id) (keys_of self.now) }
     {
         self.rows.get_index_of(&id)
     }
 
     /// Returns the transfer at an index.
-    pub fn transfer_at(&self, index: usize) -> Option<Transfer>
+    pub(crate) fn transfer_at(&self, index: usize) -> Option<Transfer>
         ensures { result ≡ option_map (λ (entry : ℕ × RowRecord). entry.1.transfer) (slice_get self.now index) }
     {
         let (id, stored) = self.rows.get_index(index)?;
@@ -170,7 +170,7 @@ impl Transfers {
     }
 
     /// Returns the status of the pending transfer with this id.
-    pub fn status(&self, id: u128) -> Option<Status>
+    pub(crate) fn status(&self, id: u128) -> Option<Status>
         ensures { result ≡ status_found (lookup (nat_eq id) self.now) }
     {
         let index = self.rows.get_index_of(&id)?;
@@ -178,7 +178,7 @@ impl Transfers {
     }
 
     /// Returns the status of the pending transfer at an index.
-    pub fn status_at(&self, index: usize) -> Option<Status>
+    pub(crate) fn status_at(&self, index: usize) -> Option<Status>
         ensures { result ≡ status_found (option_map (λ (entry : ℕ × RowRecord). entry.1) (slice_get self.now index)) }
     {
         if index < self.statuses.len() {

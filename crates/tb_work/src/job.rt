@@ -48,6 +48,13 @@ impl Model for Job {
     ghost invariant = { λ job. HasRoomFor job.admitted job.room };
 }
 
+/// A job in its parts: the packet as it was handed in, and the room for its failures.
+#[derive(Drop)]
+pub(crate) struct JobParts {
+    pub(crate) packet: Packet,
+    pub(crate) room: FailureRoom,
+}
+
 /// Returns room for the failures of a packet: none for a lookup, which has no failures, except the two slots that any
 /// room has. Up to two failures take no memory.
 fn room_for(alloc: Global, operation: u8, count: u32) -> Result<FailureRoom, AllocError>
@@ -147,16 +154,16 @@ impl Job {
     pub fn into_packet(self) -> Packet
         ensures { result ≡ self.packet }
     {
-        let (packet, room) = self.into_packet_and_room();
+        let JobParts { packet, room } = self.into_parts();
         drop(room);
         packet
     }
 
-    /// Returns its packet, and the room for its failures.
-    pub(crate) fn into_packet_and_room(self) -> (Packet, FailureRoom)
-        ensures packet { result.0 ≡ self.packet }
-        ensures empty { result.1.items ≡ [] }
-        ensures fits { is_lookup self.packet ≡ false → count_of self.packet ≤ result.1.capacity }
+    /// Takes it apart.
+    pub(crate) fn into_parts(self) -> JobParts
+        ensures packet { result.packet ≡ self.packet }
+        ensures empty { result.room.items ≡ [] }
+        ensures fits { is_lookup self.packet ≡ false → count_of self.packet ≤ result.room.capacity }
     {
         let Job {
             number: _,
@@ -164,7 +171,10 @@ impl Job {
             admitted,
             room,
         } = self;
-        (admitted.into_packet(), room)
+        JobParts {
+            packet: admitted.into_packet(),
+            room,
+        }
     }
 
     /// Returns whether its last event is linked, so that nothing may be joined to it. A lookup never is.

@@ -8,7 +8,7 @@ ghost use Rattle.tb_work.specs.Job.{is_lookup};
 ghost use Rattle.tb_layout.specs.declared.answer.Answer.TheVariants.{Failures as FailuresOf};
 ghost use Rattle.tb_work.specs.declared.outcome.Outcome.TheVariants.{Committed as CommittedAt};
 
-use crate::job::Job;
+use crate::job::{Job, JobParts};
 use crate::outcome::Outcome;
 use crate::packet::Packet;
 use crate::stub::Stub;
@@ -86,7 +86,7 @@ impl Reply {
             number,
             count,
         } = job.stub();
-        let (packet, mut room) = job.into_packet_and_room();
+        let JobParts { packet, mut room } = job.into_parts();
         rebase_into(&mut room, failures, offset, count);
         Reply {
             submitter,

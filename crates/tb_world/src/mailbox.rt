@@ -11,7 +11,7 @@ use tb_work::Reply;
 
 /// A submitter's reply ring, and the replies that it received.
 #[derive(Drop)]
-pub struct Mailbox {
+pub(crate) struct Mailbox {
     ring: VecDeque<Reply>,
     received: Vec<Reply>,
 }
@@ -61,7 +61,7 @@ impl Mailbox {
 
 /// The mailboxes of all submitters, in the order of their numbers.
 #[derive(Drop)]
-pub struct Mailboxes {
+pub(crate) struct Mailboxes {
     mailboxes: Vec<Mailbox>,
 }
 

@@ -14,7 +14,7 @@ use tb_work::Reply;
 
 /// The next reply, and the cutter that has those after it.
 #[derive(Drop)]
-pub struct PendingReplies {
+pub(crate) struct PendingReplies {
     next: Option<Reply>,
     cutter: Option<Cutter>,
 }

@@ -8,9 +8,9 @@ use tb_work::Item;
 /// How many packets a sender has pushed, which may be one more than the greatest number of a packet, and whether
 /// it ended.
 #[derive(Clone, Copy)]
-pub struct WorldSender {
-    pub pushed: u128,
-    pub ended: bool,
+pub(crate) struct WorldSender {
+    pub(crate) pushed: u128,
+    pub(crate) ended: bool,
 }
 
 impl WorldSender {

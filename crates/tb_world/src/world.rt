@@ -95,29 +95,29 @@ impl Model for World {
     ghost invariant = { λ world. IsWorld world.submitters world.front world.queue.items world.senders.items };
 }
 
-/// Returns the submitters and the control; none has pushed anything.
-fn newcomers(alloc: Global, submitters: u32) -> Result<Vec<WorldSender>, NoMemory>
+/// The submitters and the control, and the submitters' rings.
+#[derive(Drop)]
+struct NewSenders {
+    senders: Vec<WorldSender>,
+    mailboxes: Mailboxes,
+}
+
+/// Returns senders that have pushed nothing.
+fn newcomers(alloc: Global, submitters: u32) -> Result<NewSenders, NoMemory>
     requires { submitters ≤ submitters_max }
-    ensures { IfOk result (λ senders. senders.items ≡ replicate (submitters + 1) newcomer) }
+    ensures senders { IfOk result (λ all. all.senders.items ≡ replicate (submitters + 1) newcomer) }
+    ensures mailboxes { IfOk result (λ all. all.mailboxes ≡ replicate submitters empty_mailbox) }
 {
-    let mut senders = Vec::new(alloc);
     let newcomer = WorldSender {
         pushed: 0,
         ended: false,
     };
+    let mut senders = Vec::new(alloc);
     senders.resize(submitters as usize + 1, newcomer)?;
-    Ok(senders)
-}
-
-/// Returns the senders, and the submitters' rings.
-fn sides(alloc: Global, submitters: u32) -> Result<(Vec<WorldSender>, Mailboxes), NoMemory>
-    requires { submitters ≤ submitters_max }
-    ensures senders { IfOk result (λ sides. sides.0.items ≡ replicate (submitters + 1) newcomer) }
-    ensures mailboxes { IfOk result (λ sides. sides.1 ≡ replicate submitters empty_mailbox) }
-{
-    let senders = newcomers(alloc, submitters)?;
-    let mailboxes = Mailboxes::new(alloc, submitters)?;
-    Ok((senders, mailboxes))
+    Ok(NewSenders {
+        senders,
+        mailboxes: Mailboxes::new(alloc, submitters)?,
+    })
 }
 
 /// Keeps the outcomes of a parcel. A pulse leaves none.
@@ -146,7 +146,7 @@ impl World {
             ⊎ ((opening_refusal limit submitters ≡ None) × (refusal ≡ NoMemoryRefusal))) }
     {
         let front = Front::new(alloc, limit, submitters)?;
-        let Ok((senders, mailboxes)) = sides(alloc, submitters) else {
+        let Ok(NewSenders { senders, mailboxes }) = newcomers(alloc, submitters) else {
             drop(front);
             return Err(Refusal::NoMemory);
         };

@@ -285,19 +285,13 @@ fn held_of_three(
     Ok(3)
 }
 
-/// Returns how many packets there are in the group held, which is then no longer held.
-fn packets_held(front: &mut Front) -> Option<usize> {
-    let batch = front.idle()?;
-    Some(batch.jobs().len())
-}
-
 /// Asserts the state of a front and its parcels that took this number of three packets before an allocation failed.
 fn assert_held(rt: &impl Abort, front: &mut Front, parcels: &[Parcel], held: usize) {
     let stopped = Handed::Return(Cause::Stopped);
     match held {
         0 => assert_handed(rt, parcels, &[stopped]),
         1 | 2 => assert_handed(rt, parcels, &[Handed::Batch(held), stopped]),
-        _ => assert!(rt; packets_held(front) == Some(3)),
+        _ => assert!(rt; front.idle().map(|batch| batch.jobs().len()) == Some(3)),
     }
 }
 

@@ -179,10 +179,7 @@ fn end_control<R: Wait + Abort>(rt: &R, control: Control, shut: bool) -> Control
 fn room_for_ends(alloc: Global) -> Result<Vec<Ended>, AllocError>
     ensures { IfOk result (λ ends. ends.items ≡ []) }
 {
-    match Vec::with_capacity(alloc, 16) {
-        Ok(ends) => Ok(ends),
-        Err(_) => Vec::with_capacity(alloc, 16),
-    }
+    Vec::with_capacity(alloc, 16).or_else(|_| Vec::with_capacity(alloc, 16))
 }
 
 /// Ends a submitter, and adds its end after the others; there is room for it.
@@ -240,10 +237,8 @@ fn finish<R: Threads + Wait + Sync, G: Gate>(
     ensures { IfOk result (λ report. IsRun pipeline.clock pipeline.intake.limit pipeline.intake.submitters
         report.ledger report.ends.items) }
 {
-    match pipeline.serve(rt, gate) {
-        Ok(served) => Ok(settle(served, ends.submitters, ends.control)),
-        Err(back) => Err(back),
-    }
+    let served = pipeline.serve(rt, gate)?;
+    Ok(settle(served, ends.submitters, ends.control))
 }
 
 /// Ends the control, queues accounts after that, ends the submitter, serves what is queued, and settles.

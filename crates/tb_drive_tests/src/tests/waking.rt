@@ -15,7 +15,7 @@ use tb_work::{Refusal, Reply};
 /// yields a number of times below `longest`, given by a fixed sequence. So the pipeline is idle after some packets and
 /// busy after others.
 #[derive(Drop)]
-struct Sender {
+struct WakingSender {
     packets: u32,
     longest: u32,
     credit: u32,
@@ -24,9 +24,9 @@ struct Sender {
     replies: u32,
 }
 
-impl Sender {
-    fn new(packets: u32, longest: u32, credit: u32, seed: u32) -> Sender {
-        Sender {
+impl WakingSender {
+    fn new(packets: u32, longest: u32, credit: u32, seed: u32) -> WakingSender {
+        WakingSender {
             packets,
             longest,
             credit,
@@ -46,7 +46,7 @@ impl Sender {
     }
 }
 
-impl Driver for Sender {
+impl Driver for WakingSender {
     fn next<R: Wait>(&mut self, _rt: &R, alloc: Global) -> Action {
         let unread = self.sent.saturating_sub(self.replies);
         let is_last = self.sent == self.packets;
@@ -77,7 +77,10 @@ impl Driver for Sender {
 }
 
 /// Returns how many replies each driver was given.
-fn replies_to(alloc: Global, finished: Finished<Sender, PlanDriver>) -> Result<Vec<u32>, Fail> {
+fn reply_counts(
+    alloc: Global,
+    finished: Finished<WakingSender, PlanDriver>,
+) -> Result<Vec<u32>, Fail> {
     let mut replies = Vec::new(alloc);
     for driver in &finished.drivers {
         replies.push(driver.replies)?;
@@ -96,7 +99,7 @@ fn replies_of<R: Threads + Wait + Sync>(
 ) -> Result<Vec<u32>, Fail> {
     let mut drivers = Vec::new(alloc);
     for &seed in seeds {
-        drivers.push(Sender::new(packets, longest, credit, seed))?;
+        drivers.push(WakingSender::new(packets, longest, credit, seed))?;
     }
     let opened = open(alloc, 0, 4, 8, credit, u32::try_from(drivers.len())?)?;
     match drive_all(
@@ -106,7 +109,7 @@ fn replies_of<R: Threads + Wait + Sync>(
         drivers,
         ControlPlan::none(alloc).driver(),
     ) {
-        Ok(finished) => replies_to(alloc, finished),
+        Ok(finished) => reply_counts(alloc, finished),
         Err(_) => Err("the run is given up")?,
     }
 }

@@ -14,7 +14,7 @@ use tb_work::{Packet, Refusal, Reply};
 
 /// Queues its share, the packets of a submitter in the order of the script, and notes the result of each.
 #[derive(Drop)]
-pub struct ScriptDriver {
+pub(crate) struct ScriptDriver {
     share: Snapshot<Vec<Packet>>,
     packets: IntoIter<Packet>,
     notes: Notes,
@@ -22,7 +22,7 @@ pub struct ScriptDriver {
 
 impl ScriptDriver {
     /// Returns the driver for these packets, with room for what it is to note.
-    pub fn new(alloc: Global, packets: Vec<Packet>) -> Result<ScriptDriver, NoMemory>
+    pub(crate) fn new(alloc: Global, packets: Vec<Packet>) -> Result<ScriptDriver, NoMemory>
         ensures share { IfOk result (λ driver. share_of driver ≡ packets.items) }
         ensures new { IfOk result (λ driver. (limit : ℕ) → HasSeenOf driver limit [] []) }
     {
@@ -36,7 +36,7 @@ impl ScriptDriver {
 
     /// Returns what it has noted. None if it found no room, or a packet is left, as none is once the driver has
     /// ended.
-    pub fn into_notes(self) -> Option<Notes>
+    pub(crate) fn into_notes(self) -> Option<Notes>
         ensures notes { IfSome result (λ notes. notes ≡ self.notes) }
         ensures done { IsSome result → IsDone self }
     {

@@ -7,7 +7,7 @@ use tb_drive::DriveFault;
 use tb_program_text::ProgramFault;
 
 /// Returns why the program gives up if its threads did: memory ran out, or a thread can't be started.
-pub fn program_fault_of(fault: DriveFault) -> ProgramFault
+pub(crate) fn program_fault_of(fault: DriveFault) -> ProgramFault
     ensures { result ≡ program_fault_of fault }
 {
     match fault {

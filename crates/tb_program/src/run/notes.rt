@@ -8,7 +8,7 @@ use tb_work::{Refusal, Reply};
 
 /// The result of a packet that a driver handed in.
 #[derive(Clone, Copy)]
-pub enum Told {
+pub(crate) enum Told {
     Queued,
     Refused(Refusal),
 }
@@ -16,16 +16,16 @@ pub enum Told {
 /// The results of a driver's packets so far, in their order, and the replies that it read. Room for both is made before
 /// any thread is started.
 #[derive(Drop)]
-pub struct Notes {
-    pub told: Vec<Told>,
-    pub replies: Vec<Reply>,
+pub(crate) struct Notes {
+    pub(crate) told: Vec<Told>,
+    pub(crate) replies: Vec<Reply>,
     /// Whether all of it found room.
-    pub complete: bool,
+    pub(crate) complete: bool,
 }
 
 impl Notes {
     /// Returns no notes, with room for this number of packets and their replies.
-    pub fn new(alloc: Global, packets: usize) -> Result<Notes, NoMemory>
+    pub(crate) fn new(alloc: Global, packets: usize) -> Result<Notes, NoMemory>
         ensures { IfOk result (λ notes. (notes.told.items ≡ []) × (notes.replies.items ≡ [])
             × (notes.complete ≡ true)) }
     {
@@ -37,7 +37,7 @@ impl Notes {
     }
 
     /// Notes the result of the next packet.
-    pub fn tell(&mut self, told: Told)
+    pub(crate) fn tell(&mut self, told: Told)
         ensures told { self.new.complete ≡ true → (self.old.complete ≡ true)
             × (self.new.told.items ≡ self.old.told.items ++ told ∷ []) }
         ensures replies { self.new.replies ≡ self.old.replies }
@@ -48,7 +48,7 @@ impl Notes {
     }
 
     /// Keeps the next reply.
-    pub fn keep(&mut self, reply: Reply)
+    pub(crate) fn keep(&mut self, reply: Reply)
         ensures told { self.new.told ≡ self.old.told }
         ensures replies { self.new.complete ≡ true → (self.old.complete ≡ true)
             × (self.new.replies.items ≡ self.old.replies.items ++ reply ∷ []) }

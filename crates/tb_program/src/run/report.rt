@@ -245,7 +245,7 @@ fn with_run(text: String, finished: Finished<ScriptDriver, PlanDriver>) -> Resul
 
 /// Returns the text of a run: its packets, its pulses, the pulses that were refused, the clock and the accounts. It
 /// begins with room for the shortest lines of what was committed.
-pub fn text_of(
+pub(crate) fn text_of(
     alloc: Global,
     finished: Finished<ScriptDriver, PlanDriver>,
 ) -> Result<String, NoMemory>

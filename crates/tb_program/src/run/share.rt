@@ -13,9 +13,9 @@ use tb_work::Packet;
 
 /// The items of a script by the threads that queue them: the packets of each submitter, and the control's lines.
 #[derive(Drop)]
-pub struct Shares {
-    pub packets: Vec<Vec<Packet>>,
-    pub lines: ControlPlan,
+pub(crate) struct Shares {
+    pub(crate) packets: Vec<Vec<Packet>>,
+    pub(crate) lines: ControlPlan,
 }
 
 impl Shares {
@@ -66,7 +66,11 @@ impl Shares {
 }
 
 /// Deals the items of a script out. No byte of a packet is copied.
-pub fn share_out(alloc: Global, submitters: u32, items: Vec<ScriptItem>) -> Result<Shares, NoMemory>
+pub(crate) fn share_out(
+    alloc: Global,
+    submitters: u32,
+    items: Vec<ScriptItem>,
+) -> Result<Shares, NoMemory>
     ensures number { IfOk result (λ shares. length shares.packets.items ≡ submitters) }
     ensures packets { IfOk result (λ shares. AreDealt 0 shares.packets.items items.items) }
     ensures moments { IfOk result (λ shares. shares.lines.moments.items ≡ moments_asked items.items) }

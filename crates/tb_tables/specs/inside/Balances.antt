@@ -1,7 +1,6 @@
 -- Each of an account's balances, and pending and posted amounts together.
 use Rattle.std.specs.Prelude.{ℕ, ◌+◌, ◌&&◌, ◌==◌}
 use Rattle.tb_tables.specs.Facts.{Facts}
-use Rattle.tb_layout.specs.declared.transfer.Transfer.{Transfer}
 use Rattle.tb_tables.specs.Balances.{amount_of, is_posting}
 use Rattle.tb_tables.specs.Status.{is_reserving}
 

@@ -1,7 +1,7 @@
 use super::job_of;
 use std::alloc::Global;
 use std::process::Abort;
-use tb_batch::{Batch, Batcher, Offered, Parts};
+use tb_batch::{Batch, Batcher, Offered};
 use tb_work::Refusal;
 
 const LIMITS: [(u32, Option<Refusal>); 5] = [
@@ -45,16 +45,12 @@ fn is_of_two(batch: &Batch) -> bool {
     batch.operation() == 129 && batch.jobs().len() == 2 && batch.stubs().len() == 2
 }
 
-fn have_room(parts: &Parts) -> bool {
-    parts.body.len() == 384 && parts.failures.capacity() >= 3
-}
-
 #[test]
 fn a_batch_and_its_parts(rt: HostRuntime) {
     let batch = batch_of_two(&rt);
     assert!(rt; is_of_two(&batch));
     let parts = batch.into_parts();
-    assert!(rt; have_room(&parts));
+    assert!(rt; parts.body.len() == 384 && parts.failures.capacity() >= 3);
     assert!(rt; is_of_two(&Batch::whole(parts)));
 }
 

@@ -5,4 +5,4 @@ mod lists;
 mod statuses;
 mod tables;
 
-pub use tables::PlainTables;
+pub(crate) use tables::PlainTables;

@@ -19,14 +19,7 @@ use std::thread::Threads;
 use tb_layout::{CREATE_ACCOUNTS, NoMemory};
 use tb_pipe::{Open, Report};
 use tb_submit::{Control, Ended, Intake, Submitter};
-use tb_work::{Item, Packet, Refusal, Ticket};
-
-fn packet_again(alloc: Global, id: u8) -> Result<Packet, NoMemory> {
-    match packet_of(alloc, CREATE_ACCOUNTS, id) {
-        Ok(packet) => Ok(packet),
-        Err(_) => packet_of(alloc, CREATE_ACCOUNTS, id),
-    }
-}
+use tb_work::{Item, Refusal, Ticket};
 
 /// Returns a pipeline of one submitter, opened again if memory ran out, and whether it did.
 fn open_again(rt: &impl Abort, alloc: Global, told: &mut bool) -> Result<Lone, Refusal>
@@ -51,7 +44,11 @@ fn submit_account<R: Wait + Abort>(
 ) -> Result<(), NoMemory>
     ensures { origin_of submitter.new ≡ origin_of submitter.old }
 {
-    let packet = packet_again(alloc, id)?;
+    let packet = packet_of(alloc, CREATE_ACCOUNTS, id).or_else(|_| packet_of(
+        alloc,
+        CREATE_ACCOUNTS,
+        id,
+    ))?;
     assert!(rt; submit(rt, alloc, submitter, packet).is_ok());
     Ok(())
 }

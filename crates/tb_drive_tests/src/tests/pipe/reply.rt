@@ -12,7 +12,7 @@ use std::alloc::Global;
 use std::process::Abort;
 use std::sync::Wait;
 use std::thread::Threads;
-use tb_layout::{CREATE_ACCOUNTS, Failure, NoMemory};
+use tb_layout::{CREATE_ACCOUNTS, Failure};
 use tb_pipe::{Open, Pipeline, Report, open, settle};
 use tb_submit::{Control, ControlEnd, Ended, Submitter};
 use tb_test_makers::{account, accounts_packet};
@@ -129,11 +129,6 @@ fn reply_to_one<R: Threads + Wait + Sync + Abort>(rt: &R, alloc: Global, packet:
     reply
 }
 
-/// Returns a packet that asks twice for account 1.
-fn same_account_twice(alloc: Global) -> Result<Packet, NoMemory> {
-    accounts_packet(alloc, &[account(1, 0), account(1, 0)])
-}
-
 /// Returns the failures of what was committed at place 0; None for another outcome.
 fn failures_at_first(outcome: &Outcome) -> Option<&[Failure]> {
     match outcome {
@@ -148,7 +143,8 @@ fn failures_at_first(outcome: &Outcome) -> Option<&[Failure]> {
 /// The second one exists already (`run_with_refusals`).
 #[test]
 fn reply_of_an_account_twice(rt: HostRuntime) {
-    let packet = same_account_twice(rt.alloc()).expect(&rt, "memory");
+    let twice = [account(1, 0), account(1, 0)];
+    let packet = accounts_packet(rt.alloc(), &twice).expect(&rt, "memory");
     let reply = reply_to_one(&rt, rt.alloc(), packet);
     assert_eq!(rt; (reply.submitter, reply.number), (0, 0));
     assert_eq!(rt; look_of(&reply.packet), (CREATE_ACCOUNTS, 256, 7));

@@ -13,7 +13,8 @@ pub run_opened-requires-clause-number : goal.run_opened-requires-clause-number
 run_opened-requires-clause-number g c κs within =
     let drivers = c.in_ok-drivers.drivers.items in
     let packets = c.in_ok-packets.field-0.packets.items in
-    let number : length packets ≡ submitters_of c.in_ok-settings.settings = search rules in
+    let script = c.in_ok-settings.field-0 in
+    let number : length packets ≡ submitters_of script.settings = search rules in
     sym (length-map drivers share_of) ∙ ap length c.in_ok-drivers.ensures.shares
     ∙ length-map packets (λ (share : Vec Packet Global). share.items) ∙ number ∙ sym c.in-Ok.ensures.number
 
@@ -30,15 +31,16 @@ pub returns-in-Ok : goal.returns-in-Ok
 returns-in-Ok g c =
     let parsed = c.args.script in
     let packets = c.in_ok-packets.field-0.packets.items in
-    let all = c.in_ok-settings.ensures.all in
-    let clock = c.in-Ok.ensures.clock ∙ ap clock_of all.0 in
-    let limit = c.in-Ok.ensures.limit ∙ ap limit_of all.0 in
-    let number : length packets ≡ submitters_of c.in_ok-settings.settings = search rules in
-    let dealt : AreDealt 0 packets c.in_ok-settings.items.items = search rules in
-    let shares = c.in_ok-drivers.ensures.shares ∙ dealt_lists 0 packets c.in_ok-settings.items.items dealt
-    ∙ ap (λ n. shares_of 0 n c.in_ok-settings.items.items) number
-    ∙ ap (λ (settings : Settings). shares_of 0 (submitters_of settings) c.in_ok-settings.items.items) all.0
-    ∙ ap (shares_of 0 (submitters_of parsed.settings)) all.1 in
+    let script = c.in_ok-settings.field-0 in
+    let is = c.in_ok-settings.ensures in
+    let clock = c.in-Ok.ensures.clock ∙ ap clock_of is.settings in
+    let limit = c.in-Ok.ensures.limit ∙ ap limit_of is.settings in
+    let number : length packets ≡ submitters_of script.settings = search rules in
+    let dealt : AreDealt 0 packets script.items.items = search rules in
+    let shares = c.in_ok-drivers.ensures.shares ∙ dealt_lists 0 packets script.items.items dealt
+    ∙ ap (λ n. shares_of 0 n script.items.items) number
+    ∙ ap (λ (settings : Settings). shares_of 0 (submitters_of settings) script.items.items) is.settings
+    ∙ ap (shares_of 0 (submitters_of parsed.settings)) is.items in
     let moments : c.in_ok-packets.field-0.lines.moments.items ≡ moments_asked (items_of parsed) = search rules in
     let shuts : c.in_ok-packets.field-0.lines.shuts ≡ shuts_in (items_of parsed) = search rules in
     rw (clock, limit, shares, moments, shuts) at c.run_opened.ensures

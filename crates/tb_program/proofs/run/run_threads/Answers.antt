@@ -5,5 +5,5 @@ use Rattle.tb_program.proofs.run.run_threads.Goals as goal
 pub returns-clause-faulty : goal.returns-clause-faulty
 returns-clause-faulty g c = search rules
 
-pub returns-in_err-text-clause-read : goal.returns-in_err-text-clause-read
-returns-in_err-text-clause-read g c = search rules
+pub returns-in_err-output-clause-read : goal.returns-in_err-output-clause-read
+returns-in_err-output-clause-read g c = search rules

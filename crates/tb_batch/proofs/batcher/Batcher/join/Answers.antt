@@ -1,5 +1,5 @@
 use Rattle.std.proofs.Common.{ap, sym, ◌∙◌, subst}
-use Rattle.tb_batch.specs.Held.{IsHeld, Held, jobs_of}
+use Rattle.tb_batch.specs.BatcherState.{IsBatcherState, BatcherState, jobs_of}
 use Rattle.tb_batch.specs.Grouping.{is_taken}
 use Rattle.tb_batch.proofs.Groups.{still_held}
 use Rattle.tb_batch.proofs.batcher.Batcher.join.Goals as goal
@@ -8,7 +8,7 @@ use Rattle.tb_batch.proofs.batcher.Batcher.join.Goals as goal
 pub invariant_of-self : goal.invariant_of-self
 invariant_of-self c =
     still_held c.join.result c.self.inside.limit c.in-Some.held c.join.new.self c.args.job
-    (subst (λ held. IsHeld c.self.inside.limit (jobs_of held)) c.in-Some.is c.self.invariant)
+    (subst (λ held. IsBatcherState c.self.inside.limit (jobs_of held)) c.in-Some.is c.self.invariant)
     (ap (λ held. is_taken c.self.inside.limit (jobs_of held) c.args.job) (sym c.in-Some.is)
-    ∙ ap (λ (held : Held). is_taken held.limit held.jobs c.args.job) c.self.view_is ∙ c.requires)
+    ∙ ap (λ (held : BatcherState). is_taken held.limit held.jobs c.args.job) c.self.view_is ∙ c.requires)
     c.join.ensures.group c.join.ensures.same

@@ -65,7 +65,7 @@ fn credits_posted(rows: &[(Transfer, bool)], id: u128) -> u128
 }
 
 /// Returns an account with its balances.
-pub fn with_balances(rows: &[(Transfer, bool)], account: Account) -> Account
+pub(crate) fn with_balances(rows: &[(Transfer, bool)], account: Account) -> Account
     requires { IsLawful (facts_in rows.now) }
     ensures { result ≡ with_balances_of (facts_in rows.now) account }
 {

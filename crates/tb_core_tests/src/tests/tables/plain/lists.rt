@@ -11,7 +11,7 @@ use tb_layout::{Account, NoMemory, Transfer};
 
 /// The lists, each in order of making; each transfer with whether it expired.
 #[derive(Drop)]
-pub struct Lists {
+pub(crate) struct Lists {
     accounts: Vec<Account>,
     rows: Vec<(Transfer, bool)>,
     failed: Vec<u128>,
@@ -35,7 +35,7 @@ impl Lists {
     ghost use Rattle.tb_core_tests.specs.Plain.{facts_of, cut_back as before};
 
     /// Returns empty lists. Takes no memory.
-    pub fn new(alloc: Global) -> Lists
+    pub(crate) fn new(alloc: Global) -> Lists
         ensures { result ≡ record { accounts = []; rows = []; failed = [] } }
     {
         Lists {
@@ -46,7 +46,7 @@ impl Lists {
     }
 
     /// Adds an account.
-    pub fn push_account(&mut self, account: Account) -> Result<(), NoMemory>
+    pub(crate) fn push_account(&mut self, account: Account) -> Result<(), NoMemory>
         ensures ok { OnOk result (self.new ≡ record self.old { accounts = self.old.accounts ++ account ∷ [] }) }
         ensures err { OnErr result (self.new ≡ self.old) }
     {
@@ -55,7 +55,7 @@ impl Lists {
     }
 
     /// Adds a transfer.
-    pub fn push_transfer(&mut self, transfer: Transfer) -> Result<(), NoMemory>
+    pub(crate) fn push_transfer(&mut self, transfer: Transfer) -> Result<(), NoMemory>
         ensures ok { OnOk result (self.new ≡ record self.old { rows = self.old.rows ++ (transfer, false) ∷ [] }) }
         ensures err { OnErr result (self.new ≡ self.old) }
     {
@@ -64,7 +64,7 @@ impl Lists {
     }
 
     /// Adds a failed id.
-    pub fn push_failed(&mut self, id: u128) -> Result<(), NoMemory>
+    pub(crate) fn push_failed(&mut self, id: u128) -> Result<(), NoMemory>
         ensures ok { OnOk result (self.new ≡ record self.old { failed = self.old.failed ++ id ∷ [] }) }
         ensures err { OnErr result (self.new ≡ self.old) }
     {
@@ -73,7 +73,7 @@ impl Lists {
     }
 
     /// Takes off what a change added.
-    pub fn cut_back(&mut self, change: Change)
+    pub(crate) fn cut_back(&mut self, change: Change)
         ensures { self.new ≡ before change self.old }
     {
         match change {
@@ -84,7 +84,7 @@ impl Lists {
     }
 
     /// Lets each transfer expire that reserves its amount and is due at a clock.
-    pub fn expire_due(&mut self, clock: u64)
+    pub(crate) fn expire_due(&mut self, clock: u64)
         requires { IsLawful (facts_of self.old) }
         ensures facts { facts_of self.new ≡ with_due_expired clock (facts_of self.old) }
         ensures lawful { IsLawful (facts_of self.new) }
@@ -93,21 +93,21 @@ impl Lists {
     }
 
     /// Returns the accounts.
-    pub fn accounts(&self) -> &[Account]
+    pub(crate) fn accounts(&self) -> &[Account]
         ensures { result.now ≡ self.now.accounts }
     {
         self.accounts.as_slice()
     }
 
     /// Returns the transfers, with their marks.
-    pub fn rows(&self) -> &[(Transfer, bool)]
+    pub(crate) fn rows(&self) -> &[(Transfer, bool)]
         ensures { result.now ≡ self.now.rows }
     {
         self.rows.as_slice()
     }
 
     /// Returns the failed ids.
-    pub fn failed(&self) -> &[u128]
+    pub(crate) fn failed(&self) -> &[u128]
         ensures { result.now ≡ self.now.failed }
     {
         self.failed.as_slice()

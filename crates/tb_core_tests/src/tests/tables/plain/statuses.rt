@@ -12,7 +12,7 @@ use tb_layout::{NANOSECONDS_PER_SECOND, Transfer};
 use tb_tables::Status;
 
 /// Returns the transfer with this id.
-pub fn transfer_in(rows: &[(Transfer, bool)], id: u128) -> Option<Transfer>
+pub(crate) fn transfer_in(rows: &[(Transfer, bool)], id: u128) -> Option<Transfer>
     ensures { result ≡ find (λ (transfer : TransferRecord). transfer.id == id) (transfers_in rows.now) }
 {
     rows.iter()
@@ -41,7 +41,7 @@ fn is_voided(rows: &[(Transfer, bool)], id: u128) -> bool
 }
 
 /// Returns whether a post or a void names the transfer with this id.
-pub fn is_resolved(rows: &[(Transfer, bool)], id: u128) -> bool
+pub(crate) fn is_resolved(rows: &[(Transfer, bool)], id: u128) -> bool
     ensures { result ≡ list_any (λ (other : TransferRecord). is_resolving other && (other.pending_id == id))
         (transfers_in rows.now) }
 {
@@ -50,7 +50,7 @@ pub fn is_resolved(rows: &[(Transfer, bool)], id: u128) -> bool
 }
 
 /// Returns whether the transfer with this id expired.
-pub fn is_expired(rows: &[(Transfer, bool)], id: u128) -> bool
+pub(crate) fn is_expired(rows: &[(Transfer, bool)], id: u128) -> bool
     ensures { result ≡ list_any (λ expired. expired == id) (expired_in rows.now) }
 {
     rows.iter()
@@ -60,7 +60,7 @@ pub fn is_expired(rows: &[(Transfer, bool)], id: u128) -> bool
 }
 
 /// Returns the status of the transfer with this id, which is a pending one.
-pub fn status_in(rows: &[(Transfer, bool)], id: u128) -> Status
+pub(crate) fn status_in(rows: &[(Transfer, bool)], id: u128) -> Status
     ensures { result ≡ status_of (facts_in rows.now) id }
 {
     if is_posted(rows, id) {
@@ -84,7 +84,7 @@ fn is_due(clock: u64, transfer: &Transfer) -> bool
 }
 
 /// Returns whether a transfer still reserves its amount.
-pub fn is_reserving(rows: &[(Transfer, bool)], transfer: &Transfer) -> bool
+pub(crate) fn is_reserving(rows: &[(Transfer, bool)], transfer: &Transfer) -> bool
     ensures { result ≡ is_reserving_in (facts_in rows.now) transfer.now }
 {
     transfer.is_pending() && !is_resolved(rows, transfer.id) && !is_expired(rows, transfer.id)
@@ -98,7 +98,7 @@ fn expires(rows: &[(Transfer, bool)], clock: u64, transfer: &Transfer) -> bool
 }
 
 /// Marks each transfer that reserves its amount and is due at a clock.
-pub fn expire_due(rows: &mut [(Transfer, bool)], clock: u64)
+pub(crate) fn expire_due(rows: &mut [(Transfer, bool)], clock: u64)
     requires { IsLawful (facts_in rows.old) }
     ensures rows { facts_in rows.new ≡ with_due_expired clock (facts_in rows.old) }
     ensures lawful { IsLawful (facts_in rows.new) }

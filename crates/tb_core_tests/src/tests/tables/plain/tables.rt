@@ -14,7 +14,7 @@ use tb_tables::Status;
 
 /// The facts of a ledger, as plain lists.
 #[derive(Drop)]
-pub struct PlainTables {
+pub(crate) struct PlainTables {
     lists: Lists,
     changes: Vec<Change>,
 }
@@ -40,7 +40,7 @@ impl PlainTables {
     ghost use Rattle.tb_tables.specs.Lawful.{IsLawful};
 
     /// Returns tables without facts. Takes no memory.
-    pub fn new(alloc: Global) -> PlainTables
+    pub(crate) fn new(alloc: Global) -> PlainTables
         ensures { result ≡ record { now = no_facts; past = [] } }
     {
         PlainTables {
@@ -50,7 +50,7 @@ impl PlainTables {
     }
 
     /// Adds an account after those that are there.
-    pub fn add_account(&mut self, account: Account) -> Result<(), NoMemory>
+    pub(crate) fn add_account(&mut self, account: Account) -> Result<(), NoMemory>
         requires new { account_with self.old.now account.id ≡ None }
         requires no_balances { HasNoBalances account }
         ensures ok { OnOk result (self.new ≡ with_change self.old (with_account self.old.now account)) }
@@ -75,7 +75,7 @@ impl PlainTables {
     }
 
     /// Adds a plain or pending transfer after those that are there.
-    pub fn add_transfer(&mut self, transfer: Transfer) -> Result<(), NoMemory>
+    pub(crate) fn add_transfer(&mut self, transfer: Transfer) -> Result<(), NoMemory>
         requires { MayAdd self.old.now transfer }
         ensures ok { OnOk result (self.new ≡ with_change self.old (with_transfer self.old.now transfer)) }
         ensures err { OnErr result (self.new ≡ self.old) }
@@ -84,7 +84,7 @@ impl PlainTables {
     }
 
     /// Adds a post or a void, with its resolved fields. The transfer that it names is pending no more.
-    pub fn resolve(&mut self, transfer: Transfer) -> Result<(), NoMemory>
+    pub(crate) fn resolve(&mut self, transfer: Transfer) -> Result<(), NoMemory>
         requires new { transfer_with self.old.now transfer.id ≡ None }
         requires may { MayResolve self.old.now transfer }
         ensures ok { OnOk result (self.new ≡ with_change self.old (with_transfer self.old.now transfer)) }
@@ -94,7 +94,7 @@ impl PlainTables {
     }
 
     /// Adds an id to those that failed.
-    pub fn add_failed(&mut self, id: u128) -> Result<(), NoMemory>
+    pub(crate) fn add_failed(&mut self, id: u128) -> Result<(), NoMemory>
         requires { is_failed self.old.now id ≡ false }
         ensures ok { OnOk result (self.new ≡ with_change self.old (with_failed self.old.now id)) }
         ensures err { OnErr result (self.new ≡ self.old) }
@@ -106,7 +106,7 @@ impl PlainTables {
     }
 
     /// Returns the account with this id, with its balances.
-    pub fn account(&self, id: u128) -> Option<Account>
+    pub(crate) fn account(&self, id: u128) -> Option<Account>
         ensures { result ≡ balanced_account self.now.now id }
     {
         let account = account_in(self.lists.accounts(), id)?;
@@ -114,7 +114,7 @@ impl PlainTables {
     }
 
     /// Returns the account at an index in the order of making, counted from 0, with its balances.
-    pub fn account_at(&self, index: usize) -> Option<Account>
+    pub(crate) fn account_at(&self, index: usize) -> Option<Account>
         ensures { result ≡ option_map (balanced self.now.now) (slice_get self.now.now.accounts index) }
     {
         let account = account_at(self.lists.accounts(), index)?;
@@ -122,21 +122,21 @@ impl PlainTables {
     }
 
     /// Returns how many accounts there are.
-    pub fn accounts(&self) -> usize
+    pub(crate) fn accounts(&self) -> usize
         ensures { result ≡ length self.now.now.accounts }
     {
         self.lists.accounts().len()
     }
 
     /// Returns the transfer with this id; a post or a void with its resolved fields.
-    pub fn transfer(&self, id: u128) -> Option<Transfer>
+    pub(crate) fn transfer(&self, id: u128) -> Option<Transfer>
         ensures { result ≡ transfer_with self.now.now id }
     {
         transfer_in(self.lists.rows(), id)
     }
 
     /// Returns the status of the pending transfer with this id.
-    pub fn status(&self, id: u128) -> Option<Status>
+    pub(crate) fn status(&self, id: u128) -> Option<Status>
         ensures { result ≡ status_with self.now.now id }
     {
         let transfer = transfer_in(self.lists.rows(), id)?;
@@ -148,14 +148,14 @@ impl PlainTables {
     }
 
     /// Returns whether an id is among those that failed.
-    pub fn failed(&self, id: u128) -> bool
+    pub(crate) fn failed(&self, id: u128) -> bool
         ensures { result ≡ is_failed self.now.now id }
     {
         self.lists.failed().iter().any(|failed| *failed == id)
     }
 
     /// Returns how far `undo_to` can come back to, here a plain count. It is spent by `keep` and by going back past it.
-    pub fn mark(&self) -> usize
+    pub(crate) fn mark(&self) -> usize
         ensures { result ≡ mark_of self.now }
     {
         self.changes.as_slice().len()
@@ -173,7 +173,7 @@ impl PlainTables {
     }
 
     /// Goes back to a mark. Costs as much as the changes since then, and takes no memory.
-    pub fn undo_to(&mut self, mark: usize)
+    pub(crate) fn undo_to(&mut self, mark: usize)
         requires { mark ≤ mark_of self.old }
         ensures { self.new ≡ back_to mark self.old }
     {
@@ -183,7 +183,7 @@ impl PlainTables {
     }
 
     /// Keeps the changes: they can't be undone any more.
-    pub fn keep(&mut self)
+    pub(crate) fn keep(&mut self)
         ensures { self.new ≡ without_past self.old }
     {
         self.changes.clear();
@@ -191,7 +191,7 @@ impl PlainTables {
 
     /// Lets each pending transfer expire that nothing resolved and whose timeout is over at a clock, in
     /// nanoseconds. Takes no memory.
-    pub fn expire_due(&mut self, clock: u64)
+    pub(crate) fn expire_due(&mut self, clock: u64)
         requires { self.old.past ≡ [] }
         ensures { self.new ≡ record { now = with_due_expired clock self.old.now; past = [] } }
     {

@@ -18,14 +18,15 @@ returns g c =
     let served = c.in-Ok.served in
     let ends = c.results.inside.ends.items in
     let drivers = c.results.inside.drivers.items in
-    let end = c.in_ok-results.control.end in
+    let joined = c.in_ok-results.field-0 in
+    let end = joined.control.end in
     let settled = c.settle-report.ensures in
     let results : AreResultsOf tasks (record { ends = ends; shares = map g.D.Driver.share drivers }) =
     subst (λ (state : SubmitterResultsState). AreResultsOf tasks state) (sym c.results.view_is)
-    (subst (λ (all : TasksState _). AreResultsOf all.submitters c.in_ok-results.results) c.in_ok-running.ensures
+    (subst (λ (all : TasksState _). AreResultsOf all.submitters joined.submitters) c.in_ok-running.ensures
     c.in_ok-results.ensures.submitters) in
-    let control : IsControlResultOf g.C.ControlDriver.has_ended c.args.self.control c.in_ok-results.control =
-    subst (λ (all : TasksState _). IsControlResultOf g.C.ControlDriver.has_ended all.control c.in_ok-results.control)
+    let control : IsControlResultOf g.C.ControlDriver.has_ended c.args.self.control joined.control =
+    subst (λ (all : TasksState _). IsControlResultOf g.C.ControlDriver.has_ended all.control joined.control)
     c.in_ok-running.ensures c.in_ok-results.ensures.control in
     let own : map end_origin ends ≡ served.submitters =
     results.own ∙ c.requires.0 ∙ sym c.in-Ok.ensures.submitters in

@@ -2,5 +2,5 @@
 use Rattle.std.proofs.Common.{rules}
 use Rattle.tb_program_script.proofs.script.Script.finish.Goals as goal
 
-pub returns-clause-all : goal.returns-clause-all
-returns-clause-all c = search rules
+pub returns-clause-items : goal.returns-clause-items
+returns-clause-items c = search rules

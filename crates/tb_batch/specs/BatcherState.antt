@@ -4,7 +4,7 @@ use Rattle.tb_layout.specs.inside.Limits.{batch_max}
 use Rattle.tb_work.specs.Packet.{Numbered}
 use Rattle.tb_batch.specs.Grouping.{IsGroup}
 
-pub record Held : Type 0 where
+pub record BatcherState : Type 0 where
   pub limit : ℕ
   pub jobs : List Numbered
 
@@ -12,7 +12,7 @@ abbrev pub jobs_of : Option (List Numbered) → List Numbered
 jobs_of None = []
 jobs_of (Some jobs) = jobs
 
-pub record IsHeld (limit : ℕ) (jobs : List Numbered) : Type 0 where
+pub record IsBatcherState (limit : ℕ) (jobs : List Numbered) : Type 0 where
   pub limit_low : 1 ≤ limit
   pub limit_high : limit ≤ batch_max
   pub group : IsGroup limit jobs
