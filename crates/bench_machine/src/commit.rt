@@ -9,16 +9,16 @@ use tb_machine::{Machine, Seed};
 
 /// How many events failed or accounts were found, and a sum over the balances.
 #[derive(Clone, Copy)]
-pub struct Committed {
-    pub failures: u64,
-    pub balances: u128,
+pub(crate) struct Committed {
+    pub(crate) failures: u64,
+    pub(crate) balances: u128,
 }
 
 /// The processor times of the median commit and of the longest, in nanoseconds.
 #[derive(Clone, Copy)]
-pub struct Times {
-    pub median: u64,
-    pub longest: u64,
+pub(crate) struct Times {
+    pub(crate) median: u64,
+    pub(crate) longest: u64,
 }
 
 /// The events of a packet of accounts that are made before the packets.
@@ -104,7 +104,7 @@ fn sum_of_balances(machine: &Machine) -> u128 {
 }
 
 /// Commits the packets.
-pub fn commit_packets(alloc: Global, load: Load) -> Option<Committed> {
+pub(crate) fn commit_packets(alloc: Global, load: Load) -> Option<Committed> {
     let mut machine = machine_with_accounts(alloc, load)?;
     let mut failures = 0u64;
     for number in 0..load.packets {
@@ -138,7 +138,7 @@ fn times_of<R: CpuClock>(rt: &R, alloc: Global, load: Load) -> Option<Vec<u64>> 
 }
 
 /// Commits the packets and takes the time of each.
-pub fn time_packets<R: CpuClock>(rt: &R, alloc: Global, load: Load) -> Option<Times> {
+pub(crate) fn time_packets<R: CpuClock>(rt: &R, alloc: Global, load: Load) -> Option<Times> {
     let mut times = times_of(rt, alloc, load)?;
     times.sort_unstable();
     Some(Times {
@@ -148,7 +148,7 @@ pub fn time_packets<R: CpuClock>(rt: &R, alloc: Global, load: Load) -> Option<Ti
 }
 
 /// Makes the same packets and drops them; how many bytes they have.
-pub fn make_packets(alloc: Global, load: Load) -> Option<u64> {
+pub(crate) fn make_packets(alloc: Global, load: Load) -> Option<u64> {
     machine_with_accounts(alloc, load)?;
     let mut bytes = 0u64;
     for number in 0..load.packets {

@@ -158,7 +158,7 @@ fn attacked(made: u64, accounts: u64) -> [u8; 128] {
 }
 
 /// Returns the bytes of the event of a kind after a number of others; those before the packets are accounts.
-pub fn event_of(kind: Kind, made: u64, accounts: u64) -> [u8; 128] {
+pub(crate) fn event_of(kind: Kind, made: u64, accounts: u64) -> [u8; 128] {
     match kind {
         Kind::Accounts => account(made.wrapping_add(1)),
         Kind::Plain | Kind::Lookups => plain(made, accounts),
@@ -187,7 +187,7 @@ fn part_of(kind: Kind, event: &[u8; 128]) -> &[u8] {
 }
 
 /// Returns the data of the packet with a number, or None if memory runs out.
-pub fn body_of(alloc: Global, load: Load, number: u64) -> Option<Vec<u8>> {
+pub(crate) fn body_of(alloc: Global, load: Load, number: u64) -> Option<Vec<u8>> {
     let Load {
         kind,
         events,

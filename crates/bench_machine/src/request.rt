@@ -4,7 +4,7 @@ use std::env::Args;
 
 /// The kinds of events.
 #[derive(Clone, Copy)]
-pub enum Kind {
+pub(crate) enum Kind {
     /// Accounts.
     Accounts,
     /// Plain transfers.
@@ -42,27 +42,27 @@ pub enum Kind {
 /// The packets to make: their kind, their number and the number of events in each; the number of accounts; the number
 /// of transfers to reserve capacity for; and the seed of the hashes.
 #[derive(Clone, Copy)]
-pub struct Load {
-    pub kind: Kind,
-    pub events: u64,
-    pub packets: u64,
-    pub accounts: u64,
-    pub room: u64,
-    pub seed: u64,
+pub(crate) struct Load {
+    pub(crate) kind: Kind,
+    pub(crate) events: u64,
+    pub(crate) packets: u64,
+    pub(crate) accounts: u64,
+    pub(crate) room: u64,
+    pub(crate) seed: u64,
 }
 
 /// What to do with the packets.
 #[derive(Clone, Copy)]
-pub enum Command {
+pub(crate) enum Command {
     Commit,
     Times,
     Make,
 }
 
 #[derive(Clone, Copy)]
-pub struct Request {
-    pub command: Command,
-    pub load: Load,
+pub(crate) struct Request {
+    pub(crate) command: Command,
+    pub(crate) load: Load,
 }
 
 fn next_number(words: &mut Args) -> Option<u64> {
@@ -110,7 +110,7 @@ fn next_kind(words: &mut Args) -> Option<Kind> {
 }
 
 /// Reads the request from the arguments; the first argument is the program's name.
-pub fn request_of(words: Args) -> Option<Request> {
+pub(crate) fn request_of(words: Args) -> Option<Request> {
     let mut words = words;
     words.next()?;
     Some(Request {

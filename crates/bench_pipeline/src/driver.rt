@@ -10,17 +10,17 @@ use tb_work::{Packet, Refusal, Reply};
 
 /// Makes the accounts of its submitter, sends the load, and reads all replies. A packet that is refused ends it.
 #[derive(Drop)]
-pub struct LoadDriver {
+pub(crate) struct LoadDriver {
     number: u64,
     load: Load,
     sent: u64,
     gives_up: bool,
-    pub tally: Tally,
+    pub(crate) tally: Tally,
 }
 
 impl LoadDriver {
     /// Returns the driver of the submitter of a number, which has sent nothing.
-    pub fn new(number: u64, load: Load) -> LoadDriver {
+    pub(crate) fn new(number: u64, load: Load) -> LoadDriver {
         LoadDriver {
             number,
             load,
@@ -31,7 +31,7 @@ impl LoadDriver {
     }
 
     /// Sends nothing more.
-    pub fn finish(&mut self) {
+    pub(crate) fn finish(&mut self) {
         self.load.packets = self.load.packets.min(self.sent.saturating_sub(1));
     }
 

@@ -5,7 +5,7 @@ use tb_layout::{CREATE_ACCOUNTS, CREATE_TRANSFERS};
 use tb_work::{Bytes, Packet};
 
 /// The accounts of each submitter.
-pub const ACCOUNTS: u64 = 1000;
+pub(crate) const ACCOUNTS: u64 = 1000;
 
 /// Returns the bytes of an account in ledger 1 with code 1.
 fn account(id: u64) -> [u8; 128] {
@@ -44,7 +44,7 @@ fn first_account(submitter: u64) -> u64 {
 }
 
 /// Returns the submitter's own thousand accounts.
-pub fn accounts(alloc: Global, submitter: u64) -> Result<Packet, AllocError> {
+pub(crate) fn accounts(alloc: Global, submitter: u64) -> Result<Packet, AllocError> {
     let first = first_account(submitter);
     let mut bytes = Vec::with_capacity(alloc, 128_000)?;
     for number in 0..ACCOUNTS {
@@ -54,7 +54,7 @@ pub fn accounts(alloc: Global, submitter: u64) -> Result<Packet, AllocError> {
 }
 
 /// Returns `events` plain transfers between the submitter's accounts, after those made before.
-pub fn transfers(
+pub(crate) fn transfers(
     alloc: Global,
     submitter: u64,
     before: u64,

@@ -12,14 +12,14 @@ use tb_work::{Packet, Refusal, Reply};
 
 /// Whether the input has ended.
 #[derive(Drop)]
-pub struct Over {
+pub(crate) struct Over {
     ended: AtomicBool,
     waits: EventCount,
 }
 
 impl Over {
     /// Returns the input hasn't ended.
-    pub const fn new() -> Over {
+    pub(crate) const fn new() -> Over {
         Over {
             ended: AtomicBool::new(false),
             waits: EventCount::new(),
@@ -48,7 +48,7 @@ impl Over {
 
 /// Sends a packet of one event for each byte of its input, and writes a byte once it has the reply.
 #[derive(Drop)]
-pub struct Echo<I, O> {
+pub(crate) struct Echo<I, O> {
     input: I,
     output: O,
     sent: u64,
@@ -57,7 +57,7 @@ pub struct Echo<I, O> {
 
 impl<I: Read + Drop, O: Write + Drop> Echo<I, O> {
     /// Returns a driver that has sent nothing.
-    pub fn new(input: I, output: O) -> Echo<I, O> {
+    pub(crate) fn new(input: I, output: O) -> Echo<I, O> {
         Echo {
             input,
             output,
@@ -95,7 +95,7 @@ impl<I: Read + Drop, O: Write + Drop> Echo<I, O> {
 
 /// What a submitter does until the input has ended.
 #[derive(Drop)]
-pub enum Party<'a, I, O> {
+pub(crate) enum Party<'a, I, O> {
     Echoes(Echo<I, O>, &'a Over),
     Loads(LoadDriver, &'a Over),
     Sleeps(&'a Over),

@@ -4,38 +4,38 @@ use std::env::Args;
 
 /// What each submitter sends: `packets` packets of `events` events, with at most `credit` of them unanswered.
 #[derive(Clone, Copy)]
-pub struct Load {
-    pub events: u64,
-    pub packets: u64,
-    pub credit: u32,
+pub(crate) struct Load {
+    pub(crate) events: u64,
+    pub(crate) packets: u64,
+    pub(crate) credit: u32,
 }
 
 /// How a pipeline is opened: the places of its queue, the most events of a batch.
 #[derive(Clone, Copy)]
-pub struct Opening {
-    pub submitters: u32,
-    pub capacity: u32,
-    pub limit: u32,
+pub(crate) struct Opening {
+    pub(crate) submitters: u32,
+    pub(crate) capacity: u32,
+    pub(crate) limit: u32,
 }
 
 /// A pipeline whose submitters send a load each.
 #[derive(Clone, Copy)]
-pub struct Request {
-    pub opening: Opening,
-    pub load: Load,
+pub(crate) struct Request {
+    pub(crate) opening: Opening,
+    pub(crate) load: Load,
 }
 
 /// A pipeline in which the first submitter sends a packet for each byte of the input. Until the input ends, `loads`
 /// others send packets of one event, and the rest sleep.
 #[derive(Clone, Copy)]
-pub struct LiveRequest {
-    pub submitters: u32,
-    pub loads: u32,
+pub(crate) struct LiveRequest {
+    pub(crate) submitters: u32,
+    pub(crate) loads: u32,
 }
 
 /// What the arguments ask for.
 #[derive(Clone, Copy)]
-pub enum Asked {
+pub(crate) enum Asked {
     Run(Request),
     Live(LiveRequest),
 }
@@ -77,7 +77,7 @@ fn next_live(words: &mut Args) -> Option<LiveRequest> {
 }
 
 /// Returns what the arguments ask for; the first of them is the program's name.
-pub fn asked_by(words: Args) -> Option<Asked> {
+pub(crate) fn asked_by(words: Args) -> Option<Asked> {
     let mut words = words;
     words.next()?;
     let command = words.next()?;

@@ -5,15 +5,15 @@ use tb_work::{Answer, Outcome, Reply};
 
 /// Sums over replies. One that isn't committed counts as a failure.
 #[derive(Clone, Copy)]
-pub struct Tally {
-    pub replies: u64,
-    pub failures: u64,
-    pub places: u64,
+pub(crate) struct Tally {
+    pub(crate) replies: u64,
+    pub(crate) failures: u64,
+    pub(crate) places: u64,
 }
 
 impl Tally {
     /// Returns the tally of no reply.
-    pub fn new() -> Tally {
+    pub(crate) fn new() -> Tally {
         Tally {
             replies: 0,
             failures: 0,
@@ -29,7 +29,7 @@ impl Tally {
     }
 
     /// Adds a reply.
-    pub fn add(&mut self, reply: &Reply) {
+    pub(crate) fn add(&mut self, reply: &Reply) {
         match &reply.outcome {
             Outcome::Committed {
                 place,
@@ -40,7 +40,7 @@ impl Tally {
     }
 
     /// Adds the sums over other replies.
-    pub fn join(&mut self, other: Tally) {
+    pub(crate) fn join(&mut self, other: Tally) {
         self.replies = self.replies.wrapping_add(other.replies);
         self.failures = self.failures.wrapping_add(other.failures);
         self.places = self.places.wrapping_add(other.places);
@@ -48,7 +48,7 @@ impl Tally {
 }
 
 /// Returns a sum over the balances of the first accounts.
-pub fn sum_of_balances(machine: &Machine, accounts: u64) -> u128 {
+pub(crate) fn sum_of_balances(machine: &Machine, accounts: u64) -> u128 {
     let mut sum = 0u128;
     for place in 0..accounts as usize {
         if let Some(account) = machine.account_at(place) {

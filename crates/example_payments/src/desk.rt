@@ -13,22 +13,22 @@ use tb_work::{Accounts, Answer, Outcome, Refusal, Reply};
 /// Queues its orders without waiting between them, and reads all replies. Then it looks up its accounts until nothing
 /// is held on them, and ends.
 #[derive(Drop)]
-pub struct Desk {
+pub(crate) struct Desk {
     till: Till,
     orders: IntoIter<Order>,
     /// How many of its packets are queued with their replies unread.
     unread: usize,
     /// Whether it gives up: an allocation failed, or the pipeline is shut or stopped.
     stopped: bool,
-    pub balances: Option<Accounts>,
-    pub tally: Tally,
+    pub(crate) balances: Option<Accounts>,
+    pub(crate) tally: Tally,
 }
 
 impl Desk {
     ghost use Rattle.example_payments.specs.Desk.{HasCounted};
 
     /// Returns a desk for these orders; `ahead` of its packets are queued already.
-    pub fn new(alloc: Global, till: Till, orders: Vec<Order>, ahead: usize) -> Desk
+    pub(crate) fn new(alloc: Global, till: Till, orders: Vec<Order>, ahead: usize) -> Desk
         ensures { HasCounted result.tally [] }
     {
         Desk {

@@ -8,15 +8,15 @@ use tb_layout::{Account, NoMemory, Transfer};
 use tb_work::Packet;
 
 /// The user words of packets. A reply returns its packet's word, and a desk counts by it.
-pub const OTHER: u64 = 0;
+pub(crate) const OTHER: u64 = 0;
 
-pub const CAPTURE: u64 = 1;
+pub(crate) const CAPTURE: u64 = 1;
 
-pub const VOID: u64 = 2;
+pub(crate) const VOID: u64 = 2;
 
 /// The ids of a desk's accounts: money comes from the bank, waits in the wallet and goes to the shop.
 #[derive(Clone, Copy)]
-pub struct Till {
+pub(crate) struct Till {
     bank: u128,
     wallet: u128,
     shop: u128,
@@ -24,14 +24,14 @@ pub struct Till {
 
 impl Till {
     /// Returns a desk's accounts.
-    pub fn of(desk: u32) -> Till {
+    pub(crate) fn of(desk: u32) -> Till {
         let bank = 10 * (u128::from(desk) + 1);
         let (wallet, shop) = (bank + 1, bank + 2);
         Till { bank, wallet, shop }
     }
 
     /// Returns a packet that makes the accounts. The wallet can't spend more than it has.
-    pub fn opening(self, alloc: Global) -> Result<Packet, NoMemory> {
+    pub(crate) fn opening(self, alloc: Global) -> Result<Packet, NoMemory> {
         let mut accounts = [self.bank, self.wallet, self.shop].map(|id| Account {
             id,
             ledger: 1,
@@ -43,7 +43,7 @@ impl Till {
     }
 
     /// Returns a packet that asks for the accounts with their balances.
-    pub fn look_up(self, alloc: Global) -> Result<Packet, NoMemory> {
+    pub(crate) fn look_up(self, alloc: Global) -> Result<Packet, NoMemory> {
         Packet::of_ids(alloc, &[self.bank, self.wallet, self.shop], OTHER)
     }
 }
@@ -56,7 +56,7 @@ type Seconds = u32;
 
 /// What a customer asks for: a transfer, whose id comes first.
 #[derive(Clone, Copy)]
-pub enum Order {
+pub(crate) enum Order {
     /// Moves an amount from the bank to the wallet.
     Deposit(Id, Amount),
     /// Reserves an amount for the shop, for some seconds; 0 is for ever.
@@ -120,7 +120,7 @@ impl Order {
     }
 
     /// Returns its packet, with its user word.
-    pub fn packet(self, alloc: Global, till: Till) -> Result<Packet, NoMemory>
+    pub(crate) fn packet(self, alloc: Global, till: Till) -> Result<Packet, NoMemory>
         ensures { IfOk result (λ packet. packet.user ≡ word_of self) }
     {
         Packet::of_transfers(alloc, &[self.transfer(till)], self.word())

@@ -10,12 +10,12 @@ use tb_work::{Answer, Outcome, Reply};
 
 /// What replies say: how many captures and voids were committed without a failure, and all failures in order.
 #[derive(Drop)]
-pub struct Tally {
-    pub captured: u64,
-    pub voided: u64,
-    pub failures: Vec<Failure>,
+pub(crate) struct Tally {
+    pub(crate) captured: u64,
+    pub(crate) voided: u64,
+    pub(crate) failures: Vec<Failure>,
     /// Whether nothing is missing: no allocation failed, and no count passed 2^64 - 1.
-    pub complete: bool,
+    pub(crate) complete: bool,
 }
 
 /// Adds one to a count, and returns false if it can't.
@@ -35,7 +35,7 @@ impl Tally {
     ghost use Rattle.example_payments.specs.Desk.{HasCounted, is_result_of, one_if};
 
     /// Returns the tally of no reply.
-    pub fn new(alloc: Global) -> Tally
+    pub(crate) fn new(alloc: Global) -> Tally
         ensures { HasCounted result [] }
     {
         Tally {
@@ -69,7 +69,7 @@ impl Tally {
     }
 
     /// Counts one more reply.
-    pub fn add(&mut self, reply: &Reply)
+    pub(crate) fn add(&mut self, reply: &Reply)
         ensures { (read : List ReplyValue) → HasCounted self.old read → HasCounted self.new (read ++ reply.now ∷ []) }
     {
         if let Outcome::Committed {
