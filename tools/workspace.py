@@ -1,10 +1,13 @@
-"""The workspace that crates.txt describes: what each crate depends on, and linked copies in which rt can work."""
+"""The workspace that crates.txt describes: what each crate depends on, what is built of it, and how rattle, the prover that rt
+calls, is called for it."""
 
 import argparse
 import functools
 import os
 import pathlib
 import shutil
+import subprocess
+import sys
 
 TOP = pathlib.Path(__file__).resolve().parent.parent
 CRATES = TOP / "crates"
@@ -32,12 +35,17 @@ def options_with_crates(usage, how_many, *options):
 
 
 @functools.cache
+def lines():
+    """Returns the lines of crates.txt in their order: for each crate, what is said of it and the libraries that it names."""
+    parts = [line.partition("#")[0].partition(":") for line in (TOP / "crates.txt").read_text().splitlines()]
+    # (a name may be followed by a word for rt, as in "kip staticlib")
+    return {name.split()[0]: (name.split()[1:], below.split()) for name, _, below in parts if name.strip()}
+
+
+@functools.cache
 def dependencies():
     """Returns the workspace's crates in the order of crates.txt, each with those of the workspace that it names."""
-    lines = [line.partition("#")[0].partition(":") for line in (TOP / "crates.txt").read_text().splitlines()]
-    # (a name may be followed by a word for rt, as in "kip staticlib")
-    named = {name.split()[0]: below.split() for name, _, below in lines if name.strip()}
-    return {name: [it for it in below if it in named] for name, below in named.items()}
+    return {name: [it for it in below if it in lines()] for name, (_, below) in lines().items()}
 
 
 @functools.cache
@@ -45,6 +53,57 @@ def closure(crate):
     """Returns a crate and all that it depends on, lowest first."""
     below = {it for dependency in dependencies()[crate] for it in closure(dependency)}
     return [*(it for it in dependencies() if it in below), crate]
+
+
+def is_program(crate):
+    return (CRATES / crate / "src/main.rt").exists()
+
+
+def is_static(crate):
+    """Returns whether a crate is a library for C."""
+    return "staticlib" in lines()[crate][0]
+
+
+def built(crate):
+    """Returns what is built of a crate: a program, or a library for C or for the crates above."""
+    out = CRATES / crate / "out"
+    if is_program(crate) or is_static(crate):
+        return out / (crate if is_program(crate) else f"lib{crate}.a")
+    # (below a crate's folder rt wants no other sources, and a library has some)
+    return out / f"rlib/statements/{crate}.rlib"
+
+
+@functools.cache
+def kit():
+    """Returns the folder of the Rattle kit."""
+    rt = shutil.which("rt")
+    if rt is None:
+        sys.exit("the Rattle kit is missing: its command rt proves and builds crates")
+    return pathlib.Path(rt).resolve().parent.parent
+
+
+def rattle(verb, crate, *words):
+    """Returns a command of rattle for a crate over the libraries that are built, as `rt ci` gives it, and these words."""
+    externs = {it: kit() / f"rlibs/{it}.rlib" for it in ["std", *lines()[crate][1]]}
+    externs.update((it, built(it)) for it in dependencies()[crate])
+    below = [kit() / "rlibs", *(built(it).parent for it in closure(crate)[:-1])]
+    return [
+        *(kit() / "bin/rattle", verb, "--crate-name", crate, "src/main.rt" if is_program(crate) else "src/lib.rt"),
+        *(word for it, path in externs.items() for word in ("--extern", f"{it}={path}")),
+        *(word for it in below for word in ("-L", f"dependency={it}")),
+        *("--antt-project", kit() / "rattle/logic/antt-project.json", "--logic-built", kit() / "logic_built"),
+        *("--links", f"{crate}="),
+        *(["--crate-type", "staticlib"] if is_static(crate) else []),
+        *words,
+    ]
+
+
+def show(crate, printed):
+    """Shows what rattle printed of a crate on standard error, but not what only says that a thing is proved or was read."""
+    usual = ("logic ", "statements ", "library ", "crate ", "axioms ", "linked ", "by-macro: ")
+    for line in printed.splitlines():
+        if ": proved" not in line and not line.startswith(usual):
+            print(f"{crate}: {line.split(' sum=')[0]}", file=sys.stderr, flush=True)
 
 
 def link(source, copy):
@@ -60,26 +119,14 @@ def link_checked(source, copy):
     (link if source.endswith(".oantt") else shutil.copy2)(source, copy)
 
 
-def copy_linked(crate, room):
-    """Fills a new folder with a crate and all that it depends on: links to their sources and to the libraries that are
-    built, and what earlier checks of the crate itself left. rt locks the crates that it works on, so each copy has its own."""
-    room = pathlib.Path(room)
-    names = closure(crate)
-    shutil.copy(TOP / "HANDLES", room)
-    lines = (TOP / "crates.txt").read_text().splitlines(True)
-    (room / "crates.txt").write_text("".join(it for it in lines if (it.partition(":")[0].split() or [""])[0] in names))
-    for name in names:
-        for part in (*SOURCES, "out/rlib"):
-            if (CRATES / name / part).is_dir():
-                shutil.copytree(CRATES / name / part, room / "crates" / name / part, copy_function=link)
-    if (CRATES / crate / "out/incremental").is_dir():
-        kept = room / "crates" / crate / "out/incremental"
-        shutil.copytree(CRATES / crate / "out/incremental", kept, copy_function=link_checked)
-    return room / "crates" / crate
-
-
 def proof_lanes():
     """Returns how many proofs the processors and the free memory allow at a time."""
-    with open("/proc/meminfo") as lines:
-        free = next(1024 * int(line.split()[1]) for line in lines if line.startswith("MemAvailable:"))
+    with open("/proc/meminfo") as found:
+        free = next(1024 * int(line.split()[1]) for line in found if line.startswith("MemAvailable:"))
     return max(1, min(len(os.sched_getaffinity(0)), free // PROOF_MAX))
+
+
+def sum_of_sources(crate):
+    """Returns the sum of all that a crate's proof and build read of this workspace, and the name of the kit."""
+    found = subprocess.run([TOP / "tools/sources-sum", crate], stdout=subprocess.PIPE, text=True, check=True)
+    return f"{found.stdout.strip()} {(kit() / 'KIT-ID').read_text()}"
