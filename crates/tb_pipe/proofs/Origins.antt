@@ -52,7 +52,7 @@ pub served_is : (stages : Stages) (remains : Remains) → IsPipeline stages → 
     → IsServedOf stages remains
 served_is stages remains is served =
     let same = served.intake in
-    let clock : remains.committed.ledger.opening ≡ stages.ledger.opening = served.committed.commits.from in
+    let clock : remains.committed.ledger.opening ≡ stages.committer.ledger.opening = served.committed.commits.from in
     record {
       served = record {
         rings = (served.rings.1 ∙ is.rings.0 ∙ sym served.rings.0, served.rings.3 ∙ is.rings.1 ∙ sym served.rings.2);
@@ -64,5 +64,5 @@ served_is stages remains is served =
       };
       clock = clock;
       submitters = ap (λ (i : IntakeState). origins i remains.routed.outlets.items) same
-          ∙ same_origins (seat_at stages.intake) 0 stages.outlets.items remains.routed.outlets.items served.rings.4;
+          ∙ same_origins (seat_at stages.intake) 0 stages.demultiplexer.outlets.items remains.routed.outlets.items served.rings.4;
     }

@@ -18,16 +18,16 @@ pub record PipelineState : Type 0 where
 abbrev pub pipeline_of : Stages → PipelineState
 pipeline_of stages =
     record {
-      clock = stages.ledger.opening;
+      clock = stages.committer.ledger.opening;
       intake = stages.intake;
-      submitters = origins stages.intake stages.outlets.items;
+      submitters = origins stages.intake stages.demultiplexer.outlets.items;
     }
 
 pub record IsPipeline (stages : Stages) : Type 0 where
   pub ready : IsReady stages
-  pub unserved : (taken stages.parcels ≡ []) × (given stages.made ≡ [])
-  pub rings : IsRing stages.batches stages.parcels × IsRing stages.made stages.outcomes
-  pub number : length stages.outlets.items ≡ stages.intake.submitters
+  pub unserved : (taken stages.committer.inlet ≡ []) × (given stages.committer.outlet ≡ [])
+  pub rings : IsRing stages.batches stages.committer.inlet × IsRing stages.committer.outlet stages.demultiplexer.inlet
+  pub number : length stages.demultiplexer.outlets.items ≡ stages.intake.submitters
 
 -- the same once it has run, with its ledger
 pub record ServedState : Type 0 where

@@ -14,9 +14,9 @@ use std::thread::Promise;
 use tb_core::{Ledger, Outcomes, Parcel};
 use tb_rings::{Inlet, Outlet, SpinWait};
 
-/// What the committer returns.
+/// The committer's ends of its two rings, and its ledger.
 #[derive(Drop)]
-pub(crate) struct Committed {
+pub(crate) struct Committer {
     pub(crate) inlet: Inlet<Parcel>,
     pub(crate) outlet: Outlet<Outcomes>,
     pub(crate) ledger: Ledger,
@@ -25,18 +25,16 @@ pub(crate) struct Committed {
 /// The promise that the returned ring ends are those of this stage, and that all that was taken is committed.
 #[derive(Drop)]
 pub(crate) struct Commitment {
-    pub(crate) inlet: Snapshot<Inlet<Parcel>>,
-    pub(crate) outlet: Snapshot<Outlet<Outcomes>>,
-    pub(crate) clock: u64,
+    pub(crate) stage: Snapshot<Committer>,
 }
 
-impl Promise<Committed> for Commitment {
+impl Promise<Committer> for Commitment {
     ghost use Rattle.std.specs.Prelude.{◌≡◌};
     ghost use Rattle.tb_rings.specs.Ends.{given, taken, SameOutlet, SameInlet};
     ghost use Rattle.tb_pipe.specs.Carried.{AllCommitted};
 
-    ghost kept_by = { λ p r. SameInlet p.inlet.value r.inlet × SameOutlet p.outlet.value r.outlet
-        × AllCommitted p.clock (taken r.inlet) r.ledger (given r.outlet) };
+    ghost kept_by = { λ p r. SameInlet p.stage.value.inlet r.inlet × SameOutlet p.stage.value.outlet r.outlet
+        × AllCommitted p.stage.value.ledger.opening (taken r.inlet) r.ledger (given r.outlet) };
 }
 
 /// Returns whether a parcel is the last.
@@ -78,39 +76,29 @@ fn commit<R: Wait>(
     last
 }
 
-/// Commits until the last parcel, and gives all replies on, and then the last outcome. The gate let each batch through,
-/// by its number among those that were taken here.
-pub(crate) fn commit_all<R: Wait, G: Gate>(
-    rt: &R,
-    gate: &G,
-    inlet: Inlet<Parcel>,
-    outlet: Outlet<Outcomes>,
-    ledger: Ledger,
-) -> Committed
-    requires { IsCommitted ledger.opening (taken inlet) ledger (given outlet) }
-    ensures same { SameInlet inlet result.inlet × SameOutlet outlet result.outlet }
-    ensures all { AllCommitted ledger.opening (taken result.inlet) result.ledger (given result.outlet) }
-    ensures through { (number : ℕ) × AreCleared (G.lets_through gate.now) (taken inlet) (taken result.inlet) number }
-{
-    let mut inlet = inlet;
-    let mut outlet = outlet;
-    let mut ledger = ledger;
-    let mut batches = 0;
-    let spin = SpinWait::new();
-    for _ in rt.forever() {
-        let Some(parcel) = inlet.take() else {
-            inlet.wait(rt, &spin);
-            continue;
-        };
-        spin.reset();
-        let cleared = clear(rt, gate, parcel, &mut batches);
-        if commit(rt, &mut ledger, &mut outlet, cleared) {
-            return Committed {
-                inlet,
-                outlet,
-                ledger,
+impl Committer {
+    /// Commits until the last parcel, and gives all replies on, and then the last outcome. The gate let each batch
+    /// through, by its number among those that were taken here.
+    pub(crate) fn commit_all<R: Wait, G: Gate>(&mut self, rt: &R, gate: &G)
+        requires { IsCommitted self.old.ledger.opening (taken self.old.inlet) self.old.ledger (given self.old.outlet) }
+        ensures same { SameInlet self.old.inlet self.new.inlet × SameOutlet self.old.outlet self.new.outlet }
+        ensures all { AllCommitted self.old.ledger.opening (taken self.new.inlet) self.new.ledger (given self.new.outlet) }
+        ensures through { (number : ℕ)
+            × AreCleared (G.lets_through gate.now) (taken self.old.inlet) (taken self.new.inlet) number }
+    {
+        let mut batches = 0;
+        let spin = SpinWait::new();
+        for _ in rt.forever() {
+            let Some(parcel) = self.inlet.take() else {
+                self.inlet.wait(rt, &spin);
+                continue;
             };
+            spin.reset();
+            let cleared = clear(rt, gate, parcel, &mut batches);
+            if commit(rt, &mut self.ledger, &mut self.outlet, cleared) {
+                return;
+            }
         }
+        unreachable!()
     }
-    unreachable!()
 }

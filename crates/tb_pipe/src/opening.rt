@@ -6,6 +6,8 @@ ghost use Rattle.tb_rings.specs.Ends.{given, taken, IsRing};
 ghost use Rattle.tb_submit.specs.Ends.{Origin, new_submitter, new_control, new_intake, origin_of, seat_at};
 ghost use Rattle.tb_submit.specs.Refusals.{IsQueueRefusal, queue_refusal};
 
+use crate::committing::Committer;
+use crate::routing::Demultiplexer;
 use crate::serving::Pipeline;
 use crate::stages::Stages;
 use std::alloc::Global;
@@ -95,11 +97,15 @@ pub fn open(
         intake: ends.intake,
         front,
         batches: rings.batches,
-        parcels: rings.parcels,
-        ledger: Ledger::new(alloc, clock),
-        made: rings.made,
-        outcomes: rings.outcomes,
-        outlets: ends.outlets,
+        committer: Committer {
+            inlet: rings.parcels,
+            outlet: rings.made,
+            ledger: Ledger::new(alloc, clock),
+        },
+        demultiplexer: Demultiplexer {
+            inlet: rings.outcomes,
+            outlets: ends.outlets,
+        },
     };
     Ok(Opened {
         pipeline: Pipeline { stages },

@@ -14,9 +14,9 @@ use tb_core::Outcomes;
 use tb_rings::{Inlet, Outlet, SpinWait};
 use tb_work::Reply;
 
-/// What the demultiplexer returns.
+/// The demultiplexer's end of its ring, and the reply rings.
 #[derive(Drop)]
-pub(crate) struct Routed {
+pub(crate) struct Demultiplexer {
     pub(crate) inlet: Inlet<Outcomes>,
     pub(crate) outlets: Vec<Outlet<Reply>>,
 }
@@ -24,16 +24,15 @@ pub(crate) struct Routed {
 /// The promise that the returned ring ends are those of this stage, and that all that was taken is passed on.
 #[derive(Drop)]
 pub(crate) struct Routing {
-    pub(crate) inlet: Snapshot<Inlet<Outcomes>>,
-    pub(crate) outlets: Snapshot<Vec<Outlet<Reply>>>,
+    pub(crate) stage: Snapshot<Demultiplexer>,
 }
 
-impl Promise<Routed> for Routing {
+impl Promise<Demultiplexer> for Routing {
     ghost use Rattle.tb_rings.specs.Ends.{taken, SameInlet};
     ghost use Rattle.tb_pipe.specs.Outlets.{SameOutlets, AllRouted};
 
-    ghost kept_by = { λ p r. SameInlet p.inlet.value r.inlet × SameOutlets p.outlets.value.items r.outlets.items
-        × AllRouted (taken r.inlet) r.outlets.items };
+    ghost kept_by = { λ p r. SameInlet p.stage.value.inlet r.inlet
+        × SameOutlets p.stage.value.outlets.items r.outlets.items × AllRouted (taken r.inlet) r.outlets.items };
 }
 
 /// Puts a reply into its submitter's ring. There is room: the ring has as many slots as its submitter may have packets
@@ -72,28 +71,24 @@ fn route_all<R: Wait>(rt: &R, outlets: &mut Vec<Outlet<Reply>>, outcomes: Outcom
     }
 }
 
-/// Hands replies out until the last outcome.
-pub(crate) fn route_until_last<R: Wait>(
-    rt: &R,
-    inlet: Inlet<Outcomes>,
-    outlets: Vec<Outlet<Reply>>,
-) -> Routed
-    requires { AllGiven (answers_in (taken inlet)) outlets.items }
-    ensures same { SameInlet inlet result.inlet × SameOutlets outlets.items result.outlets.items }
-    ensures all { AllRouted (taken result.inlet) result.outlets.items }
-{
-    let mut inlet = inlet;
-    let mut outlets = outlets;
-    let spin = SpinWait::new();
-    for _ in rt.forever() {
-        let Some(outcomes) = inlet.take() else {
-            inlet.wait(rt, &spin);
-            continue;
-        };
-        spin.reset();
-        if route_all(rt, &mut outlets, outcomes) {
-            return Routed { inlet, outlets };
+impl Demultiplexer {
+    /// Hands replies out until the last outcome.
+    pub(crate) fn route_until_last<R: Wait>(&mut self, rt: &R)
+        requires { AllGiven (answers_in (taken self.old.inlet)) self.old.outlets.items }
+        ensures same { SameInlet self.old.inlet self.new.inlet × SameOutlets self.old.outlets.items self.new.outlets.items }
+        ensures all { AllRouted (taken self.new.inlet) self.new.outlets.items }
+    {
+        let spin = SpinWait::new();
+        for _ in rt.forever() {
+            let Some(outcomes) = self.inlet.take() else {
+                self.inlet.wait(rt, &spin);
+                continue;
+            };
+            spin.reset();
+            if route_all(rt, &mut self.outlets, outcomes) {
+                return;
+            }
         }
+        unreachable!()
     }
-    unreachable!()
 }

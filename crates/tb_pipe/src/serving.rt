@@ -4,11 +4,13 @@ ghost use Rattle.std.specs.Prelude.{◌≡◌, IfOk, IfErr};
 ghost use Rattle.tb_core.specs.Ledger.{new_ledger};
 ghost use Rattle.tb_work.specs.declared.refusal.Refusal.TheVariants.{NoThread as NoThreadRefusal};
 ghost use Rattle.tb_pipe.specs.Run.{IsServed, served_of};
+ghost use Rattle.tb_pipe.specs.Stages.{IsReady, HaveServed};
 
 use crate::gate::Gate;
 use crate::stages::{Remains, Stages};
 use std::marker::Model;
 use std::sync::Wait;
+use std::thread;
 use std::thread::Threads;
 use tb_core::Ledger;
 use tb_submit::Intake;
@@ -80,7 +82,7 @@ impl Pipeline {
         ensures { result ≡ record self { clock = ledger.opening } }
     {
         let Pipeline { mut stages } = self;
-        stages.ledger = ledger;
+        stages.committer.ledger = ledger;
         Pipeline { stages }
     }
 
@@ -103,7 +105,16 @@ impl Pipeline {
         ensures refused { IfErr result (λ back. (back.0 ≡ self.intake) × (back.1 ≡ NoThreadRefusal)) }
     {
         let Pipeline { stages } = self;
-        match stages.serve(rt, gate) {
+        let served = thread::scope(
+            thread::scope_env(),
+            rt,
+            |scope| -> Result<Remains, Intake>
+                requires { IsReady stages }
+                ensures served { IfOk result (λ remains. HaveServed stages remains) }
+                ensures refused { IfErr result (λ intake. intake ≡ stages.intake) }
+            { stages.run(scope, rt, gate) },
+        );
+        match served {
             Ok(remains) => Ok(Served { remains }),
             Err(intake) => Err((intake, Refusal::NoThread)),
         }

@@ -7,31 +7,26 @@ ghost use Rattle.tb_pipe.specs.Outlets.{SameOutlets, AllGiven, AllRouted};
 ghost use Rattle.tb_pipe.specs.Stages.{IsReady, HaveServed};
 
 use crate::batching::{BatchRing, batch_all};
-use crate::committing::{Commitment, Committed, commit_all};
+use crate::committing::{Commitment, Committer};
 use crate::gate::Gate;
-use crate::routing::{Routed, Routing, route_until_last};
+use crate::routing::{Demultiplexer, Routing};
 use crate::waiting::give_waiting;
 use std::snapshot::Snapshot;
 use std::sync::Wait;
-use std::thread;
 use std::thread::{PromisedHandle, Scope, Threads};
-use tb_core::{Front, Ledger, Outcomes, Parcel};
-use tb_rings::{Inlet, Outlet};
+use tb_core::{Front, Parcel};
+use tb_rings::Outlet;
 use tb_submit::Intake;
-use tb_work::Reply;
 
-/// The stages before they run: the batcher's intake, front and end of the batch ring, the committer's ends and
-/// ledger, the demultiplexer's end and the reply rings.
+/// The stages before they run: the batcher's intake, front and end of the batch ring, the committer and the
+/// demultiplexer.
 #[derive(Drop)]
 pub(crate) struct Stages {
     pub(crate) intake: Intake,
     pub(crate) front: Front,
     pub(crate) batches: Outlet<Parcel>,
-    pub(crate) parcels: Inlet<Parcel>,
-    pub(crate) ledger: Ledger,
-    pub(crate) made: Outlet<Outcomes>,
-    pub(crate) outcomes: Inlet<Outcomes>,
-    pub(crate) outlets: Vec<Outlet<Reply>>,
+    pub(crate) committer: Committer,
+    pub(crate) demultiplexer: Demultiplexer,
 }
 
 /// What the stages leave.
@@ -39,8 +34,8 @@ pub(crate) struct Stages {
 pub(crate) struct Remains {
     pub(crate) intake: Intake,
     pub(crate) batches: Outlet<Parcel>,
-    pub(crate) committed: Committed,
-    pub(crate) routed: Routed,
+    pub(crate) committed: Committer,
+    pub(crate) routed: Demultiplexer,
 }
 
 /// Starts the committer.
@@ -48,26 +43,25 @@ fn start_committer<'s, E, R: Wait + Sync, G: Gate>(
     scope: &Scope<'s, E>,
     rt: &'s R,
     gate: &'s G,
-    parcels: Inlet<Parcel>,
-    made: Outlet<Outcomes>,
-    ledger: Ledger,
-) -> Option<PromisedHandle<Committed, Commitment>>
-    requires { IsCommitted ledger.opening (taken parcels) ledger (given made) }
-    ensures { IfSome result (λ handle. (handle.promise.inlet.value ≡ parcels) × (handle.promise.outlet.value ≡ made)
-        × (handle.promise.clock ≡ ledger.opening)) }
+    stage: Committer,
+) -> Option<PromisedHandle<Committer, Commitment>>
+    requires { IsCommitted stage.ledger.opening (taken stage.inlet) stage.ledger (given stage.outlet) }
+    ensures { IfSome result (λ handle. handle.promise.stage.value ≡ stage) }
 {
     let promise = Commitment {
-        inlet: Snapshot::of(&parcels),
-        outlet: Snapshot::of(&made),
-        clock: ledger.opening(),
+        stage: Snapshot::of(&stage),
     };
     let started = scope.spawn_with(
         promise,
-        move || -> Committed
-            requires { IsCommitted ledger.opening (taken parcels) ledger (given made) }
-            ensures same { SameInlet parcels result.inlet × SameOutlet made result.outlet }
-            ensures all { AllCommitted ledger.opening (taken result.inlet) result.ledger (given result.outlet) }
-        { commit_all(rt, gate, parcels, made, ledger) },
+        move || -> Committer
+            requires { IsCommitted stage.ledger.opening (taken stage.inlet) stage.ledger (given stage.outlet) }
+            ensures same { SameInlet stage.inlet result.inlet × SameOutlet stage.outlet result.outlet }
+            ensures all { AllCommitted stage.ledger.opening (taken result.inlet) result.ledger (given result.outlet) }
+        {
+            let mut stage = stage;
+            stage.commit_all(rt, gate);
+            stage
+        },
     );
     started.ok()
 }
@@ -76,31 +70,33 @@ fn start_committer<'s, E, R: Wait + Sync, G: Gate>(
 fn start_demultiplexer<'s, E, R: Wait + Sync>(
     scope: &Scope<'s, E>,
     rt: &'s R,
-    outcomes: Inlet<Outcomes>,
-    outlets: Vec<Outlet<Reply>>,
-) -> Option<PromisedHandle<Routed, Routing>>
-    requires { AllGiven (answers_in (taken outcomes)) outlets.items }
-    ensures { IfSome result (λ handle. (handle.promise.inlet.value ≡ outcomes)
-        × (handle.promise.outlets.value ≡ outlets)) }
+    stage: Demultiplexer,
+) -> Option<PromisedHandle<Demultiplexer, Routing>>
+    requires { AllGiven (answers_in (taken stage.inlet)) stage.outlets.items }
+    ensures { IfSome result (λ handle. handle.promise.stage.value ≡ stage) }
 {
     let promise = Routing {
-        inlet: Snapshot::of(&outcomes),
-        outlets: Snapshot::of(&outlets),
+        stage: Snapshot::of(&stage),
     };
     let started = scope.spawn_with(
         promise,
-        move || -> Routed
-            requires { AllGiven (answers_in (taken outcomes)) outlets.items }
-            ensures same { SameInlet outcomes result.inlet × SameOutlets outlets.items result.outlets.items }
+        move || -> Demultiplexer
+            requires { AllGiven (answers_in (taken stage.inlet)) stage.outlets.items }
+            ensures same { SameInlet stage.inlet result.inlet × SameOutlets stage.outlets.items result.outlets.items }
             ensures all { AllRouted (taken result.inlet) result.outlets.items }
-        { route_until_last(rt, outcomes, outlets) },
+        {
+            let mut stage = stage;
+            stage.route_until_last(rt);
+            stage
+        },
     );
     started.ok()
 }
 
 impl Stages {
-    /// Starts the committer and the demultiplexer, is the batcher, and joins both.
-    fn run<'s, E, R: Threads + Wait + Sync, G: Gate>(
+    /// Runs the stages until each sender has ended: starts the committer and the demultiplexer, is the batcher, and joins
+    /// both. If a thread can't be started the intake comes back.
+    pub(crate) fn run<'s, E, R: Threads + Wait + Sync, G: Gate>(
         self,
         scope: &Scope<'s, E>,
         rt: &'s R,
@@ -114,20 +110,16 @@ impl Stages {
             mut intake,
             mut front,
             mut batches,
-            parcels,
-            ledger,
-            made,
-            outcomes,
-            outlets,
+            committer,
+            demultiplexer,
         } = self;
-        let Some(committer) = start_committer(scope, rt, gate, parcels, made, ledger) else {
+        let Some(committer) = start_committer(scope, rt, gate, committer) else {
             drop(front);
             drop(batches);
-            drop(outcomes);
-            drop(outlets);
+            drop(demultiplexer);
             return Err(intake);
         };
-        let Some(demultiplexer) = start_demultiplexer(scope, rt, outcomes, outlets) else {
+        let Some(demultiplexer) = start_demultiplexer(scope, rt, demultiplexer) else {
             give_waiting(rt, &mut batches, Parcel::Last);
             drop(committer.join(rt));
             drop(front);
@@ -143,28 +135,5 @@ impl Stages {
             committed: committer.join(rt),
             routed: demultiplexer.join(rt),
         })
-    }
-
-    /// Runs the stages until each sender has ended. The calling thread is the batcher. If a thread can't be
-    /// started the intake comes back.
-    pub(crate) fn serve<R: Threads + Wait + Sync, G: Gate>(
-        self,
-        rt: &R,
-        gate: &G,
-    ) -> Result<Remains, Intake>
-        requires { IsReady self }
-        ensures served { IfOk result (λ remains. HaveServed self remains) }
-        ensures refused { IfErr result (λ intake. intake ≡ self.intake) }
-    {
-        let stages = self;
-        thread::scope(
-            thread::scope_env(),
-            rt,
-            |scope| -> Result<Remains, Intake>
-                requires { IsReady stages }
-                ensures served { IfOk result (λ remains. HaveServed stages remains) }
-                ensures refused { IfErr result (λ intake. intake ≡ stages.intake) }
-            { stages.run(scope, rt, gate) },
-        )
     }
 }

@@ -1,5 +1,5 @@
-use Rattle.std.proofs.Common.{rules, ◌≡◌, ◌∙◌, ◌∷◌, ◌++◌, [], append_assoc, length, map, refl, ap, sym, arith}
-use Rattle.std.proofs.lemmas.List.{map-append}
+use Rattle.std.proofs.Common.{rules, ◌≡◌, ◌∙◌, ◌∷◌, ◌++◌, [], append_assoc, append-nil, length, map, refl, ap, sym, arith}
+use Rattle.std.proofs.lemmas.List.{map-append, nil_from_length}
 use Rattle.std.specs.Vec.Iter.{into_iter_items}
 use Rattle.tb_submit.specs.Ends.{origin_of}
 use Rattle.tb_drive.specs.Tasks.{SubmitterTaskState, task_origin, task_share, task_submitter}
@@ -43,5 +43,9 @@ loop-submitter-preserved g c =
       seen = others_have g.D.Driver.has_seen drivers submitters c.loop-submitter.invariant.seen;
     }
 
-pub loop-submitter-init : goal.loop-submitter-init
-loop-submitter-init g c = search rules
+pub returns-clause-shares : goal.returns-clause-shares
+returns-clause-shares g c =
+    let all = map task_share c.loop-submitter.all.items in
+    let none : into_iter_items c.loop-submitter.drivers ≡ [] =
+    nil_from_length _ (c.loop-submitter.invariant.long ∙ search rules) in
+    sym (append-nil all) ∙ ap (λ ds. all ++ map g.D.Driver.share ds) (sym none) ∙ c.loop-submitter.invariant.shares

@@ -1,6 +1,10 @@
--- Found by the prover itself; on file since the check of an edit then costs less.
-use Rattle.std.proofs.Common.{rules}
+-- Found by the prover itself; on file since the check then costs less.
+use Rattle.std.proofs.Common.{arith, rules}
+use Rattle.std.proofs.lemmas.Grind.{common_steps}
 use Rattle.tb_pipe.proofs.routing.route_all.Goals as goal
 
 pub returns-in-Nothing-clause-last : goal.returns-in-Nothing-clause-last
 returns-in-Nothing-clause-last c = search rules
+
+pub loop-reply-preserved : goal.loop-reply-preserved
+loop-reply-preserved g c = grind (arith, common_steps)

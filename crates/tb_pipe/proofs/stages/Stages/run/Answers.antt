@@ -1,6 +1,24 @@
--- Found by the prover itself; on file since the check of an edit then costs less.
-use Rattle.std.proofs.Common.{rules}
+use Rattle.std.proofs.Common.{ap, rules, ◌∙◌}
+use Rattle.tb_rings.specs.Ends.{outlet_ring}
 use Rattle.tb_pipe.proofs.stages.Stages.run.Goals as goal
 
 pub returns-in_default-start_demultiplexer-clause-refused : goal.returns-in_default-start_demultiplexer-clause-refused
 returns-in_default-start_demultiplexer-clause-refused g c = search rules
+
+pub returns-clause-served : goal.returns-clause-served
+returns-clause-served g c =
+    let committed = rw c.in-Some.ensures at c.join-2.ensures in
+    let routed = rw c.in-Some-start_demultiplexer.ensures at c.join-3.ensures in
+    record {
+      rings = (
+        ap outlet_ring c.into_outlet.ensures ∙ c.batch_all.ensures.ring ∙ ap outlet_ring c.new-ring.ensures,
+        committed.0,
+        committed.1,
+        routed.0,
+        routed.1,
+      );
+      intake = c.batch_all.ensures.intake;
+      batched = rw c.into_outlet.ensures c.batch_all.ensures.all;
+      committed = committed.2;
+      routed = routed.2;
+    }
