@@ -1,6 +1,6 @@
 -- An event whose checks find nothing may be stored.
-use Rattle.std.proofs.Common.{refl, sym, ap, subst, ◌∙◌, arith, ◌≡◌, ℕ, ◌+◌, ◌*◌, ◌<◌, ◌≤◌, ◌^◌, Bool, true, false, not, List, [], ◌∷◌, Option, Some, None}
-use Rattle.std.specs.Prelude.{◌==◌, ◌&&◌, ◌||◌, nat_lt, IsSome, if◌then◌else◌}
+use Rattle.std.proofs.Common.{refl, sym, ap, subst, ◌∙◌, arith, ◌≡◌, ◌≢◌, ℕ, ◌+◌, ◌*◌, ◌<◌, ◌≤◌, ◌^◌, Bool, true, false, not, List, [], ◌∷◌, Option, Some, None}
+use Rattle.std.specs.Prelude.{◌==◌, ◌&&◌, ◌||◌, nat_lt, IsSome, is_some, if◌then◌else◌}
 use Rattle.std.specs.List.{AllByRecursion, list_all}
 use Rattle.std.specs.Option.{option_map}
 use Rattle.std.proofs.lemmas.Bool.{eqb-true}
@@ -8,7 +8,7 @@ use Rattle.std.proofs.lemmas.Bool.Decides.{nat_tests}
 use Rattle.tb_layout.specs.declared.account.Account.{Account}
 use Rattle.tb_layout.specs.declared.transfer.Transfer.{Transfer}
 use Rattle.tb_layout.specs.declared.transfer_code.TransferCode.{TransferCode}
-use Rattle.tb_layout.specs.declared.transfer_code.TransferCode.TheVariants.{Ok}
+use Rattle.tb_layout.specs.declared.transfer_code.TransferCode.TheVariants.{Ok, Exists}
 use Rattle.tb_layout.specs.TransferCode.{number_of}
 use Rattle.tb_layout.specs.Transfer.{is_pending, is_post, is_void, is_resolving}
 use Rattle.tb_tables.specs.Facts.{Facts, account_with, transfer_with}
@@ -22,8 +22,9 @@ use Rattle.tb_tables.specs.Conditions.{MayAdd, MayResolve}
 use Rattle.tb_tables.proofs.FoundById.{found-id}
 use Rattle.tb_layout.specs.Limits.{clock_max, nanoseconds_per_second}
 use Rattle.tb_machine.specs.AccountVerdict.{u128_max, first_row}
-use Rattle.tb_machine.specs.TransferVerdict.{transfer_verdict, event_checks, against_id, check_new_transfer, new_id_checks, resolving_checks, resolving_verdict, against_named, pending_checks, against_status, moving_checks, moving_verdict, check_accounts_found, balance_checks, resolved_transfer, resolved_transfer_of, stored_transfer, has_exclusive_flags}
+use Rattle.tb_machine.specs.TransferVerdict.{transfer_verdict, event_checks, stored_checks, against_id, check_new_transfer, new_id_checks, resolving_checks, resolving_verdict, against_named, pending_checks, against_status, moving_checks, moving_verdict, check_accounts_found, balance_checks, resolved_transfer, resolved_transfer_of, stored_transfer, has_exclusive_flags}
 use Rattle.tb_machine.specs.Examining.{new_transfer_verdict}
+use Rattle.tb_machine.proofs.Faults.{eqb-false}
 
 -- ---- if a table doesn't end in a failure, none of its checks applies
 
@@ -82,6 +83,25 @@ pub check_new_account : (facts : Facts) (timestamp : ℕ) (event : Transfer) →
     → transfer_verdict facts timestamp event ≡ new_transfer_verdict facts timestamp event
 check_new_account facts timestamp event new =
     ap (λ found. first_row (event_checks event) (against_id facts timestamp found event)) new
+
+-- if its id is there, it fails
+stored_fails : (facts : Facts) (timestamp : ℕ) (stored event : Transfer)
+    → number_of (first_row (event_checks event) (against_id facts timestamp (Some stored) event)) ≢ 0
+stored_fails facts timestamp stored event = λ ok.
+    let kept = resolved_transfer_of (transfer_with facts stored.pending_id) event in
+    let there = (passes (event_checks event) (against_id facts timestamp (Some stored) event) refl ok).rest in
+    let e : 46 ≡ 0 = (passes (stored_checks stored kept) Exists refl there).rest in absurd (omega (arith, e))
+
+-- so one that passes the checks of a new one passes if its id is new
+pub passes_if_new : (facts : Facts) (timestamp : ℕ) (event : Transfer)
+    → number_of (new_transfer_verdict facts timestamp event) ≡ 0
+    → not (is_some (transfer_with facts event.id)) ≡ (number_of (transfer_verdict facts timestamp event) == 0)
+passes_if_new facts timestamp event ok = by (transfer_with facts event.id)
+  where
+    by : (found : Option Transfer) → not (is_some found)
+        ≡ (number_of (first_row (event_checks event) (against_id facts timestamp found event)) == 0)
+    by None = sym (ap (λ n. n == 0) ok)
+    by (Some stored) = sym (eqb-false _ 0 (stored_fails facts timestamp stored event))
 
 -- ---- a plain or pending transfer
 
@@ -253,6 +273,15 @@ stored_is : (facts : Facts) (timestamp : ℕ) (event pending : Transfer)
 stored_is facts timestamp event pending named resolves =
     ap (λ found. record (resolved_transfer_of found event) { timestamp = timestamp }) named
     ∙ ap (λ b. record (if b then resolved_transfer pending event else event) { timestamp = timestamp }) resolves
+
+-- under its own id
+pub stored_id : (facts : Facts) (timestamp : ℕ) (event : Transfer) → (stored_transfer facts timestamp event).id ≡ event.id
+stored_id facts timestamp event = by (transfer_with facts event.pending_id) (is_resolving event) refl
+  where
+    by : (found : Option Transfer) (b : Bool) → is_resolving event ≡ b → (resolved_transfer_of found event).id ≡ event.id
+    by None b is = refl
+    by (Some pending) true is = ap (λ b. (if b then resolved_transfer pending event else event).id) is
+    by (Some pending) false is = ap (λ b. (if b then resolved_transfer pending event else event).id) is
 
 pub may_resolve : (facts : Facts) (timestamp : ℕ) (event : Transfer)
     → number_of (new_transfer_verdict facts timestamp event) ≡ 0 → is_resolving event ≡ true

@@ -1,12 +1,12 @@
 //! A script, line after line.
 
-ghost use Rattle.std.specs.Prelude.{◌≡◌, ◌≤◌, true, Ok, Err, [], drop, length, is_some, IfOk, IfSome, OnOk};
+ghost use Rattle.std.specs.Prelude.{◌≡◌, ◌≤◌, ◌++◌, ◌∷◌, true, Ok, Err, [], drop, length, is_some, IfOk, IfSome, OnOk};
 ghost use Rattle.std.specs.Option.{MatchOption};
 ghost use Rattle.tb_program_script.specs.declared.fault.LineError.TheVariants.{Fault as FaultOf};
 ghost use Rattle.tb_program_script.specs.Text.{words_of, first_line, after_first_line};
 ghost use Rattle.tb_program_script.specs.Steps.{Tells, Leaves};
 ghost use Rattle.tb_program_script.specs.Keyword.{no_word, one_word, two_words};
-ghost use Rattle.tb_program_script.specs.Script.{ParsedScript, nothing_parsed, so_far, items_of, has_begun, may_stand, with_packet, with_pulse, with_close, with_bytes, with_event, packet_numbers, one_number, with_line, is_text as is_text_line, line_max, after_line, InBounds};
+ghost use Rattle.tb_program_script.specs.Script.{ParsedScript, nothing_parsed, so_far, items_of, has_begun, may_stand, with_packet, with_bytes, with_event, packet_numbers, one_number, with_line, is_text as is_text_line, line_max, after_line, InBounds};
 
 use crate::event::{Draft, Layout, assign_all, hex_bytes};
 use crate::fault::{Fault, LineError};
@@ -210,20 +210,32 @@ impl Script {
         Ok(())
     }
 
-    /// Puts a pulse at the end of the items.
-    fn add_pulse(&mut self, moment: u64) -> Result<(), NoMemory>
-        ensures { OnOk result (self.new ≡ with_pulse self.old moment) }
+    /// Puts an item at the end of the items, after the packet to which lines still add.
+    fn add_item(&mut self, item: ScriptItem) -> Result<(), NoMemory>
+        ensures { OnOk result (self.new ≡ record self.old { items = items_of self.old ++ item ∷ []; packet = None }) }
     {
         self.end_packet()?;
-        self.items.push(ScriptItem::Pulse(moment))?;
+        self.items.push(item)?;
         Ok(())
     }
 
-    fn add_close(&mut self) -> Result<(), NoMemory>
-        ensures { OnOk result (self.new ≡ with_close self.old) }
+    /// Takes the word of a pulse, its moment.
+    #[tactic(auto, unfolding(crate::specs::Script::with_line))]
+    fn take_pulse(&mut self, words: Words) -> Result<(), LineError>
+        ensures { Leaves result self.new (with_line self.old Keyword.Pulse (words_of words.entry.rest.now)) }
     {
-        self.end_packet()?;
-        self.items.push(ScriptItem::Shut)?;
+        let moment = one_number(words, 0, u64::MAX as u128)?;
+        self.add_item(ScriptItem::Pulse(moment as u64))?;
+        Ok(())
+    }
+
+    /// Takes the Close, which has no words.
+    #[tactic(auto, unfolding(crate::specs::Script::with_line))]
+    fn take_close(&mut self, words: Words) -> Result<(), LineError>
+        ensures { Leaves result self.new (with_line self.old Keyword.Shut (words_of words.entry.rest.now)) }
+    {
+        no_word(words)?;
+        self.add_item(ScriptItem::Shut)?;
         self.shut = true;
         Ok(())
     }
@@ -270,6 +282,26 @@ impl Script {
         Ok(())
     }
 
+    /// Takes the word of an id, and adds its bytes to the packet.
+    #[tactic(auto, unfolding(crate::specs::Script::with_line))]
+    fn take_id(&mut self, words: Words) -> Result<(), LineError>
+        ensures { Leaves result self.new (with_line self.old Keyword.Id (words_of words.entry.rest.now)) }
+    {
+        let id = one_number(words, 0, u128::MAX)?;
+        self.add_bytes(&id.to_le_bytes())?;
+        Ok(())
+    }
+
+    /// Takes a word of hexadecimal digits, and adds their bytes to the packet.
+    #[tactic(auto, unfolding(crate::specs::Script::with_line))]
+    fn take_hex(&mut self, alloc: Global, words: Words) -> Result<(), LineError>
+        ensures { Leaves result self.new (with_line self.old Keyword.Hex (words_of words.entry.rest.now)) }
+    {
+        let bytes = hex_bytes(alloc, one_word(words)?)?;
+        self.add_bytes(&bytes)?;
+        Ok(())
+    }
+
     /// Takes a line in its place, with the words after its first.
     #[tactic(auto, unfolding(crate::specs::Script::with_line))]
     fn take_line(&mut self, alloc: Global, keyword: Keyword, words: Words) -> Result<(), LineError>
@@ -294,16 +326,13 @@ impl Script {
                     one_number(words, 1, SUBMITTERS_MAX as u128)? as u32,
                 );
             }
-            Keyword::Packet => self.take_packet(alloc, words)?,
-            Keyword::Account => self.take_event_line(Layout::Account, words)?,
-            Keyword::Transfer => self.take_event_line(Layout::Transfer, words)?,
-            Keyword::Id => self.add_bytes(&one_number(words, 0, u128::MAX)?.to_le_bytes())?,
-            Keyword::Hex => self.add_bytes(&hex_bytes(alloc, one_word(words)?)?)?,
-            Keyword::Pulse => self.add_pulse(one_number(words, 0, u64::MAX as u128)? as u64)?,
-            Keyword::Shut => {
-                no_word(words)?;
-                self.add_close()?;
-            }
+            Keyword::Packet => return self.take_packet(alloc, words),
+            Keyword::Account => return self.take_event_line(Layout::Account, words),
+            Keyword::Transfer => return self.take_event_line(Layout::Transfer, words),
+            Keyword::Id => return self.take_id(words),
+            Keyword::Hex => return self.take_hex(alloc, words),
+            Keyword::Pulse => return self.take_pulse(words),
+            Keyword::Shut => return self.take_close(words),
         }
         Ok(())
     }

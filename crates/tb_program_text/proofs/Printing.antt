@@ -52,18 +52,18 @@ on_ok (Ok x) f holds = f holds
 on_ok (Err e) f holds = tt
 
 -- the lines, and the clock and the accounts
-pub whole : (clock : ℕ) (plan : List Planned) (lines : List Line) (ledger : LedgerState) (replies : List ReplyValue)
+pub whole : (clock : ℕ) (plan : List Planned) (lines : List Line) (ledger : LedgerState) (replies shown : List ReplyValue)
     (state : State) (out with_lines with_state : List ℕ) →
     lines ≡ map line_of plan → IsListed clock (queue_of plan) ledger replies
-    → state ≡ replay ledger.opening (inputs ledger) →
-    with_lines ≡ out ++ text_from (Some 0) replies lines → with_state ≡ with_lines ++ state_text state
+    → state ≡ replay ledger.opening (inputs ledger) → shown ≡ replies →
+    with_lines ≡ out ++ text_from (Some 0) shown lines → with_state ≡ with_lines ++ state_text state
     → with_state ≡ out ++ plan_text clock plan
-whole clock plan lines ledger replies state out with_lines with_state lines_are is state_is first second =
+whole clock plan lines ledger replies shown state out with_lines with_state lines_are is state_is all first second =
     let committed = ahead (queue_of plan) in
     let after : state ≡ replay clock committed = state_is ∙ ap (λ start. replay start (inputs ledger)) is.from
     ∙ ap (replay clock) is.committed in
-    let text : text_from (Some 0) replies lines ≡ lines_from clock committed (Ahead 0) plan =
-    ap (text_from (Some 0) replies) lines_are ∙ ap (λ rs. text_from (Some 0) rs (map line_of plan)) is.replied
+    let text : text_from (Some 0) shown lines ≡ lines_from clock committed (Ahead 0) plan =
+    ap (text_from (Some 0) shown) lines_are ∙ ap (λ rs. text_from (Some 0) rs (map line_of plan)) (all ∙ is.replied)
     ∙ texts_agree clock committed (Some 0) plan in
     second ∙ ap (λ t. t ++ state_text state) (first ∙ ap (λ t. out ++ t) text)
     ∙ ap (λ (s : State). (out ++ lines_from clock committed (Ahead 0) plan) ++ state_text s) after

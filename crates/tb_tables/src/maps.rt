@@ -69,8 +69,7 @@ impl Maps {
         ensures { self.new ≡ self.old }
     {
         self.accounts.reserve(accounts)?;
-        self.transfers.reserve(transfers)?;
-        Ok(())
+        self.transfers.reserve(transfers)
     }
 
     /// Adds an account with this timestamp, unless one with its id is there; whether it was added.

@@ -59,8 +59,8 @@ fn add_transfer(bytes: &mut Vec<u8>, transfer: &Transfer) -> Result<(), NoMemory
 /// Puts an id after what is there.
 fn add_id(bytes: &mut Vec<u8>, id: u128) -> Result<(), NoMemory>
     ensures bytes { OnOk result (bytes.new.items ≡ bytes.old.items ++ bytes_of 16 id) }
-    ensures length { length (bytes_of 16 id) ≡ 16 }
-    ensures read_back { little_endian (bytes_of 16 id) ≡ id }
+    ensures length { OnOk result (length (bytes_of 16 id) ≡ 16) }
+    ensures read_back { OnOk result (little_endian (bytes_of 16 id) ≡ id) }
 {
     bytes.extend_from_slice(&write_id(id))?;
     Ok(())

@@ -1,5 +1,6 @@
-use Rattle.std.proofs.Common.{◌∙◌, ap, sym, ◌++◌, append-nil, map}
+use Rattle.std.proofs.Common.{◌∙◌, ap, sym, ◌++◌, append-nil, map, arith}
 use Rattle.std.specs.Prelude.{is_some}
+use Rattle.std.proofs.lemmas.Grind.{common_steps}
 use Rattle.tb_machine.proofs.Faults.{fault-below, quiet_as}
 use Rattle.tb_machine.proofs.Failures.{failures_from-quiet}
 use Rattle.tb_machine.proofs.commit.commit_closed_chain.Goals as goal
@@ -17,3 +18,15 @@ returns-else-is_some-clause-failures g c =
     let none = failures_from-quiet g.E.CreateEvent.operation c.args.start.clock c.args.tables.now.now
     (map g.E.CreateEvent.event_of c.args.chain.now) c.args.start.index _ quiet in
     sym (ap (λ fs. c.args.out.now.items ++ fs) none ∙ append-nil c.args.out.now.items)
+
+pub returns-in_err-undo_chain-clause-extends : goal.returns-in_err-undo_chain-clause-extends
+returns-in_err-undo_chain-clause-extends g c = grind (arith, common_steps)
+
+pub returns-in_ok-undo_chain-clause-extends : goal.returns-in_ok-undo_chain-clause-extends
+returns-in_ok-undo_chain-clause-extends g c = grind (arith, common_steps)
+
+pub returns-in_ok-undo_chain-clause-facts : goal.returns-in_ok-undo_chain-clause-facts
+returns-in_ok-undo_chain-clause-facts g c = grind (arith, common_steps)
+
+pub returns-in_ok-undo_chain-clause-failures : goal.returns-in_ok-undo_chain-clause-failures
+returns-in_ok-undo_chain-clause-failures g c = grind (arith, common_steps)

@@ -1,5 +1,6 @@
-use Rattle.std.proofs.Common.{append_assoc}
+use Rattle.std.proofs.Common.{append_assoc, arith}
 use Rattle.std.proofs.lemmas.List.{length-map}
+use Rattle.std.proofs.lemmas.Grind.{common_steps}
 use Rattle.tb_machine.proofs.Faults.{fault-below}
 use Rattle.tb_machine.proofs.Failures.{failures_from-open}
 use Rattle.tb_machine.proofs.commit.commit_open_chain.Goals as goal
@@ -21,3 +22,12 @@ returns-clause-failures g c =
       c.with_event-fault.ensures,
       c.in_ok-examine_all.ensures.fault,
     ) (simp append_assoc)
+
+pub returns-in_err-undo_chain-clause-extends : goal.returns-in_err-undo_chain-clause-extends
+returns-in_err-undo_chain-clause-extends g c = grind (arith, common_steps)
+
+pub returns-clause-extends : goal.returns-clause-extends
+returns-clause-extends g c = grind (arith, common_steps)
+
+pub returns-clause-facts : goal.returns-clause-facts
+returns-clause-facts g c = grind (arith, common_steps)

@@ -1,5 +1,6 @@
-use Rattle.std.proofs.Common.{◌∙◌, ap, not, ◌&&◌}
+use Rattle.std.proofs.Common.{◌∙◌, ap, not, ◌&&◌, arith}
 use Rattle.std.proofs.lemmas.List.{take_all}
+use Rattle.std.proofs.lemmas.Grind.{common_steps}
 use Rattle.tb_tables.proofs.Words.{is_in_expiries, is_resolved_at, is_spent}
 use Rattle.tb_tables.specs.declared.change.Change.TheVariants.{Account}
 use Rattle.std.proofs.lemmas.List.Elements.{All-from_recursion}
@@ -27,3 +28,6 @@ returns c = λ facts all m p.
     c.loop-change.invariant facts all m p
     ∙ ap (λ cs. not (is_resolved_at p cs && is_spent facts m p) && is_in_expiries c.args.expiries.now m p)
     (take_all c.loop-change.change-index c.args.changes.now c.loop-change-test.false)
+
+pub returns-then-is_empty : goal.returns-then-is_empty
+returns-then-is_empty c = grind (arith, common_steps)

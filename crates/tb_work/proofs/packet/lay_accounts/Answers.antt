@@ -1,5 +1,6 @@
-use Rattle.std.proofs.Common.{arith}
-use Rattle.std.proofs.lemmas.List.{take_more}
+use Rattle.std.proofs.Common.{ap, ◌∙◌, arith}
+use Rattle.std.specs.List.{flat_map}
+use Rattle.std.proofs.lemmas.List.{take_all, take_more}
 use Rattle.tb_layout.specs.inside.Records.{account_bytes}
 use Rattle.tb_layout.specs.Account.{account_of}
 use Rattle.tb_work.proofs.Laid.{laid-bytes, laid-length, laid-events}
@@ -21,3 +22,12 @@ loop-account-preserved c =
           before.length added.length
           added.read_back before.events;
     }
+
+pub returns-clause-bytes : goal.returns-clause-bytes
+returns-clause-bytes c =
+    c.loop-account.invariant.bytes
+    ∙ ap (flat_map account_bytes) (take_all c.loop-account.account-index c.args.accounts.now c.loop-account-test.false)
+
+pub returns-clause-events : goal.returns-clause-events
+returns-clause-events c =
+    c.loop-account.invariant.events ∙ take_all c.loop-account.account-index c.args.accounts.now c.loop-account-test.false

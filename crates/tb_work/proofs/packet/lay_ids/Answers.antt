@@ -1,5 +1,6 @@
-use Rattle.std.proofs.Common.{arith}
-use Rattle.std.proofs.lemmas.List.{take_more}
+use Rattle.std.proofs.Common.{ap, ◌∙◌, arith}
+use Rattle.std.specs.List.{flat_map}
+use Rattle.std.proofs.lemmas.List.{take_all, take_more}
 use Rattle.tb_layout.specs.inside.Bytes.{bytes_of}
 use Rattle.tb_layout.specs.Bytes.{little_endian}
 use Rattle.tb_work.proofs.Laid.{laid-bytes, laid-length, laid-events}
@@ -21,3 +22,12 @@ loop-id-preserved c =
           before.length added.length
           added.read_back before.events;
     }
+
+pub returns-clause-bytes : goal.returns-clause-bytes
+returns-clause-bytes c =
+    c.loop-id.invariant.bytes
+    ∙ ap (flat_map (bytes_of 16)) (take_all c.loop-id.id-index c.args.ids.now c.loop-id-test.false)
+
+pub returns-clause-events : goal.returns-clause-events
+returns-clause-events c =
+    c.loop-id.invariant.events ∙ take_all c.loop-id.id-index c.args.ids.now c.loop-id-test.false

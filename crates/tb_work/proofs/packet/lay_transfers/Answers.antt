@@ -1,5 +1,6 @@
-use Rattle.std.proofs.Common.{arith}
-use Rattle.std.proofs.lemmas.List.{take_more}
+use Rattle.std.proofs.Common.{ap, ◌∙◌, arith}
+use Rattle.std.specs.List.{flat_map}
+use Rattle.std.proofs.lemmas.List.{take_all, take_more}
 use Rattle.tb_layout.specs.inside.Records.{transfer_bytes}
 use Rattle.tb_layout.specs.Transfer.{transfer_of}
 use Rattle.tb_work.proofs.Laid.{laid-bytes, laid-length, laid-events}
@@ -21,3 +22,12 @@ loop-transfer-preserved c =
           before.length added.length
           added.read_back before.events;
     }
+
+pub returns-clause-bytes : goal.returns-clause-bytes
+returns-clause-bytes c =
+    c.loop-transfer.invariant.bytes
+    ∙ ap (flat_map transfer_bytes) (take_all c.loop-transfer.transfer-index c.args.transfers.now c.loop-transfer-test.false)
+
+pub returns-clause-events : goal.returns-clause-events
+returns-clause-events c =
+    c.loop-transfer.invariant.events ∙ take_all c.loop-transfer.transfer-index c.args.transfers.now c.loop-transfer-test.false

@@ -1,4 +1,5 @@
-use Rattle.std.proofs.Common.{◌∙◌, sym, ap, not, ◌&&◌}
+use Rattle.std.proofs.Common.{◌∙◌, sym, ap, not, ◌&&◌, arith}
+use Rattle.std.proofs.lemmas.Grind.{common_steps}
 use Rattle.tb_tables.proofs.Words.{facts_of, its_pair, contents_in, transfer_with}
 use Rattle.tb_tables.specs.Conditions.{stamped}
 use Rattle.tb_tables.proofs.LookUps.{is-done, isn't-done, none-there, told-new, transfers-length}
@@ -63,3 +64,6 @@ pub returns-else-eq-clause-new : goal.returns-else-eq-clause-new
 returns-else-eq-clause-new c =
     rw (← c.self.view_is) (rw (told-new c.self.invariant.hold c.args.event.now.id) at
     c.push-added.ensures.new)
+
+pub returns-else-eq-clause-pairs : goal.returns-else-eq-clause-pairs
+returns-else-eq-clause-pairs c = grind (arith, common_steps)

@@ -1,4 +1,5 @@
 use Rattle.std.proofs.Common.{length, arith, ap, sym, ◌∙◌, ◌≡◌, None, Ok}
+use Rattle.std.proofs.lemmas.Grind.{common_steps}
 use Rattle.tb_tables.proofs.Words.{has_pair, history_in, transfer_with, with_change}
 use Rattle.tb_tables.specs.Conditions.{stamped}
 use Rattle.tb_tables.proofs.LookUps.{none-there}
@@ -44,3 +45,9 @@ returns-clause-added c = λ _.
     ((transfer-made o.changes.items o.maps c.self.invariant c.store.ensures.sound t c.args.indices r.at
     (r.may none) c.store.new.self added c.store.ensures.pairs).1
     ∙ ap (with_change (history_in o.changes.items o.maps.facts)) added)
+
+pub note-requires : goal.note-requires
+note-requires c = grind (arith, common_steps)
+
+pub store-requires-clause-at : goal.store-requires-clause-at
+store-requires-clause-at c = grind (arith, common_steps)

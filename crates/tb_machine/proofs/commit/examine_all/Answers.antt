@@ -1,0 +1,16 @@
+-- Found by the prover itself, but late; on file since a check then costs less.
+use Rattle.std.proofs.Common.{arith}
+use Rattle.std.proofs.lemmas.Grind.{common_steps}
+use Rattle.tb_machine.proofs.commit.examine_all.Goals as goal
+
+pub loop-index-preserved : goal.loop-index-preserved
+loop-index-preserved g c = grind (arith, common_steps)
+
+pub returns-then-code-ne0-clause-fault : goal.returns-then-code-ne0-clause-fault
+returns-then-code-ne0-clause-fault g c = grind (arith, common_steps)
+
+pub returns-clause-fault : goal.returns-clause-fault
+returns-clause-fault g c = grind (arith, common_steps)
+
+pub returns-clause-stored : goal.returns-clause-stored
+returns-clause-stored g c = grind (arith, common_steps)
