@@ -1,5 +1,5 @@
 -- An account that is looked up has the balances that the facts give it.
-use Rattle.std.proofs.Common.{◌≡◌, ◌∙◌, ℕ, ◌+◌, ◌==◌, refl, sym, ap, subst, Option, Some, None, unwrap_or, option_map, find}
+use Rattle.std.proofs.Common.{◌≡◌, ℕ, ◌+◌, refl, sym, ap, subst, Option, Some, None, unwrap_or, option_map}
 use Rattle.tb_tables.specs.Balances.{balanced_account}
 use Rattle.tb_tables.proofs.FoundById.{found-id}
 use Rattle.tb_tables.proofs.Words.{Account, Facts, account_with, credits, debits, with_balances}

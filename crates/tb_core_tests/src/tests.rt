@@ -9,6 +9,21 @@ use tb_layout::Failure;
 use tb_test_makers::zeros;
 use tb_work::{Answer, Outcome, Packet};
 
+/// Ends the test unless a fact holds. The failure names the line of the call and, in a loop over a table, its row. Its proof
+/// takes a tenth of the time of that of `assert!`, which also writes the fact out.
+macro_rules! check {
+    ($rt:expr; $fact:expr $(,)?) => {
+        if !$fact {
+            std::process::Abort::abort($rt)
+        }
+    };
+    ($rt:expr; $fact:expr, $row:expr $(,)?) => {
+        if !$fact {
+            std::process::Abort::panic($rt, $row)
+        }
+    };
+}
+
 mod batch;
 mod demux;
 mod embed;
@@ -17,6 +32,7 @@ mod ledger;
 mod list;
 mod machine;
 mod made;
+mod plain;
 mod rule;
 mod tables;
 mod told;
@@ -28,6 +44,16 @@ fn packet_of(rt: &(impl Abort + Alloc<A = Global>), operation: u8, length: usize
     ensures { result.operation ≡ operation }
 {
     zeros(rt.alloc(), operation, length).expect(rt, "memory")
+}
+
+/// Adds an item, with ample memory.
+fn push<T: Drop>(rt: &impl Abort, items: &mut Vec<T>, item: T) {
+    items.push(item).expect(rt, "memory");
+}
+
+/// Returns the number of these digits.
+fn number_of(rt: &impl Abort, digits: &str) -> u32 {
+    digits.parse::<u32>().ok().expect(rt, "a number")
 }
 
 /// Returns the failures of a packet that was committed at a place.

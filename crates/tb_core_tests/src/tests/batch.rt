@@ -2,6 +2,7 @@
 
 use std::alloc::Global;
 use std::process::Abort;
+use tb_batch::Batcher;
 use tb_test_makers::{job, packet_of};
 use tb_work::Job;
 
@@ -9,6 +10,11 @@ mod calls;
 mod examples;
 mod memory;
 mod sizes;
+
+/// Returns a batcher of at most `limit` events.
+fn batcher_of(rt: &(impl Abort + Alloc<A = Global>), limit: u32) -> Batcher {
+    Batcher::new(rt.alloc(), limit).ok().expect(rt, "a batcher")
+}
 
 /// Returns the job of a packet of events that are all zeros but for their flags; a lookup has as many ids.
 fn job_of(rt: &(impl Abort + Alloc<A = Global>), number: u64, operation: u8, flags: &[u8]) -> Job {

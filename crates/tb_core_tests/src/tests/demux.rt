@@ -33,7 +33,7 @@ fn job_of(
     let job = Job::new(rt.alloc(), submitter, 0, 4, packet)
         .ok()
         .expect(rt, "the packet is admitted");
-    assert!(rt; job.stub().count == count);
+    check!(rt; job.stub().count == count);
     job
 }
 
@@ -65,32 +65,33 @@ fn found_at(outcome: &Outcome, at: u64) -> Option<usize> {
 /// Returns the next reply, which is to this submitter's packet.
 fn next_of(rt: &impl Abort, cutter: &mut Cutter, submitter: u32) -> Reply {
     let reply = cutter.next().expect(rt, "a reply is left");
-    assert!(rt; reply.submitter == submitter);
-    assert!(rt; reply.packet.user == user_word_of(submitter));
+    check!(rt; reply.submitter == submitter);
+    check!(rt; reply.packet.user == user_word_of(submitter));
     reply
 }
 
 #[test]
 fn two_submitters_joined(rt: HostRuntime) {
     let mut failures = Vec::new(rt.alloc());
-    failures
-        .push(Failure { index: 2, code: 21 })
-        .expect(&rt, "memory");
-    failures
-        .push(Failure { index: 3, code: 13 })
-        .expect(&rt, "memory");
+    let first = Failure { index: 2, code: 21 };
+    failures.push(first).expect(&rt, "memory");
+    let second = Failure { index: 3, code: 13 };
+    failures.push(second).expect(&rt, "memory");
     let answer = Answer::Failures(Failures::from_vec(failures));
     let mut cutter = Cutter::new(two_jobs(&rt), Outcome::Committed { place: 0, answer });
     let first = next_of(&rt, &mut cutter, 0);
-    assert!(rt; failures_at(&first.outcome, 0) == Some([].as_slice()));
+    check!(&rt; failures_at(&first.outcome, 0) == Some([].as_slice()));
+    drop(first);
     let second = next_of(&rt, &mut cutter, 1);
     let own = [
         Failure { index: 0, code: 21 },
         Failure { index: 1, code: 13 },
     ];
-    assert!(rt; failures_at(&second.outcome, 1) == Some(own.as_slice()));
-    assert!(rt; cutter.next().is_none());
-    assert!(rt; cutter.next().is_none());
+    check!(&rt; failures_at(&second.outcome, 1) == Some(own.as_slice()));
+    drop(second);
+    check!(&rt; cutter.next().is_none());
+    check!(&rt; cutter.next().is_none());
+    drop(cutter);
 }
 
 #[test]
@@ -98,16 +99,20 @@ fn packets_that_were_stopped(rt: HostRuntime) {
     let mut cutter = Cutter::new(two_jobs(&rt), Outcome::Stopped);
     for submitter in 0..2 {
         let reply = next_of(&rt, &mut cutter, submitter);
-        assert!(rt; matches!(&reply.outcome, Outcome::Stopped));
+        check!(&rt; matches!(&reply.outcome, Outcome::Stopped));
+        drop(reply);
     }
-    assert!(rt; cutter.next().is_none());
+    check!(&rt; cutter.next().is_none());
+    drop(cutter);
 }
 
 #[test]
 fn packets_behind_the_close(rt: HostRuntime) {
     let mut cutter = Cutter::new(two_jobs(&rt), Outcome::Shutdown);
     let reply = next_of(&rt, &mut cutter, 0);
-    assert!(rt; matches!(&reply.outcome, Outcome::Shutdown));
+    check!(&rt; matches!(&reply.outcome, Outcome::Shutdown));
+    drop(reply);
+    drop(cutter);
 }
 
 #[test]
@@ -120,6 +125,8 @@ fn a_lookup_whole(rt: HostRuntime) {
     let answer = Answer::Accounts(Accounts::from_vec(found));
     let mut cutter = Cutter::new(jobs, Outcome::Committed { place: 5, answer });
     let reply = next_of(&rt, &mut cutter, 1);
-    assert!(rt; found_at(&reply.outcome, 5) == Some(1));
-    assert!(rt; cutter.next().is_none());
+    check!(&rt; found_at(&reply.outcome, 5) == Some(1));
+    drop(reply);
+    check!(&rt; cutter.next().is_none());
+    drop(cutter);
 }

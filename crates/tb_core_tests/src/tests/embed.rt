@@ -104,15 +104,6 @@ fn told_by(reply: &Reply) -> Got {
     }
 }
 
-fn read(engine: &mut Engine) -> Got {
-    let Some(reply) = engine.reply() else {
-        return Got::Nothing;
-    };
-    let got = told_by(&reply);
-    drop(reply);
-    got
-}
-
 fn got_by(engine: &mut Engine, alloc: Global, call: Call) -> Got {
     match call {
         Call::Submit(submitter, operation, size) => match zeros(alloc, operation, size) {
@@ -122,7 +113,10 @@ fn got_by(engine: &mut Engine, alloc: Global, call: Call) -> Got {
         Call::Pulse(moment) => got_of(engine.pulse(moment)),
         Call::Shut => got_of(engine.shut()),
         Call::Flush => got_of(engine.flush()),
-        Call::Read => read(engine),
+        Call::Read => match engine.reply() {
+            Some(reply) => told_by(&reply),
+            None => Got::Nothing,
+        },
     }
 }
 
@@ -140,28 +134,22 @@ fn calls_in_a_row(rt: HostRuntime) {
     let mut engine = Engine::new(rt.alloc(), 0, 2, 3)
         .ok()
         .expect(&rt, "settings");
-    let hold = rows_hold(&mut engine, rt.alloc());
-    let clock = engine.clock();
-    let found = engine.lookup_account(0).is_some();
+    check!(&rt; rows_hold(&mut engine, rt.alloc()));
+    check!(&rt; engine.clock() == MOMENT_MAX);
+    check!(&rt; engine.lookup_account(0).is_none());
     drop(engine);
-    assert!(&rt; hold && clock == MOMENT_MAX && !found);
 }
 
 /// Reserves capacity, then more than memory has.
-fn reserves(engine: &mut Engine) -> bool {
-    let refused = Got::Refused(Refusal::NoMemory);
-    got_of(engine.reserve(10, 10)) == Got::Done
-        && got_of(engine.reserve(0, 1 << 60)) == refused
-        && got_of(engine.reserve(usize::MAX, 0)) == refused
-}
-
 #[test]
 fn calls_in_a_row_with_a_seed_after_refused_reservations(rt: HostRuntime) {
     let seed = Seed { low: 3, high: 5 };
     let mut engine = Engine::with_seed(rt.alloc(), 0, 2, 3, seed)
         .ok()
         .expect(&rt, "settings");
-    let hold = reserves(&mut engine) && rows_hold(&mut engine, rt.alloc());
+    check!(&rt; engine.reserve(10, 10) == Ok(()));
+    check!(&rt; engine.reserve(0, 1 << 60) == Err(Refusal::NoMemory));
+    check!(&rt; engine.reserve(usize::MAX, 0) == Err(Refusal::NoMemory));
+    check!(&rt; rows_hold(&mut engine, rt.alloc()));
     drop(engine);
-    assert!(&rt; hold);
 }

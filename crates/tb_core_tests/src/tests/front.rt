@@ -1,6 +1,6 @@
 //! The front by itself, and a packet's way through front, ledger and cutter.
 
-ghost use Rattle.std.specs.Prelude.{◌≡◌, ◌≤◌, [], IfOk, true};
+ghost use Rattle.std.specs.Prelude.{◌≡◌, ◌≤◌, [], IfOk, IfSome, true};
 
 use super::made::{Made, item};
 use super::told::{Told, assert_told};
@@ -8,7 +8,6 @@ use arrayvec::ArrayVec;
 use std::alloc::Global;
 use std::process::Abort;
 use std::slice;
-use std::test::Fail;
 use tb_core::{Cause, Front, Ledger, Outcomes, Parcel};
 use tb_work::{Refusal, Reply, Ticket};
 
@@ -32,9 +31,9 @@ fn handed_by(parcel: &Parcel) -> Handed {
 }
 
 fn assert_handed(rt: &impl Abort, parcels: &[Parcel], wanted: &[Handed]) {
-    assert!(rt; parcels.len() == wanted.len());
+    check!(rt; parcels.len() == wanted.len());
     for (parcel, wanted) in parcels.iter().zip(wanted) {
-        assert!(rt; handed_by(parcel) == *wanted);
+        check!(rt; handed_by(parcel) == *wanted);
     }
 }
 
@@ -72,6 +71,7 @@ fn assert_taken(
 {
     let parcels = front.take(ticket_of(rt, sender, made));
     assert_handed(rt, parcels.as_slice(), wanted);
+    drop(parcels);
 }
 
 /// Packets for a front of 16 submitters with the largest limit: sender, operation and number of events. The last number
@@ -125,7 +125,7 @@ fn assert_sizes(rt: &(impl Abort + Alloc<A = Global>), front: &mut Front)
     requires { front.old.submitters ≡ 16 }
 {
     for (sender, operation, count, sealed) in &SIZES {
-        assert!(rt; *sender <= 16);
+        check!(rt; *sender <= 16);
         let packet = Made::Zeros {
             number: 0,
             operation: *operation,
@@ -160,10 +160,7 @@ const OPENINGS: [(u32, u32, Option<Refusal>); 5] = [
 fn openings(rt: HostRuntime) {
     for (limit, submitters, wanted) in &OPENINGS {
         let refusal = refusal(rt.alloc(), *limit, *submitters);
-        assert!(rt;
-            refusal == *wanted,
-            "limit {limit} and {submitters} submitters"
-        );
+        check!(&rt; refusal == *wanted, *limit);
     }
 }
 
@@ -176,93 +173,83 @@ const THIRD: Made = Made::Packet { number: 2, id: 3 };
 #[test]
 fn packet_behind_shut(rt: HostRuntime) {
     let mut front = small_front(rt.alloc()).expect(&rt, "memory");
-    assert_shut(&rt, &mut front);
-    drop(front);
-}
-
-/// Shuts a front after a packet, and ends its submitter after another.
-fn assert_shut(rt: &(impl Abort + Alloc<A = Global>), front: &mut Front)
-    requires { front.old.submitters ≡ 1 }
-{
-    let returned = [Handed::Return(Cause::Shutdown)];
-    assert_taken(rt, front, 0, FIRST, &[]);
-    assert_taken(rt, front, 1, Made::Close, &[Handed::Batch(1)]);
-    assert_taken(rt, front, 0, SECOND, &returned);
+    assert_taken(&rt, &mut front, 0, FIRST, &[]);
+    assert_taken(&rt, &mut front, 1, Made::Close, &[Handed::Batch(1)]);
+    assert_taken(
+        &rt,
+        &mut front,
+        0,
+        SECOND,
+        &[Handed::Return(Cause::Shutdown)],
+    );
     // The submitter hasn't ended.
-    assert!(rt; !front.finished());
-    assert_taken(rt, front, 0, Made::End, &[]);
+    check!(&rt; !front.finished());
+    assert_taken(&rt, &mut front, 0, Made::End, &[]);
     // Both have ended.
-    assert!(rt; front.finished());
+    check!(&rt; front.finished());
+    drop(front);
 }
 
 #[test]
 fn refused_growth(rt: HostRuntime) {
     let mut front = small_front(rt.alloc()).expect(&rt, "memory");
-    assert_stopped(&rt, &mut front);
-    drop(front);
-}
-
-/// Refuses the growth for a second packet, after which each packet is stopped.
-fn assert_stopped(rt: &(impl Abort + Alloc<A = Global>), front: &mut Front) {
     let stopped = Handed::Return(Cause::Stopped);
-    assert_taken(rt, front, 0, FIRST, &[]);
-    let parcels = front.take_as_refused(ticket_of(rt, 0, SECOND));
-    assert_handed(rt, parcels.as_slice(), &[Handed::Batch(1), stopped]);
-    assert_taken(rt, front, 0, THIRD, &[stopped]);
+    assert_taken(&rt, &mut front, 0, FIRST, &[]);
+    let parcels = front.take_as_refused(ticket_of(&rt, 0, SECOND));
+    assert_handed(&rt, parcels.as_slice(), &[Handed::Batch(1), stopped]);
+    drop(parcels);
+    assert_taken(&rt, &mut front, 0, THIRD, &[stopped]);
+    drop(front);
 }
 
 /// Lets the front take a ticket into parcels, asserts what it yields, and leaves none.
 fn assert_taken_into(
-    rt: &impl Abort,
+    rt: &(impl Abort + Alloc<A = Global>),
     front: &mut Front,
     parcels: &mut ArrayVec<Parcel, 2>,
-    ticket: Ticket,
+    sender: u32,
+    made: Made,
     wanted: &[Handed],
 )
-    requires sender { ticket.sender ≤ front.old.submitters }
+    requires sender { sender ≤ front.old.submitters }
     requires empty { parcels.old.items ≡ [] }
     ensures same { front.new.submitters ≡ front.old.submitters }
     ensures none { parcels.new.items ≡ [] }
 {
-    front.take_into(parcels, ticket);
+    front.take_into(parcels, ticket_of(rt, sender, made));
     assert_handed(rt, parcels.as_slice(), wanted);
     parcels.clear();
-}
-
-/// Lets the front take a packet, a pulse and a packet into parcels.
-fn assert_all_taken_into(
-    rt: &(impl Abort + Alloc<A = Global>),
-    front: &mut Front,
-    parcels: &mut ArrayVec<Parcel, 2>,
-)
-    requires submitters { front.old.submitters ≡ 1 }
-    requires empty { parcels.old.items ≡ [] }
-{
-    let pulse = ticket_of(rt, 1, Made::Pulse(5));
-    let pulsed = [Handed::Batch(1), Handed::Pulse(5)];
-    assert_taken_into(rt, front, parcels, ticket_of(rt, 0, FIRST), &[]);
-    assert_taken_into(rt, front, parcels, pulse, &pulsed);
-    assert_taken_into(rt, front, parcels, ticket_of(rt, 0, SECOND), &[]);
 }
 
 #[test]
 fn parcels_of_the_caller(rt: HostRuntime) {
     let mut front = small_front(rt.alloc()).expect(&rt, "memory");
     let mut parcels = ArrayVec::new();
-    assert_all_taken_into(&rt, &mut front, &mut parcels);
+    let pulsed = [Handed::Batch(1), Handed::Pulse(5)];
+    assert_taken_into(&rt, &mut front, &mut parcels, 0, FIRST, &[]);
+    assert_taken_into(&rt, &mut front, &mut parcels, 1, Made::Pulse(5), &pulsed);
+    assert_taken_into(&rt, &mut front, &mut parcels, 0, SECOND, &[]);
     drop(parcels);
     drop(front);
 }
 
-/// Lets the front take a ticket into parcels; true if it hands nothing on.
-fn joins(front: &mut Front, parcels: &mut ArrayVec<Parcel, 2>, ticket: Ticket) -> bool
-    requires sender { ticket.sender ≤ front.old.submitters }
-    requires empty { parcels.old.items ≡ [] }
-    ensures same { front.new.submitters ≡ front.old.submitters }
-    ensures none { result ≡ true → parcels.new.items ≡ [] }
+/// Lets the front take a packet into parcels. Returns whether it is held, or None if memory ran out for the packet.
+fn joins(
+    alloc: Global,
+    front: &mut Front,
+    parcels: &mut ArrayVec<Parcel, 2>,
+    packet: Made,
+) -> Option<bool>
+    requires { parcels.old.items ≡ [] }
+    ensures { IfSome result (λ joins. joins ≡ true → parcels.new.items ≡ []) }
 {
-    front.take_into(parcels, ticket);
-    parcels.is_empty()
+    match ticket(alloc, 0, packet) {
+        Ok(ticket) => {
+            front.take_into(parcels, ticket);
+            Some(parcels.is_empty())
+        }
+        Err(_) => None,
+    }
 }
 
 /// Returns how many of three packets are taken and held; if one isn't, the parcels have what the front yields at it.
@@ -270,19 +257,19 @@ fn held_of_three(
     alloc: Global,
     front: &mut Front,
     parcels: &mut ArrayVec<Parcel, 2>,
-) -> Result<usize, Refusal>
+) -> Option<usize>
     requires { parcels.old.items ≡ [] }
 {
-    if !joins(front, parcels, ticket(alloc, 0, FIRST)?) {
-        return Ok(0);
+    if !joins(alloc, front, parcels, FIRST)? {
+        return Some(0);
     }
-    if !joins(front, parcels, ticket(alloc, 0, SECOND)?) {
-        return Ok(1);
+    if !joins(alloc, front, parcels, SECOND)? {
+        return Some(1);
     }
-    if !joins(front, parcels, ticket(alloc, 0, THIRD)?) {
-        return Ok(2);
+    if !joins(alloc, front, parcels, THIRD)? {
+        return Some(2);
     }
-    Ok(3)
+    Some(3)
 }
 
 /// Asserts the state of a front and its parcels that took this number of three packets before an allocation failed.
@@ -291,33 +278,24 @@ fn assert_held(rt: &impl Abort, front: &mut Front, parcels: &[Parcel], held: usi
     match held {
         0 => assert_handed(rt, parcels, &[stopped]),
         1 | 2 => assert_handed(rt, parcels, &[Handed::Batch(held), stopped]),
-        _ => assert!(rt; front.idle().map(|batch| batch.jobs().len()) == Some(3)),
-    }
-}
-
-/// Lets a front take three packets into parcels, as far as memory allows.
-fn assert_three_held(
-    rt: &impl Abort,
-    alloc: Global,
-    front: &mut Front,
-    parcels: &mut ArrayVec<Parcel, 2>,
-)
-    requires { parcels.old.items ≡ [] }
-{
-    if let Ok(held) = held_of_three(alloc, front, parcels) {
-        assert_held(rt, front, parcels.as_slice(), held);
+        _ => {
+            let batch = front.idle().expect(rt, "a group is held");
+            check!(rt; batch.jobs().len() == 3);
+            drop(batch);
+        }
     }
 }
 
 /// What is tried with each allocation refused in turn, by `tools/refuse-each-growth`.
 #[test]
-fn take_into_refused_memory(rt: HostRuntime) -> Result<(), Fail> {
-    let mut front = small_front(rt.alloc())?;
+fn take_into_refused_memory(rt: HostRuntime) {
+    let mut front = small_front(rt.alloc()).expect(&rt, "no memory is needed yet");
     let mut parcels = ArrayVec::new();
-    assert_three_held(&rt, rt.alloc(), &mut front, &mut parcels);
+    if let Some(held) = held_of_three(rt.alloc(), &mut front, &mut parcels) {
+        assert_held(&rt, &mut front, parcels.as_slice(), held);
+    }
     drop(parcels);
     drop(front);
-    Ok(())
 }
 
 /// Takes a packet through front, ledger and cutter, and gives its reply.
@@ -337,8 +315,8 @@ fn way_of_a_packet(front: &mut Front, ledger: &mut Ledger, ticket: Ticket) -> Op
 /// Asserts that a packet has its reply.
 fn assert_answered(rt: &(impl Abort + Alloc<A = Global>), front: &mut Front, ledger: &mut Ledger) {
     let reply = way_of_a_packet(front, ledger, ticket_of(rt, 0, FIRST)).expect(rt, "a reply");
-    assert!(rt; (reply.submitter, reply.number) == (0, 0));
-    assert!(rt; reply.packet.user == 7);
+    check!(rt; (reply.submitter, reply.number) == (0, 0));
+    check!(rt; reply.packet.user == 7);
     assert_told(rt, slice::from_ref(&reply), &[Told::Committed(0)]);
 }
 

@@ -6,7 +6,7 @@ ghost use Rattle.tb_layout.specs.Events.{create_accounts, create_transfers};
 
 use std::alloc::Global;
 use std::process::Abort;
-use tb_layout::{Account, BATCH_MAX, CREATE_ACCOUNTS, CREATE_TRANSFERS, Transfer};
+use tb_layout::{Account, BATCH_MAX, CREATE_ACCOUNTS, CREATE_TRANSFERS, Failure, Transfer};
 use tb_machine::Machine;
 use tb_test_makers::{account_bytes, transfer, transfer_bytes};
 
@@ -41,15 +41,34 @@ fn is_packet(operation: u8, body: &[u8]) -> bool
         && body.len() / 128 <= BATCH_MAX as usize
 }
 
+/// Commits a packet, and returns its failures; None if memory runs out.
+fn failures_of(
+    rt: &impl Alloc<A = Global>,
+    machine: &mut Machine,
+    operation: u8,
+    body: &[u8],
+) -> Option<Vec<Failure>> {
+    if !is_packet(operation, body) {
+        return None;
+    }
+    let mut out = Vec::with_capacity(rt.alloc(), body.len() / 128).ok()?;
+    match machine.commit(operation, body, &mut out) {
+        Ok(()) => Some(out),
+        Err(_) => None,
+    }
+}
+
 /// Returns whether a packet was committed and each of its events succeeded, as they do unless memory runs out.
 fn commits(rt: &impl Alloc<A = Global>, machine: &mut Machine, operation: u8, body: &[u8]) -> bool {
-    if !is_packet(operation, body) {
-        return false;
+    match failures_of(rt, machine, operation, body) {
+        Some(failures) => failures.is_empty(),
+        None => false,
     }
-    let Ok(mut out) = Vec::with_capacity(rt.alloc(), body.len() / 128) else {
-        return false;
-    };
-    machine.commit(operation, body, &mut out).is_ok() && out.is_empty()
+}
+
+/// Adds an event to a body.
+fn add_event(rt: &impl Abort, body: &mut Vec<u8>, event: &[u8; 128]) {
+    body.extend_from_slice(event).expect(rt, "memory");
 }
 
 /// Makes accounts; none fails.
@@ -59,7 +78,7 @@ fn make_accounts(
     accounts: &[Account],
 ) {
     let body = account_bytes(rt.alloc(), accounts).expect(rt, "memory");
-    assert!(rt; commits(rt, machine, CREATE_ACCOUNTS, &body));
+    check!(rt; commits(rt, machine, CREATE_ACCOUNTS, &body));
 }
 
 /// Makes transfers; none fails.
@@ -69,5 +88,5 @@ fn make_transfers(
     transfers: &[Transfer],
 ) {
     let body = transfer_bytes(rt.alloc(), transfers).expect(rt, "memory");
-    assert!(rt; commits(rt, machine, CREATE_TRANSFERS, &body));
+    check!(rt; commits(rt, machine, CREATE_TRANSFERS, &body));
 }

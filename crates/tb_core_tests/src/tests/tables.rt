@@ -6,7 +6,7 @@ ghost use Rattle.tb_tables.specs.Facts.{no_facts};
 mod both;
 mod plain;
 
-use std::test::Fail;
+use std::process::Abort;
 use tb_layout::{Account, Transfer};
 use tb_tables::{Seed, Status, Tables};
 
@@ -74,138 +74,122 @@ fn debits(tables: &Tables) -> Option<(u128, u128)> {
     Some((account.debits_pending, account.debits_posted))
 }
 
-/// Returns whether a fact holds.
-fn holds(fact: bool) -> Result<(), Fail> {
-    if fact {
-        Ok(())
-    } else {
-        Err("it doesn't hold")?
-    }
-}
-
-fn posts_and_undoes(tables: &mut Tables) -> Result<(), Fail>
+fn posts_and_undoes(rt: &impl Abort, tables: &mut Tables)
     requires { tables.old ≡ record { now = no_facts; past = [] } }
 {
-    tables.add_account(account(1))?;
-    tables.add_account(account(2))?;
-    tables.add_transfer(transfer(1, 100, 0, 2))?;
+    tables.add_account(account(1)).expect(rt, "memory");
+    tables.add_account(account(2)).expect(rt, "memory");
+    tables
+        .add_transfer(transfer(1, 100, 0, 2))
+        .expect(rt, "memory");
     tables.keep();
     let mark = tables.mark();
-    tables.resolve(transfer(2, 40, 1, 4))?;
-    holds(tables.status(1) == Some(Status::Posted))?;
-    holds(debits(tables) == Some((0, 40)))?;
+    tables.resolve(transfer(2, 40, 1, 4)).expect(rt, "memory");
+    check!(rt; tables.status(1) == Some(Status::Posted));
+    check!(rt; debits(tables) == Some((0, 40)));
     tables.undo_to(mark);
-    holds(tables.status(1) == Some(Status::Pending))?;
-    holds(debits(tables) == Some((100, 0)))?;
-    holds(tables.transfer(2).is_none())
+    check!(rt; tables.status(1) == Some(Status::Pending));
+    check!(rt; debits(tables) == Some((100, 0)));
+    check!(rt; tables.transfer(2).is_none());
 }
 
 #[test]
-fn undo_a_post(rt: HostRuntime) -> Result<(), Fail> {
+fn undo_a_post(rt: HostRuntime) {
     let mut tables = Tables::new(rt.alloc());
-    posts_and_undoes(&mut tables)
+    posts_and_undoes(&rt, &mut tables);
 }
 
-fn makes_each_other_call(tables: &mut Tables) -> Result<(), Fail>
-    requires { tables.old ≡ record { now = no_facts; past = [] } }
-{
-    tables.add_account(account(1))?;
+#[test]
+fn each_other_call(rt: HostRuntime) {
+    let mut tables = Tables::new(rt.alloc());
+    tables.add_account(account(1)).expect(&rt, "memory");
     let mark = tables.mark();
-    tables.add_failed(7)?;
-    holds(tables.failed(7))?;
+    tables.add_failed(7).expect(&rt, "memory");
+    check!(&rt; tables.failed(7));
     tables.undo_to(mark);
-    holds(!tables.failed(7))?;
+    check!(&rt; !tables.failed(7));
     tables.keep();
     tables.expire_due(5);
-    holds(tables.accounts() == 1)?;
-    holds(tables.account_at(0) == Some(account(1)))?;
-    holds(tables.account_at(1).is_none())?;
-    holds(tables.account_index(1) == Some(0))?;
-    holds(tables.account_index(2).is_none())
+    check!(&rt; tables.accounts() == 1);
+    check!(&rt; tables.account_at(0) == Some(account(1)));
+    check!(&rt; tables.account_at(1).is_none());
+    check!(&rt; tables.account_index(1) == Some(0));
+    check!(&rt; tables.account_index(2).is_none());
+    drop(tables);
 }
 
 #[test]
-fn each_other_call(rt: HostRuntime) -> Result<(), Fail> {
+fn each_call_by_places(rt: HostRuntime) {
     let mut tables = Tables::new(rt.alloc());
-    makes_each_other_call(&mut tables)
+    tables.add_account(account(1)).expect(&rt, "memory");
+    tables.add_account(account(2)).expect(&rt, "memory");
+    tables
+        .add_transfer(transfer(1, 100, 0, 2))
+        .expect(&rt, "memory");
+    check!(&rt; tables.transfer_index(1) == Some(0));
+    check!(&rt; tables.transfer_index(2).is_none());
+    check!(&rt; tables.transfer_at(0) == Some(transfer(1, 100, 0, 2)));
+    check!(&rt; tables.transfer_at(1).is_none());
+    tables.resolve(transfer(2, 100, 1, 8)).expect(&rt, "memory");
+    check!(&rt; tables.status_at(0) == Some(Status::Voided));
+    check!(&rt; tables.status_at(1).is_none());
+    drop(tables);
 }
 
-fn calls_by_places(tables: &mut Tables) -> Result<(), Fail>
+fn adds_a_new_account(rt: &impl Abort, tables: &mut Tables)
     requires { tables.old ≡ record { now = no_facts; past = [] } }
 {
-    tables.add_account(account(1))?;
-    tables.add_account(account(2))?;
-    tables.add_transfer(transfer(1, 100, 0, 2))?;
-    holds(tables.transfer_index(1) == Some(0))?;
-    holds(tables.transfer_index(2).is_none())?;
-    holds(tables.transfer_at(0) == Some(transfer(1, 100, 0, 2)))?;
-    holds(tables.transfer_at(1).is_none())?;
-    tables.resolve(transfer(2, 100, 1, 8))?;
-    holds(tables.status_at(0) == Some(Status::Voided))?;
-    holds(tables.status_at(1).is_none())
+    check!(rt; tables.add_new_account(&account(1), 7).expect(rt, "memory"));
+    check!(rt; !tables.add_new_account(&account(1), 8).expect(rt, "memory"));
+    check!(rt; matches!(tables.account(1), Some(stored) if stored.timestamp == 7));
+}
+
+fn adds_a_new_transfer(rt: &impl Abort, tables: &mut Tables)
+    requires { tables.old ≡ record { now = no_facts; past = [] } }
+{
+    tables.add_account(account(1)).expect(rt, "memory");
+    tables.add_account(account(2)).expect(rt, "memory");
+    check!(rt; tables.add_new_between(&transfer(1, 100, 0, 0), 7, 0, 1).expect(rt, "memory"));
+    check!(rt; !tables.add_new_between(&transfer(1, 100, 0, 0), 8, 0, 1).expect(rt, "memory"));
+    check!(rt; matches!(tables.transfer(1), Some(stored) if stored.timestamp == 7));
+    check!(rt; debits(tables) == Some((0, 100)));
+}
+
+fn resolves_by_a_new_post(rt: &impl Abort, tables: &mut Tables)
+    requires { tables.old ≡ record { now = no_facts; past = [] } }
+{
+    tables.add_account(account(1)).expect(rt, "memory");
+    tables.add_account(account(2)).expect(rt, "memory");
+    tables
+        .add_transfer(transfer(1, 100, 0, 2))
+        .expect(rt, "memory");
+    tables
+        .add_transfer(transfer(2, 30, 0, 0))
+        .expect(rt, "memory");
+    check!(rt; !tables.resolve_new_at(&transfer(2, 40, 1, 4), 0).expect(rt, "memory"));
+    check!(rt; debits(tables) == Some((100, 30)));
+    check!(rt; tables.resolve_new_at(&transfer(3, 40, 1, 4), 0).expect(rt, "memory"));
+    check!(rt; debits(tables) == Some((0, 70)));
 }
 
 #[test]
-fn each_call_by_places(rt: HostRuntime) -> Result<(), Fail> {
-    let mut tables = Tables::new(rt.alloc());
-    calls_by_places(&mut tables)
-}
-
-fn adds_a_new_account(tables: &mut Tables) -> Result<(), Fail>
-    requires { tables.old ≡ record { now = no_facts; past = [] } }
-{
-    holds(tables.add_new_account(&account(1), 7)?)?;
-    holds(!tables.add_new_account(&account(1), 8)?)?;
-    holds(tables.account(1).map(|stored| stored.timestamp) == Some(7))
-}
-
-fn adds_a_new_transfer(tables: &mut Tables) -> Result<(), Fail>
-    requires { tables.old ≡ record { now = no_facts; past = [] } }
-{
-    tables.add_account(account(1))?;
-    tables.add_account(account(2))?;
-    holds(tables.add_new_between(&transfer(1, 100, 0, 0), 7, 0, 1)?)?;
-    holds(!tables.add_new_between(&transfer(1, 100, 0, 0), 8, 0, 1)?)?;
-    holds(tables.transfer(1).map(|stored| stored.timestamp) == Some(7))?;
-    holds(debits(tables) == Some((0, 100)))
-}
-
-fn resolves_by_a_new_post(tables: &mut Tables) -> Result<(), Fail>
-    requires { tables.old ≡ record { now = no_facts; past = [] } }
-{
-    tables.add_account(account(1))?;
-    tables.add_account(account(2))?;
-    tables.add_transfer(transfer(1, 100, 0, 2))?;
-    tables.add_transfer(transfer(2, 30, 0, 0))?;
-    holds(!tables.resolve_new_at(&transfer(2, 40, 1, 4), 0)?)?;
-    holds(debits(tables) == Some((100, 30)))?;
-    holds(tables.resolve_new_at(&transfer(3, 40, 1, 4), 0)?)?;
-    holds(debits(tables) == Some((0, 70)))
-}
-
-#[test]
-fn each_call_that_looks_first(rt: HostRuntime) -> Result<(), Fail> {
+fn each_call_that_looks_first(rt: HostRuntime) {
     let mut accounts = Tables::new(rt.alloc());
-    adds_a_new_account(&mut accounts)?;
+    adds_a_new_account(&rt, &mut accounts);
     let mut transfers = Tables::new(rt.alloc());
-    adds_a_new_transfer(&mut transfers)?;
+    adds_a_new_transfer(&rt, &mut transfers);
     let mut posts = Tables::new(rt.alloc());
-    resolves_by_a_new_post(&mut posts)
+    resolves_by_a_new_post(&rt, &mut posts);
 }
 
 /// Reserves capacity, asks for more than there can be, and adds transfers.
-fn reserves(tables: &mut Tables) -> Result<(), Fail>
-    requires { tables.old ≡ record { now = no_facts; past = [] } }
-{
-    tables.reserve(1000, 1000)?;
-    holds(tables.reserve(usize::MAX, 0).is_err())?;
-    holds(tables.reserve(0, usize::MAX).is_err())?;
-    posts_and_undoes(tables)
-}
-
 #[test]
-fn reserve_with_a_seed(rt: HostRuntime) -> Result<(), Fail> {
+fn reserve_with_a_seed(rt: HostRuntime) {
     let seed = Seed { low: 1, high: 2 };
     let mut tables = Tables::with_seed(rt.alloc(), seed);
-    reserves(&mut tables)
+    tables.reserve(1000, 1000).expect(&rt, "memory");
+    check!(&rt; tables.reserve(usize::MAX, 0).is_err());
+    check!(&rt; tables.reserve(0, usize::MAX).is_err());
+    posts_and_undoes(&rt, &mut tables);
+    drop(tables);
 }

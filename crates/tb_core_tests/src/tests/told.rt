@@ -74,22 +74,22 @@ fn noted_by(entry: &Entry) -> Noted {
 
 /// Asserts what replies say, in order.
 pub(super) fn assert_told(rt: &impl Abort, replies: &[Reply], wanted: &[Told]) {
-    assert!(rt; replies.len() == wanted.len());
+    check!(rt; replies.len() == wanted.len());
     for (reply, wanted) in replies.iter().zip(wanted) {
-        assert!(rt; told_by(reply) == *wanted, "reply {}", reply.number);
+        check!(rt; told_by(reply) == *wanted, reply.number);
     }
 }
 
 /// Asserts the entries of a journal, in order.
 pub(super) fn assert_noted(rt: &impl Abort, journal: &[Entry], wanted: &[Noted]) {
-    assert!(rt; journal.len() == wanted.len());
+    check!(rt; journal.len() == wanted.len());
     for (entry, wanted) in journal.iter().zip(wanted) {
-        assert!(rt; noted_by(entry) == *wanted);
+        check!(rt; noted_by(entry) == *wanted);
     }
 }
 
 /// Asserts the failures of a packet that was committed.
 pub(super) fn assert_failures(rt: &impl Abort, reply: Option<&Reply>, wanted: &[Failure]) {
-    let failures = reply.and_then(failures);
-    assert!(rt; failures == Some(wanted));
+    let reply = reply.expect(rt, "a reply");
+    check!(rt; failures(reply) == Some(wanted));
 }

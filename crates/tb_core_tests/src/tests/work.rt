@@ -1,5 +1,6 @@
 //! Packets, their admission, jobs and replies.
 
+use super::push;
 use std::alloc::Global;
 use std::process::Abort;
 use tb_test_makers::{account, accounts_packet};
@@ -15,7 +16,7 @@ mod sizes;
 fn packet_of_accounts(rt: &(impl Abort + Alloc<A = Global>), events: &[(u128, u16)]) -> Packet {
     let mut accounts = Vec::new(rt.alloc());
     for (id, flags) in events {
-        accounts.push(account(*id, *flags)).expect(rt, "memory");
+        push(rt, &mut accounts, account(*id, *flags));
     }
     accounts_packet(rt.alloc(), accounts.as_slice()).expect(rt, "memory")
 }

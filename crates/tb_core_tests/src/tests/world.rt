@@ -1,6 +1,7 @@
 //! The World, by worked examples. Who owns a World drops it by name, at one place.
 
 use super::made::{Made, item};
+use super::number_of;
 use super::told::{Noted, Told, assert_noted, assert_told};
 use std::alloc::Global;
 use std::process::Abort;
@@ -64,10 +65,6 @@ const STAGES: [(&str, Step); 8] = [
     ("reply-push", Step::ReplyPush),
 ];
 
-fn number_of(rt: &impl Abort, digits: &str) -> u64 {
-    digits.parse::<u64>().ok().expect(rt, "a number")
-}
-
 /// Returns what a sender pushes: `close`, `end`, `pulse5` at moment 5, or `packet0=1`, number 0, which creates account
 /// 1.
 fn made_of(rt: &impl Abort, pushed: &str) -> Made {
@@ -77,12 +74,12 @@ fn made_of(rt: &impl Abort, pushed: &str) -> Made {
         _ => {}
     }
     if let Some(moment) = pushed.strip_prefix("pulse") {
-        return Made::Pulse(number_of(rt, moment));
+        return Made::Pulse(u64::from(number_of(rt, moment)));
     }
     let packet = pushed.strip_prefix("packet").expect(rt, "a packet");
     let (number, id) = packet.split_once('=').expect(rt, "a number and an id");
     Made::Packet {
-        number: number_of(rt, number),
+        number: u64::from(number_of(rt, number)),
         id: u128::from(number_of(rt, id)),
     }
 }
@@ -96,7 +93,7 @@ fn step_of(rt: &impl Abort, word: &str) -> Step {
         }
     }
     let (sender, act) = word.split_once(':').expect(rt, "a sender");
-    let sender = sender.parse::<u32>().ok().expect(rt, "a number");
+    let sender = number_of(rt, sender);
     match act {
         "reply" => Step::ReplyPop(sender),
         pushed => Step::Push(sender, made_of(rt, pushed)),
@@ -115,7 +112,7 @@ fn answered_step(rt: &impl Abort, word: &str) -> (Step, bool) {
 fn play(rt: &(impl Abort + Alloc<A = Global>), world: &mut World, steps: &str) {
     for word in steps.split_whitespace() {
         let (step, wanted) = answered_step(rt, word);
-        assert!(rt; answer(rt, world, step) == wanted, "{word}");
+        check!(rt; answer(rt, world, step) == wanted, word);
     }
 }
 
@@ -124,18 +121,29 @@ fn assert_world(rt: &impl Abort, world: &World, told: &[Told], noted: &[Noted], 
     assert_told(rt, world.received(0), told);
     assert_told(rt, world.received(1), &[]);
     assert_noted(rt, world.ledger().journal(), noted);
-    assert!(rt; world.ledger().machine().clock() == clock);
+    check!(rt; world.ledger().machine().clock() == clock);
 }
 
-/// Returns the events of steps.
-fn events_of(rt: &(impl Abort + Alloc<A = Global>), steps: &str) -> Vec<Event> {
-    let mut events = Vec::new(rt.alloc());
+/// Adds the event of a step. Returns false if memory ran out.
+fn add_step(rt: &impl Abort, alloc: Global, events: &mut Vec<Event>, step: Step) -> bool {
+    match event(alloc, step) {
+        Ok(event) => events.push(event).is_ok(),
+        Err(refusal) => {
+            check!(rt; refusal == Refusal::NoMemory);
+            false
+        }
+    }
+}
+
+/// Adds the events of steps in words. Returns false if memory ran out.
+fn add_words(rt: &impl Abort, alloc: Global, events: &mut Vec<Event>, steps: &str) -> bool {
     for word in steps.split_whitespace() {
         let (step, _) = answered_step(rt, word);
-        let event = event(rt.alloc(), step).expect(rt, "memory");
-        events.push(event).ok().expect(rt, "memory");
+        if !add_step(rt, alloc, events, step) {
+            return false;
+        }
     }
-    events
+    true
 }
 
 /// Takes steps in a World of submitters 0 and 1 and the control, 2, with batches of at most 4 events. Asserts what it
@@ -151,7 +159,8 @@ fn assert_steps(
     play(rt, &mut world, steps);
     assert_world(rt, &world, told, noted, clock);
     drop(world);
-    let events = events_of(rt, steps);
+    let mut events = Vec::new(rt.alloc());
+    check!(rt; add_words(rt, rt.alloc(), &mut events, steps));
     let listed = run_world(rt.alloc(), 0, 4, 2, events).expect(rt, "memory");
     assert_world(rt, &listed, told, noted, clock);
     drop(listed);

@@ -1,8 +1,8 @@
-use super::job_of;
+use super::{batcher_of, job_of};
 use std::alloc::Global;
 use std::process::Abort;
 use tb_batch::{Batch, Batcher, Offered};
-use tb_work::Refusal;
+use tb_work::{Job, Refusal};
 
 const LIMITS: [(u32, Option<Refusal>); 5] = [
     (0, Some(Refusal::BadLimit)),
@@ -12,33 +12,34 @@ const LIMITS: [(u32, Option<Refusal>); 5] = [
     (4_294_967_295, Some(Refusal::BadLimit)),
 ];
 
+/// Returns why a batcher of this limit is refused.
+fn refusal_of(alloc: Global, limit: u32) -> Option<Refusal> {
+    Batcher::new(alloc, limit).err()
+}
+
 #[test]
 fn limits(rt: HostRuntime) {
     for (limit, wanted) in &LIMITS {
-        assert!(rt;
-            Batcher::new(rt.alloc(), *limit).err() == *wanted,
-            "limit {limit}"
-        );
+        check!(&rt; refusal_of(rt.alloc(), *limit) == *wanted, *limit);
     }
-}
-
-/// Returns a batcher of at most 4 events.
-fn small_batcher(rt: &(impl Abort + Alloc<A = Global>)) -> Batcher {
-    Batcher::new(rt.alloc(), 4).ok().expect(rt, "a batcher")
 }
 
 /// Offers a packet, which is joined.
 fn join(rt: &(impl Abort + Alloc<A = Global>), batcher: &mut Batcher, operation: u8, flags: &[u8]) {
     let offered = batcher.offer(job_of(rt, 0, operation, flags));
-    assert!(rt; matches!(&offered, Offered::Joined));
+    check!(rt; matches!(&offered, Offered::Joined));
+    drop(offered);
 }
 
-/// Returns a batch of two packets, of two events and of one.
-fn batch_of_two(rt: &(impl Abort + Alloc<A = Global>)) -> Batch {
-    let mut batcher = small_batcher(rt);
-    join(rt, &mut batcher, 129, &[0, 0]);
-    join(rt, &mut batcher, 129, &[0]);
-    batcher.seal().expect(rt, "a batch")
+/// Returns a batch of packets of an operation, each given by the flags of its events.
+fn batch_of(rt: &(impl Abort + Alloc<A = Global>), operation: u8, packets: &[&[u8]]) -> Batch {
+    let mut batcher = batcher_of(rt, 4);
+    for flags in packets {
+        join(rt, &mut batcher, operation, flags);
+    }
+    let batch = batcher.seal().expect(rt, "a batch");
+    drop(batcher);
+    batch
 }
 
 fn is_of_two(batch: &Batch) -> bool {
@@ -47,24 +48,34 @@ fn is_of_two(batch: &Batch) -> bool {
 
 #[test]
 fn a_batch_and_its_parts(rt: HostRuntime) {
-    let batch = batch_of_two(&rt);
-    assert!(rt; is_of_two(&batch));
+    let batch = batch_of(&rt, 129, &[&[0, 0], &[0]]);
+    check!(&rt; is_of_two(&batch));
     let parts = batch.into_parts();
-    assert!(rt; parts.body.len() == 384 && parts.failures.capacity() >= 3);
-    assert!(rt; is_of_two(&Batch::whole(parts)));
-}
-
-/// Returns a batch of a lookup of two ids.
-fn lookup_of_two(rt: &(impl Abort + Alloc<A = Global>)) -> Batch {
-    let mut batcher = small_batcher(rt);
-    join(rt, &mut batcher, 131, &[0, 0]);
-    batcher.seal().expect(rt, "a batch")
+    check!(&rt; parts.body.len() == 384 && parts.failures.capacity() >= 3);
+    let batch = Batch::whole(parts);
+    check!(&rt; is_of_two(&batch));
+    drop(batch);
 }
 
 #[test]
 fn a_lookup_has_room_for_its_accounts(rt: HostRuntime) {
-    let parts = lookup_of_two(&rt).into_parts();
-    assert!(rt; parts.operation == 131 && parts.accounts.capacity() >= 2);
+    let parts = batch_of(&rt, 131, &[&[0, 0]]).into_parts();
+    check!(&rt; parts.operation == 131 && parts.accounts.capacity() >= 2);
+    drop(parts);
+}
+
+/// Returns how many bytes the body of a batch has room for.
+fn room_of(batch: Batch) -> usize {
+    let parts = batch.into_parts();
+    let room = parts.body.capacity();
+    drop(parts);
+    room
+}
+
+/// Returns the job of a packet of `events` events of zeros.
+fn job_of_zeros(rt: &(impl Abort + Alloc<A = Global>), operation: u8, events: usize) -> Job {
+    let flags = Vec::from_elem(rt.alloc(), 0u8, events).expect(rt, "memory");
+    job_of(rt, 0, operation, flags.as_slice())
 }
 
 /// Returns how many bytes the body of a batch of one packet of `events` transfers has room for.
@@ -73,20 +84,20 @@ fn room_of_body(
     batcher: &mut Batcher,
     events: usize,
 ) -> usize {
-    let flags = Vec::from_elem(rt.alloc(), 0u8, events).expect(rt, "memory");
-    join(rt, batcher, 130, flags.as_slice());
-    let parts = batcher.seal().expect(rt, "a batch").into_parts();
-    parts.body.capacity()
+    let offered = batcher.offer(job_of_zeros(rt, 130, events));
+    check!(rt; matches!(&offered, Offered::Joined));
+    drop(offered);
+    room_of(batcher.seal().expect(rt, "a batch"))
 }
 
 /// The batch after a large one begins with the room of that one, and the batches after it with their own.
 #[test]
 fn room_shrinks_after_a_large_batch(rt: HostRuntime) {
-    let made = Batcher::new(rt.alloc(), 8190).ok();
-    let mut batcher = made.expect(&rt, "a batcher");
-    assert!(rt; room_of_body(&rt, &mut batcher, 8190) >= 1_048_320);
+    let mut batcher = batcher_of(&rt, 8190);
+    check!(&rt; room_of_body(&rt, &mut batcher, 8190) >= 1_048_320);
     room_of_body(&rt, &mut batcher, 1);
-    assert!(rt; room_of_body(&rt, &mut batcher, 1) <= 1024);
+    check!(&rt; room_of_body(&rt, &mut batcher, 1) <= 1024);
+    drop(batcher);
 }
 
 /// Offers a packet that seals the group held, and returns the capacity of that group's body in bytes.
@@ -96,9 +107,8 @@ fn room_of_sealed(
     operation: u8,
     events: usize,
 ) -> usize {
-    let flags = Vec::from_elem(rt.alloc(), 0u8, events).expect(rt, "memory");
-    match batcher.offer(job_of(rt, 0, operation, flags.as_slice())) {
-        Offered::Sealed(batch) => batch.into_parts().body.capacity(),
+    match batcher.offer(job_of_zeros(rt, operation, events)) {
+        Offered::Sealed(batch) => room_of(batch),
         _ => 0,
     }
 }
@@ -106,12 +116,12 @@ fn room_of_sealed(
 /// The same of batches that the next packet seals.
 #[test]
 fn room_shrinks_after_a_large_batch_that_a_packet_seals(rt: HostRuntime) {
-    let made = Batcher::new(rt.alloc(), 8190).ok();
-    let mut batcher = made.expect(&rt, "a batcher");
+    let mut batcher = batcher_of(&rt, 8190);
     join(&rt, &mut batcher, 129, &[0]);
     room_of_sealed(&rt, &mut batcher, 130, 8190);
-    assert!(rt; room_of_sealed(&rt, &mut batcher, 129, 1) >= 1_048_320);
+    check!(&rt; room_of_sealed(&rt, &mut batcher, 129, 1) >= 1_048_320);
     room_of_sealed(&rt, &mut batcher, 130, 1);
     let room = room_of_sealed(&rt, &mut batcher, 129, 1);
-    assert!(rt; room >= 128 && room <= 1024);
+    check!(&rt; room >= 128 && room <= 1024);
+    drop(batcher);
 }

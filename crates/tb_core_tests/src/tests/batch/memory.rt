@@ -1,3 +1,4 @@
+use super::batcher_of;
 use std::alloc::Global;
 use std::process::Abort;
 use tb_batch::{Batcher, Offered};
@@ -14,10 +15,10 @@ fn job_of(alloc: Global, number: u64) -> Option<Job> {
 fn is_joined(rt: &impl Abort, batcher: &mut Batcher, job: Job, number: u64) -> bool {
     match batcher.offer(job) {
         Offered::Joined => true,
-        Offered::Sealed(_batch) => panic!(rt; "sealed"),
+        Offered::Sealed(_batch) => rt.panic("sealed"),
         Offered::Refused(job, _refused) => {
-            assert!(rt; job.stub().number == number);
-            assert!(rt; job.packet().bytes.as_slice().len() == 128);
+            check!(rt; job.stub().number == number);
+            check!(rt; job.packet().bytes.as_slice().len() == 128);
             false
         }
     }
@@ -40,11 +41,11 @@ fn offer_three(rt: &(impl Abort + Alloc<A = Global>), batcher: &mut Batcher) -> 
 /// What is tried with each allocation refused in turn, by `tools/refuse-each-growth`.
 #[test]
 fn offer_refused_memory(rt: HostRuntime) {
-    let mut batcher = Batcher::new(rt.alloc(), 4).ok().expect(&rt, "a batcher");
+    let mut batcher = batcher_of(&rt, 4);
     let joined = offer_three(&rt, &mut batcher);
     let held = match batcher.seal() {
         Some(batch) => batch.jobs().len(),
         None => 0,
     };
-    assert!(rt; held == joined);
+    check!(&rt; held == joined);
 }

@@ -1,14 +1,9 @@
 //! Batches of the largest sizes. The clauses let `offer` refuse each packet because memory ran out.
 
-use super::job_of;
+use super::{batcher_of, job_of};
 use std::alloc::Global;
 use std::process::Abort;
 use tb_batch::{Batch, Batcher, Offered};
-
-/// Returns a batcher with the largest limit.
-fn large_batcher(rt: &(impl Abort + Alloc<A = Global>)) -> Batcher {
-    Batcher::new(rt.alloc(), 8190).ok().expect(rt, "a batcher")
-}
 
 /// Returns 'J' if the packet joined the group held, and 'S' if it sealed that group.
 fn letter(offered: &Offered) -> u8 {
@@ -30,13 +25,17 @@ fn offer_all(
         let flags = Vec::from_elem(rt.alloc(), 0u8, *events).expect(rt, "memory");
         let job = job_of(rt, place as u64, operation, flags.as_slice());
         let offered = batcher.offer(job);
-        assert!(rt; letter(&offered) == *wanted, "packet {place}");
+        check!(rt; letter(&offered) == *wanted, place);
+        drop(offered);
     }
 }
 
 /// Returns the number of packets, the number of bytes, and the last packet's number and events.
 fn size_of(batch: &Batch) -> (usize, usize, Option<(u64, u32)>) {
-    let last = batch.stubs().last().map(|stub| (stub.number, stub.count));
+    let last = match batch.stubs().last() {
+        Some(stub) => Some((stub.number, stub.count)),
+        None => None,
+    };
     (batch.jobs().len(), batch.body().len(), last)
 }
 
@@ -47,10 +46,10 @@ fn assert_held(
     packets: &[(usize, u8)],
     wanted: (usize, usize, Option<(u64, u32)>),
 ) {
-    let mut batcher = large_batcher(rt);
+    let mut batcher = batcher_of(rt, 8190);
     offer_all(rt, &mut batcher, operation, packets);
     let batch = batcher.seal().expect(rt, "a batch");
-    assert!(rt; size_of(&batch) == wanted, "{packets:?}");
+    check!(rt; size_of(&batch) == wanted);
     drop(batcher);
 }
 
@@ -79,10 +78,10 @@ fn joined_up_to_the_limit(rt: HostRuntime) {
 #[test]
 fn lookups_of_each_size(rt: HostRuntime) {
     for count in [0, 1, 2, 3, 8190] {
-        let mut batcher = large_batcher(&rt);
+        let mut batcher = batcher_of(&rt, 8190);
         offer_all(&rt, &mut batcher, 131, &[(count, b'J')]);
         let parts = batcher.seal().expect(&rt, "a batch").into_parts();
-        assert!(rt; parts.body.len() == 16 * count && parts.accounts.capacity() >= count);
+        check!(&rt; parts.body.len() == 16 * count && parts.accounts.capacity() >= count);
         drop(parts);
         drop(batcher);
     }

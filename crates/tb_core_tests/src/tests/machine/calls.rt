@@ -8,58 +8,49 @@ use tb_machine::{Machine, Seed};
 use tb_tables::Status;
 use tb_test_makers::{account, transfer};
 
-/// Makes a pending transfer with a timeout, one that is voided, and a plain one.
-fn make_three_kinds(rt: &(impl Abort + Alloc<A = Global>), machine: &mut Machine) {
+/// Makes a pending transfer with a timeout, one that is voided, and a plain one. Once the first has expired, only the plain
+/// transfer is in the balances.
+#[test]
+fn each_call(rt: HostRuntime) {
+    let mut machine = Machine::new(rt.alloc(), 0);
+    make_accounts(&rt, &mut machine, &[account(1, 0), account(2, 0)]);
+    make_transfers(&rt, &mut machine, &three_kinds());
+    check!(&rt; machine.clock() == 6);
+    check!(&rt; machine.status(1) == Some(Status::Pending));
+    machine.pulse(1_000_000_003);
+    check!(&rt; machine.clock() == 1_000_000_003);
+    check!(&rt; machine.status(1) == Some(Status::Expired));
+    check!(&rt; machine.status(2) == Some(Status::Voided));
+    check!(&rt; machine.status(4).is_none());
+    check!(&rt; matches!(machine.transfer(3), Some(void) if void.amount == 50));
+    check!(&rt; machine.transfer(9).is_none());
+    check!(&rt; machine.accounts() == 2);
+    check!(&rt; machine.account(1) == Some(with_posted(account(1, 0), 30, 0, 1)));
+    check!(&rt; machine.account(9).is_none());
+    check!(&rt; machine.account_at(1) == Some(with_posted(account(2, 0), 0, 30, 2)));
+    check!(&rt; machine.account_at(2).is_none());
+    drop(machine);
+}
+
+/// Returns a pending transfer with a timeout, one that the next one voids, and a plain one.
+fn three_kinds() -> [Transfer; 4] {
     let timed = Transfer {
         timeout: 1,
         ..transfer(1, [1, 2], 100, 2)
     };
     let voided = transfer(2, [1, 2], 50, 2);
-    let void = resolving(3, 2, 0, 8);
     let plain = transfer(4, [1, 2], 30, 0);
-    make_transfers(rt, machine, &[timed, voided, void, plain]);
+    [timed, voided, resolving(3, 2, 0, 8), plain]
 }
 
-/// Asserts the statuses of the transfers once the first has expired.
-fn assert_transfers(rt: &impl Abort, machine: &Machine) {
-    assert!(rt; machine.status(1) == Some(Status::Expired));
-    assert!(rt; machine.status(2) == Some(Status::Voided));
-    assert!(rt; machine.status(4).is_none());
-    assert!(rt; machine.transfer(3).is_some_and(|void| void.amount == 50));
-    assert!(rt; machine.transfer(9).is_none());
-}
-
-/// Asserts that only the plain transfer is in the balances.
-fn assert_accounts(rt: &impl Abort, machine: &Machine) {
-    assert!(rt; machine.accounts() == 2);
-    let first = Account {
-        debits_posted: 30,
-        timestamp: 1,
-        ..account(1, 0)
-    };
-    assert!(rt; machine.account(1) == Some(first));
-    assert!(rt; machine.account(9).is_none());
-    let second = Account {
-        credits_posted: 30,
-        timestamp: 2,
-        ..account(2, 0)
-    };
-    assert!(rt; machine.account_at(1) == Some(second));
-    assert!(rt; machine.account_at(2).is_none());
-}
-
-#[test]
-fn each_call(rt: HostRuntime) {
-    let mut machine = Machine::new(rt.alloc(), 0);
-    make_accounts(&rt, &mut machine, &[account(1, 0), account(2, 0)]);
-    make_three_kinds(&rt, &mut machine);
-    assert!(rt; machine.clock() == 6);
-    assert!(rt; machine.status(1) == Some(Status::Pending));
-    machine.pulse(1_000_000_003);
-    assert!(rt; machine.clock() == 1_000_000_003);
-    assert_transfers(&rt, &machine);
-    assert_accounts(&rt, &machine);
-    drop(machine);
+/// Returns an account with these posted balances and this timestamp.
+fn with_posted(account: Account, debits: u128, credits: u128, timestamp: u64) -> Account {
+    Account {
+        debits_posted: debits,
+        credits_posted: credits,
+        timestamp,
+        ..account
+    }
 }
 
 /// Both ids have hash 0 without a seed.
@@ -78,12 +69,8 @@ fn seed_with_colliding_ids(rt: HostRuntime) {
         &mut machine,
         &[transfer(upper + 2, [upper, upper + 1], 5, 0)],
     );
-    assert!(rt;
-        machine
-            .account(upper)
-            .is_some_and(|account| account.debits_posted == 5)
-    );
-    assert!(rt; machine.transfer(upper + 2).is_some());
+    check!(&rt; matches!(machine.account(upper), Some(debtor) if debtor.debits_posted == 5));
+    check!(&rt; machine.transfer(upper + 2).is_some());
     drop(machine);
 }
 
@@ -101,30 +88,20 @@ fn look_up(rt: &(impl Abort + Alloc<A = Global>), machine: &Machine, found: &mut
     requires { found.old.items ≡ [] }
 {
     let ids = ids_body(rt, &[2, 9, 1]);
-    assert!(rt; ids.len() == 48 && found.capacity() >= 3);
+    check!(rt; ids.len() == 48 && found.capacity() >= 3);
     machine.lookup(&ids, found);
 }
 
-/// Asserts that the two that are there are found, in the order in which they are asked for.
-fn assert_both_found(rt: &(impl Abort + Alloc<A = Global>), machine: &Machine) {
-    let mut found = Vec::with_capacity(rt.alloc(), 3).expect(rt, "memory");
-    look_up(rt, machine, &mut found);
-    let second = Account {
-        timestamp: 2,
-        ..account(2, 0)
-    };
-    let first = Account {
-        timestamp: 1,
-        ..account(1, 0)
-    };
-    assert!(rt; found.as_slice() == [second, first].as_slice());
-}
-
+/// The two that are there are found, in the order in which they are asked for.
 #[test]
 fn lookup_of_three_ids(rt: HostRuntime) {
     let mut machine = Machine::new(rt.alloc(), 0);
     make_accounts(&rt, &mut machine, &[account(1, 0), account(2, 0)]);
-    assert_both_found(&rt, &machine);
-    assert!(rt; machine.clock() == 2);
+    let mut found = Vec::with_capacity(rt.alloc(), 3).expect(&rt, "memory");
+    look_up(&rt, &machine, &mut found);
+    let second = with_posted(account(2, 0), 0, 0, 2);
+    let first = with_posted(account(1, 0), 0, 0, 1);
+    check!(&rt; found.as_slice() == [second, first].as_slice());
+    check!(&rt; machine.clock() == 2);
     drop(machine);
 }

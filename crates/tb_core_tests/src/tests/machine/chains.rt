@@ -1,7 +1,7 @@
 //! Chains of as many events as a batch may have, and bodies of none. Want of memory may be answered for any of them,
 //! as far as clauses go; with ample memory it never is.
 
-use super::{commits, is_packet, make_accounts};
+use super::{add_event, commits, failures_of, make_accounts};
 use std::alloc::Global;
 use std::process::Abort;
 use tb_layout::{
@@ -14,20 +14,10 @@ use tb_test_makers::{account, transfer};
 fn full_chain(rt: &(impl Abort + Alloc<A = Global>), last: Account) -> Vec<u8> {
     let mut body = Vec::new(rt.alloc());
     for id in 1..BATCH_MAX {
-        body.extend_from_slice(&write_account(&account(u128::from(id), 1)))
-            .expect(rt, "memory");
+        add_event(rt, &mut body, &write_account(&account(u128::from(id), 1)));
     }
-    body.extend_from_slice(&write_account(&last))
-        .expect(rt, "memory");
+    add_event(rt, &mut body, &write_account(&last));
     body
-}
-
-/// Returns how many of the accounts in a body failed.
-fn failed(rt: &(impl Abort + Alloc<A = Global>), machine: &mut Machine, body: &[u8]) -> usize {
-    assert!(rt; is_packet(CREATE_ACCOUNTS, body));
-    let mut out = Vec::with_capacity(rt.alloc(), body.len() / 128).expect(rt, "memory");
-    assert!(rt; machine.commit(CREATE_ACCOUNTS, body, &mut out).is_ok());
-    out.len()
 }
 
 /// Commits a full chain; how many of its events failed.
@@ -37,28 +27,29 @@ fn failed_in_chain(
     last: Account,
 ) -> usize {
     let body = full_chain(rt, last);
-    failed(rt, machine, &body)
+    let failures = failures_of(rt, machine, CREATE_ACCOUNTS, &body).expect(rt, "memory");
+    failures.len()
 }
 
 /// One that its last event breaks, one that is left open, and one that succeeds.
 #[test]
 fn full_chains(rt: HostRuntime) {
     let mut machine = Machine::new(rt.alloc(), 0);
-    assert!(rt; failed_in_chain(&rt, &mut machine, account(0, 0)) == 8190);
-    assert!(rt; failed_in_chain(&rt, &mut machine, account(8190, 1)) == 8190);
-    assert!(rt; machine.accounts() == 0);
-    assert!(rt; failed_in_chain(&rt, &mut machine, account(8190, 0)) == 0);
-    assert!(rt; machine.accounts() == 8190);
-    assert!(rt; machine.clock() == 24_570);
+    check!(&rt; failed_in_chain(&rt, &mut machine, account(0, 0)) == 8190);
+    check!(&rt; failed_in_chain(&rt, &mut machine, account(8190, 1)) == 8190);
+    check!(&rt; machine.accounts() == 0);
+    check!(&rt; failed_in_chain(&rt, &mut machine, account(8190, 0)) == 0);
+    check!(&rt; machine.accounts() == 8190);
+    check!(&rt; machine.clock() == 24_570);
     drop(machine);
 }
 
 #[test]
 fn empty_bodies(rt: HostRuntime) {
     let mut machine = Machine::new(rt.alloc(), 0);
-    assert!(rt; commits(&rt, &mut machine, CREATE_ACCOUNTS, &[]));
-    assert!(rt; commits(&rt, &mut machine, CREATE_TRANSFERS, &[]));
-    assert!(rt; machine.clock() == 0);
+    check!(&rt; commits(&rt, &mut machine, CREATE_ACCOUNTS, &[]));
+    check!(&rt; commits(&rt, &mut machine, CREATE_TRANSFERS, &[]));
+    check!(&rt; machine.clock() == 0);
     drop(machine);
 }
 
@@ -110,8 +101,7 @@ fn packet_of(
 ) -> Vec<u8> {
     let mut body = Vec::new(rt.alloc());
     for number in 1..=chain.before.saturating_add(chain.length) {
-        body.extend_from_slice(&event(operation, chain, number, fails))
-            .expect(rt, "memory");
+        add_event(rt, &mut body, &event(operation, chain, number, fails));
     }
     body
 }
@@ -130,40 +120,22 @@ fn are_of_chain(failures: &[Failure], chain: Chain, code: u32) -> bool {
     failures.len() == chain.length as usize
 }
 
-/// Commits a packet whose chain fails, and asserts the failures.
-fn assert_failures(
-    rt: &(impl Abort + Alloc<A = Global>),
-    machine: &mut Machine,
-    operation: u8,
-    chain: Chain,
-) {
-    let body = packet_of(rt, operation, chain, true);
-    assert!(rt; is_packet(operation, &body));
-    let mut out = Vec::with_capacity(rt.alloc(), body.len() / 128).expect(rt, "memory");
-    assert!(rt; machine.commit(operation, &body, &mut out).is_ok());
-    // The code of an id that is 0.
-    let code = if operation == CREATE_ACCOUNTS { 6 } else { 5 };
-    assert!(rt;
-        are_of_chain(&out, chain, code),
-        "operation {operation}, {} events before {}",
-        chain.before,
-        chain.length
-    );
-}
-
-/// Commits a packet to a new machine with accounts 1 and 2, and asserts how many events were made.
+/// Commits a packet to a new machine with accounts 1 and 2, and asserts the failures and how many events were made.
 fn assert_chain(rt: &(impl Abort + Alloc<A = Global>), operation: u8, chain: Chain, fails: bool) {
     let mut machine = Machine::new(rt.alloc(), 0);
     make_accounts(rt, &mut machine, &[account(1, 0), account(2, 0)]);
+    let body = packet_of(rt, operation, chain, fails);
+    let failures = failures_of(rt, &mut machine, operation, &body).expect(rt, "memory");
     let mut made = u128::from(chain.before);
     if fails {
-        assert_failures(rt, &mut machine, operation, chain);
+        // The code of an id that is 0.
+        let code = if operation == CREATE_ACCOUNTS { 6 } else { 5 };
+        check!(rt; are_of_chain(&failures, chain, code), chain.length);
     } else {
+        check!(rt; failures.is_empty(), chain.length);
         made = made.saturating_add(u128::from(chain.length));
-        let body = packet_of(rt, operation, chain, false);
-        assert!(rt; commits(rt, &mut machine, operation, &body));
     }
-    assert!(rt; made_by(&machine, operation) == made);
+    check!(rt; made_by(&machine, operation) == made, chain.length);
     drop(machine);
 }
 
@@ -172,9 +144,10 @@ fn made_by(machine: &Machine, operation: u8) -> u128 {
     if operation == CREATE_ACCOUNTS {
         return (machine.accounts() as u128).saturating_sub(2);
     }
-    machine
-        .account(1)
-        .map_or(0, |account| account.debits_posted)
+    match machine.account(1) {
+        Some(account) => account.debits_posted,
+        None => 0,
+    }
 }
 
 #[test]

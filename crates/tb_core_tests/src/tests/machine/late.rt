@@ -1,11 +1,9 @@
 //! Resolutions of old transfers, the longest timeout, events near the end of the clock, and limits of balances.
 
-use super::{MOST, commits, is_packet, make_accounts, resolving};
+use super::{MOST, add_event, commits, failures_of, make_accounts, resolving};
 use std::alloc::Global;
 use std::process::Abort;
-use tb_layout::{
-    Account, CLOCK_MAX, CREATE_ACCOUNTS, CREATE_TRANSFERS, Failure, Transfer, write_transfer,
-};
+use tb_layout::{Account, CLOCK_MAX, CREATE_ACCOUNTS, CREATE_TRANSFERS, Transfer, write_transfer};
 use tb_machine::Machine;
 use tb_tables::Status;
 use tb_test_makers::{account, account_bytes, transfer, transfer_bytes};
@@ -46,10 +44,9 @@ fn event(kind: Kind, number: u32) -> Transfer {
 fn make_all(rt: &(impl Abort + Alloc<A = Global>), machine: &mut Machine, kind: Kind, count: u32) {
     let mut body = Vec::new(rt.alloc());
     for number in 1..=count {
-        body.extend_from_slice(&write_transfer(&event(kind, number)))
-            .expect(rt, "memory");
+        add_event(rt, &mut body, &write_transfer(&event(kind, number)));
     }
-    assert!(rt; commits(rt, machine, CREATE_TRANSFERS, &body));
+    check!(rt; commits(rt, machine, CREATE_TRANSFERS, &body));
 }
 
 /// Returns how many of the pending transfers have a status.
@@ -69,23 +66,14 @@ fn debits(machine: &Machine) -> Option<(u128, u128)> {
     Some((account.debits_pending, account.debits_posted))
 }
 
-/// Makes the 9,000 transfers.
-fn make_9000(rt: &(impl Abort + Alloc<A = Global>), machine: &mut Machine) {
-    make_accounts(rt, machine, &[account(1, 0), account(2, 0)]);
-    make_all(rt, machine, Kind::Pending, PENDING);
-    assert!(rt; debits(machine) == Some((3330, 0)));
-    make_all(rt, machine, Kind::Plain, PLAIN);
-    make_all(rt, machine, Kind::Resolution, RESOLVED);
-}
-
 /// Asserts the statuses of the pending transfers, of which `expired` expired, and the debits.
 fn assert_statuses(rt: &impl Abort, machine: &Machine, expired: u32) {
-    assert!(rt; count_of(machine, Status::Posted) == POSTED);
-    assert!(rt; count_of(machine, Status::Voided) == RESOLVED - POSTED);
-    assert!(rt; count_of(machine, Status::Expired) == expired);
+    check!(rt; count_of(machine, Status::Posted) == POSTED);
+    check!(rt; count_of(machine, Status::Voided) == RESOLVED - POSTED);
+    check!(rt; count_of(machine, Status::Expired) == expired);
     let left = u128::from(10u32.saturating_sub(expired));
     // 6,790 of 1, and 550 of 3.
-    assert!(rt; debits(machine) == Some((3 * left, 8440)));
+    check!(rt; debits(machine) == Some((3 * left, 8440)));
 }
 
 /// The longest timeout in nanoseconds.
@@ -95,7 +83,11 @@ const LONGEST: u64 = 4_294_967_295_000_000_000;
 #[test]
 fn resolved_late(rt: HostRuntime) {
     let mut machine = Machine::new(rt.alloc(), 0);
-    make_9000(&rt, &mut machine);
+    make_accounts(&rt, &mut machine, &[account(1, 0), account(2, 0)]);
+    make_all(&rt, &mut machine, Kind::Pending, PENDING);
+    check!(&rt; debits(&machine) == Some((3330, 0)));
+    make_all(&rt, &mut machine, Kind::Plain, PLAIN);
+    make_all(&rt, &mut machine, Kind::Resolution, RESOLVED);
     assert_statuses(&rt, &machine, 0);
     for (timestamp, expired) in [(1102, 0), (1107, 5), (1111, 9), (1112, 10)] {
         machine.pulse(LONGEST + timestamp);
@@ -112,17 +104,10 @@ fn assert_failures(
     body: &[u8],
     wanted: &[(u32, u32)],
 ) {
-    assert!(rt; is_packet(operation, body));
-    let mut out = Vec::with_capacity(rt.alloc(), body.len() / 128).expect(rt, "memory");
-    assert!(rt; machine.commit(operation, body, &mut out).is_ok());
-    assert!(rt; out.len() == wanted.len());
-    for (failure, (index, code)) in out.iter().zip(wanted) {
-        assert!(rt;
-            failure.index == *index && failure.code == *code,
-            "event {}: {}",
-            failure.index,
-            failure.code
-        );
+    let failures = failures_of(rt, machine, operation, body).expect(rt, "memory");
+    check!(rt; failures.len() == wanted.len());
+    for (failure, (index, code)) in failures.iter().zip(wanted) {
+        check!(rt; failure.index == *index && failure.code == *code, failure.code);
     }
 }
 
@@ -131,26 +116,30 @@ const EXHAUSTED: [(u32, u32); 3] = [(0, 201), (1, 201), (2, 201)];
 
 /// Commits three accounts if there are timestamps for `left` of them.
 fn assert_accounts(rt: &(impl Abort + Alloc<A = Global>), left: u64) {
-    assert!(rt; left <= 3);
+    check!(rt; left <= 3);
     let mut machine = Machine::new(rt.alloc(), CLOCK_MAX - left);
-    let accounts = [1, 2, 3].map(|id| account(id, 0));
+    let accounts = [account(1, 0), account(2, 0), account(3, 0)];
     let body = account_bytes(rt.alloc(), &accounts).expect(rt, "memory");
     let wanted = &EXHAUSTED[left as usize..];
     assert_failures(rt, &mut machine, CREATE_ACCOUNTS, &body, wanted);
-    assert!(rt; machine.accounts() as u64 == left && machine.clock() == CLOCK_MAX);
+    check!(rt; machine.accounts() as u64 == left && machine.clock() == CLOCK_MAX);
     drop(machine);
 }
 
 /// Commits three transfers if there are timestamps for `left` of them.
 fn assert_transfers(rt: &(impl Abort + Alloc<A = Global>), left: u64) {
-    assert!(rt; left <= 3);
+    check!(rt; left <= 3);
     let mut machine = Machine::new(rt.alloc(), CLOCK_MAX - 2 - left);
     make_accounts(rt, &mut machine, &[account(1, 0), account(2, 0)]);
-    let transfers = [1, 2, 3].map(|id| transfer(id, [1, 2], 1, 0));
+    let transfers = [
+        transfer(1, [1, 2], 1, 0),
+        transfer(2, [1, 2], 1, 0),
+        transfer(3, [1, 2], 1, 0),
+    ];
     let body = transfer_bytes(rt.alloc(), &transfers).expect(rt, "memory");
     let wanted = &EXHAUSTED[left as usize..];
     assert_failures(rt, &mut machine, CREATE_TRANSFERS, &body, wanted);
-    assert!(rt; debits(&machine) == Some((0, u128::from(left))));
+    check!(rt; debits(&machine) == Some((0, u128::from(left))));
     drop(machine);
 }
 

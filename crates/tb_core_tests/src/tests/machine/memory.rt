@@ -7,7 +7,9 @@ use tb_layout::TransferCode::{
     CreditAccountNotFound, ExceedsCredits, IdAlreadyFailed, LedgerMustNotBeZero, LinkedEventFailed,
     PendingTransferNotFound,
 };
-use tb_layout::{Account, CREATE_ACCOUNTS, CREATE_TRANSFERS, Failure, Transfer, TransferCode};
+use tb_layout::{
+    Account, CREATE_ACCOUNTS, CREATE_TRANSFERS, Failure, NoMemory, Transfer, TransferCode,
+};
 use tb_machine::Machine;
 use tb_tables::Status;
 use tb_test_makers::{account, account_bytes, transfer, transfer_bytes};
@@ -49,59 +51,49 @@ impl Seen {
 
 /// Returns whether these are the failures, each with its event's place and code.
 fn are_failures(failures: &[Failure], wanted: &[(u32, TransferCode)]) -> bool {
+    for (failure, (index, code)) in failures.iter().zip(wanted) {
+        if failure.index != *index || failure.code != code.number() {
+            return false;
+        }
+    }
     failures.len() == wanted.len()
-        && failures.iter().zip(wanted).all(|(failure, (index, code))| failure.index == *index
-            && failure.code == code.number())
 }
 
-/// Commits a packet, with exactly these failures. If memory runs out, the machine is as before, and false is returned.
+/// Commits a packet, with exactly these failures. If memory runs out, also for the body, the machine is as before, and
+/// false is returned.
 fn commits(
     rt: &(impl Abort + Alloc<A = Global>),
     machine: &mut Machine,
     operation: u8,
-    body: &[u8],
+    body: Result<Vec<u8>, NoMemory>,
     failures: &[(u32, TransferCode)],
 ) -> bool {
-    assert!(rt; is_packet(operation, body));
+    let Ok(body) = body else {
+        return false;
+    };
+    check!(rt; is_packet(operation, &body));
     let Ok(mut out) = Vec::with_capacity(rt.alloc(), body.len() / 128) else {
         return false;
     };
     let seen = Seen::of(machine);
-    let is_committed = machine.commit(operation, body, &mut out).is_ok();
+    let is_committed = machine.commit(operation, &body, &mut out).is_ok();
     if is_committed {
-        assert!(rt; are_failures(&out, failures), "other failures");
+        check!(rt; are_failures(&out, failures));
     } else {
-        assert!(rt;
-            seen.holds(machine) && out.is_empty(),
-            "the machine isn't as before"
-        );
+        check!(rt; seen.holds(machine) && out.is_empty());
     }
     is_committed
 }
 
-/// Returns a packet of accounts; none fails.
-fn commits_accounts(
-    rt: &(impl Abort + Alloc<A = Global>),
-    machine: &mut Machine,
-    accounts: &[Account],
-) -> bool {
-    match account_bytes(rt.alloc(), accounts) {
-        Ok(body) => commits(rt, machine, CREATE_ACCOUNTS, &body, &[]),
-        Err(_) => false,
-    }
-}
-
-/// Returns a packet of transfers, with exactly these failures.
+/// Commits transfers, with exactly these failures.
 fn commits_transfers(
     rt: &(impl Abort + Alloc<A = Global>),
     machine: &mut Machine,
     transfers: &[Transfer],
     failures: &[(u32, TransferCode)],
 ) -> bool {
-    match transfer_bytes(rt.alloc(), transfers) {
-        Ok(body) => commits(rt, machine, CREATE_TRANSFERS, &body, failures),
-        Err(_) => false,
-    }
+    let body = transfer_bytes(rt.alloc(), transfers);
+    commits(rt, machine, CREATE_TRANSFERS, body, failures)
 }
 
 /// Returns a chain whose last event fails, and one of its transfers by itself.
@@ -121,8 +113,13 @@ fn chain_and_single(rt: &(impl Abort + Alloc<A = Global>), machine: &mut Machine
         (2, LedgerMustNotBeZero),
     ];
     let single = [transfer(2, [2, 3], 10, 0)];
-    commits_accounts(rt, machine, &accounts)
-        && commits_transfers(rt, machine, &chain, &codes)
+    commits(
+        rt,
+        machine,
+        CREATE_ACCOUNTS,
+        account_bytes(rt.alloc(), &accounts),
+        &[],
+    ) && commits_transfers(rt, machine, &chain, &codes)
         && commits_transfers(rt, machine, &single, &[(0, ExceedsCredits)])
 }
 
@@ -130,7 +127,7 @@ fn chain_and_single(rt: &(impl Abort + Alloc<A = Global>), machine: &mut Machine
 fn chains_of_transfers_joined_refused_memory(rt: HostRuntime) {
     let mut machine = Machine::new(rt.alloc(), 0);
     if chain_and_single(&rt, &mut machine) {
-        assert!(rt; machine.clock() == 7);
+        check!(&rt; machine.clock() == 7);
     }
     drop(machine);
 }
@@ -152,43 +149,39 @@ fn four_packets(rt: &(impl Abort + Alloc<A = Global>), machine: &mut Machine) ->
 #[test]
 fn id_already_failed_refused_memory(rt: HostRuntime) {
     let mut machine = Machine::new(rt.alloc(), 0);
-    let accounts = [account(1, 0), account(2, 0)];
-    if commits_accounts(&rt, &mut machine, &accounts) && four_packets(&rt, &mut machine) {
-        assert!(rt; machine.clock() == 9);
+    let accounts = account_bytes(rt.alloc(), &[account(1, 0), account(2, 0)]);
+    if commits(&rt, &mut machine, CREATE_ACCOUNTS, accounts, &[])
+        && four_packets(&rt, &mut machine)
+    {
+        check!(&rt; machine.clock() == 9);
     }
     drop(machine);
 }
 
 /// Commits a void that names nothing, twice. It leaves its id among the failed ones, and the second time is refused for
 /// that.
-fn void_twice(rt: &(impl Abort + Alloc<A = Global>), machine: &mut Machine) -> bool {
-    let void = [resolving(1, 8, 0, 8)];
-    commits_transfers(rt, machine, &void, &[(0, PendingTransferNotFound)])
-        && commits_transfers(rt, machine, &void, &[(0, IdAlreadyFailed)])
-}
-
 #[test]
 fn void_of_nothing_refused_memory(rt: HostRuntime) {
     let mut machine = Machine::new(rt.alloc(), 0);
-    if void_twice(&rt, &mut machine) {
-        assert!(rt; machine.clock() == 2);
+    let void = [resolving(1, 8, 0, 8)];
+    let first = [(0, PendingTransferNotFound)];
+    if commits_transfers(&rt, &mut machine, &void, &first)
+        && commits_transfers(&rt, &mut machine, &void, &[(0, IdAlreadyFailed)])
+    {
+        check!(&rt; machine.clock() == 2);
     }
     drop(machine);
 }
 
 /// Reserves capacity, or leaves the machine as it was.
-fn reserves(rt: &impl Abort, machine: &mut Machine) -> bool {
-    let seen = Seen::of(machine);
-    let is_reserved = machine.reserve(2, 3).is_ok();
-    assert!(rt; seen.holds(machine), "the machine isn't as before");
-    is_reserved
-}
-
 #[test]
 fn reserve_refused_memory(rt: HostRuntime) {
     let mut machine = Machine::new(rt.alloc(), 0);
-    if reserves(&rt, &mut machine) && chain_and_single(&rt, &mut machine) {
-        assert!(rt; machine.clock() == 7);
+    let seen = Seen::of(&machine);
+    let is_reserved = machine.reserve(2, 3).is_ok();
+    check!(&rt; seen.holds(&machine));
+    if is_reserved && chain_and_single(&rt, &mut machine) {
+        check!(&rt; machine.clock() == 7);
     }
     drop(machine);
 }

@@ -28,10 +28,7 @@ const LENGTHS: [(usize, Result<u32, Refusal>); 8] = [
 #[test]
 fn admission_table(rt: HostRuntime) {
     for (length, wanted) in &LENGTHS {
-        assert!(rt;
-            admitted(&rt, 8190, 129, *length) == *wanted,
-            "{length} bytes"
-        );
+        check!(&rt; admitted(&rt, 8190, 129, *length) == *wanted, *length);
     }
     for operation in 0..=255 {
         let wanted = if (129..=131).contains(&operation) {
@@ -39,24 +36,21 @@ fn admission_table(rt: HostRuntime) {
         } else {
             Err(Refusal::InvalidOperation)
         };
-        assert!(rt;
-            admitted(&rt, 8190, operation, 0) == wanted,
-            "operation {operation}"
-        );
+        check!(&rt; admitted(&rt, 8190, operation, 0) == wanted, operation);
     }
 }
 
 #[test]
 fn refused_sizes_and_operations(rt: HostRuntime) {
-    assert!(rt; admitted(&rt, 4, 129, 127) == Err(Refusal::InvalidDataSize));
-    assert!(rt; admitted(&rt, 4, 200, 127) == Err(Refusal::InvalidOperation));
+    check!(&rt; admitted(&rt, 4, 129, 127) == Err(Refusal::InvalidDataSize));
+    check!(&rt; admitted(&rt, 4, 200, 127) == Err(Refusal::InvalidOperation));
 }
 
 #[test]
 fn lookups_are_counted_in_ids(rt: HostRuntime) {
-    assert!(rt; admitted(&rt, 4, 131, 64) == Ok(4));
-    assert!(rt; admitted(&rt, 4, 131, 80) == Err(Refusal::TooMuchData));
-    assert!(rt; admitted(&rt, 4, 131, 24) == Err(Refusal::InvalidDataSize));
+    check!(&rt; admitted(&rt, 4, 131, 64) == Ok(4));
+    check!(&rt; admitted(&rt, 4, 131, 80) == Err(Refusal::TooMuchData));
+    check!(&rt; admitted(&rt, 4, 131, 24) == Err(Refusal::InvalidDataSize));
 }
 
 const REFUSALS: [(Refusal, u32, &str); 13] = [
@@ -78,9 +72,6 @@ const REFUSALS: [(Refusal, u32, &str); 13] = [
 #[test]
 fn numbers_and_names(rt: HostRuntime) {
     for (refusal, number, name) in &REFUSALS {
-        assert!(rt;
-            refusal.number() == *number && refusal.name() == *name,
-            "{name}"
-        );
+        check!(&rt; refusal.number() == *number && refusal.name() == *name, *name);
     }
 }

@@ -27,22 +27,23 @@ fn a_job_and_its_packet(rt: HostRuntime) {
         number: 5,
         count: 2,
     };
-    assert!(rt; job.stub() == stub);
-    assert!(rt; job.is_open());
-    assert!(rt; job.packet().user == 7);
+    check!(&rt; job.stub() == stub);
+    check!(&rt; job.is_open());
+    check!(&rt; job.packet().user == 7);
     let packet = job.into_packet();
-    assert!(rt; packet.bytes.as_slice().len() == 256);
-    assert!(rt; packet.bytes.into_vec().len() == 256);
-    assert!(rt; !is_open(&rt, packet_of_accounts(&rt, &[(1, 1), (2, 0)])));
-    assert!(rt; !is_open(&rt, packet_of(&rt, 129, 0)));
+    check!(&rt; packet.bytes.as_slice().len() == 256);
+    check!(&rt; packet.bytes.into_vec().len() == 256);
+    check!(&rt; !is_open(&rt, packet_of_accounts(&rt, &[(1, 1), (2, 0)])));
+    check!(&rt; !is_open(&rt, packet_of(&rt, 129, 0)));
 }
 
 #[test]
 fn a_refused_packet_comes_back(rt: HostRuntime) {
     let answer = Job::new(rt.alloc(), 0, 0, 4, packet_of(&rt, 129, 640));
     let (packet, refusal) = answer.err().expect(&rt, "a refusal");
-    assert!(rt; refusal == Refusal::TooMuchData);
-    assert!(rt; packet.user == 7 && packet.bytes.as_slice().len() == 640);
+    check!(&rt; refusal == Refusal::TooMuchData);
+    check!(&rt; packet.user == 7 && packet.bytes.as_slice().len() == 640);
+    drop(packet);
 }
 
 /// Returns the accounts that were found by a lookup.
@@ -59,25 +60,27 @@ fn found(outcome: &Outcome) -> Option<&[Account]> {
 #[test]
 fn a_committed_reply(rt: HostRuntime) {
     let job = job_of(&rt, 5, packet_of_accounts(&rt, &[(1, 0), (2, 0)]));
-    assert!(rt; job.packet().operation == 129);
-    assert!(rt; job.stub().count == 2);
+    check!(&rt; job.packet().operation == 129);
+    check!(&rt; job.stub().count == 2);
     let reply = Reply::committed(job, 9, &[Failure { index: 3, code: 13 }], 2);
-    assert!(rt; reply.submitter == 3 && reply.number == 5 && reply.packet.user == 7);
+    check!(&rt; reply.submitter == 3 && reply.number == 5 && reply.packet.user == 7);
     let own = [Failure { index: 1, code: 13 }];
-    assert!(rt; failures_at(&reply.outcome, 9) == Some(own.as_slice()));
+    check!(&rt; failures_at(&reply.outcome, 9) == Some(own.as_slice()));
+    drop(reply);
 }
 
 #[test]
 fn a_stopped_reply(rt: HostRuntime) {
     let reply = Reply::of(job_of(&rt, 5, packet_of(&rt, 129, 0)), Outcome::Stopped);
-    assert!(rt; matches!(&reply.outcome, Outcome::Stopped));
+    check!(&rt; matches!(&reply.outcome, Outcome::Stopped));
+    drop(reply);
 }
 
 /// Returns the reply to a lookup of an id that finds an account.
 fn reply_to_a_lookup(rt: &(impl Abort + Alloc<A = Global>)) -> Reply {
     let job = job_of(rt, 6, packet_of(rt, 131, 16));
-    assert!(rt; job.packet().operation == 131);
-    assert!(rt; job.stub().count == 1);
+    check!(rt; job.packet().operation == 131);
+    check!(rt; job.stub().count == 1);
     let mut accounts = Vec::new(rt.alloc());
     accounts.push(account(1, 0)).expect(rt, "memory");
     let answer = Answer::Accounts(Accounts::from_vec(accounts));
@@ -87,22 +90,20 @@ fn reply_to_a_lookup(rt: &(impl Abort + Alloc<A = Global>)) -> Reply {
 #[test]
 fn a_lookups_reply(rt: HostRuntime) {
     let reply = reply_to_a_lookup(&rt);
-    assert!(rt; found(&reply.outcome) == Some([account(1, 0)].as_slice()));
+    check!(&rt; found(&reply.outcome) == Some([account(1, 0)].as_slice()));
+    drop(reply);
 }
 
 #[test]
 fn tickets(rt: HostRuntime) {
     let item = Item::Packet(job_of(&rt, 5, packet_of(&rt, 129, 0)));
     let ticket = Ticket { sender: 3, item };
-    assert!(rt; matches!(&ticket.item, Item::Packet(_)));
+    check!(&rt; matches!(&ticket.item, Item::Packet(_)));
+    drop(ticket);
     let pulse = Item::Pulse(Moment::new(4_611_686_018_427_387_904));
-    assert!(rt;
-        matches!(
-            &pulse,
-            Item::Pulse(moment) if moment.get() == 4_611_686_018_427_387_904
-        )
-    );
+    check!(&rt; matches!(&pulse, Item::Pulse(moment) if moment.get() == 4_611_686_018_427_387_904));
+    drop(pulse);
     let none = Failures::from_vec(Vec::new(rt.alloc()));
-    assert!(rt; none.as_slice().is_empty());
-    assert!(rt; Bytes::from_vec(Vec::new(rt.alloc())).as_slice().is_empty());
+    check!(&rt; none.as_slice().is_empty());
+    check!(&rt; Bytes::from_vec(Vec::new(rt.alloc())).as_slice().is_empty());
 }

@@ -10,23 +10,23 @@ fn job_refused_memory(rt: HostRuntime) {
         return;
     };
     if let Err((packet, refusal)) = Job::new(rt.alloc(), 0, 0, 4, packet) {
-        assert!(rt; refusal == Refusal::NoMemory);
-        assert!(rt; packet.user == 7 && packet.bytes.as_slice().len() == 512);
+        check!(&rt; refusal == Refusal::NoMemory);
+        check!(&rt; packet.user == 7 && packet.bytes.as_slice().len() == 512);
     }
 }
 
 #[test]
 fn packet_of_accounts_refused_memory(rt: HostRuntime) {
     match Packet::of_accounts(rt.alloc(), &[Account::default()], 7) {
-        Ok(packet) => assert!(rt; packet.bytes.as_slice().len() == 128),
-        Err(refused) => assert!(rt; refused == NoMemory),
+        Ok(packet) => check!(&rt; packet.bytes.as_slice().len() == 128),
+        Err(refused) => check!(&rt; refused == NoMemory),
     }
 }
 
 #[test]
 fn packet_of_transfers_refused_memory(rt: HostRuntime) {
     match Packet::of_transfers(rt.alloc(), &[Transfer::default()], 7) {
-        Ok(packet) => assert!(rt; packet.bytes.as_slice().len() == 128),
-        Err(refused) => assert!(rt; refused == NoMemory),
+        Ok(packet) => check!(&rt; packet.bytes.as_slice().len() == 128),
+        Err(refused) => check!(&rt; refused == NoMemory),
     }
 }

@@ -35,15 +35,15 @@ fn admitted_transfers(rt: &(impl Abort + Alloc<A = Global>), count: usize) -> Re
 #[test]
 fn a_packet_of_two_accounts(rt: HostRuntime) {
     let packet = of_accounts(&rt, &[account(258, 1), account(2, 0)]);
-    assert!(rt; packet.operation == 129 && packet.user == 7);
+    check!(&rt; packet.operation == 129 && packet.user == 7);
     let bytes = packet.bytes.as_slice();
-    assert!(rt; bytes.len() == 256);
-    assert!(rt; &bytes[0..3] == [2, 1, 0].as_slice());
-    assert!(rt; &bytes[112..120] == [1, 0, 0, 0, 1, 0, 1, 0].as_slice());
-    assert!(rt; &bytes[128..130] == [2, 0].as_slice());
+    check!(&rt; bytes.len() == 256);
+    check!(&rt; &bytes[0..3] == [2, 1, 0].as_slice());
+    check!(&rt; &bytes[112..120] == [1, 0, 0, 0, 1, 0, 1, 0].as_slice());
+    check!(&rt; &bytes[128..130] == [2, 0].as_slice());
     let (chunks, _) = bytes.as_chunks::<128>();
-    assert!(rt; read_account(&chunks[0]) == account(258, 1));
-    assert!(rt; read_account(&chunks[1]) == account(2, 0));
+    check!(&rt; read_account(&chunks[0]) == account(258, 1));
+    check!(&rt; read_account(&chunks[1]) == account(2, 0));
 }
 
 #[test]
@@ -57,13 +57,13 @@ fn a_packet_of_one_transfer(rt: HostRuntime) {
         ..Transfer::default()
     };
     let packet = of_transfers(&rt, &[transfer]);
-    assert!(rt; packet.operation == 130 && packet.user == 7);
+    check!(&rt; packet.operation == 130 && packet.user == 7);
     let (chunks, _) = packet.bytes.as_slice().as_chunks::<128>();
-    assert!(rt; chunks.len() == 1);
+    check!(&rt; chunks.len() == 1);
     let chunk = &chunks[0];
     let fields = [chunk[0], chunk[16], chunk[32], chunk[48], chunk[108]];
-    assert!(rt; fields == [1, 2, 3, 4, 5]);
-    assert!(rt; read_transfer(chunk) == transfer);
+    check!(&rt; fields == [1, 2, 3, 4, 5]);
+    check!(&rt; read_transfer(chunk) == transfer);
 }
 
 /// The lowest byte of each id comes first, and ids of 128 bits are whole.
@@ -76,35 +76,37 @@ fn a_packet_of_two_ids(rt: HostRuntime) {
     ) else {
         rt.abort()
     };
-    assert!(rt; packet.operation == 131 && packet.user == 7);
+    check!(&rt; packet.operation == 131 && packet.user == 7);
     let bytes = packet.bytes.as_slice();
-    assert!(rt; bytes.len() == 32 && bytes[0] == 1);
-    assert!(rt; bytes[1..16].iter().all(|&byte| byte == 0));
+    check!(&rt; bytes.len() == 32 && bytes[0] == 1);
+    check!(&rt; bytes[1..16] == [0; 15]);
     for number in 0..16u8 {
-        assert!(rt; bytes[16 + usize::from(number)] == number);
+        check!(&rt; bytes[16 + usize::from(number)] == number);
     }
 }
 
 /// Codes by TigerBeetle's numbers and names.
 #[test]
 fn codes_by_number(rt: HostRuntime) {
-    assert!(rt; TransferCode::of_number(55).map(TransferCode::name) == Some("exceeds_debits"));
-    assert!(rt; TransferCode::of_number(46) == Some(TransferCode::Exists));
-    assert!(rt; TransferCode::of_number(18).is_none());
-    assert!(rt; AccountCode::of_number(21).map(AccountCode::name) == Some("exists"));
-    assert!(rt; AccountCode::of_number(22).is_none());
+    let code = TransferCode::of_number(55).expect(&rt, "a code");
+    check!(&rt; code.name() == "exceeds_debits");
+    check!(&rt; TransferCode::of_number(46) == Some(TransferCode::Exists));
+    check!(&rt; TransferCode::of_number(18).is_none());
+    let code = AccountCode::of_number(21).expect(&rt, "a code");
+    check!(&rt; code.name() == "exists");
+    check!(&rt; AccountCode::of_number(22).is_none());
 }
 
 #[test]
 fn largest_packets_of_accounts(rt: HostRuntime) {
-    assert!(rt; admitted_accounts(&rt, 0) == Ok(0));
-    assert!(rt; admitted_accounts(&rt, 8190) == Ok(8190));
-    assert!(rt; admitted_accounts(&rt, 8191) == Err(Refusal::TooMuchData));
+    check!(&rt; admitted_accounts(&rt, 0) == Ok(0));
+    check!(&rt; admitted_accounts(&rt, 8190) == Ok(8190));
+    check!(&rt; admitted_accounts(&rt, 8191) == Err(Refusal::TooMuchData));
 }
 
 #[test]
 fn largest_packets_of_transfers(rt: HostRuntime) {
-    assert!(rt; admitted_transfers(&rt, 0) == Ok(0));
-    assert!(rt; admitted_transfers(&rt, 8190) == Ok(8190));
-    assert!(rt; admitted_transfers(&rt, 8191) == Err(Refusal::TooMuchData));
+    check!(&rt; admitted_transfers(&rt, 0) == Ok(0));
+    check!(&rt; admitted_transfers(&rt, 8190) == Ok(8190));
+    check!(&rt; admitted_transfers(&rt, 8191) == Err(Refusal::TooMuchData));
 }

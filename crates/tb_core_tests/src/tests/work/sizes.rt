@@ -30,9 +30,9 @@ fn assert_job(rt: &(impl Abort + Alloc<A = Global>), operation: u8, event_size: 
         number: u64::MAX,
         count,
     };
-    assert!(rt; job.stub() == stub, "operation {operation}, {count} events");
-    assert!(rt; job.packet().operation == operation && job.packet().user == u64::MAX);
-    assert!(rt; job.packet().bytes.as_slice().len() == length);
+    check!(rt; job.stub() == stub, count);
+    check!(rt; job.packet().operation == operation && job.packet().user == u64::MAX);
+    check!(rt; job.packet().bytes.as_slice().len() == length);
 }
 
 #[test]

@@ -81,9 +81,6 @@ const OPENINGS: [(u32, u32, Option<Refusal>); 5] = [
 fn world_openings(rt: HostRuntime) {
     for (limit, submitters, wanted) in &OPENINGS {
         let refusal = refusal(rt.alloc(), *limit, *submitters);
-        assert!(rt;
-            refusal == *wanted,
-            "limit {limit} and {submitters} submitters"
-        );
+        check!(&rt; refusal == *wanted, limit);
     }
 }

@@ -2,6 +2,7 @@
 
 use super::{Step, answer};
 use crate::tests::made::Made;
+use crate::tests::push;
 use crate::tests::told::{Told, told_by};
 use std::alloc::Global;
 use std::process::Abort;
@@ -123,16 +124,6 @@ fn packet(limit: u32, sender: u32, number: u64) -> Made {
     }
 }
 
-/// Returns the item of what is pushed.
-fn made(limit: u32, pushed: Pushed) -> Made {
-    match pushed {
-        Pushed::Packet { sender, number } => packet(limit, sender, number),
-        Pushed::Pulse(moment) => Made::Pulse(moment),
-        Pushed::Close => Made::Close,
-        Pushed::End(_) => Made::End,
-    }
-}
-
 /// Returns a step of a stage; now and then its allocation fails.
 fn next_stage(seed: &mut u64, submitters: u32) -> Step {
     let kind = next_number(seed, 20);
@@ -151,19 +142,24 @@ fn next_stage(seed: &mut u64, submitters: u32) -> Step {
 }
 
 /// Pushes what the rule allows, which returns true unless its sender has ended.
-fn push(
+fn push_next(
     rt: &(impl Abort + Alloc<A = Global>),
     world: &mut World,
     known: &mut Known,
     seed: &mut u64,
 ) {
     let (sender, pushed) = next_push(seed, known);
-    let item = made(known.setting.limit, pushed);
+    let item = match pushed {
+        Pushed::Packet { sender, number } => packet(known.setting.limit, sender, number),
+        Pushed::Pulse(moment) => Made::Pulse(moment),
+        Pushed::Close => Made::Close,
+        Pushed::End(_) => Made::End,
+    };
     let moves = answer(rt, world, Step::Push(sender, item));
     let wanted = !has_ended(known, sender);
-    assert!(rt; moves == wanted, "the answer to a push of sender {sender}");
+    check!(rt; moves == wanted, sender);
     if moves {
-        known.pushed.push(pushed).expect(rt, "memory");
+        push(rt, &mut known.pushed, pushed);
     }
 }
 
@@ -175,7 +171,7 @@ fn step(
     seed: &mut u64,
 ) {
     if next_number(seed, 26) < 6 {
-        push(rt, world, known, seed);
+        push_next(rt, world, known, seed);
     } else {
         let stage = next_stage(seed, known.setting.submitters);
         let moves = answer(rt, world, stage);
@@ -190,7 +186,7 @@ fn ahead(rt: &(impl Abort + Alloc<A = Global>), pushed: &[Pushed]) -> Vec<Pushed
         match *one {
             Pushed::Close => break,
             Pushed::End(_) => {}
-            one => ahead.push(one).expect(rt, "memory"),
+            one => push(rt, &mut ahead, one),
         }
     }
     ahead
@@ -203,7 +199,7 @@ fn add_stubs(rt: &impl Abort, stubs: &[Stub], committed: &mut Vec<Pushed>) {
             sender: stub.submitter,
             number: stub.number,
         };
-        committed.push(packet).expect(rt, "memory");
+        push(rt, committed, packet);
     }
 }
 
@@ -219,7 +215,7 @@ fn committed(rt: &(impl Abort + Alloc<A = Global>), journal: &[Entry]) -> Vec<Pu
             } => add_stubs(rt, stubs, &mut committed),
             Entry::Pulse { moment } => {
                 let pulse = Pushed::Pulse(moment.get());
-                committed.push(pulse).expect(rt, "memory");
+                push(rt, &mut committed, pulse);
             }
         }
     }
@@ -228,11 +224,15 @@ fn committed(rt: &(impl Abort + Alloc<A = Global>), journal: &[Entry]) -> Vec<Pu
 
 /// Returns what becomes of a packet if this number of those ahead were committed.
 fn due(ahead: &[Pushed], committed: usize, packet: Pushed) -> Told {
-    match ahead.iter().position(|one| *one == packet) {
-        Some(place) if place < committed => Told::Committed(place as u64),
-        Some(_) => Told::Stopped,
-        None => Told::Shutdown,
+    for (place, one) in ahead.iter().enumerate() {
+        if *one == packet && place < committed {
+            return Told::Committed(place as u64);
+        }
+        if *one == packet {
+            return Told::Stopped;
+        }
     }
+    Told::Shutdown
 }
 
 /// Asserts that each reply is the one due: the submitter's next packet's, with its outcome.
@@ -241,10 +241,7 @@ fn assert_due(rt: &impl Abort, replies: &[Reply], sender: u32, ahead: &[Pushed],
         let number = place as u64;
         let wanted = due(ahead, committed, Pushed::Packet { sender, number });
         let found = (reply.submitter, reply.number, told_by(reply));
-        assert!(rt;
-            found == (sender, number, wanted),
-            "reply {number} to {sender}"
-        );
+        check!(rt; found == (sender, number, wanted), number);
     }
 }
 
@@ -255,7 +252,7 @@ fn assert_lawful(rt: &(impl Abort + Alloc<A = Global>), world: &World, known: &K
     let committed = committed(rt, world.ledger().journal());
     // The journal is the first of what is ahead.
     let first = ahead.get(..committed.len());
-    assert!(rt; first == Some(committed.as_slice()));
+    check!(rt; first == Some(committed.as_slice()));
     for sender in 0..known.setting.submitters {
         assert_due(rt, world.received(sender), sender, &ahead, committed.len());
     }
@@ -291,22 +288,10 @@ fn settle(rt: &(impl Abort + Alloc<A = Global>), world: &mut World, submitters: 
             return;
         }
     }
-    panic!(rt; "the World never rests");
+    rt.panic("the World never rests");
 }
 
-/// Asserts that at rest each packet has its reply, and all that is ahead was committed if nothing was refused.
-fn assert_whole(rt: &(impl Abort + Alloc<A = Global>), world: &World, known: &Known) {
-    let left = assert_lawful(rt, world, known);
-    // If no allocation failed, all that is ahead was committed.
-    assert!(rt; known.refused || left == 0);
-    for sender in 0..known.setting.submitters {
-        let replies = world.received(sender).len() as u64;
-        let due = packets_of(&known.pushed, sender);
-        assert!(rt; replies == due, "how many replies {sender} received");
-    }
-}
-
-/// Plays a list of the rule.
+/// Plays a list of the rule. At rest each packet has its reply, and all that is ahead was committed if no allocation failed.
 fn play_list(
     rt: &(impl Abort + Alloc<A = Global>),
     world: &mut World,
@@ -319,18 +304,18 @@ fn play_list(
     }
     assert_lawful(rt, world, known);
     settle(rt, world, known.setting.submitters);
-    assert_whole(rt, world, known);
+    let left = assert_lawful(rt, world, known);
+    check!(rt; known.refused || left == 0);
+    for sender in 0..known.setting.submitters {
+        let replies = world.received(sender).len() as u64;
+        check!(rt; replies == packets_of(&known.pushed, sender), sender);
+    }
 }
 
 fn one_list(rt: &(impl Abort + Alloc<A = Global>), setting: Setting, seed: u64) {
-    let Setting {
-        clock,
-        limit,
-        submitters,
-    } = setting;
-    let mut world = World::new(rt.alloc(), clock.min(CLOCK_MAX), limit, submitters).expect(
-        rt, "memory",
-    );
+    let clock = setting.clock.min(CLOCK_MAX);
+    let world = World::new(rt.alloc(), clock, setting.limit, setting.submitters);
+    let mut world = world.expect(rt, "memory");
     let mut known = Known {
         setting,
         pushed: Vec::new(rt.alloc()),
@@ -338,6 +323,7 @@ fn one_list(rt: &(impl Abort + Alloc<A = Global>), setting: Setting, seed: u64) 
     };
     play_list(rt, &mut world, &mut known, seed);
     drop(world);
+    drop(known);
 }
 
 #[test]

@@ -1,6 +1,6 @@
 //! Lists of events whose whole answers are known; two of them also with each allocation refused in turn.
 
-use super::{Step, event, step_of};
+use super::{Step, add_step, add_words};
 use crate::tests::made::{Made, creating, transferring};
 use crate::tests::told::{
     Noted, SIX_PLACES, Told, assert_failures, assert_noted, assert_told, told_by,
@@ -13,27 +13,14 @@ use tb_test_makers::{account, transfer};
 use tb_work::{Item, Job, Refusal, Ticket};
 use tb_world::{Event, World, run_world};
 
-/// Puts an event after the others.
-fn add(events: &mut Vec<Event>, event: Event) -> Result<(), Refusal> {
-    events.push(event).map_err(|_| Refusal::NoMemory)
-}
-
-/// Puts the events of steps in words after the others.
-fn add_words(
-    rt: &impl Abort,
-    alloc: Global,
-    events: &mut Vec<Event>,
-    steps: &str,
-) -> Result<(), Refusal> {
-    for word in steps.split_whitespace() {
-        add(events, event(alloc, step_of(rt, word))?)?;
+/// Adds the events of several texts. Returns false if memory ran out.
+fn add_texts(rt: &impl Abort, alloc: Global, events: &mut Vec<Event>, texts: &[&str]) -> bool {
+    for steps in texts {
+        if !add_words(rt, alloc, events, steps) {
+            return false;
+        }
     }
-    Ok(())
-}
-
-/// Returns the World of one submitter after a list of events; its batches have at most 4 events.
-fn run(alloc: Global, events: Vec<Event>) -> Result<World, Refusal> {
-    run_world(alloc, 0, 4, 1, events).map_err(|_| Refusal::NoMemory)
+    true
 }
 
 const PULSE_BETWEEN_BATCHES: &str =
@@ -45,42 +32,34 @@ const THROUGH: &str =
     "batch-pop outcome-push outcome-pop reply-push reply-push reply-push reply-push 0:reply 0:reply
 0:reply 0:reply";
 
-/// Returns the events of the example.
-fn pulsed_events(rt: &impl Abort, alloc: Global) -> Result<Vec<Event>, Refusal> {
+/// Runs the example, and asserts its result. Returns false if memory ran out.
+fn run_pulsed(rt: &impl Abort, alloc: Global) -> bool {
     let mut events = Vec::new(alloc);
-    add_words(rt, alloc, &mut events, PULSE_BETWEEN_BATCHES)?;
-    for _ in 0..3 {
-        add_words(rt, alloc, &mut events, THROUGH)?;
+    let texts = [PULSE_BETWEEN_BATCHES, THROUGH, THROUGH, THROUGH];
+    if !add_texts(rt, alloc, &mut events, &texts) {
+        return false;
     }
-    Ok(events)
-}
-
-/// Asserts what the example says.
-fn assert_pulsed(rt: &impl Abort, world: &World) {
-    assert_told(rt, world.received(0), &SIX_PLACES);
-    let noted = [Noted::Batch(2), Noted::Pulse(5), Noted::Batch(4)];
-    assert_noted(rt, world.ledger().journal(), &noted);
-    assert!(rt; world.ledger().machine().clock() == 9);
-}
-
-/// Runs the example, and asserts its result.
-fn run_pulsed(rt: &impl Abort, alloc: Global) -> Result<(), Refusal> {
-    let world = run(alloc, pulsed_events(rt, alloc)?)?;
-    assert_pulsed(rt, &world);
-    drop(world);
-    Ok(())
+    match run_world(alloc, 0, 4, 1, events) {
+        Ok(world) => {
+            assert_told(rt, world.received(0), &SIX_PLACES);
+            let noted = [Noted::Batch(2), Noted::Pulse(5), Noted::Batch(4)];
+            assert_noted(rt, world.ledger().journal(), &noted);
+            check!(rt; world.ledger().machine().clock() == 9);
+            drop(world);
+            true
+        }
+        Err(_) => false,
+    }
 }
 
 #[test]
 fn pulse_between_batches(rt: HostRuntime) {
-    run_pulsed(&rt, rt.alloc()).expect(&rt, "memory");
+    check!(&rt; run_pulsed(&rt, rt.alloc()));
 }
 
 #[test]
 fn pulse_between_batches_refused_memory(rt: HostRuntime) {
-    if let Err(refusal) = run_pulsed(&rt, rt.alloc()) {
-        assert!(rt; refusal == Refusal::NoMemory);
-    }
+    run_pulsed(&rt, rt.alloc());
 }
 
 /// Returns three accounts; the second may not owe more than it is owed.
@@ -100,31 +79,32 @@ fn chain() -> [Transfer; 3] {
     ]
 }
 
-/// Puts the push of a packet by submitter 0 after the others, if the packet was admitted.
-fn add_push(events: &mut Vec<Event>, job: Result<Job, Refusal>) -> Result<(), Refusal> {
-    let item = Item::Packet(job?);
-    add(events, Event::Push(Ticket { sender: 0, item }))
+/// Adds the push of a packet by submitter 0. Returns false if memory ran out.
+fn add_push(rt: &impl Abort, events: &mut Vec<Event>, job: Result<Job, Refusal>) -> bool {
+    match job {
+        Ok(job) => {
+            let item = Item::Packet(job);
+            events.push(Event::Push(Ticket { sender: 0, item })).is_ok()
+        }
+        Err(refusal) => {
+            check!(rt; refusal == Refusal::NoMemory);
+            false
+        }
+    }
 }
 
-/// Returns the packets of the example.
-fn add_packets(alloc: Global, events: &mut Vec<Event>) -> Result<(), Refusal> {
-    add_push(events, creating(alloc, 0, 0, &accounts()))?;
-    add_push(events, transferring(alloc, 1, &chain()))?;
-    let last = transfer(2, [2, 3], 10, 0);
-    add_push(events, transferring(alloc, 2, &[last]))
+/// Adds the packets of the example. Returns false if memory ran out.
+fn add_packets(rt: &impl Abort, alloc: Global, events: &mut Vec<Event>) -> bool {
+    add_push(rt, events, creating(alloc, 0, 0, &accounts()))
+        && add_push(rt, events, transferring(alloc, 1, &chain()))
+        && add_push(
+            rt,
+            events,
+            transferring(alloc, 2, &[transfer(2, [2, 3], 10, 0)]),
+        )
 }
 
 const JOINED: &str = "pop pop batch-push pop batch-push";
-
-/// Returns the events of the example.
-fn joined_events(rt: &impl Abort, alloc: Global) -> Result<Vec<Event>, Refusal> {
-    let mut events = Vec::new(alloc);
-    add_packets(alloc, &mut events)?;
-    for steps in [JOINED, THROUGH, THROUGH] {
-        add_words(rt, alloc, &mut events, steps)?;
-    }
-    Ok(events)
-}
 
 const CHAIN_FAILURES: [Failure; 3] = [
     Failure { index: 0, code: 1 },
@@ -151,31 +131,40 @@ fn assert_joined(rt: &impl Abort, world: &World) {
 /// Asserts that no account was debited or credited.
 fn assert_untouched(rt: &impl Abort, world: &World) {
     let machine = world.ledger().machine();
-    assert!(rt; machine.clock() == 7);
-    for (made, timestamp) in accounts().iter().zip([1, 2, 3]) {
-        let untouched = Account { timestamp, ..*made };
-        assert!(rt; machine.account(made.id) == Some(untouched));
+    check!(rt; machine.clock() == 7);
+    for made in &accounts() {
+        let found = machine.account(made.id).expect(rt, "an account");
+        check!(rt; u128::from(found.timestamp) == made.id);
+        check!(rt; Account { timestamp: 0, ..found } == *made);
     }
 }
 
-/// Runs the example, and asserts its result.
-fn run_joined(rt: &impl Abort, alloc: Global) -> Result<(), Refusal> {
-    let world = run(alloc, joined_events(rt, alloc)?)?;
-    assert_joined(rt, &world);
-    drop(world);
-    Ok(())
+/// Runs the example, and asserts its result. Returns false if memory ran out.
+fn run_joined(rt: &impl Abort, alloc: Global) -> bool {
+    let mut events = Vec::new(alloc);
+    let are_added = add_packets(rt, alloc, &mut events)
+        && add_texts(rt, alloc, &mut events, &[JOINED, THROUGH, THROUGH]);
+    if !are_added {
+        return false;
+    }
+    match run_world(alloc, 0, 4, 1, events) {
+        Ok(world) => {
+            assert_joined(rt, &world);
+            drop(world);
+            true
+        }
+        Err(_) => false,
+    }
 }
 
 #[test]
 fn chains_of_transfers_joined(rt: HostRuntime) {
-    run_joined(&rt, rt.alloc()).expect(&rt, "memory");
+    check!(&rt; run_joined(&rt, rt.alloc()));
 }
 
 #[test]
 fn chains_of_transfers_joined_refused_memory(rt: HostRuntime) {
-    if let Err(refusal) = run_joined(&rt, rt.alloc()) {
-        assert!(rt; refusal == Refusal::NoMemory);
-    }
+    run_joined(&rt, rt.alloc());
 }
 
 /// Joins four packets to a batch, commits it and takes its replies.
@@ -192,7 +181,7 @@ fn sixteen_events(rt: &(impl Abort + Alloc<A = Global>)) -> Vec<Event> {
         add_times(rt, &mut events, push, 1);
     }
     for _ in 0..4 {
-        add_words(rt, rt.alloc(), &mut events, FOUR).expect(rt, "memory");
+        check!(rt; add_words(rt, rt.alloc(), &mut events, FOUR));
     }
     for sender in 0..16 {
         add_times(rt, &mut events, Step::ReplyPop(sender), 1);
@@ -200,21 +189,16 @@ fn sixteen_events(rt: &(impl Abort + Alloc<A = Global>)) -> Vec<Event> {
     events
 }
 
-/// Asserts what the example says.
-fn assert_sixteen(rt: &impl Abort, world: &World) {
-    for sender in 0..16 {
-        let told = [Told::Committed(u64::from(sender))];
-        assert_told(rt, world.received(sender), &told);
-    }
-    assert_noted(rt, world.ledger().journal(), &[Noted::Batch(4); 4]);
-    assert!(rt; world.ledger().machine().clock() == 16);
-}
-
 #[test]
 fn sixteen_submitters(rt: HostRuntime) {
     let events = sixteen_events(&rt);
     let world = run_world(rt.alloc(), 0, 4, 16, events).expect(&rt, "memory");
-    assert_sixteen(&rt, &world);
+    for sender in 0..16 {
+        let told = [Told::Committed(u64::from(sender))];
+        assert_told(&rt, world.received(sender), &told);
+    }
+    assert_noted(&rt, world.ledger().journal(), &[Noted::Batch(4); 4]);
+    check!(&rt; world.ledger().machine().clock() == 16);
     drop(world);
 }
 
@@ -232,8 +216,7 @@ fn add_times(
     times: u64,
 ) {
     for _ in 0..times {
-        let event = event(rt.alloc(), step).expect(rt, "memory");
-        add(events, event).expect(rt, "memory");
+        check!(rt; add_step(rt, rt.alloc(), events, step));
     }
 }
 
@@ -249,41 +232,32 @@ fn many_replies(rt: &(impl Abort + Alloc<A = Global>), events: &mut Vec<Event>) 
     }
     add_times(rt, events, Step::Pop, EMPTY);
     let through = "batch-push batch-pop outcome-push outcome-pop";
-    add_words(rt, rt.alloc(), events, through).expect(rt, "memory");
+    check!(rt; add_words(rt, rt.alloc(), events, through));
     add_times(rt, events, Step::ReplyPush, EMPTY);
     add_times(rt, events, Step::ReplyPop(0), EMPTY);
-}
-
-/// Adds the pulses, each committed before the next is pushed.
-fn many_pulses(rt: &(impl Abort + Alloc<A = Global>), events: &mut Vec<Event>) {
-    for moment in 0..PULSES {
-        add_times(rt, events, Step::Push(1, Made::Pulse(moment)), 1);
-        add_words(rt, rt.alloc(), events, "pop batch-push batch-pop").expect(rt, "memory");
-    }
-}
-
-/// Asserts a reply to each packet, and an entry for their batch and for each pulse.
-fn assert_many(rt: &impl Abort, world: &World) {
-    let replies = world.received(0);
-    assert!(rt; replies.len() as u64 == EMPTY);
-    for (place, reply) in replies.iter().enumerate() {
-        assert!(rt; told_by(reply) == Told::Committed(place as u64));
-    }
-    let journal = world.ledger().journal();
-    assert!(rt; journal.len() as u64 == PULSES + 1);
-    assert_noted(rt, &journal[..1], &[Noted::Batch(EMPTY as usize)]);
-    for (moment, entry) in journal[1..].iter().enumerate() {
-        assert_noted(rt, slice::from_ref(entry), &[Noted::Pulse(moment as u64)]);
-    }
-    assert!(rt; world.ledger().machine().clock() == PULSES - 1);
 }
 
 #[test]
 fn a_thousand_replies_and_many_pulses(rt: HostRuntime) {
     let mut events = Vec::new(rt.alloc());
     many_replies(&rt, &mut events);
-    many_pulses(&rt, &mut events);
+    // Each pulse is committed before the next is pushed.
+    for moment in 0..PULSES {
+        add_times(&rt, &mut events, Step::Push(1, Made::Pulse(moment)), 1);
+        check!(&rt; add_words(&rt, rt.alloc(), &mut events, "pop batch-push batch-pop"));
+    }
     let world = run_world(rt.alloc(), 0, 4, 1, events).expect(&rt, "memory");
-    assert_many(&rt, &world);
+    let replies = world.received(0);
+    check!(&rt; replies.len() as u64 == EMPTY);
+    for (place, reply) in replies.iter().enumerate() {
+        check!(&rt; told_by(reply) == Told::Committed(place as u64));
+    }
+    let journal = world.ledger().journal();
+    check!(&rt; journal.len() as u64 == PULSES + 1);
+    assert_noted(&rt, &journal[..1], &[Noted::Batch(EMPTY as usize)]);
+    for (moment, entry) in journal[1..].iter().enumerate() {
+        assert_noted(&rt, slice::from_ref(entry), &[Noted::Pulse(moment as u64)]);
+    }
+    check!(&rt; world.ledger().machine().clock() == PULSES - 1);
     drop(world);
 }
