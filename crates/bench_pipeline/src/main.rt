@@ -30,8 +30,8 @@ use std::process::ExitCode;
 use std::sync::Wait;
 use std::thread::Threads;
 use std::{env, io};
-use tb_drive::{ControlPlan, Finished, PlanDriver, drive_all};
-use tb_pipe::open;
+use tb_drive::{ControlPlan, PlanDriver};
+use tb_pipe::{Finished, drive_all, open};
 
 /// Returns a driver for each submitter, by rising number.
 fn drivers(alloc: Global, submitters: u32, load: Load) -> Option<Vec<LoadDriver>>

@@ -10,8 +10,9 @@ use std::process::ExitCode;
 use std::sync::Wait;
 use std::thread;
 use std::thread::Threads;
+use tb_drive::{Client, ControlClient, Stop};
 use tb_layout::{Account, Transfer};
-use tb_pipe::{Client, ControlClient, Open, Report, Stop, open, settle};
+use tb_pipe::{Open, Report, open, settle};
 use tb_submit::Submitter;
 use tb_work::{Packet, Reply};
 

@@ -1,6 +1,6 @@
 -- A pipeline before its run.
 use Rattle.std.specs.Prelude.{◌≡◌, [], All, length}
-use Rattle.tb_drive.specs.Reported.{AreTogether}
+use Rattle.tb_pipe.specs.Reported.{AreTogether}
 use Rattle.tb_pipe.specs.declared.opening.Opened.{Opened}
 use Rattle.tb_submit.specs.Ends.{SubmitterState}
 use Rattle.example_payments.specs.declared.TheConstants.{DESKS}

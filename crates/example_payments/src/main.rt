@@ -30,8 +30,8 @@ use std::alloc::Global;
 use std::process::ExitCode;
 use std::sync::Wait;
 use std::thread::Threads;
-use tb_drive::{ControlPlan, Finished, PlanDriver, drive_all, submit_ahead};
-use tb_pipe::{Opened, open};
+use tb_drive::{ControlPlan, PlanDriver};
+use tb_pipe::{Finished, Opened, drive_all, open, submit_ahead};
 use tb_work::Packet;
 
 /// How many desks there are.

@@ -9,9 +9,9 @@ use std::alloc::Global;
 use std::process::ExitCode;
 use std::sync::Wait;
 use std::thread::Threads;
-use tb_drive::{Action, ControlPlan, Driver, Finished, PlanDriver, drive_all, submit_ahead};
+use tb_drive::{Action, ControlPlan, Driver, PlanDriver};
 use tb_layout::{Account, Transfer};
-use tb_pipe::open;
+use tb_pipe::{Finished, drive_all, open, submit_ahead};
 use tb_work::{Packet, Refusal, Reply};
 
 /// Posts a transfer in every other turn, each under the id after the last one's, and waits for its reply in the next.

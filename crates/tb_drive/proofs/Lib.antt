@@ -1,5 +1,4 @@
 pub mod Ahead
-mod Control
 pub mod Opened
 mod Pulsed
 mod Results

@@ -9,10 +9,9 @@ use Rattle.tb_drive.proofs.Seen.{front_more}
 
 pub one_more_result : {D : Type 0} (share : D → List Packet) (tasks : List SubmitterTaskState)
     (task : SubmitterTaskState) (ends : List EndedState) (end : EndedState) (drivers : List D) (driver : D)
-    → AreResultsOf tasks (record { ends = ends; shares = map share drivers }) → end_origin end ≡ task_origin task
+    → AreResultsOf tasks ends (map share drivers) → end_origin end ≡ task_origin task
     → IsFront task.submitter.queued end.queued → share driver ≡ task.share
-    → AreResultsOf (tasks ++ task ∷ [])
-    (record { ends = ends ++ end ∷ []; shares = map share (drivers ++ driver ∷ []) })
+    → AreResultsOf (tasks ++ task ∷ []) (ends ++ end ∷ []) (map share (drivers ++ driver ∷ []))
 one_more_result share tasks task ends end drivers driver had own front shared = record {
   own = map-append end_origin ends (end ∷ []) ∙ ap (λ origins. origins ++ end_origin end ∷ []) had.own
       ∙ ap (λ origin. map task_origin tasks ++ origin ∷ []) own ∙ sym (map-append task_origin tasks (task ∷ []));
@@ -26,6 +25,6 @@ one_more_result share tasks task ends end drivers driver had own front shared = 
         ap length had.own,
         length-map ends end_origin,
       )) had.front front);
-  shares = map-append share drivers (driver ∷ []) ∙ ap (λ shares. shares ++ share driver ∷ []) had.shares
+  shares_are = map-append share drivers (driver ∷ []) ∙ ap (λ shares. shares ++ share driver ∷ []) had.shares_are
       ∙ ap (λ own. map task_share tasks ++ own ∷ []) shared ∙ sym (map-append task_share tasks (task ∷ []));
 }

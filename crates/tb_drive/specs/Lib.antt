@@ -2,7 +2,6 @@ pub mod Actions
 pub mod Ahead
 pub mod Plan
 pub mod Refusing
-pub mod Reported
 pub mod Tasks
 pub mod Seen
 pub mod Threads

@@ -1,6 +1,6 @@
 -- Senders with their drivers, before their threads run and after.
-use Rattle.std.specs.Prelude.{◌≡◌, Option, IfSome, List, length, map}
-use Rattle.tb_submit.specs.Ends.{EndedState, IntakeState, Origin, SenderState, SubmitterState, control_seat, end_origin, origin_of}
+use Rattle.std.specs.Prelude.{◌≡◌, Option, IfSome, List, map}
+use Rattle.tb_submit.specs.Ends.{EndedState, Origin, SenderState, SubmitterState, end_origin, origin_of}
 use Rattle.tb_work.specs.declared.packet.Packet.{Packet}
 use Rattle.tb_drive.specs.Seen.{AreFronts, IsFront}
 
@@ -28,21 +28,11 @@ pub record TasksState (C : Type 0) : Type 0 where
   pub submitters : List SubmitterTaskState
   pub control : ControlTaskState C
 
--- the senders are those of a pipeline with this intake and these submitters
-abbrev pub AreTasksOf : {C : Type 0} → IntakeState → List Origin → TasksState C → Type 0
-AreTasksOf intake origins tasks =
-    (map task_origin tasks.submitters ≡ origins) × (tasks.control.control.seat ≡ control_seat intake)
-    × (length origins ≡ intake.submitters)
-
 -- ---- what the submitters' threads return
 
 pub record SubmitterResultState : Type 0 where
   pub ended : Option EndedState
   pub share : List Packet
-
-pub record SubmitterResultsState : Type 0 where
-  pub ends : List EndedState
-  pub shares : List (List Packet)
 
 -- a submitter's end, if there is one, has its origin, and what it queued before as the front part of all
 abbrev pub IsEnd : SubmitterState → Option EndedState → Type 0
@@ -53,8 +43,9 @@ IsEnd submitter ended =
 abbrev pub IsResultOf : SubmitterTaskState → SubmitterResultState → Type 0
 IsResultOf task one = IsEnd task.submitter one.ended × (one.share ≡ task.share)
 
--- results are those of these tasks, in order
-pub record AreResultsOf (tasks : List SubmitterTaskState) (results : SubmitterResultsState) : Type 0 where
-  pub own : map end_origin results.ends ≡ map task_origin tasks
-  pub front : AreFronts (map task_submitter tasks) results.ends
-  pub shares : results.shares ≡ map task_share tasks
+-- ends and shares are the results of these tasks, in order
+pub record AreResultsOf (tasks : List SubmitterTaskState) (ends : List EndedState) (shares : List (List Packet))
+    : Type 0 where
+  pub own : map end_origin ends ≡ map task_origin tasks
+  pub front : AreFronts (map task_submitter tasks) ends
+  pub shares_are : shares ≡ map task_share tasks

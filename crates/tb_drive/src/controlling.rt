@@ -8,14 +8,15 @@ ghost use Rattle.tb_work.specs.declared.refusal.Refusal.TheVariants as refusal;
 ghost use Rattle.tb_drive.specs.Plan.{is_refused, last_item, pulse_of, with_items};
 ghost use Rattle.tb_drive.specs.Threads.{HasQueued, IsControlResultOf};
 
+use crate::client::ControlClient;
 use crate::control_driver::{ControlAction, ControlDriver};
+use crate::stop::Stop;
 use crossbeam_utils::Backoff;
 use std::marker::Model;
 use std::snapshot::Snapshot;
 use std::sync::Wait;
 use std::thread::Promise;
 use tb_layout::QUEUED_MAX;
-use tb_pipe::{ControlClient, Stop};
 use tb_submit::{Control, ControlEnd};
 use tb_work::Refusal;
 
@@ -39,9 +40,9 @@ impl<C: ControlDriver> Model for ControlTask<C> {
 
 /// What the control's thread returns: the control's end, and the driver.
 #[derive(Drop)]
-pub(crate) struct ControlResult<C: ControlDriver> {
-    pub(crate) end: ControlEnd,
-    pub(crate) driver: C,
+pub struct ControlResult<C: ControlDriver> {
+    pub end: ControlEnd,
+    pub driver: C,
 }
 
 /// The promise that the end, unless the thread was stopped, is that of the task's control, and that the driver is the

@@ -1,9 +1,12 @@
-//! Threads that drive a pipeline: one for each submitter, one for the control, and the caller's own, which serves.
+//! What runs in the senders' threads: a submitter's, or the control's.
 //!
-//! An application writes a `Driver`: what its submitter does next, and what becomes of the replies. A `ControlDriver`
-//! says when the control queues a pulse, and how it ends; `ControlPlan` has one whose pulses are known beforehand.
-//! `drive_all` takes an opened pipeline with a driver for each submitter and one for the control, runs it until all have
-//! ended, and gives its report and the drivers:
+//! An application with threads of its own moves a `Client`, which is a submitter, into each, and a `ControlClient` into the
+//! control's. Their calls wait, and return if the run is given up by `Stop::ask`, as an application does if it can't start a
+//! thread. `crates/example_own_threads` is an example that the gate compiles.
+//!
+//! Any other application writes a `Driver`: what its submitter does next, and what becomes of the replies. A `ControlDriver`
+//! says when the control queues a pulse, and how it ends; `ControlPlan` has one whose pulses are known beforehand. `drive_all`
+//! of `tb_pipe` runs a pipeline with them, and a thread for each sender:
 //!
 //! ```
 //! let Ok(opened) = open(alloc, clock, limit, capacity, credit, 2) else { .. };
@@ -11,21 +14,28 @@
 //! let finished = drive_all(&rt, alloc, opened, drivers, ControlPlan::none(alloc).driver())?;
 //! ```
 //!
-//! Each thread ends its sender once its driver says `End`, since `serve` waits for each end. `drive_all` settles with the
-//! pipeline's own ends, so that what `settle` says of the report it says itself.
-//!
-//! `crates/example_two_tellers` is such an application, which the gate compiles.
+//! Each thread ends its sender once its driver says `End`, since `serve` waits for each end. `Tasks::start` starts these
+//! threads and `Running::join` joins them, for `drive_all`.
 #![tactic(auto)]
 
+mod client;
 mod control_driver;
 mod controlling;
+mod drive_fault;
 mod driver;
-mod driving;
+mod own_end;
 mod plan;
+mod stop;
 mod submitting;
 mod threads;
 
+pub use client::{Client, ControlClient};
 pub use control_driver::{ControlAction, ControlDriver};
+pub use controlling::ControlResult;
+pub use drive_fault::DriveFault;
 pub use driver::{Action, Driver};
-pub use driving::{DriveFault, Finished, drive_all, submit_ahead};
+pub use own_end::{OwnControlEnd, OwnEnd};
 pub use plan::{ControlPlan, PlanDriver};
+pub use stop::Stop;
+pub use submitting::submit_once;
+pub use threads::{Joined, Running, Tasks};

@@ -13,6 +13,7 @@ ghost use Rattle.tb_drive.specs.Refusing.{IsFinalRefusal, final_refusal};
 ghost use Rattle.tb_drive.specs.Tasks.{IsEnd, IsResultOf};
 
 use crate::driver::{Action, Driver};
+use crate::stop::Stop;
 use crossbeam_utils::Backoff;
 use std::alloc::Global;
 use std::marker::Model;
@@ -20,7 +21,6 @@ use std::snapshot::Snapshot;
 use std::sync::Wait;
 use std::thread::Promise;
 use tb_layout::QUEUED_MAX;
-use tb_pipe::Stop;
 use tb_rings::SpinWait;
 use tb_submit::{Ended, Submitter};
 use tb_work::{Packet, Refusal};
@@ -79,9 +79,9 @@ impl<D: Driver> Promise<SubmitterResult<D>> for SubmitterPromise<D> {
     ghost kept_by = { λ p r. IsResultOf p.task.value r };
 }
 
-/// Submits a packet once, as `Submitter::submit` does; if it is refused it comes back. After 2^56 packets the queue
-/// is full, whatever else there is to refuse.
-pub(crate) fn submit_once<R: Wait>(
+/// Submits a packet once, as `Submitter::submit` does, with its cost. A refused packet is returned. After 2^56 packets the
+/// queue is full, whatever else there is to refuse.
+pub fn submit_once<R: Wait>(
     rt: &R,
     alloc: Global,
     submitter: &mut Submitter,

@@ -1,31 +1,30 @@
 //! The threads of a run: how they are started, and how they are joined.
 
-ghost use Rattle.std.specs.Prelude.{◌≡◌, map, length, IfOk, IfErr, IfSome};
+ghost use Rattle.std.specs.Prelude.{◌≡◌, [], map, length, IfOk, IfErr, IfSome};
 ghost use Rattle.tb_submit.specs.Ends.{origin_of};
-ghost use Rattle.tb_drive.specs.declared.driving.DriveFault.TheVariants as fault;
-ghost use Rattle.tb_drive.specs.Seen.{HaveSeen};
-ghost use Rattle.tb_drive.specs.Reported.{HasRun};
-ghost use Rattle.tb_drive.specs.Tasks.{AreResultsOf, AreTasksOf, IsResultOf, task_origin, task_share, task_submitter};
+ghost use Rattle.tb_drive.specs.declared.drive_fault.DriveFault.TheVariants as fault;
+ghost use Rattle.tb_drive.specs.Seen.{HaveSeen, HaveSeenEnds};
+ghost use Rattle.tb_drive.specs.Tasks.{AreResultsOf, IsResultOf, task_origin, task_share, task_submitter};
 ghost use Rattle.tb_drive.specs.Threads.{IsControlResultOf};
 
 use crate::control_driver::ControlDriver;
 use crate::controlling::{ControlPromise, ControlResult, ControlTask};
+use crate::drive_fault::DriveFault;
 use crate::driver::Driver;
-use crate::driving::{DriveFault, Finished};
+use crate::stop::Stop;
 use crate::submitting::{SubmitterPromise, SubmitterResult, SubmitterTask};
 use std::alloc::Global;
 use std::marker::Model;
 use std::snapshot::Snapshot;
 use std::sync::Wait;
 use std::thread::{PromisedHandle, Scope, Threads};
-use tb_pipe::{Open, Pipeline, Stop, settle};
-use tb_submit::{Ended, Submitter};
+use tb_submit::{Control, Ended, Submitter};
 
 /// All senders of a run with their drivers, before their threads are started.
 #[derive(Drop)]
-pub(crate) struct Tasks<D: Driver, C: ControlDriver> {
-    pub(crate) submitters: Vec<SubmitterTask<D>>,
-    pub(crate) control: ControlTask<C>,
+pub struct Tasks<D: Driver, C: ControlDriver> {
+    submitters: Vec<SubmitterTask<D>>,
+    control: ControlTask<C>,
 }
 
 impl<D: Driver, C: ControlDriver> Model for Tasks<D, C> {
@@ -36,32 +35,12 @@ impl<D: Driver, C: ControlDriver> Model for Tasks<D, C> {
     ghost view = { λ tasks. record { submitters = tasks.submitters.items; control = tasks.control } };
 }
 
-/// What the submitters' threads returned, in the order of the submitters.
+/// What all threads returned: the submitters' ends and drivers in the order of the submitters, and what the control's returned.
 #[derive(Drop)]
-struct SubmitterResults<D: Driver> {
-    ends: Vec<Ended>,
-    drivers: Vec<D>,
-}
-
-impl<D: Driver> Model for SubmitterResults<D> {
-    ghost use Rattle.std.specs.Prelude.{◌≡◌, length, map};
-    ghost use Rattle.tb_drive.specs.Seen.{HaveSeenEnds};
-    ghost use Rattle.tb_drive.specs.Tasks.{SubmitterResultsState};
-
-    ghost Value = { SubmitterResultsState };
-
-    ghost view = { λ results. record { ends = results.ends.items; shares = map D.share results.drivers.items } };
-
-    ghost invariant = { λ results. (length results.drivers.items ≡ length results.ends.items)
-        × HaveSeenEnds D.has_seen results.drivers.items results.ends.items
-        × HaveSeenEnds D.has_ended results.drivers.items results.ends.items };
-}
-
-/// What all threads returned.
-#[derive(Drop)]
-struct Joined<D: Driver, C: ControlDriver> {
-    submitters: SubmitterResults<D>,
-    control: ControlResult<C>,
+pub struct Joined<D: Driver, C: ControlDriver> {
+    pub ends: Vec<Ended>,
+    pub drivers: Vec<D>,
+    pub control: ControlResult<C>,
 }
 
 type SubmitterThread<D> = PromisedHandle<SubmitterResult<D>, SubmitterPromise<D>>;
@@ -71,7 +50,7 @@ type ControlThread<C> = PromisedHandle<Option<ControlResult<C>>, ControlPromise<
 /// The threads of all senders, seen as the tasks that they run. `ends` and `drivers` are empty, with capacity for what the
 /// submitters' threads return.
 #[derive(Drop)]
-struct Running<D: Driver, C: ControlDriver> {
+pub struct Running<D: Driver, C: ControlDriver> {
     submitters: Vec<SubmitterThread<D>>,
     control: ControlThread<C>,
     ends: Vec<Ended>,
@@ -94,7 +73,7 @@ impl<D: Driver, C: ControlDriver> Model for Running<D, C> {
 }
 
 /// Assigns each submitter the driver of its index.
-pub(crate) fn assign<D: Driver>(
+fn assign<D: Driver>(
     alloc: Global,
     submitters: Vec<Submitter>,
     drivers: Vec<D>,
@@ -171,43 +150,41 @@ impl<C: ControlDriver> ControlTask<C> {
 }
 
 impl<D: Driver + Send, C: ControlDriver + Send> Tasks<D, C> {
-    /// Starts all threads, serves until all senders have ended, joins the threads and settles.
-    pub(crate) fn run<'s, E, R: Threads + Wait + Sync>(
-        self,
-        scope: &Scope<'s, E>,
-        rt: &'s R,
+    /// Gives each submitter the driver of its index, and the control its driver. Allocates for the submitters.
+    ///
+    /// Errors: `NoMemory`, if memory ran out.
+    pub fn of(
         alloc: Global,
-        pipeline: Pipeline,
-        stop: &'s Stop,
-    ) -> Result<Finished<D, C>, DriveFault>
-    where
-        D: 's,
-        C: 's,
-        requires { AreTasksOf pipeline.intake pipeline.submitters self }
-        ensures { IfOk result (HasRun D.has_seen D.has_ended D.share C.has_ended pipeline.clock pipeline.intake self) }
+        submitters: Vec<Submitter>,
+        drivers: Vec<D>,
+        control: Control,
+        control_driver: C,
+    ) -> Result<Tasks<D, C>, DriveFault>
+        requires number { length drivers.items ≡ length submitters.items }
+        requires seen { HaveSeen D.has_seen drivers.items submitters.items }
+        requires queued { C.has_queued control_driver control_driver [] }
+        ensures own { IfOk result (λ tasks. map task_origin tasks.submitters ≡ map origin_of submitters.items) }
+        ensures submitters { IfOk result (λ tasks. map task_submitter tasks.submitters ≡ submitters.items) }
+        ensures shares { IfOk result (λ tasks. map task_share tasks.submitters ≡ map D.share drivers.items) }
+        ensures control { IfOk result (λ tasks. tasks.control ≡ record { control = control; driver = control_driver }) }
+        ensures memory { IfErr result (λ why. why ≡ fault.NoMemory) }
     {
-        let running = self.start(scope, rt, alloc, stop)?;
-        let Ok(served) = pipeline.serve(rt, &Open) else {
-            return Err(DriveFault::NoThread);
-        };
-        let Joined {
-            submitters: results,
+        let control = ControlTask {
             control,
-        } = running.join(rt)?;
-        let SubmitterResults { ends, drivers } = results;
-        let ControlResult { end, driver } = control;
-        let unsettled = Snapshot::of(&ends);
-        let report = settle(served, ends, end);
-        Ok(Finished {
-            report,
-            unsettled,
-            drivers,
-            control: driver,
+            driver: control_driver,
+        };
+        let submitters = assign(alloc, submitters, drivers)?;
+        Ok(Tasks {
+            submitters,
+            control,
         })
     }
 
-    /// Starts all threads, once there is room for their handles and results.
-    fn start<'s, E, R: Wait + Sync>(
+    /// Starts a thread for each sender, once there is memory for all handles and results.
+    ///
+    /// Errors: `NoMemory`, or `NoThread` if a thread can't be started. Threads that run already go on until `stop` is
+    /// asked.
+    pub fn start<'s, E, R: Wait + Sync>(
         self,
         scope: &Scope<'s, E>,
         rt: &'s R,
@@ -241,8 +218,14 @@ impl<D: Driver + Send, C: ControlDriver + Send> Tasks<D, C> {
 
 impl<D: Driver, C: ControlDriver> Running<D, C> {
     /// Joins all threads, the submitters' in their order.
-    fn join<R: Threads>(self, rt: &R) -> Result<Joined<D, C>, DriveFault>
-        ensures submitters { IfOk result (λ joined. AreResultsOf self.submitters joined.submitters) }
+    ///
+    /// Errors: `NoThread`, if the run was given up before a sender ended.
+    pub fn join<R: Threads>(self, rt: &R) -> Result<Joined<D, C>, DriveFault>
+        ensures submitters { IfOk result (λ joined. AreResultsOf self.submitters joined.ends.items
+            (map D.share joined.drivers.items)) }
+        ensures number { IfOk result (λ joined. length joined.drivers.items ≡ length joined.ends.items) }
+        ensures seen { IfOk result (λ joined. HaveSeenEnds D.has_seen joined.drivers.items joined.ends.items) }
+        ensures ended { IfOk result (λ joined. HaveSeenEnds D.has_ended joined.drivers.items joined.ends.items) }
         ensures control { IfOk result (λ joined. IsControlResultOf C.has_ended self.control joined.control) }
     {
         let Running {
@@ -263,7 +246,8 @@ impl<D: Driver, C: ControlDriver> Running<D, C> {
             return Err(DriveFault::NoThread);
         };
         Ok(Joined {
-            submitters: SubmitterResults { ends, drivers },
+            ends,
+            drivers,
             control,
         })
     }

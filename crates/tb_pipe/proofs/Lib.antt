@@ -6,3 +6,5 @@ pub mod Drained
 pub mod Fresh
 pub mod Origins
 mod Cleared
+mod Control
+mod Settled

@@ -3,3 +3,4 @@ pub mod Outlets
 pub mod Stages
 pub mod Run
 pub mod SettledRun
+pub mod Reported

@@ -15,30 +15,27 @@
 //!
 //! A `Gate` holds batches back: the committer gets a batch only after the gate said yes to its number (`through`).
 //!
-//! A `Client` is a submitter in a thread of the application's own, a `ControlClient` the control. Their calls wait, and return if
-//! the run is given up by `Stop::ask`, as an application does if it can't start a thread.
+//! `drive_all` runs an opened pipeline until all senders have ended, with a thread for each sender and its driver (`tb_drive`). It
+//! settles with the pipeline's own ends, so its clauses say what those of `settle` say of the report. `submit_ahead` queues a packet
+//! before that.
 //!
-//! `crates/example_own_threads` is an example that the gate compiles.
+//! `crates/example_two_tellers` and, with threads of its own, `crates/example_own_threads` are examples that the gate compiles.
 #![tactic(auto)]
 
 mod batching;
 mod clearing;
-mod client;
 mod committing;
+mod driving;
 mod gate;
 mod opening;
-mod own_end;
 mod routing;
 mod serving;
 mod settling;
 mod stages;
-mod stop;
 mod waiting;
 
-pub use client::{Client, ControlClient};
+pub use driving::{Finished, drive_all, submit_ahead};
 pub use gate::{Gate, Open};
 pub use opening::{Opened, open};
-pub use own_end::{OwnControlEnd, OwnEnd};
 pub use serving::{Pipeline, Served};
 pub use settling::{Report, settle};
-pub use stop::Stop;

@@ -12,7 +12,7 @@ use Rattle.tb_work.specs.declared.item.Item.{Item}
 use Rattle.tb_work.specs.declared.item.Item.TheVariants as item
 use Rattle.tb_work.specs.declared.item.Ticket.{Ticket}
 use Rattle.tb_work.specs.declared.packet.Packet as packets
-use Rattle.tb_drive.specs.Reported.{HasReported}
+use Rattle.tb_pipe.specs.Reported.{HasReported}
 use Rattle.tb_drive.specs.Seen.{jobs_in}
 use Rattle.tb_program.specs.Answering.{AreAllAnswered, AreAllDone}
 use Rattle.tb_program.specs.Drivers.{HasEndedOf, HasSeenOf, share_of, told_of}

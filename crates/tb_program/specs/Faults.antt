@@ -1,6 +1,6 @@
 -- Why the program gives up if the threads did.
-use Rattle.tb_drive.specs.declared.driving.DriveFault.{DriveFault}
-use Rattle.tb_drive.specs.declared.driving.DriveFault.TheVariants as drive
+use Rattle.tb_drive.specs.declared.drive_fault.DriveFault.{DriveFault}
+use Rattle.tb_drive.specs.declared.drive_fault.DriveFault.TheVariants as drive
 use Rattle.tb_program_text.specs.declared.program_fault.ProgramFault.{ProgramFault}
 use Rattle.tb_program_text.specs.declared.program_fault.ProgramFault.TheVariants as program
 

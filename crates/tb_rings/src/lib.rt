@@ -6,7 +6,7 @@
 //!
 //! A thread that finds nothing to take waits with the ring's `Sleeper`, which each `give` wakes. No clause speaks of waiting.
 //!
-//! `ring_of_two` in tb_drive_tests is an example that the gate compiles.
+//! `ring_of_two` in tb_pipe_tests is an example that the gate compiles.
 #![tactic(auto)]
 
 mod waiting;

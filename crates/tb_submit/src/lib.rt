@@ -11,7 +11,7 @@
 //! The queue is the kit's ruled queue. Its rule (`specs/Rule.antt`) keeps that the taken and queued tickets contain, as each
 //! sender's part, exactly what that sender pushed, so no thread has to trust another.
 //!
-//! `credit_of_three` in tb_drive_tests is an example that the gate compiles.
+//! `credit_of_three` in tb_pipe_tests is an example that the gate compiles.
 #![tactic(auto)]
 
 mod control;

@@ -1,6 +1,0 @@
-use Rattle.std.proofs.Common.{◌≡◌}
-use Rattle.tb_submit.specs.Ends.{origin_of}
-use Rattle.tb_drive_tests.proofs.tests.pipe.driven.reply_within.Given as goal
-
-abbrev pub invariant-loop : goal.invariant-loop
-invariant-loop l = origin_of l.submitter ≡ origin_of l.initial.submitter

@@ -1,0 +1,70 @@
+use Rattle.std.proofs.Common.{rules, ◌≡◌, ◌∙◌, ◌<◌, ℕ, List, map, length, ap, sym, subst}
+use Rattle.std.proofs.lemmas.List.{length-map}
+use Rattle.std.proofs.lemmas.Simd.{map-map}
+use Rattle.std.specs.Prelude.{slice_index_or}
+use Rattle.tb_submit.specs.Ends.{EndedState, IntakeState, Seat, SenderState, end_origin, origin_of}
+use Rattle.tb_drive.specs.Plan.{with_items}
+use Rattle.tb_pipe.specs.Reported.{HasReported}
+use Rattle.tb_drive.specs.Tasks.{AreResultsOf, TasksState, task_submitter}
+use Rattle.tb_drive.specs.Threads.{IsControlResultOf}
+use Rattle.tb_pipe.proofs.Control.{queued_by_control}
+use Rattle.tb_pipe.proofs.Settled.{once_settled}
+use Rattle.tb_pipe.proofs.driving.run.Goals as goal
+
+pub returns : goal.returns
+returns g c =
+    let tasks = c.args.tasks.submitters in
+    let before = map task_submitter tasks in
+    let served = c.in-Ok.served in
+    let joined = c.in_ok-ends.field-0 in
+    let ends = joined.ends.items in
+    let drivers = joined.drivers.items in
+    let end = joined.control.end in
+    let said_joined = c.in_ok-ends.ensures in
+    let settled = c.settle-report.ensures in
+    let results : AreResultsOf tasks ends (map g.D.Driver.share drivers) =
+    subst (λ (all : TasksState _). AreResultsOf all.submitters ends (map g.D.Driver.share drivers))
+    c.in_ok-running.ensures said_joined.submitters in
+    let control : IsControlResultOf g.C.ControlDriver.has_ended c.args.tasks.control joined.control =
+    subst (λ (all : TasksState _). IsControlResultOf g.C.ControlDriver.has_ended all.control joined.control)
+    c.in_ok-running.ensures said_joined.control in
+    let own : map end_origin ends ≡ served.submitters =
+    results.own ∙ c.requires.0 ∙ sym c.in-Ok.ensures.submitters in
+    let number : length served.submitters ≡ served.intake.submitters = ap length c.in-Ok.ensures.submitters
+    ∙ c.requires.2 ∙ sym (ap (λ (intake : IntakeState). intake.submitters) c.in-Ok.ensures.intake) in
+    let long : length ends ≡ served.intake.submitters =
+    sym (length-map ends end_origin) ∙ ap length own ∙ number in
+    let limits : (k : ℕ) (d : EndedState) → k < length ends
+    → (slice_index_or ends k d).origin.seat.limit ≡ served.intake.limit =
+    λ k d within. ap (λ (seat : Seat). seat.limit) (settled.seats k d within) in
+    let copied : c.of-unsettled.result.value.items ≡ ends = search rules in
+    let said = λ (clock : ℕ) (intake : IntakeState) (unsettled : List EndedState) (last : SenderState).
+    HasReported g.D.Driver.has_seen g.D.Driver.has_ended clock intake.limit intake.submitters before unsettled last
+    drivers c.settle-report.result.ledger c.settle-report.result.ends.items in
+    let reported : said served.clock served.intake ends end = record {
+      queue = served.intake.taken;
+      own = results.own ∙ sym (map-map origin_of task_submitter tasks);
+      ahead = results.front;
+      settled = settled.settled;
+      controlled = queued_by_control ends end served.intake.submitters served.submitters own number;
+      report = settled.report;
+      grouping = settled.grouping;
+      pulses = settled.pulses;
+      number = settled.long;
+      driven = said_joined.number ∙ long;
+      seen = once_settled g.D.Driver.has_seen served.intake.limit drivers ends _ end (settled.long ∙ sym long) limits
+          settled.read said_joined.seen;
+      ended = once_settled g.D.Driver.has_ended served.intake.limit drivers ends _ end (settled.long ∙ sym long) limits
+          settled.read said_joined.ended;
+    } in
+    let after : SenderState = with_items c.args.tasks.control.control control.0 in (
+      (
+        control.0,
+        control.2,
+        subst (λ clock. said clock c.args.pipeline.intake c.of-unsettled.result.value.items after) c.in-Ok.ensures.clock
+            (subst (λ intake. said served.clock intake c.of-unsettled.result.value.items after) c.in-Ok.ensures.intake
+            (subst (λ last. said served.clock served.intake c.of-unsettled.result.value.items last) control.1
+            (subst (λ unsettled. said served.clock served.intake unsettled end) (sym copied) reported))),
+      ),
+      results.shares_are,
+    )

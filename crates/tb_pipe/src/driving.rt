@@ -1,0 +1,149 @@
+//! A run of a pipeline, with a thread for each of its senders.
+
+ghost use Rattle.std.specs.Prelude.{◌≡◌, ◌<◌, ◌≤◌, [], map, length, set, slice_get, Some, None, Err, IfOk, IfErr, OnOk};
+ghost use Rattle.tb_layout.specs.inside.Limits.{queued_max};
+ghost use Rattle.tb_submit.specs.Ends.{SubmitterState, origin_of};
+ghost use Rattle.tb_submit.specs.Refusals.{IsSubmitRefusal, submit_refusal};
+ghost use Rattle.tb_work.specs.declared.refusal.Refusal.TheVariants as refusal;
+ghost use Rattle.tb_drive.specs.Ahead.{with_packet};
+ghost use Rattle.tb_drive.specs.Seen.{HaveSeen};
+ghost use Rattle.tb_pipe.specs.Reported.{AreTasksOf, AreTogether, HasFinishedWith, HasRun};
+
+use crate::gate::Open;
+use crate::opening::Opened;
+use crate::serving::Pipeline;
+use crate::settling::{Report, settle};
+use std::alloc::Global;
+use std::snapshot::Snapshot;
+use std::sync::Wait;
+use std::thread;
+use std::thread::{Scope, Threads};
+use tb_drive::{
+    ControlDriver, ControlResult, DriveFault, Driver, Joined, Stop, Tasks, submit_once,
+};
+use tb_submit::Ended;
+use tb_work::{Packet, Refusal};
+
+/// A run that has ended: its report, the drivers in the order of their submitters, and the control's driver.
+#[derive(Drop)]
+pub struct Finished<D, C> {
+    pub report: Report,
+    /// The report's ends from before they were settled, as a ghost copy without bytes. Contracts name by it what each
+    /// submitter queued, since a settled end doesn't say that.
+    pub unsettled: Snapshot<Vec<Ended>>,
+    pub drivers: Vec<D>,
+    pub control: C,
+}
+
+/// Queues a packet of the submitter at an index, before any thread is started. It is `Submitter::submit` of that
+/// submitter, so it precedes what its driver queues; it precedes what other drivers queue too, since the queue is first
+/// in, first out. No other end is touched; after 2^56 packets the queue is full. A refused packet is returned, and nothing
+/// is changed.
+pub fn submit_ahead<R: Wait>(
+    rt: &R,
+    alloc: Global,
+    opened: &mut Opened,
+    submitter: usize,
+    packet: Packet,
+) -> Result<u64, (Packet, Refusal)>
+    requires { submitter < length opened.old.submitters.items }
+    ensures ok { (before : SubmitterState) → slice_get opened.old.submitters.items submitter ≡ Some before
+        → IfOk result (λ number. (number ≡ length before.queued)
+        × (opened.new.submitters.items ≡ set opened.old.submitters.items submitter
+        (with_packet before number packet))) }
+    ensures admitted { (before : SubmitterState) → slice_get opened.old.submitters.items submitter ≡ Some before
+        → OnOk result (submit_refusal before packet ≡ None) }
+    ensures back { IfErr result (λ refused. (refused.0 ≡ packet)
+        × (opened.new.submitters.items ≡ opened.old.submitters.items)) }
+    ensures refusal { (before : SubmitterState) → slice_get opened.old.submitters.items submitter ≡ Some before
+        → length before.queued < queued_max → IfErr result (λ refused. IsSubmitRefusal before packet refused.1) }
+    ensures full { (before : SubmitterState) → slice_get opened.old.submitters.items submitter ≡ Some before
+        → queued_max ≤ length before.queued → result ≡ Err (packet, refusal.Full) }
+    ensures pipeline { opened.new.pipeline ≡ opened.old.pipeline }
+    ensures control { opened.new.control ≡ opened.old.control }
+    ensures own { map origin_of opened.new.submitters.items ≡ map origin_of opened.old.submitters.items }
+    ensures together { AreTogether opened.old.pipeline opened.old.submitters.items opened.old.control
+        → AreTogether opened.new.pipeline opened.new.submitters.items opened.new.control }
+{
+    submit_once(rt, alloc, &mut opened.submitters[submitter], packet)
+}
+
+/// Starts the senders' threads, serves until all senders have ended, joins the threads and settles.
+fn run<'s, E, D, C, R>(
+    scope: &Scope<'s, E>,
+    rt: &'s R,
+    alloc: Global,
+    pipeline: Pipeline,
+    tasks: Tasks<D, C>,
+    stop: &'s Stop,
+) -> Result<Finished<D, C>, DriveFault>
+where
+    D: Driver + Send + 's,
+    C: ControlDriver + Send + 's,
+    R: Threads + Wait + Sync,
+    requires { AreTasksOf pipeline.intake pipeline.submitters tasks }
+    ensures { IfOk result (HasRun D.has_seen D.has_ended D.share C.has_ended pipeline.clock pipeline.intake tasks) }
+{
+    let running = tasks.start(scope, rt, alloc, stop)?;
+    let Ok(served) = pipeline.serve(rt, &Open) else {
+        return Err(DriveFault::NoThread);
+    };
+    let Joined {
+        ends,
+        drivers,
+        control,
+    } = running.join(rt)?;
+    let ControlResult { end, driver } = control;
+    let unsettled = Snapshot::of(&ends);
+    let report = settle(served, ends, end);
+    Ok(Finished {
+        report,
+        unsettled,
+        drivers,
+        control: driver,
+    })
+}
+
+/// Runs a pipeline until all of its senders have ended. Each submitter has the driver of the same index and a thread of
+/// its own, the control has its driver and one more, and the calling thread serves. Returns the drivers in their order
+/// with the report; a submitter's end still gives the replies that its driver hasn't taken. If a thread can't be
+/// started the others are stopped, and what was queued is lost with the pipeline.
+pub fn drive_all<D: Driver + Send, C: ControlDriver + Send, R: Threads + Wait + Sync>(
+    rt: &R,
+    alloc: Global,
+    opened: Opened,
+    drivers: Vec<D>,
+    control: C,
+) -> Result<Finished<D, C>, DriveFault>
+    requires together { AreTogether opened.pipeline opened.submitters.items opened.control }
+    requires number { length drivers.items ≡ length opened.pipeline.submitters }
+    requires seen { HaveSeen D.has_seen drivers.items opened.submitters.items }
+    requires queued { C.has_queued control control [] }
+    ensures reported { IfOk result (HasFinishedWith D.has_seen D.has_ended (C.has_ended control) opened.pipeline.clock
+        opened.pipeline.intake opened.submitters.items opened.control) }
+    ensures shares { IfOk result (λ finished. map D.share finished.drivers.items ≡ map D.share drivers.items) }
+{
+    let Opened {
+        pipeline,
+        submitters,
+        control: sender,
+    } = opened;
+    let stop = Stop::of(alloc, &submitters)?;
+    let tasks = Tasks::of(alloc, submitters, drivers, sender, control)?;
+    let stop = &stop;
+    thread::scope(
+        thread::scope_env(),
+        rt,
+        |scope| -> Result<Finished<D, C>, DriveFault>
+            requires { AreTasksOf pipeline.intake pipeline.submitters tasks }
+            ensures { IfOk result (HasRun D.has_seen D.has_ended D.share C.has_ended pipeline.clock pipeline.intake
+                tasks) }
+        {
+            let finished = run(scope, rt, alloc, pipeline, tasks, stop);
+            if finished.is_err() {
+                stop.ask();
+            }
+            finished
+        },
+    )
+}

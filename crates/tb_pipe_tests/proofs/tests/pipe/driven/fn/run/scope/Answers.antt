@@ -1,0 +1,11 @@
+use Rattle.tb_submit.specs.Ends.{queued_by}
+use Rattle.tb_pipe_tests.proofs.Together.{is_run}
+use Rattle.tb_pipe_tests.proofs.tests.pipe.driven.fn.run.scope.Goals as goal
+
+pub returns : goal.returns
+returns g c =
+    let served = c.in-Ok-serve.ensures in
+    let settled = c.settle.ensures in
+    is_run c.captures.pipeline c.in-Ok-serve.served
+    (queued_by c.put.new.ends.items c.join-driven.result.control) c.settle.result.ledger
+    c.settle.result.ends.items served.clock served.intake settled.report settled.grouping

@@ -1,0 +1,10 @@
+use Rattle.tb_submit.specs.Ends.{queued_by}
+use Rattle.tb_pipe_tests.proofs.Together.{is_run}
+use Rattle.tb_pipe_tests.proofs.tests.pipe.finish.Goals as goal
+
+pub returns : goal.returns
+returns g c =
+    let settled = c.settle.ensures in
+    is_run c.args.pipeline c.in_ok-served.served (queued_by c.args.ends.submitters.items c.args.ends.control)
+    c.settle.result.ledger c.settle.result.ends.items c.in_ok-served.ensures.clock c.in_ok-served.ensures.intake
+    settled.report settled.grouping

@@ -1,0 +1,210 @@
+//! Clients: their calls in a run that is served, and once it is given up.
+
+ghost use Rattle.std.specs.Prelude.{◌≡◌, ◌∷◌, []};
+ghost use Rattle.tb_submit.specs.Ends.{control_seat, origin_of};
+ghost use Rattle.tb_pipe_tests.specs.Together.{AreTogether};
+
+use super::{
+    Lone, Told, assert_run, end_control, lone_of, opened, packet_of, put, room_for_ends, told_by,
+};
+use std::alloc::Global;
+use std::process::Abort;
+use std::sync::Wait;
+use std::thread;
+use std::thread::Threads;
+use tb_drive::{Client, Stop};
+use tb_layout::CREATE_ACCOUNTS;
+use tb_pipe::{Open, Report, settle};
+use tb_work::Refusal;
+
+/// How often a thread yields before it gives a run up, while another goes to sleep.
+const SLEEP_TURNS: u32 = 10_000;
+
+/// Opens a pipeline for one submitter, whose queue has one slot.
+pub(super) fn open_narrow(rt: &impl Abort, alloc: Global, credit: u32) -> (Lone, Stop)
+    ensures { AreTogether result.0.pipeline (result.0.submitter ∷ []) result.0.control }
+{
+    let opened = opened(alloc, 4, 1, credit, 1).expect(rt, "it is opened");
+    let stop = Stop::of(alloc, &opened.submitters).expect(rt, "memory");
+    (lone_of(opened), stop)
+}
+
+/// Submits a packet with this account. Returns its number, or why it is refused.
+fn submit<R: Wait + Abort>(
+    rt: &R,
+    alloc: Global,
+    client: &mut Client<'_>,
+    id: u8,
+) -> Result<u64, Refusal>
+    ensures { origin_of client.new ≡ origin_of client.old }
+{
+    let packet = packet_of(alloc, CREATE_ACCOUNTS, id).expect(rt, "memory");
+    match client.submit(rt, alloc, packet) {
+        Ok(number) => Ok(number),
+        Err((packet, refusal)) => {
+            drop(packet);
+            Err(refusal)
+        }
+    }
+}
+
+/// Waits for the next reply, and returns its packet's place.
+fn receive<R: Wait>(rt: &R, client: &mut Client<'_>) -> Option<Told>
+    ensures { origin_of client.new ≡ origin_of client.old }
+{
+    match client.receive(rt) {
+        Some(reply) => Some(told_by(reply)),
+        None => None,
+    }
+}
+
+/// Exchanges a packet with this account for the next reply. Returns its packet's place, or why it is refused.
+fn exchange<R: Wait + Abort>(
+    rt: &R,
+    alloc: Global,
+    client: &mut Client<'_>,
+    id: u8,
+) -> Result<Option<Told>, Refusal>
+    ensures { origin_of client.new ≡ origin_of client.old }
+{
+    let packet = packet_of(alloc, CREATE_ACCOUNTS, id).expect(rt, "memory");
+    match client.exchange(rt, alloc, packet) {
+        Ok(Some(reply)) => Ok(Some(told_by(reply))),
+        Ok(None) => Ok(None),
+        Err((packet, refusal)) => {
+            drop(packet);
+            Err(refusal)
+        }
+    }
+}
+
+/// Queues a packet at a time with a credit of one, and waits for each reply. One packet is too many in between.
+fn trade<R: Wait + Abort>(rt: &R, alloc: Global, client: &mut Client<'_>)
+    ensures { origin_of client.new ≡ origin_of client.old }
+{
+    check!(rt; receive(rt, client).is_none());
+    for (number, id) in [(0, 1), (1, 2), (2, 3)] {
+        check!(rt; submit(rt, alloc, client, id) == Ok(number));
+        check!(rt; submit(rt, alloc, client, 9) == Err(Refusal::InFlight));
+        check!(rt; exchange(rt, alloc, client, 9) == Err(Refusal::InFlight));
+        check!(rt; receive(rt, client) == Some(Told::Committed(number)));
+    }
+    check!(rt; receive(rt, client).is_none());
+    check!(rt; exchange(rt, alloc, client, 4) == Ok(Some(Told::Committed(3))));
+}
+
+/// Serves a client that trades in a thread of its own. The control's end is in the queue's only slot until then.
+fn serve_trade<R: Threads + Wait + Sync + Abort>(
+    rt: &R,
+    alloc: Global,
+    lone: Lone,
+    stop: &Stop,
+) -> Report
+    requires { AreTogether lone.pipeline (lone.submitter ∷ []) lone.control }
+{
+    let Lone {
+        pipeline,
+        submitter,
+        control,
+    } = lone;
+    let control = end_control(rt, control, false);
+    thread::scope(
+        thread::scope_env(),
+        rt,
+        |scope| -> Report
+            requires own { origin_of submitter ∷ [] ≡ pipeline.submitters }
+            requires control { control.seat ≡ control_seat pipeline.intake }
+        {
+            let trader = Client::new(submitter, stop)
+                .start(scope, rt, move |client| trade(rt, alloc, client))
+                .expect(rt, "a thread can be started");
+            let Ok(served) = pipeline.serve(rt, &Open) else {
+                rt.panic("a thread can't be started")
+            };
+            let ended = trader.join(rt).expect(rt, "the run isn't given up");
+            let mut ends = room_for_ends(alloc).expect(rt, "memory");
+            put(rt, &mut ends, ended);
+            settle(served, ends, control)
+        },
+    )
+}
+
+#[test]
+fn client_with_one_slot_and_one_credit(rt: HostRuntime) {
+    let (lone, stop) = open_narrow(&rt, rt.alloc(), 1);
+    let report = serve_trade(&rt, rt.alloc(), lone, &stop);
+    assert_run(&rt, report, 4, &[]);
+    drop(stop);
+}
+
+/// The queue's one slot is taken by the first packet, and nobody serves.
+#[test]
+fn client_of_a_run_that_is_given_up(rt: HostRuntime) {
+    let (lone, stop) = open_narrow(&rt, rt.alloc(), 2);
+    let Lone {
+        pipeline,
+        submitter,
+        control,
+    } = lone;
+    let mut client = Client::new(submitter, &stop);
+    check!(&rt; submit(&rt, rt.alloc(), &mut client, 1) == Ok(0));
+    check!(&rt; !stop.is_asked());
+    stop.ask();
+    check!(&rt; stop.is_asked());
+    check!(&rt; submit(&rt, rt.alloc(), &mut client, 2) == Err(Refusal::Full));
+    check!(&rt; receive(&rt, &mut client).is_none());
+    check!(&rt; client.end(&rt).is_none());
+    drop(pipeline);
+    drop(control);
+    drop(stop);
+}
+
+/// The packet is queued, since a slot is free.
+#[test]
+fn exchange_in_a_run_that_is_given_up(rt: HostRuntime) {
+    let (lone, stop) = open_narrow(&rt, rt.alloc(), 1);
+    let Lone {
+        pipeline,
+        submitter,
+        control,
+    } = lone;
+    let mut client = Client::new(submitter, &stop);
+    stop.ask();
+    check!(&rt; exchange(&rt, rt.alloc(), &mut client, 1) == Ok(None));
+    drop(client);
+    drop(pipeline);
+    drop(control);
+    drop(stop);
+}
+
+/// Gives a run up while a client sleeps for a reply, and returns what the client receives.
+fn wake<R: Threads + Wait + Sync + Abort>(rt: &R, client: Client<'_>, stop: &Stop) -> Option<Told> {
+    thread::scope(thread::scope_env(), rt, |scope| {
+        let started = scope.spawn(move || {
+            let mut client = client;
+            receive(rt, &mut client)
+        });
+        let sleeper = started.ok().expect(rt, "a thread can be started");
+        for _ in 0..SLEEP_TURNS {
+            thread::yield_now();
+        }
+        stop.ask();
+        sleeper.join(rt)
+    })
+}
+
+#[test]
+fn client_that_sleeps_is_woken(rt: HostRuntime) {
+    let (lone, stop) = open_narrow(&rt, rt.alloc(), 1);
+    let Lone {
+        pipeline,
+        submitter,
+        control,
+    } = lone;
+    let mut client = Client::new(submitter, &stop);
+    check!(&rt; submit(&rt, rt.alloc(), &mut client, 1) == Ok(0));
+    check!(&rt; wake(&rt, client, &stop).is_none());
+    drop(pipeline);
+    drop(control);
+    drop(stop);
+}

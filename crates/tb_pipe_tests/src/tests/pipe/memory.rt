@@ -1,0 +1,268 @@
+//! What is tried with each allocation refused in turn, by `tools/refuse-each-growth`. Which allocation is refused
+//! differs from run to run, since the stages and the test itself allocate at once: so the tests look only at the
+//! replies, and ask again for what they need themselves.
+
+ghost use Rattle.std.specs.Prelude.{◌≡◌, ◌++◌, ◌∷◌, [], IfOk, map};
+ghost use Rattle.tb_submit.specs.Ends.{control_seat, end_origin, origin_of};
+ghost use Rattle.tb_pipe_tests.specs.Together.{AreTogether};
+
+use super::driven::{Course, Driving, Saw, drive_lone, run};
+use super::gates::Counted;
+use super::{
+    Ends, Lone, Told, clock, end_control, end_one, finish, next_told, opened_lone, packet_of,
+    queue_pulse, room_for_ends, submit,
+};
+use std::alloc::Global;
+use std::process::Abort;
+use std::sync::Wait;
+use std::thread::Threads;
+use tb_layout::{CREATE_ACCOUNTS, NoMemory};
+use tb_pipe::{Open, Report};
+use tb_submit::{Control, Ended, Intake, Submitter};
+use tb_work::{Item, Refusal, Ticket};
+
+/// Returns a pipeline of one submitter, opened again if memory ran out, and whether it did.
+fn open_again(rt: &impl Abort, alloc: Global, told: &mut bool) -> Result<Lone, Refusal>
+    ensures { IfOk result (λ lone. AreTogether lone.pipeline (lone.submitter ∷ []) lone.control) }
+{
+    match opened_lone(alloc, 4, 64, 64) {
+        Ok(lone) => Ok(lone),
+        Err(refusal) => {
+            check!(rt; refusal == Refusal::NoMemory);
+            *told = true;
+            opened_lone(alloc, 4, 64, 64)
+        }
+    }
+}
+
+/// Submits a packet with this account. It takes no memory, since the room for one failure is in the job.
+fn submit_account<R: Wait + Abort>(
+    rt: &R,
+    alloc: Global,
+    submitter: &mut Submitter,
+    id: u8,
+) -> Result<(), NoMemory>
+    ensures { origin_of submitter.new ≡ origin_of submitter.old }
+{
+    let packet = match packet_of(alloc, CREATE_ACCOUNTS, id) {
+        Ok(packet) => packet,
+        Err(_) => packet_of(alloc, CREATE_ACCOUNTS, id)?,
+    };
+    check!(rt; submit(rt, alloc, submitter, packet).is_ok());
+    Ok(())
+}
+
+/// Queues two accounts, a pulse, and four accounts, each in its packet.
+fn queue_seven<R: Wait + Abort>(
+    rt: &R,
+    alloc: Global,
+    submitter: &mut Submitter,
+    control: &mut Control,
+) -> Result<(), NoMemory>
+    ensures submitter { origin_of submitter.new ≡ origin_of submitter.old }
+    ensures control { control.new.seat ≡ control.old.seat }
+{
+    for id in 1..7u8 {
+        if id == 3 {
+            queue_pulse(rt, control, 5);
+        }
+        submit_account(rt, alloc, submitter, id)?;
+    }
+    Ok(())
+}
+
+/// Ends both, and serves: the report, or the intake if a thread couldn't be started. There is room for the end.
+fn serve_seven<R: Threads + Wait + Sync + Abort>(
+    rt: &R,
+    lone: Lone,
+    room: Vec<Ended>,
+) -> Result<Report, (Intake, Refusal)>
+    requires together { AreTogether lone.pipeline (lone.submitter ∷ []) lone.control }
+    requires none { room.items ≡ [] }
+{
+    let control = end_control(rt, lone.control, false);
+    let mut submitters = room;
+    end_one(rt, &mut submitters, lone.submitter);
+    let ends = Ends {
+        submitters,
+        control,
+    };
+    finish(rt, lone.pipeline, ends, &Open)
+}
+
+/// What a ticket says: a packet with its number, or a pulse with its moment.
+#[derive(Clone, Copy, PartialEq, Eq)]
+enum ParsedScript {
+    Packet(u64),
+    Pulse(u64),
+    End,
+    Close,
+}
+
+fn said_by(ticket: &Ticket) -> (u32, ParsedScript) {
+    let said = match &ticket.item {
+        Item::Packet(job) => ParsedScript::Packet(job.stub().number),
+        Item::Pulse(moment) => ParsedScript::Pulse(moment.get()),
+        Item::End => ParsedScript::End,
+        Item::Close => ParsedScript::Close,
+    };
+    (ticket.sender, said)
+}
+
+/// Returns the first ten tickets of a queue, each with its sender.
+fn ten_tickets<R: Wait>(rt: &R, intake: &mut Intake) -> [Option<(u32, ParsedScript)>; 10] {
+    let mut tickets = [None; 10];
+    for k in 0..10usize {
+        if let Some(ticket) = intake.take(rt) {
+            tickets[k] = Some(said_by(&ticket));
+            drop(ticket);
+        }
+    }
+    tickets
+}
+
+/// Returns the first seven replies to submitter 0.
+fn seven_replies(report: &mut Report) -> [Option<Told>; 7] {
+    let mut replies = [None; 7];
+    if let Some(ended) = report.ends.get_mut(0) {
+        for k in 0..7usize {
+            replies[k] = next_told(ended);
+        }
+    }
+    replies
+}
+
+/// Returns the replies to the six packets of the seven items, if this number is committed.
+fn replies_where(committed: u64) -> [Option<Told>; 7] {
+    let mut replies = [None; 7];
+    let places = [0, 1, 3, 4, 5, 6];
+    for k in 0..6usize {
+        replies[k] = Some(if places[k] < committed {
+            Told::Committed(places[k])
+        } else {
+            Told::Stopped
+        });
+    }
+    replies
+}
+
+/// The clock if this number of the seven items is committed.
+const CLOCKS: [u64; 8] = [0, 1, 2, 5, 6, 7, 8, 9];
+
+/// Asserts that some of the seven items are committed, and all of them unless a stop was reported.
+fn assert_seven(rt: &impl Abort, report: &mut Report, told: bool) {
+    let committed = report.ledger.places();
+    check!(rt; committed < 7 && !told || committed == 7);
+    check!(rt; clock(report) == CLOCKS[committed as usize]);
+    check!(rt; seven_replies(report) == replies_where(committed));
+}
+
+/// Asserts that a thread couldn't be started, and the intake has all that was queued.
+fn assert_none_taken<R: Wait + Abort>(rt: &R, intake: &mut Intake, refusal: Refusal) {
+    check!(rt; refusal == Refusal::NoThread);
+    check!(rt; ten_tickets(rt, intake) == ALL_TICKETS);
+}
+
+/// Serves everything queued, and compares the results.
+fn assert_each_growth<R: Threads + Wait + Sync + Abort>(
+    rt: &R,
+    lone: Lone,
+    room: Vec<Ended>,
+    told: bool,
+)
+    requires together { AreTogether lone.pipeline (lone.submitter ∷ []) lone.control }
+    requires none { room.items ≡ [] }
+{
+    match serve_seven(rt, lone, room) {
+        Ok(mut report) => {
+            assert_seven(rt, &mut report, told);
+            drop(report);
+        }
+        Err((mut intake, refusal)) => {
+            assert_none_taken(rt, &mut intake, refusal);
+            drop(intake);
+        }
+    }
+}
+
+#[test]
+fn each_growth_refused_memory(rt: HostRuntime) -> Result<(), Refusal> {
+    let mut told = false;
+    let mut lone = open_again(&rt, rt.alloc(), &mut told)?;
+    let queued = queue_seven(&rt, rt.alloc(), &mut lone.submitter, &mut lone.control);
+    match (queued, room_for_ends(rt.alloc())) {
+        (Ok(()), Ok(room)) => assert_each_growth(&rt, lone, room, told),
+        _ => return Err(Refusal::NoMemory),
+    }
+    Ok(())
+}
+
+/// The tickets of the seven items and of both ends, in order, and nothing after them.
+const ALL_TICKETS: [Option<(u32, ParsedScript)>; 10] = [
+    Some((0, ParsedScript::Packet(0))),
+    Some((0, ParsedScript::Packet(1))),
+    Some((1, ParsedScript::Pulse(5))),
+    Some((0, ParsedScript::Packet(2))),
+    Some((0, ParsedScript::Packet(3))),
+    Some((0, ParsedScript::Packet(4))),
+    Some((0, ParsedScript::Packet(5))),
+    Some((1, ParsedScript::End)),
+    Some((0, ParsedScript::End)),
+    None,
+];
+
+/// Queues two accounts, each in its packet, and a pulse.
+fn queue_three<R: Wait + Abort>(
+    rt: &R,
+    alloc: Global,
+    submitter: &mut Submitter,
+    control: &mut Control,
+) -> Result<(), NoMemory>
+    ensures submitter { origin_of submitter.new ≡ origin_of submitter.old }
+    ensures control { control.new.seat ≡ control.old.seat }
+{
+    submit_account(rt, alloc, submitter, 1)?;
+    submit_account(rt, alloc, submitter, 2)?;
+    queue_pulse(rt, control, 5);
+    Ok(())
+}
+
+/// Drives what is queued. If the first commit is refused the journal stays empty, and the submitter learns it twice,
+/// and then by a refusal.
+fn assert_first_commit<R: Threads + Wait + Sync + Abort + Print>(
+    rt: &R,
+    alloc: Global,
+    driving: Driving,
+)
+    requires own { map end_origin driving.ends.items ++ origin_of driving.last ∷ [] ≡ driving.pipeline.submitters }
+    requires control { driving.control.seat ≡ control_seat driving.pipeline.intake }
+{
+    match run(rt, alloc, driving, Course::ReadTwo, &Counted::new(u64::MAX)) {
+        Ok((report, saw)) => {
+            if report.ledger.places() == 0 {
+                check!(rt; saw == ALL_STOPPED && clock(&report) == 0);
+                let _ = println!(rt; "the first commit is refused");
+            }
+            drop(report);
+        }
+        Err(refusal) => check!(rt; refusal == Refusal::NoThread),
+    }
+}
+
+/// `tools/refuse-each-growth` counts the lines that this prints: some allocation is the first commit's.
+#[test]
+fn first_commit_refused_memory(rt: HostRuntime) -> Result<(), Refusal> {
+    let mut lone = open_again(&rt, rt.alloc(), &mut false)?;
+    let queued = queue_three(&rt, rt.alloc(), &mut lone.submitter, &mut lone.control);
+    match (queued, room_for_ends(rt.alloc())) {
+        (Ok(()), Ok(room)) => assert_first_commit(&rt, rt.alloc(), drive_lone(lone, room)),
+        _ => return Err(Refusal::NoMemory),
+    }
+    Ok(())
+}
+
+const ALL_STOPPED: Saw = Saw::Replies(
+    Some(Told::Stopped),
+    Some(Told::Stopped),
+    Some(Refusal::Stopped),
+);

@@ -1,0 +1,91 @@
+//! Openings and submissions that are refused, before anything is served.
+
+use super::{
+    Told, answer_to, assert_run, finish_lone, look_of, open_lone, packet_of, queue_pulse, submit,
+};
+use std::alloc::Global;
+use std::process::Abort;
+use std::sync::Wait;
+use tb_core::Ledger;
+use tb_layout::CREATE_ACCOUNTS;
+use tb_pipe::{Open, open};
+use tb_submit::Submitter;
+use tb_work::Refusal;
+
+/// Returns why an opening with a credit of 4 is refused.
+fn refusal_of(alloc: Global, limit: u32, capacity: u32, submitters: u32) -> Option<Refusal> {
+    open(alloc, 0, limit, capacity, 4, submitters).err()
+}
+
+#[test]
+fn bad_openings(rt: HostRuntime) {
+    for (limit, capacity, submitters, wanted) in [
+        (0, 0, 1, Some(Refusal::BadLimit)),
+        (8191, 4, 1, Some(Refusal::BadLimit)),
+        (4, 0, 1, Some(Refusal::BadCapacity)),
+        (4, 4, 0, Some(Refusal::BadSubmitters)),
+        (4, 4, 17, Some(Refusal::BadSubmitters)),
+        (4, 4, 3, None),
+    ] {
+        check!(&rt; refusal_of(rt.alloc(), limit, capacity, submitters) == wanted);
+    }
+}
+
+/// Asserts that a packet of accounts is refused, since there is no slot, and comes back.
+fn assert_full<R: Wait + Abort>(rt: &R, alloc: Global, submitter: &mut Submitter, id: u8) {
+    let packet = packet_of(alloc, CREATE_ACCOUNTS, id).expect(rt, "memory");
+    let (back, refusal) = submit(rt, alloc, submitter, packet).expect_err(rt, "the queue is full");
+    check!(rt; refusal == Refusal::Full);
+    check!(rt; look_of(&back) == (CREATE_ACCOUNTS, 128, u64::from(id)));
+    drop(back);
+}
+
+/// Of two packets the second is refused, since there is one place.
+#[test]
+fn full_queue_of_one(rt: HostRuntime) {
+    let mut lone = open_lone(&rt, rt.alloc(), 4, 1, 4);
+    let submitter = &mut lone.submitter;
+    check!(&rt; answer_to(&rt, rt.alloc(), submitter, CREATE_ACCOUNTS, 1) == Ok(0));
+    assert_full(&rt, rt.alloc(), submitter, 2);
+    drop(lone);
+}
+
+/// The queue has as many places as the capacity that was asked for.
+#[test]
+fn full_queues(rt: HostRuntime) {
+    for capacity in [1, 3, 100, 65_536] {
+        let mut lone = open_lone(&rt, rt.alloc(), 4, capacity, 4);
+        for moment in 0..capacity {
+            queue_pulse(&rt, &mut lone.control, u64::from(moment));
+        }
+        check!(&rt; lone.control.queued() < 1 << 56);
+        check!(&rt; lone.control.pulse(&rt, 0) == Err(Refusal::Full));
+        drop(lone);
+    }
+}
+
+/// The new ledger has reserved capacity and another clock.
+#[test]
+fn serves_over_a_new_ledger(rt: HostRuntime) {
+    let mut ledger = Ledger::new(rt.alloc(), 5);
+    check!(&rt; ledger.reserve(10, 10).is_ok());
+    let mut lone = open_lone(&rt, rt.alloc(), 4, 4, 4);
+    lone.pipeline = lone.pipeline.with_ledger(ledger);
+    let report = finish_lone(&rt, rt.alloc(), lone, false, &[1], &Open);
+    assert_run(&rt, report, 6, &[Told::Committed(0)]);
+}
+
+/// The credit is looked at after the packet's operation.
+#[test]
+fn credit_used_up(rt: HostRuntime) {
+    let mut lone = open_lone(&rt, rt.alloc(), 4, 4, 1);
+    for (operation, id, wanted) in [
+        (CREATE_ACCOUNTS, 1, Ok(0)),
+        (CREATE_ACCOUNTS, 2, Err(Refusal::InFlight)),
+        (200, 1, Err(Refusal::InvalidOperation)),
+    ] {
+        let answer = answer_to(&rt, rt.alloc(), &mut lone.submitter, operation, id);
+        check!(&rt; answer == wanted);
+    }
+    drop(lone);
+}

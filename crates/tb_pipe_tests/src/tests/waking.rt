@@ -1,0 +1,124 @@
+//! Threads that sleep are woken: a wake-up that is lost ends no test, since its thread sleeps for ever.
+
+use super::packet_of;
+use std::alloc::Global;
+use std::process::Abort;
+use std::sync::Wait;
+use std::thread;
+use std::thread::Threads;
+use tb_drive::{Action, ControlPlan, Driver};
+use tb_layout::CREATE_ACCOUNTS;
+use tb_pipe::{drive_all, open};
+use tb_work::{Refusal, Reply};
+
+/// Sends packets without events, at most `credit` ahead of the replies, and waits for all replies. Before each packet it
+/// yields a number of times below `longest`, given by a fixed sequence. So the pipeline is idle after some packets and
+/// busy after others.
+#[derive(Drop)]
+struct WakingSender {
+    packets: u32,
+    longest: u32,
+    credit: u32,
+    number: u32,
+    sent: u32,
+    replies: u32,
+}
+
+impl WakingSender {
+    fn new(packets: u32, longest: u32, credit: u32, seed: u32) -> WakingSender {
+        WakingSender {
+            packets,
+            longest,
+            credit,
+            number: seed,
+            sent: 0,
+            replies: 0,
+        }
+    }
+
+    /// Returns the next number of the sequence, below `longest`.
+    fn gap(&mut self) -> u32 {
+        self.number = self
+            .number
+            .wrapping_mul(1_664_525)
+            .wrapping_add(1_013_904_223);
+        (self.number >> 8) % self.longest.max(1)
+    }
+}
+
+impl Driver for WakingSender {
+    fn next<R: Wait>(&mut self, _rt: &R, alloc: Global) -> Action {
+        let unread = self.sent.saturating_sub(self.replies);
+        let is_last = self.sent == self.packets;
+        if unread >= self.credit || is_last && unread > 0 {
+            return Action::Receive;
+        }
+        if is_last {
+            return Action::End;
+        }
+        for _ in 0..self.gap() {
+            thread::yield_now();
+        }
+        self.sent = self.sent.saturating_add(1);
+        match packet_of(alloc, CREATE_ACCOUNTS, 0, 0) {
+            Ok(packet) => Action::Submit(packet),
+            Err(_) => Action::End,
+        }
+    }
+
+    /// Ends after a refused packet, so that a test fails and doesn't wait for a reply to it.
+    fn submitted(&mut self, told: Result<u64, Refusal>) {
+        if told.is_err() {
+            self.sent = self.sent.saturating_sub(1);
+            self.packets = self.sent;
+        }
+    }
+
+    fn receive(&mut self, _reply: Reply) {
+        self.replies = self.replies.saturating_add(1);
+    }
+}
+
+/// Runs a driver for each of the seeds, and asserts that each was given a reply to each packet.
+fn assert_replies<R: Threads + Wait + Sync + Abort>(
+    rt: &R,
+    alloc: Global,
+    packets: u32,
+    longest: u32,
+    credit: u32,
+    seeds: u32,
+) {
+    let mut drivers = Vec::new(alloc);
+    for seed in 1..=seeds {
+        let sender = WakingSender::new(packets, longest, credit, seed);
+        drivers.push(sender).expect(rt, "memory");
+    }
+    let submitters = u32::try_from(drivers.len()).expect(rt, "few drivers");
+    let opened = open(alloc, 0, 4, 8, credit, submitters).expect(rt, "it is opened");
+    let control = ControlPlan::none(alloc).driver();
+    let Ok(finished) = drive_all(rt, alloc, opened, drivers, control) else {
+        rt.panic("the run is given up")
+    };
+    check!(rt; finished.drivers.len() == seeds as usize);
+    for driver in &finished.drivers {
+        check!(rt; driver.replies == packets);
+    }
+    drop(finished);
+}
+
+/// All threads sleep before most of the packets.
+#[test]
+fn ten_thousand_packets_after_idling(rt: HostRuntime) {
+    assert_replies(&rt, rt.alloc(), 10_000, 100, 1, 1);
+}
+
+/// Some threads go to sleep while others wake them.
+#[test]
+fn sixteen_senders_at_random_gaps(rt: HostRuntime) {
+    assert_replies(&rt, rt.alloc(), 1000, 30, 1, 16);
+}
+
+#[test]
+fn thirty_thousand_packets_of_each_of_two(rt: HostRuntime) {
+    assert_replies(&rt, rt.alloc(), 30_000, 0, 4, 2);
+}
