@@ -4,12 +4,8 @@ ghost use Rattle.std.specs.Prelude.{◌≡◌};
 
 use crate::account::Account;
 use crate::failure::Failure;
-use smallvec::SmallVec;
+use crate::failure_room::FailureRoom;
 use std::marker::Model;
-
-/// Room for failures. Those of a small packet, of up to two events, are in the value itself and need no memory of their
-/// own.
-pub type FailureRoom = SmallVec<Failure, 2>;
 
 /// The failed events of a packet, seen as their list.
 pub struct Failures {
@@ -34,12 +30,12 @@ impl Model for Failures {
 }
 
 impl Failures {
-    /// Returns these failures. More than two are not copied.
+    /// Returns these failures, which are not copied.
     pub fn from_vec(failures: Vec<Failure>) -> Failures
         ensures { result ≡ failures.items }
     {
         Failures {
-            failures: SmallVec::from_vec(failures),
+            failures: FailureRoom::from_vec(failures),
         }
     }
 

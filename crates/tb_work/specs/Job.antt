@@ -1,9 +1,8 @@
 -- A packet that was admitted, with its number.
 use Rattle.std.specs.Prelude.{ℕ, ◌≡◌, ◌≤◌, ◌+◌, ◌==◌, Bool, false, List, [], ◌∷◌, if◌then◌else◌}
-use Rattle.smallvec.specs.SmallVec.{SmallVec}
+use Rattle.tb_layout.specs.inside.FailureRoom.{FailureRoomState}
 use Rattle.tb_layout.specs.Events.{create_accounts, create_transfers}
 use Rattle.tb_layout.specs.inside.Events.{is_open as is_open_events}
-use Rattle.tb_layout.specs.declared.failure.Failure.{Failure}
 use Rattle.tb_layout.specs.Account.{account_of, is_linked as is_linked_account}
 use Rattle.tb_layout.specs.Transfer.{transfer_of, is_linked as is_linked_transfer}
 use Rattle.tb_work.specs.declared.packet.Packet.{Packet}
@@ -36,6 +35,6 @@ is_chunk_linked operation chunk =
     else if operation == create_transfers then is_linked_transfer (transfer_of chunk) else false
 
 -- the failures of a packet, none so far, have room
-pub record HasRoomFor (packet : Packet) (room : SmallVec Failure) : Type 0 where
+pub record HasRoomFor (packet : Packet) (room : FailureRoomState) : Type 0 where
   pub empty : room.items ≡ []
   pub fits : is_lookup packet ≡ false → count_of packet ≤ room.capacity

@@ -65,7 +65,7 @@ fn room_for(alloc: Global, operation: u8, count: u32) -> Result<FailureRoom, All
     ensures few { count ≤ 2 → IsOk result }
 {
     if looks_up(operation) {
-        Ok(FailureRoom::new(alloc))
+        Ok(FailureRoom::new())
     } else {
         FailureRoom::with_capacity(alloc, count as usize)
     }

@@ -49,7 +49,7 @@ fn rebase_into(room: &mut FailureRoom, failures: &[Failure], offset: u32, count:
 {
     for failure in failures {
         let Failure { index, code } = *failure;
-        room.push_reserved(Failure {
+        room.push(Failure {
             index: index - offset,
             code,
         });

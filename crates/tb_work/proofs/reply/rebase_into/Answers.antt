@@ -8,8 +8,8 @@ overflow_sub-index c =
     (record { index = 0; code = 0 }) c.requires.rise c.loop-failure-test.true in
     omega (arith, at.0)
 
-pub push_reserved-requires : goal.push_reserved-requires
-push_reserved-requires c =
+pub push-requires : goal.push-requires
+push-requires c =
     let at = rise_at c.args.offset (c.args.offset + c.args.count) c.args.failures.now c.loop-failure.failure-index
     (record { index = 0; code = 0 }) c.requires.rise c.loop-failure-test.true in
     omega (arith, at.0, at.1, c.loop-failure.invariant.len, c.loop-failure.invariant.capacity, c.requires.fits)
