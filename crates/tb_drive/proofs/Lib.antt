@@ -1,5 +1,6 @@
 pub mod Ahead
 pub mod Opened
 mod Pulsed
+mod Refused
 mod Results
 mod Seen

@@ -1,16 +1,16 @@
 -- The pulses of a plan's driver, one after another.
-use Rattle.std.proofs.Common.{◌≡◌, ◌∙◌, ◌<◌, ◌≤◌, ◌+◌, ◌^◌, ℕ, true, false, List, [], ◌∷◌, ◌++◌, Some, slice_get, ap, sym, subst, arith, append_assoc, append-nil}
+use Rattle.std.proofs.Common.{◌≡◌, ◌∙◌, ◌<◌, ◌≤◌, ◌+◌, ◌^◌, ℕ, Bool, true, false, List, [], ◌∷◌, ◌++◌, Some, length, slice_get, ap, sym, subst, arith, append_assoc, append-nil}
 use Rattle.std.specs.Prelude.{if◌then◌else◌, min, take}
 use Rattle.std.proofs.Math.Numerals.{add-one}
 use Rattle.std.proofs.Math.Seq.{take-suc}
 use Rattle.std.proofs.lemmas.Grind.{flat_map-append}
-use Rattle.std.proofs.lemmas.List.{length-take}
+use Rattle.std.proofs.lemmas.List.{length-take, take_all}
 use Rattle.std.proofs.lemmas.List.Sums.{count_by-le-length, count_by_more_no, count_by_more_yes}
 use Rattle.std.proofs.lemmas.Option.{slice_get_within, get_or_from_slice_get}
 use Rattle.tb_submit.specs.Ends.{SenderState}
 use Rattle.tb_work.specs.declared.item.Item.{Item}
 use Rattle.tb_work.specs.declared.item.Item.TheVariants as item
-use Rattle.tb_drive.specs.Plan.{is_refused, pulse_of, pulses_of, refused_of, with_items}
+use Rattle.tb_drive.specs.Plan.{is_refused, last_item, planned_items, pulse_of, pulses_of, refused_of, with_items}
 use Rattle.tb_drive.specs.Threads.{HasQueued}
 
 one_more : (moments : List ℕ) (asked moment : ℕ) → slice_get moments asked ≡ Some moment
@@ -84,6 +84,16 @@ counted_yes moments next asked moment refused counted next_is small is out refus
     let exact : counted ≡ refused_of (take asked moments) + 1 =
     omega (arith, counted_is, refused_is, few_refused moments asked, small) in
     exact ∙ sym more ∙ ap (λ n. refused_of (take n moments)) (sym next_is)
+
+pub all_queued : (moments : List ℕ) (next refused : ℕ) (shuts : Bool) (items : List Item) (last : Item)
+    → length moments ≤ next → last ≡ last_item shuts → items ≡ pulses_of (take next moments)
+    → refused ≡ refused_of (take next moments)
+    → (items ++ last ∷ [] ≡ planned_items moments shuts) × (refused ≡ refused_of moments)
+all_queued moments next refused shuts items last past last_is are counted =
+    let all : take next moments ≡ moments = take_all next moments past in (
+      ap (λ before. before ++ last ∷ []) (are ∙ ap pulses_of all) ∙ ap (λ end. pulses_of moments ++ end ∷ []) last_is,
+      counted ∙ ap refused_of all,
+    )
 
 -- ---- what the control queues, one item after another
 

@@ -1,11 +1,13 @@
 -- What drivers have seen, list by list.
-use Rattle.std.proofs.Common.{◌≡◌, ◌∙◌, ◌<◌, ◌+◌, ℕ, refl, zero, suc, List, [], ◌∷◌, ◌++◌, length, slice_get, ap, subst, arith, ◌-◌}
-use Rattle.tb_submit.specs.Ends.{EndedState, SubmitterState}
+use Rattle.std.proofs.Common.{◌≡◌, ◌∙◌, ◌<◌, ◌+◌, ℕ, refl, zero, suc, List, [], ◌∷◌, ◌++◌, length, Option, Some, None, slice_get, ap, subst, sym, arith, append-nil, append_assoc, ◌-◌}
+use Rattle.std.proofs.lemmas.Grind.{flat_map-append}
+use Rattle.tb_submit.specs.Ends.{EndedState, SubmitterState, ended_with, origin_of}
 use Rattle.tb_work.specs.Packet.{Numbered, ReplyValue}
 use Rattle.tb_submit.specs.Lists.{ArePackets}
 use Rattle.tb_work.specs.declared.item.Item.{Item}
 use Rattle.tb_work.specs.declared.item.Item.TheVariants as item
-use Rattle.tb_drive.specs.Seen.{AreFronts, HaveSeen, HaveSeenEnds, HasSeen, HasSeenEnd, IsFront, jobs_in}
+use Rattle.tb_drive.specs.Tasks.{IsEnd}
+use Rattle.tb_drive.specs.Seen.{AreFronts, HaveSeen, HaveSeenEnds, HasSeen, HasSeenEnd, IsFront, job_in, jobs_in}
 
 module _ {D : Type 0} (has_seen : D → ℕ → List Numbered → List ReplyValue → Type 0) where
   pub one_more : (drivers : List D) (ends : List EndedState) (last : D) (ended : EndedState)
@@ -38,6 +40,13 @@ module _ {D : Type 0} (has_seen : D → ℕ → List Numbered → List ReplyValu
       have (suc k) driver submitter (ap (λ ds. slice_get ds (suc k)) drivers_are ∙ driver_is)
       (ap (λ ss. slice_get ss (suc k)) submitters_are ∙ submitter_is)
 
+  -- the end itself is no packet
+  pub seen_at_end : (driver : D) (submitter : SubmitterState) → HasSeen has_seen driver submitter
+      → HasSeenEnd has_seen driver (ended_with submitter item.End)
+  seen_at_end driver submitter seen =
+      subst (λ jobs. has_seen driver submitter.origin.seat.limit jobs submitter.read)
+      (sym (flat_map-append job_in submitter.queued (item.End ∷ []) ∙ append-nil (jobs_in submitter.queued))) seen
+
 -- ---- packets
 
 -- what a submitter queues before its end are packets, so none is lost among them
@@ -58,6 +67,19 @@ fewer_read limit sender flight items read are is some =
     omega (arith, all_jobs limit sender 0 items are, is, some)
 
 -- ---- front parts
+
+pub front_of_more : (first : List Item) {all more : List Item} → IsFront first all → IsFront all more
+    → IsFront first more
+front_of_more first front further = (
+  front.0 ++ further.0,
+  further.1 ∙ ap (λ (all : List Item). all ++ further.0) front.1 ∙ append_assoc first front.0 further.0,
+)
+
+-- an end is that of the submitter as it was before
+pub end_before : (before now : SubmitterState) (ended : Option EndedState) → origin_of now ≡ origin_of before
+    → IsFront before.queued now.queued → IsEnd now ended → IsEnd before ended
+end_before before now None own front is = tt
+end_before before now (Some end) own front is = (is.0 ∙ own, front_of_more before.queued front is.1)
 
 pub front_more : (submitters : List SubmitterState) (ends : List EndedState) (submitter : SubmitterState)
     (ended : EndedState) → length submitters ≡ length ends → AreFronts submitters ends

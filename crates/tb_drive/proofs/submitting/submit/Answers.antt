@@ -1,6 +1,41 @@
--- Found by the prover itself; on file since the check of an edit then costs less.
-use Rattle.std.proofs.Common.{rules}
+use Rattle.std.proofs.Common.{rules, ◌≡◌, ◌∙◌, ap, subst, sym}
+use Rattle.tb_submit.specs.Ends.{SubmitterState}
+use Rattle.tb_drive.specs.Seen.{HasAsked, IsFront}
 use Rattle.tb_drive.proofs.submitting.submit.Goals as goal
+
+pub loop-preserved : goal.loop-preserved
+loop-preserved g c =
+    let kept : (c.match-this.packet ≡ c.loop.packet) × (c.submit_once.new.submitter ≡ c.loop.submitter) = search rules in
+    record {
+      own = c.read.ensures.own ∙ c.submit_once.ensures.own ∙ c.loop.invariant.own;
+      front = c.read.ensures.front ∙ ap (λ (one : SubmitterState). one.queued) kept.1 ∙ c.loop.invariant.front;
+      same = kept.0 ∙ c.loop.invariant.same;
+      asked = λ had. c.read.ensures.asked c.args.packet
+          (subst (HasAsked g.D.Driver.has_asked c.loop.driver c.args.packet) (sym kept.1) (c.loop.invariant.asked had));
+      share = c.read.ensures.share ∙ c.loop.invariant.share;
+    }
 
 pub returns-in-Ok-clause-seen : goal.returns-in-Ok-clause-seen
 returns-in-Ok-clause-seen g c = search rules
+
+pub returns-in-Ok-clause-front : goal.returns-in-Ok-clause-front
+returns-in-Ok-clause-front g c =
+    subst (λ first. IsFront first c.submit_once.new.submitter.queued) c.loop.invariant.front c.submit_once.ensures.front
+
+pub returns-in-Err : goal.returns-in-Err
+returns-in-Err g c = record {
+  own = c.submit_once.ensures.own ∙ c.loop.invariant.own;
+  front = subst (λ first. IsFront first c.submit_once.new.submitter.queued) c.loop.invariant.front
+      c.submit_once.ensures.front;
+  seen = search rules;
+  share = c.submitted-in-Err.ensures.share ∙ c.loop.invariant.share;
+}
+
+pub returns-then-is_asked : goal.returns-then-is_asked
+returns-then-is_asked g c = record {
+  own = c.submit_once.ensures.own ∙ c.loop.invariant.own;
+  front = subst (λ first. IsFront first c.submit_once.new.submitter.queued) c.loop.invariant.front
+      c.submit_once.ensures.front;
+  seen = λ had. tt;
+  share = c.loop.invariant.share;
+}

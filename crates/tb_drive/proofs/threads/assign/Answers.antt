@@ -1,5 +1,7 @@
-use Rattle.std.proofs.Common.{rules, ◌≡◌, ◌∙◌, ◌∷◌, ◌++◌, [], append_assoc, append-nil, length, map, refl, ap, sym, arith}
+use Rattle.std.proofs.Common.{rules, ◌≡◌, ◌∙◌, ◌∷◌, ◌++◌, [], append_assoc, append-nil, length, map, map-id, refl, ap, sym, arith}
 use Rattle.std.proofs.lemmas.List.{map-append, nil_from_length}
+use Rattle.std.proofs.lemmas.Iterator.Adapters.{YieldsList-from_vec}
+use Rattle.std.proofs.lemmas.Iterator.Consumers.{YieldsList-end}
 use Rattle.std.specs.Vec.Iter.{into_iter_items}
 use Rattle.tb_submit.specs.Ends.{origin_of}
 use Rattle.tb_drive.specs.Tasks.{SubmitterTaskState, task_origin, task_share, task_submitter}
@@ -43,9 +45,20 @@ loop-submitter-preserved g c =
       seen = others_have g.D.Driver.has_seen drivers submitters c.loop-submitter.invariant.seen;
     }
 
-pub returns-clause-shares : goal.returns-clause-shares
-returns-clause-shares g c =
+pub returns : goal.returns
+returns g c =
+    let given = c.into_iter-submitter-iterator.ensures.into_iter_gives in
+    let yielded : c.loop-submitter.yielded ≡ c.args.submitters.items =
+    sym (map-id c.loop-submitter.yielded)
+    ∙ (YieldsList-end (YieldsList-from_vec {s = c.into_iter-submitter-iterator.result} _ given.0 (search rules)) _ _
+    c.loop-submitter.yielded_by _ c.next.new.self c.in-None.is c.next.ensures.steps).0 in
     let all = map task_share c.loop-submitter.all.items in
     let none : into_iter_items c.loop-submitter.drivers ≡ [] =
     nil_from_length _ (c.loop-submitter.invariant.long ∙ search rules) in
-    sym (append-nil all) ∙ ap (λ ds. all ++ map g.D.Driver.share ds) (sym none) ∙ c.loop-submitter.invariant.shares
+    record {
+      own = c.loop-submitter.invariant.own ∙ ap (map origin_of) yielded;
+      submitters = c.loop-submitter.invariant.submitters ∙ yielded;
+      shares = sym (append-nil all) ∙ ap (λ ds. all ++ map g.D.Driver.share ds) (sym none)
+          ∙ c.loop-submitter.invariant.shares;
+      memory = tt;
+    }

@@ -1,4 +1,4 @@
-use Rattle.std.proofs.Common.{◌∙◌, sym, subst, inl, inr, length}
+use Rattle.std.proofs.Common.{◌∙◌, ◌≤◌, refl, sym, subst, inl, inr, length}
 use Rattle.std.proofs.lemmas.List.Elements.{Contains-push}
 use Rattle.tb_core.specs.Front.{HaveAllEnded}
 use Rattle.tb_rings.specs.Ends.{given}
@@ -41,3 +41,20 @@ loop-preserved g c =
           (inl (Contains-push intake.seen_empty (length intake.taken)))
           (empty_more intake c.loop.front (given c.loop.ring.outlet) c.loop.invariant.batched));
     }
+
+pub pass_ticket-requires-clause-empty : goal.pass_ticket-requires-clause-empty
+pass_ticket-requires-clause-empty g c = λ _ _. c.loop.invariant.none
+
+pub pass_ticket-requires-clause-sender : goal.pass_ticket-requires-clause-sender
+pass_ticket-requires-clause-sender g c = λ _ _.
+    subst (λ n. c.in-Some-take.ticket.sender ≤ n) (sym c.loop.invariant.batched.among) c.in-Some-take.ensures.sender
+
+pub loop-init : goal.loop-init
+loop-init g c = record { ring = refl; intake = refl; none = c.new-parcels.ensures; batched = c.requires }
+
+pub returns-then-finished-clause-ring : goal.returns-then-finished-clause-ring
+returns-then-finished-clause-ring g c =
+    c.give.ensures.ring ∙ c.pass_group.ensures.ring ∙ c.loop.invariant.ring
+
+pub returns-then-finished-clause-intake : goal.returns-then-finished-clause-intake
+returns-then-finished-clause-intake g c = c.loop.invariant.intake

@@ -31,7 +31,9 @@ returns g c =
     let own : map end_origin ends ≡ served.submitters =
     results.own ∙ c.requires.0 ∙ sym c.in-Ok.ensures.submitters in
     let number : length served.submitters ≡ served.intake.submitters = ap length c.in-Ok.ensures.submitters
-    ∙ c.requires.2 ∙ sym (ap (λ (intake : IntakeState). intake.submitters) c.in-Ok.ensures.intake) in
+    ∙ c.requires.2 ∙ sym (ap (λ (intake : IntakeState). intake.submitters)
+    {y = record c.args.pipeline.intake { taken = served.intake.taken; seen_empty = served.intake.seen_empty }}
+    c.in-Ok.ensures.intake) in
     let long : length ends ≡ served.intake.submitters =
     sym (length-map ends end_origin) ∙ ap length own ∙ number in
     let limits : (k : ℕ) (d : EndedState) → k < length ends

@@ -1,10 +1,12 @@
-use Rattle.std.proofs.Common.{rules, ◌≡◌, ◌∙◌, ◌∷◌, ◌++◌, [], Option, map, ap, sym, subst, arith}
+use Rattle.std.proofs.Common.{rules, ◌≡◌, ◌∙◌, ◌∷◌, ◌++◌, [], Option, map, map-id, ap, sym, subst, arith}
 use Rattle.std.specs.Prelude.{IfSome}
 use Rattle.std.proofs.lemmas.List.{length-append, map-append}
+use Rattle.std.proofs.lemmas.Iterator.Adapters.{YieldsList-from_vec}
+use Rattle.std.proofs.lemmas.Iterator.Consumers.{YieldsList-end}
 use Rattle.tb_submit.specs.Ends.{EndedState, end_origin, origin_of}
 use Rattle.tb_drive.specs.Seen.{HasSeenEnd, IsFront}
-use Rattle.tb_drive.specs.Tasks.{SubmitterResultState, SubmitterTaskState}
-use Rattle.tb_drive.specs.Threads.{started_from}
+use Rattle.tb_drive.specs.Tasks.{AreResultsOf, SubmitterResultState, SubmitterTaskState, TasksState}
+use Rattle.tb_drive.specs.Threads.{IsControlResultOf, started_from}
 use Rattle.tb_drive.proofs.Results.{one_more_result}
 use Rattle.tb_drive.proofs.Seen.{one_more}
 use Rattle.tb_drive.proofs.threads.Running.join.Goals as goal
@@ -42,4 +44,23 @@ loop-handle-preserved g c =
       ));
       seen = rw (drivers, ends) (one_more g.D.Driver.has_seen _ _ _ _ had.long had.seen both.0);
       ended = rw (drivers, ends) (one_more g.D.Driver.has_ended _ _ _ _ had.long had.ended both.1);
+    }
+
+pub returns : goal.returns
+returns g c =
+    let given = c.into_iter-handle-iterator.ensures.into_iter_gives in
+    let had = c.loop-handle.invariant in
+    let all : c.loop-handle.yielded ≡ c.self.inside.submitters.items =
+    sym (map-id c.loop-handle.yielded)
+    ∙ (YieldsList-end (YieldsList-from_vec {s = c.into_iter-handle-iterator.result} _ given.0 (search rules)) _ _
+    c.loop-handle.yielded_by _ c.next.new.self c.in-None.is c.next.ensures.steps).0 in
+    record {
+      submitters = subst (λ tasks. AreResultsOf tasks c.loop-handle.ends.items
+          (map g.D.Driver.share c.loop-handle.drivers.items))
+          (ap (map started_from) all ∙ ap (λ (all : TasksState _). all.submitters) c.self.view_is) had.results;
+      number = had.long;
+      seen = had.seen;
+      ended = had.ended;
+      control = subst (λ (all : TasksState _). IsControlResultOf g.C.ControlDriver.has_ended all.control
+          c.in-Some-join.control) c.self.view_is c.in-Some-join.ensures;
     }

@@ -1,0 +1,34 @@
+use Rattle.std.proofs.Common.{rules, ◌≡◌, ◌∙◌, [], ◌∷◌, ◌++◌, ap, subst, sym}
+use Rattle.tb_submit.specs.Ends.{EndedState, SubmitterState, end_origin, origin_of}
+use Rattle.tb_work.specs.declared.item.Item.TheVariants.{End}
+use Rattle.tb_drive.specs.Seen.{HasSeen, HasSeenEnd}
+use Rattle.tb_drive.proofs.Seen.{seen_at_end}
+use Rattle.tb_drive.proofs.submitting.end.Goals as goal
+
+pub loop-preserved : goal.loop-preserved
+loop-preserved g c =
+    let same : c.in-Err.back ≡ c.loop.submitter = search rules in
+    record {
+      own = c.read.ensures.own ∙ ap origin_of same ∙ c.loop.invariant.own;
+      front = c.read.ensures.front ∙ ap (λ (one : SubmitterState). one.queued) same ∙ c.loop.invariant.front;
+      ended = λ had. c.read.ensures.ended
+          (subst (HasSeen g.D.Driver.has_ended c.loop.driver) (sym same) (c.loop.invariant.ended had));
+      seen = λ had. c.read.ensures.seen
+          (subst (HasSeen g.D.Driver.has_seen c.loop.driver) (sym same) (c.loop.invariant.seen had));
+      share = c.read.ensures.share ∙ c.loop.invariant.share;
+    }
+
+pub returns-in-Ok : goal.returns-in-Ok
+returns-in-Ok g c =
+    let is = c.in-Ok.ensures.ok in
+    record {
+      own = (
+        ap end_origin is ∙ c.loop.invariant.own,
+        (End ∷ [], ap (λ (one : EndedState). one.queued) is ∙ ap (λ items. items ++ End ∷ []) c.loop.invariant.front),
+      );
+      seen = λ had. subst (HasSeenEnd g.D.Driver.has_seen c.loop.driver) (sym is)
+          (seen_at_end g.D.Driver.has_seen c.loop.driver c.loop.submitter (c.loop.invariant.seen had));
+      ended = λ had. subst (HasSeenEnd g.D.Driver.has_ended c.loop.driver) (sym is)
+          (seen_at_end g.D.Driver.has_ended c.loop.driver c.loop.submitter (c.loop.invariant.ended had));
+      share = c.loop.invariant.share;
+    }

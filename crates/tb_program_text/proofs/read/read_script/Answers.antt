@@ -1,0 +1,12 @@
+use Rattle.std.proofs.Common.{arith, subst, sym}
+use Rattle.std.proofs.KnownBytes.{Consumes-trans}
+use Rattle.std.specs.Io.KnownBytes.{Consumes}
+use Rattle.tb_program_text.proofs.read.read_script.Goals as goal
+
+pub loop-preserved : goal.loop-preserved
+loop-preserved g c = record {
+  taken = subst (Consumes (g.R.Read.remaining c.args.reader.now) (g.R.Read.remaining c.read.new.self))
+      (sym c.in_ok-extend_from_slice.ensures.items)
+      (Consumes-trans _ (g.R.Read.remaining c.loop.reader) _ _ _ c.loop.invariant.taken c.in-Ok.ensures.bytes.0);
+  short = omega arith;
+}
