@@ -16,7 +16,7 @@ pub returns-clause-stored : goal.returns-clause-stored
 returns-clause-stored g c = grind (arith, common_steps)
 
 pub loop-index-init : goal.loop-index-init
-loop-index-init g c = record { clock = c.requires; extends = search rules; fault = refl; stored = refl; }
+loop-index-init g c = record { clock = c.requires; extends = search rules; fault = refl; stored = refl }
 
 pub returns-then-code-ne0-clause-stored : goal.returns-then-code-ne0-clause-stored
 returns-then-code-ne0-clause-stored g c = λ is. cc
