@@ -88,7 +88,8 @@ def rattle(verb, crate, *words):
     externs.update((it, built(it)) for it in dependencies()[crate])
     below = [kit() / "rlibs", *(built(it).parent for it in closure(crate)[:-1])]
     return [
-        *(kit() / "bin/rattle", verb, "--crate-name", crate, "src/main.rt" if is_program(crate) else "src/lib.rt"),
+        *(TOP / "tools/in-memory", kit() / "bin/rattle", verb),
+        *("--crate-name", crate, "src/main.rt" if is_program(crate) else "src/lib.rt"),
         *(word for it, path in externs.items() for word in ("--extern", f"{it}={path}")),
         *(word for it in below for word in ("-L", f"dependency={it}")),
         *("--antt-project", kit() / "rattle/logic/antt-project.json", "--logic-built", kit() / "logic_built"),
