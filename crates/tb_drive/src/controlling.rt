@@ -8,7 +8,6 @@ ghost use Rattle.tb_work.specs.declared.refusal.Refusal.TheVariants as refusal;
 ghost use Rattle.tb_drive.specs.Plan.{is_refused, last_item, pulse_of, with_items};
 ghost use Rattle.tb_drive.specs.Threads.{HasQueued, IsControlResultOf};
 
-use crate::client::ControlClient;
 use crate::control_driver::{ControlAction, ControlDriver};
 use crate::stop::Stop;
 use crossbeam_utils::Backoff;
@@ -128,16 +127,34 @@ fn follow<C: ControlDriver, R: Wait>(
     unreachable!()
 }
 
-/// Queues the Close or the control's end, and while the queue is full tries again. None if the run is given up.
-fn end<R: Wait>(rt: &R, control: Control, shuts: bool, stop: &Stop) -> Option<ControlEnd>
+/// Queues the Close if `shuts`, else the control's end. While the queue is full it yields and tries again. Returns `None`
+/// if the run is given up. Takes no memory.
+pub fn end_control<R: Wait>(
+    rt: &R,
+    control: Control,
+    shuts: bool,
+    stop: &Stop,
+) -> Option<ControlEnd>
     ensures { IfSome result (λ end. end ≡ sender_with control (last_item shuts)) }
 {
-    let control = ControlClient::new(control, stop);
-    if shuts {
-        control.shut(rt)
-    } else {
-        control.end(rt)
+    let mut control = control;
+    let backoff = Backoff::new();
+    for _ in rt.forever() {
+        let ended = if shuts {
+            control.shut(rt)
+        } else {
+            control.end(rt)
+        };
+        match ended {
+            Ok(end) => return Some(end),
+            Err((back, _)) => control = back,
+        }
+        if stop.is_asked() {
+            return None;
+        }
+        backoff.snooze();
     }
+    unreachable!()
 }
 
 impl<C: ControlDriver> ControlTask<C> {
@@ -150,7 +167,7 @@ impl<C: ControlDriver> ControlTask<C> {
             mut driver,
         } = self;
         let shuts = follow(rt, &mut control, &mut driver, stop)?;
-        let end = end(rt, control, shuts, stop)?;
+        let end = end_control(rt, control, shuts, stop)?;
         Some(ControlResult { end, driver })
     }
 }

@@ -1,5 +1,5 @@
 use Rattle.std.proofs.Common.{rules, ◌≡◌, refl}
-use Rattle.tb_drive.proofs.client.fn.ControlClient.start.spawn_with.Goals as goal
+use Rattle.tb_blocking.proofs.client.fn.ControlClient.start.spawn_with.Goals as goal
 
 pub returns : goal.returns
 returns g c =

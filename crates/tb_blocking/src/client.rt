@@ -1,7 +1,7 @@
 //! A submitter, or the control, in a thread of the application's own.
 
 ghost use Rattle.std.specs.Fn.{FnOnceReturnsAtMut};
-ghost use Rattle.std.specs.Prelude.{◌≡◌, ◌<◌, ◌≤◌, [], ◌∷◌, ◌++◌, length, true, false, None, Err, OnOk, IfOk, IfErr, IfSome, IfNone, IsSomeAnd};
+ghost use Rattle.std.specs.Prelude.{◌≡◌, ◌<◌, ◌≤◌, [], ◌∷◌, ◌++◌, length, None, Err, OnOk, IfOk, IfErr, IfSome, IfNone, IsSomeAnd};
 ghost use Rattle.tb_layout.specs.inside.Limits.{moment_max, queued_max};
 ghost use Rattle.tb_submit.specs.Ends.{SenderState, SubmitterState, end_origin, ended_with, origin_of, sender_with, with_item};
 ghost use Rattle.tb_submit.specs.Refusals.{IsSubmitRefusal, in_flight, submit_refusal};
@@ -10,12 +10,12 @@ ghost use Rattle.tb_work.specs.declared.item.Item.TheVariants as item;
 ghost use Rattle.tb_work.specs.declared.refusal.Refusal.TheVariants as refusal;
 
 use crate::own_end::{OwnControlEnd, OwnEnd};
-use crate::stop::Stop;
 use crossbeam_utils::Backoff;
 use std::alloc::Global;
 use std::marker::Model;
 use std::sync::Wait;
 use std::thread::{PromisedHandle, Scope};
+use tb_drive::{Stop, end_control};
 use tb_layout::QUEUED_MAX;
 use tb_rings::SpinWait;
 use tb_submit::{Control, ControlEnd, Ended, Submitter};
@@ -251,7 +251,7 @@ impl<'s> ControlClient<'s> {
     pub fn end<R: Wait>(self, rt: &R) -> Option<ControlEnd>
         ensures { IfSome result (λ end. end ≡ sender_with self.entry item.End) }
     {
-        self.finish(rt, false)
+        end_control(rt, self.control, false, self.stop)
     }
 
     /// Queues the Close, so that packets behind it get `Shutdown`. While the queue is full it yields and tries again.
@@ -259,32 +259,7 @@ impl<'s> ControlClient<'s> {
     pub fn shut<R: Wait>(self, rt: &R) -> Option<ControlEnd>
         ensures { IfSome result (λ end. end ≡ sender_with self.entry item.Close) }
     {
-        self.finish(rt, true)
-    }
-
-    /// Queues the Close or the control's end, as `shut` and `end` do.
-    fn finish<R: Wait>(self, rt: &R, shuts: bool) -> Option<ControlEnd>
-        ensures open { shuts ≡ false → IfSome result (λ end. end ≡ sender_with self.entry item.End) }
-        ensures shut { shuts ≡ true → IfSome result (λ end. end ≡ sender_with self.entry item.Close) }
-    {
-        let ControlClient { mut control, stop } = self;
-        let backoff = Backoff::new();
-        for _ in rt.forever() {
-            let ended = if shuts {
-                control.shut(rt)
-            } else {
-                control.end(rt)
-            };
-            match ended {
-                Ok(end) => return Some(end),
-                Err((back, _)) => control = back,
-            }
-            if stop.is_asked() {
-                return None;
-            }
-            backoff.snooze();
-        }
-        unreachable!()
+        end_control(rt, self.control, true, self.stop)
     }
 
     /// Starts a thread that does `work` with the control and then ends it. If the thread can't be started, gives the
