@@ -2,6 +2,7 @@ mod Answered
 mod HandedPackets
 mod Noting
 mod Packets
+mod Printing
 mod Pulses
 mod RefusalReasons
 mod Sharing

@@ -5,8 +5,8 @@ use Rattle.std.proofs.lemmas.Bool.{eq-eqb, ne_eqb}
 use Rattle.std.proofs.lemmas.Grind.{flat_map-append}
 use Rattle.std.proofs.lemmas.List.{append-nil}
 use Rattle.tb_work.specs.declared.packet.Packet as packets
-use Rattle.tb_program_script.specs.declared.item.ScriptItem.{ScriptItem}
-use Rattle.tb_program_script.specs.declared.item.ScriptItem.TheVariants.{Packet}
+use Rattle.tb_program_text.specs.declared.item.ScriptItem.{ScriptItem}
+use Rattle.tb_program_text.specs.declared.item.ScriptItem.TheVariants.{Packet}
 use Rattle.tb_program.specs.Drivers.{lists_of}
 use Rattle.tb_program.specs.Sharing.{AreDealt, packet_by, packets_by, shares_of}
 

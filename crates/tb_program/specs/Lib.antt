@@ -1,3 +1,7 @@
+pub mod Plan
+pub mod SplitPlan
+pub mod Listing
+pub mod Printing
 pub mod Faults
 pub mod Sharing
 pub mod Noting

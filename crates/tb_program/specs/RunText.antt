@@ -11,9 +11,11 @@ use Rattle.tb_work.specs.declared.item.Item.{Item}
 use Rattle.tb_work.specs.declared.packet.Packet as packets
 use Rattle.tb_drive.specs.Plan.{planned_items, refused_of}
 use Rattle.tb_drive.specs.Seen.{jobs_in}
-use Rattle.tb_program_script.specs.Script.{ParsedScript, clock_of, limit_of, submitters_of, items_of, script_of}
+use Rattle.tb_program_text.specs.Script.{ParsedScript, clock_of, limit_of, submitters_of, items_of}
+use Rattle.tb_program_text.specs.Source.{source_in}
 use Rattle.tb_program.specs.Noting.{IsHandedIn}
-use Rattle.tb_program_text.specs.Output.{reply_line, refused_line, pulse_line, refused_pulse_line, state_text}
+use Rattle.tb_program_text.specs.Output.{reply_line, refused_line, pulse_line, refused_pulse_line}
+use Rattle.tb_program.specs.Listing.{state_text}
 use Rattle.tb_program.specs.Sharing.{moments_asked, shares_of, shuts_in}
 use Rattle.tb_program.specs.declared.run.notes.Told.{Told}
 use Rattle.tb_program.specs.declared.run.notes.Told.TheVariants.{Queued, Refused}
@@ -102,4 +104,4 @@ IsTextOf parsed text =
 
 -- the same of the bytes of a script without a fault
 abbrev pub IsRunOf : List ℕ → List ℕ → Type 0
-IsRunOf bytes text = (parsed : ParsedScript) → script_of bytes ≡ Ok parsed → IsTextOf parsed text
+IsRunOf bytes text = (parsed : ParsedScript) → source_in bytes ≡ Ok parsed → IsTextOf parsed text

@@ -3,8 +3,8 @@ use Rattle.std.specs.Prelude.{◌≡◌, ℕ, zero, suc, ◌==◌, Bool, true, f
 use Rattle.std.specs.List.{flat_map, list_any}
 use Rattle.std.specs.declared.alloc.Global.{Global}
 use Rattle.tb_work.specs.declared.packet.Packet as packets
-use Rattle.tb_program_script.specs.declared.item.ScriptItem.{ScriptItem}
-use Rattle.tb_program_script.specs.declared.item.ScriptItem.TheVariants.{Packet, Pulse, Shut}
+use Rattle.tb_program_text.specs.declared.item.ScriptItem.{ScriptItem}
+use Rattle.tb_program_text.specs.declared.item.ScriptItem.TheVariants.{Packet, Pulse, Shut}
 
 abbrev pub packet_by : ℕ → ScriptItem → List packets.Packet
 packet_by submitter (Packet owner packet) = if owner == submitter then packet ∷ [] else []

@@ -1,10 +1,15 @@
-//! Scripts through the pipeline, with a thread for each sender.
+//! Scripts to the end: in one thread, and through the pipeline with a thread for each sender.
 //!
-//! `run_threads` writes of a script with a fault what `run_script` writes (`faulty`), and of any other the text of a lawful run of what
-//! the script says (`ran`, `specs/RunText.antt`). If reading fails, or memory or a thread is unavailable, it writes nothing.
+//! `run_script` takes a script through front and ledger, and writes the output that is defined for the bytes read, whatever
+//! these are (`written`, `specs/Listing.antt`). `run_threads` writes of a script with a fault what `run_script` writes (`faulty`), and of
+//! any other the text of a lawful run of what the script says (`ran`, `specs/RunText.antt`). If reading fails, or memory or a thread is
+//! unavailable, nothing is written.
 #![tactic(auto)]
 
+mod list;
 mod run;
+mod state;
 
+pub use list::run_script;
 pub use run::run_threads;
-pub use tb_program_text::{ProgramFault, run_script};
+pub use tb_program_text::ProgramFault;

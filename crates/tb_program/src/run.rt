@@ -7,9 +7,9 @@ ghost use Rattle.tb_pipe.specs.Reported.{AreTogether};
 ghost use Rattle.tb_layout.specs.inside.Limits.{submitters_max};
 ghost use Rattle.tb_program.specs.Drivers.{AreNew, lists_of, share_of};
 ghost use Rattle.tb_program.specs.Noting.{AreFresh, HaveCredit};
-ghost use Rattle.tb_program_text.specs.Output.{out, is_faultless};
+ghost use Rattle.tb_program.specs.Listing.{out, is_faultless};
 ghost use Rattle.tb_program.specs.RunText.{IsRunOf, IsRunText, IsTextOf};
-ghost use Rattle.tb_program_script.specs.Script.{InBounds, capacity_of, clock_of, credit_of, limit_of, submitters_of};
+ghost use Rattle.tb_program_text.specs.Script.{InBounds, capacity_of, clock_of, credit_of, limit_of, submitters_of};
 
 mod driver;
 mod fault;
@@ -28,8 +28,9 @@ use std::thread::Threads;
 use tb_drive::ControlPlan;
 use tb_layout::NoMemory;
 use tb_pipe::{Opened, drive_all, open};
-use tb_program_script::{Script, ScriptParts, Settings};
-use tb_program_text::{Output, ProgramFault, Source, read_source, write_out};
+use tb_program_text::{
+    Output, ProgramFault, Script, ScriptParts, Settings, Source, read_source, write_out,
+};
 use tb_work::{Packet, Refusal};
 
 /// Returns the pipeline that a script's settings open. They are all in range, so only NoMemory refuses it.

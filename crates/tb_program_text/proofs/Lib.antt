@@ -1,1 +1,9 @@
-pub mod Printing
+pub mod Tables
+pub mod Texts
+pub mod FirstLines
+pub mod Numbers
+pub mod Lines
+pub mod Named
+pub mod UsualLines
+pub mod Spelling
+pub mod Fields

@@ -1,22 +1,34 @@
--- What a reader's bytes are: a script, or the fault that is printed of them.
-use Rattle.std.specs.Prelude.{◌≡◌, ℕ, true, false, List, Result, Ok, string_bytes}
-use Rattle.tb_program_script.specs.declared.fault.Fault.{Fault}
+-- What a reader's bytes are: a script, or a fault.
+use Rattle.std.specs.Prelude.{◌≡◌, ◌<◌, ◌≤◌, ℕ, nat_lt, if◌then◌else◌, Result, Ok, Err, List, length, codes, Option, Some, None, Vec, string_bytes}
+use Rattle.std.specs.declared.alloc.Global.{Global}
+use Rattle.tb_program_text.specs.declared.fault.Fault.{Fault}
 use Rattle.tb_program_text.specs.declared.source.Source.{Source}
 use Rattle.tb_program_text.specs.declared.source.Source.TheVariants.{Script, Faulty}
-use Rattle.tb_program_script.specs.Script.{ParsedScript, script_of}
-use Rattle.tb_program_text.specs.Output.{listing, script_text, out, fault_line, is_ok_script, is_faultless}
+use Rattle.tb_program_text.specs.Fault.{fault_text}
+use Rattle.tb_program_text.specs.Output.{fault_line}
+use Rattle.tb_program_text.specs.Script.{ParsedScript, script_of}
 
--- the line of a fault
-abbrev pub IsFaultAt : ℕ → List ℕ → Source → Type 0
-IsFaultAt line text (Script parsed) = ⊥
-IsFaultAt line text (Faulty told) = string_bytes told ≡ fault_line line text
+-- the most bytes of a script
+abbrev pub script_max : ℕ
+script_max = 16777216
 
--- what a text's lines say
-abbrev pub IsTold : Source → Result ParsedScript (ℕ × Fault) → Type 0
-IsTold (Script parsed) told = (script_text told ≡ listing parsed) × (is_ok_script told ≡ true) × (told ≡ Ok parsed)
-IsTold (Faulty line) told = (string_bytes line ≡ script_text told) × (is_ok_script told ≡ false)
+-- a script, or the line that is printed of its first fault
+abbrev pub source_told : Result ParsedScript (ℕ × Fault) → Result ParsedScript (List ℕ)
+source_told (Ok parsed) = Ok parsed
+source_told (Err (number, fault)) = Err (fault_line number (fault_text fault))
 
--- what bytes say, however many they are
-abbrev pub IsSource : Source → List ℕ → Type 0
-IsSource (Script parsed) bytes = (out bytes ≡ listing parsed) × (is_faultless bytes ≡ true) × (script_of bytes ≡ Ok parsed)
-IsSource (Faulty line) bytes = (string_bytes line ≡ out bytes) × (is_faultless bytes ≡ false)
+-- what bytes are, however many
+abbrev pub source_in : List ℕ → Result ParsedScript (List ℕ)
+source_in bytes =
+    if nat_lt script_max (length bytes) then Err (fault_line 0 (codes "script too long"))
+    else source_told (script_of bytes)
+
+-- a source is what was found
+abbrev pub IsFound : Source → Result ParsedScript (List ℕ) → Type 0
+IsFound (Script parsed) found = found ≡ Ok parsed
+IsFound (Faulty line) found = found ≡ Err (string_bytes line)
+
+-- the text that was read is all of the bytes, or there are too many
+abbrev pub IsWhole : Option (Vec ℕ Global) → List ℕ → Type 0
+IsWhole None bytes = script_max < length bytes
+IsWhole (Some text) bytes = (text.items ≡ bytes) × (length bytes ≤ script_max)

@@ -4,15 +4,13 @@ ghost use Rattle.std.specs.Io.KnownBytes.{Appends};
 ghost use Rattle.std.specs.Prelude.{◌≡◌, ◌++◌, OnOk, IfErr, codes, string_bytes};
 ghost use Rattle.tb_program_text.specs.declared.program_fault.ProgramFault.TheVariants.{Write as WriteFault};
 ghost use Rattle.std.specs.List.{flat_map};
-ghost use Rattle.tb_program_text.specs.Output.{fault_line, refused_line, failure_text, found_debits, found_credits, found_text, answer_text, outcome_text, packet_front, reply_line, pulse_line, refused_pulse_line, clock_line, account_front, balances_text, account_line, state_text};
-ghost use Rattle.tb_machine.specs.inside.Accounts.{balanced_accounts};
+ghost use Rattle.tb_program_text.specs.Output.{fault_line, refused_line, failure_text, found_debits, found_credits, found_text, answer_text, outcome_text, packet_front, reply_line, pulse_line, refused_pulse_line, clock_line, account_front, balances_text, account_line};
 
 use crate::program_fault::ProgramFault;
 use itoa::{Buffer, Integer};
 use std::alloc::AllocError;
 use std::io::Write;
 use tb_layout::{Account, Failure};
-use tb_machine::Machine;
 use tb_work::{Answer, Outcome, Refusal, Reply};
 
 /// All that is written of a script.
@@ -157,7 +155,7 @@ pub fn put_close(out: &mut String) -> Result<(), AllocError>
 }
 
 /// Adds the line of the clock.
-fn put_clock(out: &mut String, clock: u64) -> Result<(), AllocError>
+pub fn put_clock(out: &mut String, clock: u64) -> Result<(), AllocError>
     ensures { OnOk result (string_bytes out.new ≡ string_bytes out.old ++ clock_line clock) }
 {
     put_field(out, "clock ", clock)?;
@@ -184,30 +182,11 @@ fn put_balances(out: &mut String, account: &Account) -> Result<(), AllocError>
 }
 
 /// Adds the line of an account, with its balances.
-fn put_account(out: &mut String, account: &Account) -> Result<(), AllocError>
+pub fn put_account(out: &mut String, account: &Account) -> Result<(), AllocError>
     ensures { OnOk result (string_bytes out.new ≡ string_bytes out.old ++ account_line account.now) }
 {
     put_account_front(out, account.id, account.timestamp)?;
     put_balances(out, account)
-}
-
-fn put_accounts(out: &mut String, machine: &Machine) -> Result<(), AllocError>
-    ensures { OnOk result (string_bytes out.new ≡ string_bytes out.old
-        ++ flat_map account_line (balanced_accounts machine.now.facts)) }
-{
-    for place in 0..machine.accounts() {
-        let account = machine.account_at(place).unwrap();
-        put_account(out, &account)?;
-    }
-    Ok(())
-}
-
-/// Adds the line of the clock, and those of the accounts in the order of their making.
-pub fn put_state(out: &mut String, machine: &Machine) -> Result<(), AllocError>
-    ensures { OnOk result (string_bytes out.new ≡ string_bytes out.old ++ state_text machine.now) }
-{
-    put_clock(out, machine.clock())?;
-    put_accounts(out, machine)
 }
 
 /// Writes all of a text, once it is made.

@@ -1,17 +1,18 @@
 //! The script that a reader has.
 
-ghost use Rattle.std.specs.Prelude.{◌≢◌, ℕ, List, IfOk, IfErr, IfSome};
-ghost use Rattle.tb_program_script.specs.Script.{script_of};
-ghost use Rattle.tb_program_text.specs.Output.{IsWhole};
-ghost use Rattle.tb_program_text.specs.Source.{IsSource, IsTold, IsFaultAt};
+ghost use Rattle.std.specs.Prelude.{◌≢◌, ℕ, List, Err, IfOk, IfErr, IfSome};
+ghost use Rattle.tb_program_text.specs.Script.{script_of};
+ghost use Rattle.tb_program_text.specs.Output.{fault_line};
+ghost use Rattle.tb_program_text.specs.Source.{IsFound, IsWhole, source_in, source_told};
 
 use crate::output::put_fault;
+use crate::parsing::{ScriptError, parse};
 use crate::program_fault::ProgramFault;
 use crate::read::read_script;
+use crate::script::Script;
 use std::alloc::Global;
 use std::io::Read;
 use tb_layout::NoMemory;
-use tb_program_script::{Script, ScriptError, parse};
 
 /// What a reader has: a script, or the one line that is printed of a faulty one.
 #[derive(Drop)]
@@ -22,7 +23,7 @@ pub enum Source {
 
 /// Returns the line that is printed of a fault.
 fn source_of_fault(alloc: Global, line: usize, text: &str) -> Result<Source, NoMemory>
-    ensures { IfOk result (λ source. IsFaultAt line text.now source) }
+    ensures { IfOk result (λ source. IsFound source (Err (fault_line line text.now))) }
 {
     let mut out = String::new(alloc);
     put_fault(&mut out, line, text)?;
@@ -31,7 +32,7 @@ fn source_of_fault(alloc: Global, line: usize, text: &str) -> Result<Source, NoM
 
 /// Returns what the bytes of a script say.
 fn source_of_bytes(alloc: Global, text: &[u8]) -> Result<Source, NoMemory>
-    ensures { IfOk result (λ source. IsTold source (script_of text.now)) }
+    ensures { IfOk result (λ source. IsFound source (source_told (script_of text.now))) }
 {
     match parse(alloc, text) {
         Ok(script) => Ok(Source::Script(script)),
@@ -42,7 +43,7 @@ fn source_of_bytes(alloc: Global, text: &[u8]) -> Result<Source, NoMemory>
 
 /// Returns what the text that was read says, or the fault of a text that is too long.
 pub fn source_of(alloc: Global, text: &Option<Vec<u8>>) -> Result<Source, NoMemory>
-    ensures { IfOk result (λ source. (bytes : List ℕ) → IsWhole text.now bytes → IsSource source bytes) }
+    ensures { IfOk result (λ source. (bytes : List ℕ) → IsWhole text.now bytes → IsFound source (source_in bytes)) }
 {
     match text {
         Some(text) => source_of_bytes(alloc, text),
@@ -52,7 +53,7 @@ pub fn source_of(alloc: Global, text: &Option<Vec<u8>>) -> Result<Source, NoMemo
 
 /// Reads to the end, or as far as a script may be long, and parses what was read.
 pub fn read_source<R: Read>(alloc: Global, reader: &mut R) -> Result<Source, ProgramFault>
-    ensures source { IfOk result (λ source. IfSome (R.remaining reader.old) (λ bytes. IsSource source bytes)) }
+    ensures source { IfOk result (λ source. IfSome (R.remaining reader.old) (λ bytes. IsFound source (source_in bytes))) }
     ensures thread { IfErr result (λ fault. fault ≢ ProgramFault.NoThread) }
 {
     let text = read_script(alloc, reader)?;

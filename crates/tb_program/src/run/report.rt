@@ -14,6 +14,7 @@ ghost use Rattle.tb_program.specs.declared.run.notes.Told.TheVariants.{Queued};
 
 use crate::run::driver::ScriptDriver;
 use crate::run::notes::{Notes, Told};
+use crate::state::put_state;
 use std::alloc::{AllocError, Global};
 use std::marker::Model;
 use std::vec::IntoIter;
@@ -21,7 +22,7 @@ use tb_core::{Entry, Ledger};
 use tb_drive::PlanDriver;
 use tb_layout::NoMemory;
 use tb_pipe::{Finished, Report};
-use tb_program_text::{put_pulse, put_refused, put_refused_pulse, put_reply, put_state};
+use tb_program_text::{put_pulse, put_refused, put_refused_pulse, put_reply};
 use tb_submit::Ended;
 use tb_work::Reply;
 

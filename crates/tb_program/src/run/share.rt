@@ -2,13 +2,13 @@
 
 ghost use Rattle.std.specs.Prelude.{◌≡◌, ◌++◌, ◌∷◌, [], List, false, ◌||◌, length, OnOk, IfOk};
 ghost use Rattle.tb_program.specs.Sharing.{AreDealt, is_shut, moment_in, moments_asked, shuts_in};
-ghost use Rattle.tb_program_script.specs.declared.item.ScriptItem.{ScriptItem as ItemValue};
-ghost use Rattle.tb_program_script.specs.declared.item.ScriptItem.TheVariants.{Packet as PacketItem};
+ghost use Rattle.tb_program_text.specs.declared.item.ScriptItem.{ScriptItem as ItemValue};
+ghost use Rattle.tb_program_text.specs.declared.item.ScriptItem.TheVariants.{Packet as PacketItem};
 
 use std::alloc::Global;
 use tb_drive::ControlPlan;
 use tb_layout::NoMemory;
-use tb_program_script::{ScriptItem, SubmitterNumber};
+use tb_program_text::{ScriptItem, SubmitterNumber};
 use tb_work::Packet;
 
 /// The items of a script by the threads that queue them: the packets of each submitter, and the control's lines.

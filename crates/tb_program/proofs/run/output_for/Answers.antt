@@ -1,8 +1,8 @@
 use Rattle.std.proofs.Common.{rules, ◌≡◌, ◌∙◌, Vec, length, ap, sym, arith}
 use Rattle.std.proofs.lemmas.List.{length-map}
 use Rattle.std.specs.declared.alloc.Global.{Global}
-use Rattle.tb_program_script.specs.declared.item.Settings.{Settings}
-use Rattle.tb_program_script.specs.Script.{clock_of, items_of, limit_of, submitters_of}
+use Rattle.tb_program_text.specs.declared.item.Settings.{Settings}
+use Rattle.tb_program_text.specs.Script.{clock_of, items_of, limit_of, submitters_of}
 use Rattle.tb_work.specs.declared.packet.Packet.{Packet}
 use Rattle.tb_program.specs.Drivers.{share_of}
 use Rattle.tb_program.specs.Sharing.{AreDealt, moments_asked, shares_of, shuts_in}

@@ -1,0 +1,13 @@
+use Rattle.std.proofs.Common.{◌≡◌, ◌++◌, map, []}
+use Rattle.tb_program.specs.SplitPlan.{line_of}
+use Rattle.std.specs.Vec.Iter.{drain_items}
+use Rattle.tb_program.specs.Plan.{queue_of, plan_after}
+use Rattle.tb_program.proofs.list.planning.plan_all.Given as goal
+
+abbrev pub invariant-loop-item : goal.invariant-loop-item
+invariant-loop-item l = record {
+  queue : l.plan.queue ++ queue_of (plan_after l.limit l.plan.queue (drain_items l.item-iterator))
+      ≡ queue_of (plan_after l.limit [] l.fn.items.items);
+  lines : l.plan.lines ++ map line_of (plan_after l.limit l.plan.queue (drain_items l.item-iterator))
+      ≡ map line_of (plan_after l.limit [] l.fn.items.items);
+}

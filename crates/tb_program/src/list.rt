@@ -1,0 +1,106 @@
+//! A script in one thread.
+
+ghost use Rattle.std.specs.Prelude.{◌≡◌, ◌≢◌, ◌≤◌, List, map, IfOk, IfErr, IfSome, IsErrOf, string_bytes};
+ghost use Rattle.std.specs.Io.KnownBytes.{Appends, Keeps};
+ghost use Rattle.tb_layout.specs.inside.Limits.{batch_max};
+ghost use Rattle.tb_layout.specs.Limits.{clock_max};
+ghost use Rattle.tb_program.specs.Listing.{plan_text, listing, out, is_faultless};
+ghost use Rattle.tb_program.specs.SplitPlan.{line_of};
+ghost use Rattle.tb_program.specs.Plan.{Planned, queue_of};
+
+mod listing;
+mod plan;
+mod planning;
+
+use crate::list::listing::put_listing;
+use crate::list::plan::Line;
+use crate::list::planning::{PlanParts, plan_all};
+use std::alloc::Global;
+use std::io::{Read, Write};
+use tb_core::run_list;
+use tb_layout::NoMemory;
+use tb_program_text::{
+    Output, ProgramFault, Script, ScriptParts, Source, read_script, source_of, write_out,
+};
+use tb_work::Item;
+
+/// As many bytes as the line of a committed packet without failures mostly has.
+const USUAL_LINE: usize = 32;
+
+/// Returns the lines of a plan whose queue is listed.
+fn text_of(
+    alloc: Global,
+    clock: u64,
+    limit: u32,
+    items: Vec<Item>,
+    lines: &[Line],
+) -> Result<String, NoMemory>
+    requires clock { clock ≤ clock_max }
+    requires least { 1 ≤ limit }
+    requires most { limit ≤ batch_max }
+    ensures { (plan : List Planned) → items.items ≡ queue_of plan → lines.now ≡ map line_of plan
+        → IfOk result (λ text. string_bytes text ≡ plan_text clock plan) }
+{
+    let listed = run_list(alloc, clock, limit, items)?;
+    let mut out = String::with_capacity(alloc, lines.len().saturating_mul(USUAL_LINE))?;
+    let put = put_listing(&mut out, lines, &listed);
+    drop(listed);
+    put?;
+    Ok(out)
+}
+
+/// Returns the output for a script that has no fault.
+fn output_for(alloc: Global, script: Script) -> Result<String, NoMemory>
+    ensures { IfOk result (λ text. string_bytes text ≡ listing script) }
+{
+    let ScriptParts {
+        settings,
+        mut items,
+    } = script.finish()?;
+    let limit = settings.limit();
+    let PlanParts { queue, lines } = plan_all(alloc, limit, &mut items)?.into_parts();
+    text_of(alloc, settings.clock(), limit, queue, &lines)
+}
+
+/// Returns the output for everything that a reader has, and whether its script has no fault. The text and its list of
+/// items are freed last: once large blocks were freed, the C library copies what grows, where it would move its pages.
+fn output_of<R: Read>(alloc: Global, reader: &mut R) -> Result<Output, ProgramFault>
+    ensures output { IfOk result (λ output. IfSome (R.remaining reader.old) (λ bytes.
+        (string_bytes output.text ≡ out bytes) × (output.faultless ≡ is_faultless bytes))) }
+    ensures thread { IfErr result (λ fault. fault ≢ ProgramFault.NoThread) }
+{
+    let text = read_script(alloc, reader)?;
+    match source_of(alloc, &text)? {
+        Source::Script(script) => Ok(Output {
+            text: output_for(alloc, script)?,
+            faultless: true,
+        }),
+        Source::Faulty(line) => Ok(Output {
+            text: line,
+            faultless: false,
+        }),
+    }
+}
+
+/// Reads a script to its end, runs its packets and prints the result of each, with the clock and the accounts after
+/// them. Returns whether the script has no fault; only the fault is printed if it has one. All output is made before
+/// its first byte is written. It takes memory in proportion to the script and to what its packets make.
+pub fn run_script<R: Read, W: Write>(
+    alloc: Global,
+    reader: &mut R,
+    writer: &mut W,
+) -> Result<bool, ProgramFault>
+    // If it is known what the reader will read and what was written to the writer, exactly the output for these bytes
+    // is written.
+    ensures written { IfOk result (λ faultless. IfSome (R.remaining reader.old) (λ bytes.
+        Appends (W.contents writer.old) (W.contents writer.new) (out bytes) × (faultless ≡ is_faultless bytes))) }
+    // Nothing is written if the reader failed or memory ran out.
+    ensures read { IsErrOf result ProgramFault.Read → Keeps (W.contents writer.old) (W.contents writer.new) }
+    ensures memory { IsErrOf result ProgramFault.NoMemory → Keeps (W.contents writer.old) (W.contents writer.new) }
+    // No thread is started.
+    ensures thread { IfErr result (λ fault. fault ≢ ProgramFault.NoThread) }
+{
+    let output = output_of(alloc, reader)?;
+    write_out(writer, &output.text)?;
+    Ok(output.faultless)
+}

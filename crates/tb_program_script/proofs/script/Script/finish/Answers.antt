@@ -1,6 +1,0 @@
--- Found by the prover itself; on file since the check of an edit then costs less.
-use Rattle.std.proofs.Common.{rules}
-use Rattle.tb_program_script.proofs.script.Script.finish.Goals as goal
-
-pub returns-clause-items : goal.returns-clause-items
-returns-clause-items c = search rules

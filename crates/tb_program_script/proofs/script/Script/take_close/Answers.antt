@@ -1,8 +1,0 @@
--- Found by the prover itself; on file since the check of an edit then costs less.
-use Rattle.std.proofs.Common.{rules}
-use Rattle.tb_program_script.specs.Script.{with_line}
-use Rattle.tb_program_script.proofs.script.Script.take_close.Goals as goal
-
-pub returns : goal.returns
-unfolding with_line
-returns c = search rules

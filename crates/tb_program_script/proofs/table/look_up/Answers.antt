@@ -1,6 +1,0 @@
-use Rattle.std.proofs.Common.{arith}
-use Rattle.std.proofs.lemmas.Grind.{common_steps}
-use Rattle.tb_program_script.proofs.table.look_up.Goals as goal
-
-pub loop-table-preserved : goal.loop-table-preserved
-loop-table-preserved g c = grind (arith, common_steps)

@@ -1,0 +1,293 @@
+-- A line spelled from the fields of an event adds the bytes that are written of it.
+use Rattle.std.proofs.Common.{◌≡◌, ℕ, zero, suc, ◌+◌, ◌-◌, ◌*◌, ◌/◌, ◌%◌, ◌^◌, ◌<◌, ◌≤◌, Bool, true, false, List, [], ◌∷◌, ◌++◌, length, take, drop, replicate, set, refl, sym, ap, ◌∙◌, arith, Some, Ok, Result, length-append, append_assoc, subst, lt-ltb}
+use Rattle.std.specs.Prelude.{◌==◌, ◌&&◌, All, map, codes, decimal, nat_le, nat_lt, slice_index, slice_index_or, is_some, not}
+use Rattle.std.specs.List.{list_all}
+use Rattle.std.specs.Int.{byte_at, bytes_low_first, to_le_bytes, w128}
+use Rattle.std.proofs.lemmas.List.{drop-replicate, get_or-set_other}
+use Rattle.std.proofs.lemmas.List.Elements.{All-head, All-tail}
+use Rattle.std.proofs.lemmas.List.Folds.{list_all-append}
+use Rattle.std.proofs.lemmas.Bool.{and_parts}
+use Rattle.std.proofs.lemmas.Bool.Decides.{nat_tests}
+use Rattle.std.proofs.Math.Nat.{div-div-eq-div-mul, div-one, pow-suc, pow-le-pow_right}
+use Rattle.std.proofs.Math.Seq.{drop-append-add, take-append_seam}
+use Rattle.tb_layout.specs.declared.account.Account.{Account}
+use Rattle.tb_layout.specs.declared.transfer.Transfer.{Transfer}
+use Rattle.tb_layout.specs.inside.Bytes.{bytes_of, bytes_in_turn}
+use Rattle.tb_program_text.specs.declared.fault.Fault.{Fault}
+use Rattle.tb_program_text.specs.declared.event.Draft.{Draft}
+use Rattle.tb_program_text.specs.declared.event.Layout.{Layout}
+use Rattle.tb_program_text.specs.declared.event.Layout.TheVariants as layout
+use Rattle.tb_program_text.specs.declared.keyword.Keyword.{Keyword}
+use Rattle.tb_program_text.specs.declared.keyword.Keyword.TheVariants as word
+use Rattle.tb_program_text.specs.Keyword.{keyword_of}
+use Rattle.tb_program_text.specs.Laws.{Adds, SpelledAccountsAreLaidOut, SpelledTransfersAreLaidOut, SpelledIdsAreLaidOut}
+use Rattle.tb_program_text.specs.Script.{ParsedScript, may_stand, with_bytes, with_line}
+use Rattle.tb_program_text.specs.Event.{field, field_of, after_word, after_words, event_of}
+use Rattle.tb_program_text.specs.Spelling.{NamedNumber, IsOfItsSize, field_word, fields_line, line_of_words, named_of_account, named_of_transfer}
+use Rattle.tb_program_text.specs.Steps.{◌>>=◌}
+use Rattle.tb_program_text.proofs.Named.{sides_of_named}
+use Rattle.tb_program_text.proofs.Spelling.{is_word, is_word_byte, decimal_is_word, length-decimal, number_line, number_within-decimal, keyword_line}
+
+-- ---- bytes
+
+byte_at-pow : (index number : ℕ) → byte_at index number ≡ number / 256 ^ index % 256
+byte_at-pow zero number = ap (λ (n : ℕ). n % 256) (sym (div-one number))
+byte_at-pow (suc index) number = refl
+
+low_bytes : (index size more number : ℕ) → take size (bytes_low_first index (size + more) number)
+    ≡ bytes_of size (number / 256 ^ index)
+unfolding bytes_of
+low_bytes index zero more number = refl
+low_bytes index (suc size) more number =
+    let next : number / 256 ^ suc index ≡ number / 256 ^ index / 256 =
+    ap (λ (p : ℕ). number / p) (pow-suc 256 index) ∙ sym (div-div-eq-div-mul number (256 ^ index) 256) in
+    let count : suc size + more ≡ suc (size + more) = omega arith in
+    ap (λ (n : ℕ). take (suc size) (bytes_low_first index n number)) count
+    ∙ ap (λ (byte : ℕ). byte ∷ take size (bytes_low_first (suc index) (size + more) number)) (byte_at-pow index number)
+    ∙ ap (λ bytes. number / 256 ^ index % 256 ∷ bytes)
+    (low_bytes (suc index) size more number ∙ ap (bytes_of size) next)
+
+pub lowest : (size number : ℕ) → size ≤ 16 → take size (to_le_bytes w128 number) ≡ bytes_of size number
+lowest size number h =
+    let all : size + (16 - size) ≡ 16 = omega (arith, h) in
+    ap (λ (count : ℕ). take size (bytes_low_first 0 count number)) (sym all) ∙ low_bytes 0 size (16 - size) number
+    ∙ ap (bytes_of size) (div-one number)
+
+length-bytes_of : (size number : ℕ) → length (bytes_of size number) ≡ size
+unfolding bytes_of
+length-bytes_of zero number = refl
+length-bytes_of (suc size) number = ap suc (length-bytes_of size (number / 256))
+
+-- ---- fields in turn
+
+-- what is known of a field at an index and an offset without its number
+record IsFieldAt (layout : Layout) (index offset size : ℕ) (name : List ℕ) : Type 0 where
+  found : field_of layout name ≡ Some (field index offset size)
+  bare : list_all (λ byte. not (byte == 61)) name ≡ true
+  closed : (nat_le size 16 && (nat_le (length name) 24 && is_word name)) ≡ true
+
+small_of : {layout : Layout} {index offset size : ℕ} {name : List ℕ}
+    → IsFieldAt layout index offset size name → size ≤ 16
+small_of {layout} {index} {offset} {size} {name} is =
+    let h = (and_parts (nat_le size 16) (nat_le (length name) 24 && is_word name) is.closed).0 in
+    grind (arith, nat_tests)
+
+short_of : {layout : Layout} {index offset size : ℕ} {name : List ℕ}
+    → IsFieldAt layout index offset size name → length name ≤ 24
+short_of {layout} {index} {offset} {size} {name} is =
+    let h = (and_parts (nat_le (length name) 24) (is_word name)
+    (and_parts (nat_le size 16) (nat_le (length name) 24 && is_word name) is.closed).1).0 in
+    grind (arith, nat_tests)
+
+word_of : {layout : Layout} {index offset size : ℕ} {name : List ℕ}
+    → IsFieldAt layout index offset size name → is_word name ≡ true
+word_of {layout} {index} {offset} {size} {name} is =
+    (and_parts (nat_le (length name) 24) (is_word name)
+    (and_parts (nat_le size 16) (nat_le (length name) 24 && is_word name) is.closed).1).1
+
+-- the fields from an index and an offset on
+abbrev AreInTurn : Layout → ℕ → ℕ → List NamedNumber → Type 0
+AreInTurn layout index offset [] = Unit {0}
+AreInTurn layout index offset (field ∷ fields) =
+    IsFieldAt layout index offset field.size field.name × AreInTurn layout (suc index) (offset + field.size) fields
+
+abbrev size_of_fields : List NamedNumber → ℕ
+size_of_fields [] = 0
+size_of_fields (field ∷ fields) = field.size + size_of_fields fields
+
+-- an event whose bytes before some offset were given
+abbrev drafted : List ℕ → List Bool → Draft
+drafted front given = record { bytes = front ++ replicate (128 - length front) 0; given = given }
+
+abbrev bytes_after : Result Draft Fault → Result (List ℕ) Fault
+bytes_after r = r >>= λ draft. Ok draft.bytes
+
+abbrev sized : NamedNumber → ℕ × ℕ
+sized field = (field.size, field.number)
+
+abbrev NoneGivenFrom : ℕ → List Bool → Type 0
+NoneGivenFrom index given = (later : ℕ) → index ≤ later → slice_index_or given later false ≡ false
+
+fits : (size number : ℕ) → size ≤ 16 → number < 256 ^ size → number < 2 ^ 128
+fits size number small h = omega (arith, h, pow-le-pow_right {n = 256} (omega arith) small)
+
+one_field : (layout : Layout) (index size number : ℕ) (name front : List ℕ) (given : List Bool)
+    → IsFieldAt layout index (length front) size name →
+    number < 256 ^ size → slice_index_or given index false ≡ false → length front + size ≤ 128 →
+    after_word layout (drafted front given) (name ++ 61 ∷ decimal number)
+    ≡ Ok (drafted (front ++ bytes_of size number) (set given index true))
+unfolding after_word
+one_field layout index size number name front given is h unset room =
+    let small = fits size number (small_of is) h in
+    let tail : drop (length front + size) (front ++ replicate (128 - length front) 0)
+    ≡ replicate (128 - length (front ++ bytes_of size number)) 0 =
+    drop-append-add front (replicate (128 - length front) 0) size ∙ drop-replicate size (128 - length front) 0
+    ∙ ap (λ (count : ℕ). replicate count 0) (omega
+    (arith, length-append front (bytes_of size number), length-bytes_of size number)) in
+    rw (
+      sides_of_named name (decimal number) is.bare,
+      is.found,
+      unset,
+      number_within-decimal 0
+          (256 ^ size - 1) number (omega arith) (omega (arith, h)) small,
+    )
+    (rw (take-append_seam front (replicate (128 - length front) 0), lowest size number (small_of is), tail) refl)
+
+all_fields : (layout : Layout) (index : ℕ) (front : List ℕ) (given : List Bool) (fields : List NamedNumber)
+    → AreInTurn layout index (length front) fields →
+    All IsOfItsSize fields → NoneGivenFrom index given → length front + size_of_fields fields ≡ 128 →
+    bytes_after (after_words layout (drafted front given) (map field_word fields))
+    ≡ Ok (front ++ bytes_in_turn (map sized fields))
+unfolding after_words
+all_fields layout index front given [] turn h unset room =
+    let none : 128 - length front ≡ 0 = omega (arith, room) in
+    rw none refl
+all_fields layout index front given (field ∷ fields) turn h unset room =
+    let long : length (front ++ bytes_of field.size field.number)
+    ≡ length front + field.size =
+    omega (
+      arith,
+      length-append front (bytes_of field.size field.number),
+      length-bytes_of
+          field.size field.number,
+    ) in
+    let still : NoneGivenFrom (suc index) (set given index true) = λ later after.
+    get_or-set_other given index later true false (omega arith) ∙ unset later (omega arith) in
+    rw (one_field layout index field.size field.number field.name front given turn.0
+    (All-head IsOfItsSize field fields h) (unset index (omega arith)) (omega (arith, room)))
+    (all_fields layout (suc index) (front ++ bytes_of field.size field.number) (set given index true) fields
+    (subst (λ (offset : ℕ). AreInTurn layout (suc index) offset fields) (sym long) turn.1)
+    (All-tail IsOfItsSize field fields h) still (omega (arith, long, room))
+    ∙ ap Ok (append_assoc front (bytes_of field.size field.number) (bytes_in_turn (map sized fields))))
+
+-- ---- lines
+
+field_is_word : (name : List ℕ) (number : ℕ) → is_word name ≡ true → number < 2 ^ 128
+    → is_word (name ++ 61 ∷ decimal number) ≡ true
+field_is_word name number good small =
+    let front = (and_parts (nat_lt 0 (length name)) (list_all is_word_byte name) good).1 in
+    let back = (and_parts (nat_lt 0 (length (decimal number))) (list_all is_word_byte (decimal number))
+    (decimal_is_word number small)).1 in
+    let some : 0 < length (name ++ 61 ∷ decimal number) = omega (arith, length-append name (61 ∷ decimal number)) in
+    rw (lt-ltb 0 (length (name ++ 61 ∷ decimal number)) some)
+    (list_all-append is_word_byte name (61 ∷ decimal number) ∙ rw (front, back) refl)
+
+-- the words of fields, after a word
+record AreGoodWords (keyword : List ℕ) (fields : List NamedNumber) : Type 0 where
+  words : list_all is_word (map field_word fields) ≡ true
+  short : length (line_of_words (keyword ∷ map field_word fields)) ≤ length keyword + 65 * length fields
+
+good_words : (layout : Layout) (index offset : ℕ) (keyword : List ℕ) (fields : List NamedNumber)
+    → AreInTurn layout index offset fields → All IsOfItsSize fields →
+    AreGoodWords keyword fields
+good_words layout index offset keyword [] turn h = record { words = refl; short = omega arith }
+good_words layout index offset keyword (field ∷ fields) turn h =
+    let small = fits field.size field.number (small_of turn.0) (All-head IsOfItsSize field fields h) in
+    let rest = good_words layout (suc index) (offset + field.size) (field_word field) fields turn.1
+    (All-tail IsOfItsSize field fields h) in
+    record {
+      words = rw (field_is_word field.name field.number (word_of turn.0) small, rest.words) refl;
+      short = omega (
+        arith,
+        short_of turn.0,
+        rest.short,
+        length-decimal field.number small,
+        length-append field.name (61 ∷ decimal field.number),
+        length-append keyword (32 ∷ line_of_words (map field_word (field ∷ fields))),
+      );
+    }
+
+none_given : (count later : ℕ) → slice_index_or (replicate count false) later false ≡ false
+none_given zero later = refl
+none_given (suc count) zero = refl
+none_given (suc count) (suc later) = none_given count later
+
+event_is_laid_out : (layout : Layout) (fields : List NamedNumber) → AreInTurn layout 0 0 fields
+    → All IsOfItsSize fields → size_of_fields fields ≡ 128 →
+    event_of layout (map field_word fields) ≡ Ok (bytes_in_turn (map sized fields))
+unfolding event_of
+event_is_laid_out layout fields turn h size =
+    all_fields layout 0 [] (replicate 13 false) fields turn h
+    (λ later after. none_given 13 later) (omega (arith, size))
+
+-- the line of a keyword whose words make an event
+abbrev MakesEvents : Keyword → Layout → Type 0
+MakesEvents keyword layout =
+    (parsed : ParsedScript) (words : List (List ℕ)) → with_line parsed keyword words
+    ≡ (event_of layout words >>= λ bytes. Ok (with_bytes parsed bytes))
+
+line_adds : (layout : Layout) (keyword : Keyword) (name : List ℕ) (fields : List NamedNumber)
+    → AreInTurn layout 0 0 fields → All IsOfItsSize fields →
+    size_of_fields fields ≡ 128 → length fields ≡ 13 → MakesEvents keyword layout → is_word name ≡ true
+    → length name ≤ 16 → (slice_index name 0 == 35) ≡ false →
+    keyword_of name ≡ Some keyword → ((parsed : ParsedScript) → may_stand parsed keyword ≡ is_some parsed.packet)
+    → Adds (fields_line name fields) (bytes_in_turn (map sized fields))
+line_adds layout keyword name fields turn h size count makes good short mark is index parsed begun =
+    let words = good_words layout 0 0 name fields turn h in
+    keyword_line parsed keyword name (map field_word fields) (rw (good, words.words) refl)
+    (omega (arith, words.short, short, count)) mark is (index parsed ∙ begun)
+    ∙ makes parsed (map field_word fields) ∙ rw (event_is_laid_out layout fields turn h size) refl
+
+at : {layout : Layout} {index offset size : ℕ} {name : List ℕ} → field_of layout name ≡ Some (field index offset size) →
+    list_all (λ byte. not (byte == 61)) name ≡ true
+    → (nat_le size 16 && (nat_le (length name) 24 && is_word name)) ≡ true →
+    IsFieldAt layout index offset size name
+at found bare closed = record { found = found; bare = bare; closed = closed }
+
+infixr 5 ◌⨾◌
+◌⨾◌ : {A B : Type 0} → A → B → A × B
+first ⨾ others = (first, others)
+
+accounts_in_turn : (account : Account) → AreInTurn layout.Account 0 0 (named_of_account account)
+unfolding field_of
+accounts_in_turn account =
+    at refl refl refl ⨾
+    at refl refl refl ⨾
+    at refl refl refl ⨾
+    at refl refl refl ⨾
+    at refl refl refl ⨾
+    at refl refl refl ⨾
+    at refl refl refl ⨾
+    at refl refl refl ⨾
+    at refl refl refl ⨾
+    at refl refl refl ⨾
+    at refl refl refl ⨾
+    at refl refl refl ⨾
+    at refl refl refl ⨾ tt
+
+transfers_in_turn : (transfer : Transfer) → AreInTurn layout.Transfer 0 0 (named_of_transfer transfer)
+unfolding field_of
+transfers_in_turn transfer =
+    at refl refl refl ⨾
+    at refl refl refl ⨾
+    at refl refl refl ⨾
+    at refl refl refl ⨾
+    at refl refl refl ⨾
+    at refl refl refl ⨾
+    at refl refl refl ⨾
+    at refl refl refl ⨾
+    at refl refl refl ⨾
+    at refl refl refl ⨾
+    at refl refl refl ⨾
+    at refl refl refl ⨾
+    at refl refl refl ⨾ tt
+
+pub accounts_are_laid_out : SpelledAccountsAreLaidOut
+unfolding keyword_of with_line
+accounts_are_laid_out account h =
+    line_adds layout.Account word.Account (codes "account") (named_of_account account)
+    (accounts_in_turn account) h refl refl (λ parsed words. refl) refl (omega arith) refl refl (λ parsed. refl)
+
+pub transfers_are_laid_out : SpelledTransfersAreLaidOut
+unfolding keyword_of with_line
+transfers_are_laid_out transfer h =
+    line_adds layout.Transfer word.Transfer (codes "transfer") (named_of_transfer transfer)
+    (transfers_in_turn transfer) h refl refl (λ parsed words. refl) refl (omega arith) refl refl (λ parsed. refl)
+
+pub ids_are_laid_out : SpelledIdsAreLaidOut
+unfolding keyword_of with_line
+ids_are_laid_out id h parsed begun =
+    let all : to_le_bytes w128 id ≡ bytes_of 16 id = lowest 16 id (omega arith) in
+    let line = number_line parsed (λ n. with_bytes parsed (to_le_bytes w128 n)) word.Id (codes "id") 0 (2 ^ 128 - 1) id
+    refl (omega arith) refl refl begun (omega arith) (λ text. refl) (omega arith) (omega (arith, h)) in
+    line.read ∙ rw all refl

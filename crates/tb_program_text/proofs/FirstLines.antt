@@ -1,0 +1,176 @@
+-- The first line of a text, and its first word.
+use Rattle.std.proofs.Common.{◌≡◌, ℕ, ◌+◌, ◌<◌, ◌≤◌, Bool, true, not, List, [], ◌∷◌, length, ◌++◌, take, drop, refl, sym, ap, ◌∙◌, arith, inl, inr, ◌⊎◌, suc, length-append, append_assoc, take-append-drop, length-take-le}
+use Rattle.std.specs.Prelude.{◌==◌, ◌||◌}
+use Rattle.std.specs.List.{position_or_len, list_all}
+use Rattle.std.specs.Char.{is_ascii_digit}
+use Rattle.std.proofs.lemmas.Grind.{common_steps}
+use Rattle.std.proofs.lemmas.List.{drop-drop, length-drop, nil_from_length}
+use Rattle.std.proofs.lemmas.List.Folds.{length-prefix_len}
+use Rattle.std.proofs.lemmas.Bool.{and_parts}
+use Rattle.std.proofs.Math.Seq.{drop-append-add, take-append-add, take-append_seam, drop-append_seam}
+use Rattle.tb_program_text.specs.Text.{lines_of, words_of, first_line, after_first_line, first_word, after_first_word}
+use Rattle.tb_program_text.proofs.Texts.{list_all-implied, next_taken, none_before, spaces, word_end, line_end, lines_first, words_from_space, trimmed_begins}
+
+-- what is first found after bytes that don't pass
+pub found_after : (p : ℕ → Bool) (front others : List ℕ) → list_all (λ byte. not (p byte)) front ≡ true
+    → position_or_len p (front ++ others) ≡ length front + position_or_len p others
+found_after p [] others none = omega arith
+found_after p (byte ∷ front) others none =
+    let parts = and_parts (not (p byte)) (list_all (λ x. not (p x)) front) none in
+    rw (parts.0, found_after p front others parts.1) (omega arith)
+
+abbrev pub has_no_end : List ℕ → Bool
+has_no_end front = list_all (λ byte. not (byte == 10)) front
+
+-- a text whose first line begins with some bytes
+pub record BeginsLine (text front others : List ℕ) : Type 0 where
+  pub line : first_line text ≡ front ++ first_line others
+  pub rest : after_first_line text ≡ after_first_line others
+
+pub begins_line : (text front others : List ℕ) → has_no_end front ≡ true → text ≡ front ++ others → BeginsLine text front others
+begins_line text front others none e =
+    let at = found_after (λ byte. byte == 10) front others none in
+    record {
+      line = rw (e, at) (take-append-add front others (line_end others));
+      rest = rw (e, at) (drop-append-add front others (line_end others));
+    }
+
+-- the same, with the bytes counted
+pub cut_line : (text : List ℕ) (count : ℕ) → has_no_end (take count text) ≡ true
+    → BeginsLine text (take count text) (drop count text)
+cut_line text count none =
+    begins_line text (take count text) (drop count text) none (sym (take-append-drop count text))
+
+-- a text is its first line and the rest
+pub whole_text : (text : List ℕ) → first_line text ++ after_first_line text ≡ text
+whole_text text = take-append-drop (line_end text) text
+
+-- ---- spaces at the front
+
+spaces_only : (bs : List ℕ) → list_all (λ byte. byte == 32) (take (spaces bs) bs) ≡ true
+spaces_only bs =
+    list_all-implied (λ byte. not (not (byte == 32))) (λ byte. byte == 32) (take (spaces bs) bs)
+    (λ byte h. grind (arith, common_steps, h)) (none_before (λ byte. not (byte == 32)) bs)
+
+no_end : (byte : ℕ) → (byte == 32) ≡ true → not (byte == 10) ≡ true
+no_end byte h = grind (arith, common_steps, h)
+
+words_after : (front others : List ℕ) → list_all (λ byte. byte == 32) front ≡ true → words_of (front ++ others) ≡ words_of others
+words_after [] others h = refl
+words_after (b ∷ front) others h =
+    let parts = and_parts (b == 32) (list_all (λ byte. byte == 32) front) h in
+    words_from_space b (front ++ others) parts.0 ∙ words_after front others parts.1
+
+line_begins : (bs : List ℕ) → (length bs ≡ 0) ⊎ (0 < word_end bs)
+    → (length (first_line bs) ≡ 0) ⊎ (0 < word_end (first_line bs))
+line_begins [] h = inl refl
+line_begins (b ∷ bs) (inl none) = absurd (omega (arith, none))
+line_begins (b ∷ bs) (inr some) = grind (arith, common_steps, some, next_taken b (line_end bs) bs)
+
+-- a text without the spaces at its front
+pub record Trimmed (text rest : List ℕ) : Type 0 where
+  pub words : words_of (first_line rest) ≡ words_of (first_line text)
+  pub begins : (length (first_line rest) ≡ 0) ⊎ (0 < word_end (first_line rest))
+  pub others : after_first_line rest ≡ after_first_line text
+  pub within : length (first_line rest) ≤ length (first_line text)
+
+pub trimmed_text : (text rest : List ℕ) → rest ≡ drop (spaces text) text → Trimmed text rest
+trimmed_text text rest e =
+    let only = spaces_only text in
+    let cut = cut_line text (spaces text)
+    (list_all-implied (λ byte. byte == 32) (λ byte. not (byte == 10)) (take (spaces text) text) no_end only) in
+    rw e (record {
+      words = sym (ap words_of cut.line ∙ words_after (take (spaces text) text) (first_line (drop (spaces text) text)) only);
+      begins = line_begins (drop (spaces text) text) (trimmed_begins text);
+      others = sym cut.rest;
+      within = omega (
+        arith,
+        ap length cut.line,
+        length-append (take (spaces text) text) (first_line (drop (spaces text) text)),
+      );
+    })
+
+-- ---- a name and what follows it
+
+pub record NamedLine (text name others : List ℕ) : Type 0 where
+  pub line : first_line text ≡ name ++ 61 ∷ first_line others
+  pub rest : after_first_line text ≡ after_first_line others
+
+pub named_line : (text name others : List ℕ) → has_no_end name ≡ true → text ≡ name ++ 61 ∷ others → NamedLine text name others
+named_line text name others none e =
+    let begins = begins_line text name (61 ∷ others) none e in
+    let one : 1 + line_end others ≡ suc (line_end others) = omega arith in
+    record {
+      line = begins.line ∙ ap (λ line. name ++ line) (rw one refl);
+      rest = begins.rest ∙ rw one refl;
+    }
+
+-- a line whose text doesn't begin so, doesn't either
+pub no_name_first : (text name : List ℕ) → ((others : List ℕ) → text ≡ name ++ 61 ∷ others → ⊥) → (others : List ℕ)
+    → first_line text ≡ name ++ 61 ∷ others → ⊥
+no_name_first text name differs others e = differs (others ++ after_first_line text)
+    (sym (whole_text text) ∙ ap (λ front. front ++ after_first_line text) e
+    ∙ append_assoc name (61 ∷ others) (after_first_line text))
+
+-- ---- the first word
+
+abbrev pub ends_word : ℕ → Bool
+ends_word byte = (byte == 32) || (byte == 10)
+
+pub word_end_in_line : (bs : List ℕ) → position_or_len ends_word bs ≡ word_end (first_line bs)
+word_end_in_line [] = refl
+word_end_in_line (b ∷ bs) = grind (arith, common_steps, word_end_in_line bs, next_taken b (line_end bs) bs)
+
+no_end_in_word : (byte : ℕ) → not (ends_word byte) ≡ true → not (byte == 10) ≡ true
+no_end_in_word byte h = grind (arith, common_steps, h)
+
+-- a text cut after its first word
+pub record WordCut (text : List ℕ) (count : ℕ) : Type 0 where
+  pub word : first_word (first_line text) ≡ take count text
+  pub rest : first_line (drop count text) ≡ after_first_word (first_line text)
+  pub others : after_first_line (drop count text) ≡ after_first_line text
+
+pub word_cut : (text : List ℕ) (count : ℕ) → count ≤ length text → count ≡ position_or_len ends_word text → WordCut text count
+word_cut text count within e =
+    let front = take count text in
+    let back = first_line (drop count text) in
+    let before : list_all (λ byte. not (ends_word byte)) front ≡ true = rw e (none_before ends_word text) in
+    let none = list_all-implied (λ byte. not (ends_word byte)) (λ byte. not (byte == 10)) front no_end_in_word before in
+    let cut = cut_line text count none in
+    let long : length front ≡ count = length-take-le count text within in
+    let at : word_end (first_line text) ≡ length front = sym (word_end_in_line text) ∙ sym e ∙ sym long in
+    record {
+      word = ap (λ n. take n (first_line text)) at ∙ ap (take (length front)) cut.line ∙ take-append_seam front back;
+      rest = sym (ap (λ n. drop n (first_line text)) at ∙ ap (drop (length front)) cut.line ∙ drop-append_seam front back);
+      others = sym cut.rest;
+    }
+
+digit_ends_nothing : (byte : ℕ) → is_ascii_digit byte ≡ true → not (ends_word byte) ≡ true
+digit_ends_nothing byte digit = grind (arith, common_steps, digit)
+
+-- a text whose first word is digits
+pub digits_first : (text : List ℕ) (count : ℕ) → count ≤ length text → list_all is_ascii_digit (take count text) ≡ true →
+    length (first_word (first_line (drop count text))) ≡ 0 → WordCut text count
+digits_first text count within digits ends =
+    let rest = drop count text in
+    let before = list_all-implied is_ascii_digit (λ byte. not (ends_word byte)) (take count text) digit_ends_nothing digits in
+    let none = word_end_in_line rest ∙ sym (length-prefix_len (λ byte. not (byte == 32)) (first_line rest)) ∙ ends in
+    let at = ap (position_or_len ends_word) (sym (take-append-drop count text)) ∙ found_after ends_word (take count text) rest before in
+    word_cut text count within (omega (arith, at, none, length-take-le count text within))
+
+-- a text whose first line has no byte
+pub ends_at_once : (text : List ℕ) → length (first_line text) ≡ 0 → text ≡ after_first_line text
+ends_at_once text none = sym (whole_text text) ∙ ap (λ front. front ++ after_first_line text) (nil_from_length (first_line text) none)
+
+-- the lines of a text are the first and the others
+pub record FirstOfLines (text others : List ℕ) : Type 0 where
+  pub lines : lines_of text ≡ first_line text ∷ lines_of others
+  pub shorter : length others < length text
+
+pub first_of_lines : (text others : List ℕ) → 0 < length text → others ≡ drop 1 (after_first_line text) → FirstOfLines text others
+first_of_lines text others some e =
+    let remainder = e ∙ drop-drop 1 (line_end text) text in
+    record {
+      lines = lines_first text some ∙ ap (λ rest. first_line text ∷ lines_of rest) (sym remainder);
+      shorter = omega (arith, ap length remainder, length-drop (line_end text + 1) text);
+    }

@@ -1,0 +1,66 @@
+-- Lines one after another: those without fault, and the first faulty one.
+use Rattle.std.proofs.Common.{◌≡◌, ℕ, suc, ◌+◌, List, [], ◌∷◌, ◌++◌, length, Result, Ok, Err, refl, sym, ap, ◌∙◌, arith}
+use Rattle.std.specs.Prelude.{IsOk}
+use Rattle.tb_program_text.specs.declared.fault.Fault.{Fault}
+use Rattle.tb_program_text.specs.Text.{lines_of}
+use Rattle.tb_program_text.specs.Script.{ParsedScript, after_line, after_lines, at_line}
+use Rattle.tb_program_text.specs.Steps.{◌>>=◌}
+use Rattle.tb_program_text.specs.Laws.{FirstFaultDecides, FaultlessLinesAreParsed}
+
+pub line_parsed : (number : ℕ) (parsed next : ParsedScript) (all : List (List ℕ)) (line : List ℕ) (lines : List (List ℕ))
+    → all ≡ line ∷ lines → after_line parsed line ≡ Ok next →
+    after_lines number parsed all ≡ after_lines (number + 1) next lines
+unfolding after_lines
+line_parsed number parsed next all line lines e h = rw e (rw h refl)
+
+pub line_faulty : (number : ℕ) (parsed : ParsedScript) (fault : Fault) (all : List (List ℕ)) (line : List ℕ)
+    (lines : List (List ℕ)) → all ≡ line ∷ lines → after_line parsed line ≡ Err fault →
+    after_lines number parsed all ≡ Err (number, fault)
+unfolding after_lines
+line_faulty number parsed fault all line lines e h = rw e (rw h refl)
+
+pub lines_ended : (number : ℕ) (parsed : ParsedScript) (bs : List ℕ) → length bs ≡ 0
+    → after_lines number parsed (lines_of bs) ≡ Ok parsed
+unfolding after_lines lines_of
+lines_ended number parsed [] h = refl
+lines_ended number parsed (b ∷ bs) h = absurd (omega arith)
+
+first_step : (number : ℕ) (r : Result ParsedScript Fault) (lines : List (List ℕ)) (next : ParsedScript)
+    → (at_line number r >>= λ s. after_lines (number + 1) s lines) ≡ Ok next →
+    (s : ParsedScript) × (r ≡ Ok s) × (after_lines (number + 1) s lines ≡ Ok next)
+first_step number (Ok s) lines next h = (s, refl, h)
+first_step number (Err fault) lines next h = cc
+
+pub after_lines-append : (number : ℕ) (parsed next : ParsedScript) (front back : List (List ℕ))
+    → after_lines number parsed front ≡ Ok next → after_lines number parsed (front ++ back)
+    ≡ after_lines (number + length front) next back
+unfolding after_lines
+after_lines-append number parsed next [] back h =
+    let same : parsed ≡ next = cc in
+    let count : number + 0 ≡ number = omega arith in
+    rw (same, count) refl
+after_lines-append number parsed next (line ∷ front) back h =
+    let step = first_step number (after_line parsed line) front next h in
+    let count : number + 1 + length front ≡ number + suc (length front) = omega arith in
+    rw step.1 (after_lines-append (number + 1) step.0 next front back step.2 ∙ ap (λ n. after_lines n next back) count)
+
+pub decides : FirstFaultDecides
+decides number parsed next lines others line fault h f =
+    after_lines-append number parsed next lines (line ∷ others) h
+    ∙ line_faulty (number + length lines) next fault (line ∷ others) line others refl f
+
+faultless_step : (number : ℕ) (parsed : ParsedScript) (line : List ℕ) (lines : List (List ℕ)) (r : Result ParsedScript Fault)
+    → r ≡ after_line parsed line → IsOk r →
+    ((next : ParsedScript) → after_line parsed line ≡ Ok next → IsOk (after_lines (number + 1) next lines))
+    → IsOk (at_line number r >>= λ next. after_lines (number + 1) next lines)
+faultless_step number parsed line lines (Ok next) e fine rest = rest next (sym e)
+faultless_step number parsed line lines (Err fault) e fine rest = cc
+
+pub faultless : FaultlessLinesAreParsed
+unfolding after_lines
+faultless number parsed [] h = refl
+faultless number parsed (line ∷ lines) h =
+    faultless_step number parsed line lines (after_line parsed line) refl (h [] lines line parsed refl refl)
+    (λ next e. faultless (number + 1) next lines (λ front back later before is fine.
+    h (line ∷ front) back later before (ap (λ ls. line ∷ ls) is)
+    (line_parsed number parsed next (line ∷ front) line front refl e ∙ fine)))

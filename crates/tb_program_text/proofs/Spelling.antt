@@ -1,0 +1,413 @@
+-- What is spelled is read.
+use Rattle.std.proofs.Common.{◌≡◌, ℕ, suc, ◌+◌, ◌-◌, ◌/◌, ◌%◌, ◌^◌, ◌<◌, ◌≤◌, Bool, true, false, List, [], ◌∷◌, ◌++◌, length, map, refl, sym, ap, ◌∙◌, arith, Some, None, Option, Ok, length-append, subst, append_assoc, lt-ltb, le-ltb, zero, append-nil}
+use Rattle.std.specs.Prelude.{◌==◌, ◌&&◌, nat_le, nat_lt, filter, codes, decimal, slice_index, All, unwrap_or}
+use Rattle.std.specs.List.{list_all, flat_map}
+use Rattle.std.specs.Char.{is_ascii_digit}
+use Rattle.std.specs.Str.Parse.{digits_value}
+use Rattle.std.proofs.lemmas.List.Folds.{list_all-append}
+use Rattle.std.proofs.lemmas.List.Elements.{All-head, All-tail}
+use Rattle.std.proofs.lemmas.List.Sums.{AllPass-from_list_all}
+use Rattle.std.proofs.lemmas.List.Splits.{slice_split_at, slice_split_none}
+use Rattle.std.proofs.lemmas.Bool.{and_parts}
+use Rattle.std.proofs.lemmas.Bool.Decides.{nat_tests}
+use Rattle.std.proofs.lemmas.Fmt.{decimal_is_IsNumeral_wide, length-decimal-le_wide}
+use Rattle.hex.specs.Hex.{IsBytes, encode_lower, encode_with, lower_digits}
+use Rattle.hex.proofs.HexLemmas.{decode_of-encode_lower}
+use Rattle.tb_program_text.specs.declared.keyword.Keyword.{Keyword}
+use Rattle.tb_program_text.specs.declared.keyword.Keyword.TheVariants as word
+use Rattle.tb_program_text.specs.declared.item.Settings.{Settings}
+use Rattle.tb_program_text.specs.declared.item.ScriptItem.{ScriptItem}
+use Rattle.tb_program_text.specs.declared.item.ScriptItem.TheVariants.{Packet, Pulse, Shut}
+use Rattle.tb_program_text.specs.Text.{lines_of, words_of}
+use Rattle.tb_program_text.specs.Number.{number_of, number_within}
+use Rattle.tb_program_text.specs.Steps.{◌>>=◌}
+use Rattle.tb_program_text.specs.Keyword.{keyword_of}
+use Rattle.tb_program_text.specs.Event.{hex_bytes}
+use Rattle.tb_layout.specs.inside.Limits.{batch_max, capacity_max, submitters_max}
+use Rattle.tb_layout.specs.Limits.{clock_max}
+use Rattle.tb_work.specs.declared.packet.Packet as packets
+use Rattle.tb_program_text.specs.Script.{ParsedScript, nothing_parsed, items_of, may_stand, is_text, with_words, with_line, with_pulse, with_close, after_line, after_lines, submitters_of}
+use Rattle.tb_program_text.specs.Spelling.{line_of_words, text_of_lines, setting_lines, settings_lines, byte_line, packet_lines, item_lines, IsWithin, CanBeSet, CanBeSubmitted, CanBeWritten, CanAllBeWritten, shut_by}
+use Rattle.tb_program_text.specs.Laws.{SpelledScriptsAreRead}
+use Rattle.tb_program_text.proofs.Lines.{after_lines-append}
+use Rattle.tb_program_text.proofs.Numbers.{own}
+use Rattle.tb_program_text.proofs.Texts.{all-implied, list_all-implied}
+
+-- ---- words
+
+abbrev pub is_word_byte : ℕ → Bool
+is_word_byte byte = nat_le 33 byte && nat_le byte 126
+
+abbrev pub is_word : List ℕ → Bool
+is_word word = nat_lt 0 (length word) && list_all is_word_byte word
+
+word_is_text : (x : ℕ) → is_word_byte x ≡ true → (nat_le 32 x && nat_le x 126) ≡ true
+word_is_text x h = grind (arith, nat_tests)
+
+no_space : (x : ℕ) → is_word_byte x ≡ true → (x == 32) ≡ false
+no_space x h = grind (arith, nat_tests)
+
+text_no_end : (x : ℕ) → (nat_le 32 x && nat_le x 126) ≡ true → (x == 10) ≡ false
+text_no_end x h = grind (arith, nat_tests)
+
+digit_is_word : (x : ℕ) → is_ascii_digit x ≡ true → is_word_byte x ≡ true
+digit_is_word x h = grind (arith, nat_tests)
+
+words_of-line_of_words : (words : List (List ℕ)) → list_all is_word words ≡ true
+    → words_of (line_of_words words) ≡ words
+unfolding words_of
+words_of-line_of_words [] h = refl
+words_of-line_of_words (word ∷ []) h =
+    let parts = and_parts (nat_lt 0 (length word)) (list_all is_word_byte word) (and_parts (is_word word) true h).0 in
+    ap (filter (λ w. nat_lt 0 (length w))) (slice_split_none (λ b. b == 32) word
+    (all-implied is_word_byte (λ x. (x == 32) ≡ false) word no_space parts.1))
+    ∙ rw parts.0 refl
+words_of-line_of_words (word ∷ next ∷ words) h =
+    let both = and_parts (is_word word) (list_all is_word (next ∷ words)) h in
+    let parts = and_parts (nat_lt 0 (length word)) (list_all is_word_byte word) both.0 in
+    ap (filter (λ w. nat_lt 0 (length w))) (slice_split_at (λ b. b == 32) word 32 (line_of_words (next ∷ words))
+    (all-implied is_word_byte (λ x. (x == 32) ≡ false) word no_space parts.1) refl)
+    ∙ rw parts.0 (ap (λ ws. word ∷ ws) (words_of-line_of_words (next ∷ words) both.1))
+
+is_text-line_of_words : (words : List (List ℕ)) → list_all is_word words ≡ true → is_text (line_of_words words) ≡ true
+is_text-line_of_words [] h = refl
+is_text-line_of_words (word ∷ []) h =
+    list_all-implied is_word_byte (λ b. nat_le 32 b && nat_le b 126) word word_is_text
+    (and_parts (nat_lt 0 (length word)) (list_all is_word_byte word) (and_parts (is_word word) true h).0).1
+is_text-line_of_words (word ∷ next ∷ words) h =
+    let both = and_parts (is_word word) (list_all is_word (next ∷ words)) h in
+    let front = list_all-implied is_word_byte (λ b. nat_le 32 b && nat_le b 126) word word_is_text
+    (and_parts (nat_lt 0 (length word)) (list_all is_word_byte word) both.0).1 in
+    list_all-append (λ b. nat_le 32 b && nat_le b 126) word (32 ∷ line_of_words (next ∷ words))
+    ∙ rw (front, is_text-line_of_words (next ∷ words) both.1) refl
+
+-- ---- lines
+
+lines_of-one_more : (line rest : List ℕ) → is_text line ≡ true → lines_of (line ++ 10 ∷ rest) ≡ line ∷ lines_of rest
+unfolding lines_of
+lines_of-one_more [] rest h = refl
+lines_of-one_more (b ∷ line) rest h =
+    let parts = and_parts (nat_le 32 b && nat_le b 126) (is_text line) h in
+    rw (text_no_end b parts.0, lines_of-one_more line rest parts.1) refl
+
+lines_of-text_of_lines : (lines : List (List ℕ)) → list_all is_text lines ≡ true
+    → lines_of (text_of_lines lines) ≡ lines
+unfolding lines_of
+lines_of-text_of_lines [] h = refl
+lines_of-text_of_lines (line ∷ lines) h =
+    let parts = and_parts (is_text line) (list_all is_text lines) h in
+    lines_of-one_more line (text_of_lines lines) parts.0 ∙ ap (λ ls. line ∷ ls) (lines_of-text_of_lines lines parts.1)
+
+-- lines that lead from one state to another, wherever they are
+record Says (parsed : ParsedScript) (lines : List (List ℕ)) (next : ParsedScript) : Type 0 where
+  text : list_all is_text lines ≡ true
+  read : (number : ℕ) → after_lines number parsed lines ≡ Ok next
+
+says_nothing : (parsed : ParsedScript) → Says parsed [] parsed
+unfolding after_lines
+says_nothing parsed = record { text = refl; read = λ number. refl }
+
+-- a line that does so
+pub record SaysLine (parsed : ParsedScript) (line : List ℕ) (next : ParsedScript) : Type 0 where
+  pub text : is_text line ≡ true
+  pub read : after_line parsed line ≡ Ok next
+
+says_more : (parsed between next : ParsedScript) (line : List ℕ) (lines : List (List ℕ)) → SaysLine parsed line between
+    → Says between lines next → Says parsed (line ∷ lines) next
+unfolding after_lines
+says_more parsed between next line lines first rest = record {
+  text = rw (first.text, rest.text) refl;
+  read = λ number. rw first.read (rest.read (number + 1));
+}
+
+says_line : (parsed next : ParsedScript) (line : List ℕ) → SaysLine parsed line next → Says parsed (line ∷ []) next
+says_line parsed next line says = says_more parsed next next line [] says (says_nothing next)
+
+says_both : (parsed between next : ParsedScript) (front back : List (List ℕ)) → Says parsed front between
+    → Says between back next → Says parsed (front ++ back) next
+says_both parsed between next front back first second = record {
+  text = list_all-append is_text front back ∙ rw (first.text, second.text) refl;
+  read = λ number. after_lines-append number parsed between front back (first.read number)
+      ∙ second.read (number + length front);
+}
+
+-- a line that begins with a keyword in its place
+pub keyword_line : (parsed : ParsedScript) (keyword : Keyword) (name : List ℕ) (words : List (List ℕ))
+    → list_all is_word (name ∷ words) ≡ true → length (line_of_words (name ∷ words)) ≤ 65536 →
+    (slice_index name 0 == 35) ≡ false → keyword_of name ≡ Some keyword → may_stand parsed keyword ≡ true
+    → after_line parsed (line_of_words (name ∷ words)) ≡ with_line parsed keyword words
+unfolding after_line
+keyword_line parsed keyword name words good short mark is index =
+    rw (le-ltb 65536 (length (line_of_words (name ∷ words))) short, is_text-line_of_words (name ∷ words) good)
+    (ap (with_words parsed) (words_of-line_of_words (name ∷ words) good) ∙ rw (mark, is, index) refl)
+
+-- ---- numbers
+
+-- what a number is spelled as
+record IsSpelled (n : ℕ) : Type 0 where
+  some : 0 < length (decimal n)
+  short : length (decimal n) ≤ 39
+  digits : list_all is_ascii_digit (decimal n) ≡ true
+  value : digits_value 10 (decimal n) ≡ n
+
+spelled : (n : ℕ) → n < 2 ^ 128 → IsSpelled n
+spelled n h =
+    let numeral = decimal_is_IsNumeral_wide n (omega (arith, h)) in
+    record {
+      some = numeral.0.0;
+      short = length-decimal-le_wide 39 n (omega arith) (omega (arith, h)) (omega (arith, h));
+      digits = own.from (decimal n) numeral.0.1;
+      value = own.same (decimal n) numeral.0.1 ∙ numeral.1;
+    }
+
+pub decimal_is_word : (n : ℕ) → n < 2 ^ 128 → is_word (decimal n) ≡ true
+decimal_is_word n h =
+    let is = spelled n h in
+    rw (lt-ltb 0 (length (decimal n)) is.some) (list_all-implied is_ascii_digit is_word_byte
+    (decimal n) digit_is_word is.digits)
+
+pub length-decimal : (n : ℕ) → n < 2 ^ 128 → length (decimal n) ≤ 39
+length-decimal n h = (spelled n h).short
+
+pub number_within-decimal : (low high n : ℕ) → low ≤ n → n ≤ high → n < 2 ^ 128
+    → number_within low high (decimal n) ≡ Ok n
+unfolding number_of
+number_within-decimal low high n above below h =
+    let is = spelled n h in
+    rw (
+      lt-ltb 0 (length (decimal n)) is.some,
+      lt-ltb (length (decimal n)) 40
+          (omega (arith, is.short)),
+      is.digits,
+      is.value,
+    ) (grind (arith, nat_tests))
+
+-- a line of a keyword in its place and a number in its bounds
+pub number_line : (parsed : ParsedScript) (to : ℕ → ParsedScript) (keyword : Keyword) (name : List ℕ) (low high n : ℕ)
+    → is_word name ≡ true → length name ≤ 16 → (slice_index name 0 == 35) ≡ false → keyword_of name ≡ Some keyword
+    → may_stand parsed keyword ≡ true → high < 2 ^ 128 →
+    ((text : List ℕ) → with_line parsed keyword (text ∷ []) ≡ (number_within low high text >>= λ n. Ok (to n)))
+    → low ≤ n → n ≤ high → SaysLine parsed (line_of_words (name ∷ decimal n ∷ [])) (to n)
+number_line parsed to keyword name low high n good short mark is index fits makes above below =
+    let small : n < 2 ^ 128 = omega (arith, fits, below) in
+    let words : list_all is_word (name ∷ decimal n ∷ []) ≡ true = rw (good, decimal_is_word n small) refl in
+    let count : length (line_of_words (name ∷ decimal n ∷ []))
+    ≤ 65536 = omega (arith, short, length-append name (32 ∷ decimal n), length-decimal n small) in
+    record {
+      text = is_text-line_of_words (name ∷ decimal n ∷ []) words;
+      read = keyword_line parsed keyword name (decimal n ∷ []) words count mark is index ∙ makes (decimal n)
+          ∙ rw (number_within-decimal low high n above below small) refl;
+    }
+
+-- ---- settings
+
+abbrev given : Option ℕ → Option ℕ → Option ℕ → Option ℕ → Option ℕ → ParsedScript
+given clock limit capacity credit submitters = record {
+  settings = record { clock = clock; limit = limit; capacity = capacity; credit = credit; submitters = submitters };
+  items = [];
+  packet = None;
+  shut = false;
+}
+
+-- a setting's line, if it is given
+says_setting : (to : Option ℕ → ParsedScript) (keyword : Keyword) (name : List ℕ) (low high : ℕ) (setting : Option ℕ)
+    → is_word name ≡ true → length name ≤ 16 → (slice_index name 0 == 35) ≡ false → keyword_of name ≡ Some keyword
+    → may_stand (to None) keyword ≡ true → high < 2 ^ 128 →
+    ((text : List ℕ) → with_line (to None) keyword (text ∷ []) ≡ (number_within low high text >>= λ n. Ok (to (Some n))))
+    → IsWithin low high setting → Says (to None) (setting_lines name setting) (to setting)
+says_setting to keyword name low high None good short mark is index fits makes h = says_nothing (to None)
+says_setting to keyword name low high (Some n) good short mark is index fits makes h =
+    says_line (to None) (to (Some n)) _
+    (number_line (to None) (λ n. to (Some n)) keyword name low high n good short mark is index fits makes h.0 h.1)
+
+says_settings : (s : Settings) → CanBeSet s → Says nothing_parsed (settings_lines s)
+    (given s.clock s.limit s.capacity s.credit s.submitters)
+unfolding with_line keyword_of
+says_settings s h =
+    says_both _ _ _ _ _ (says_setting (λ clock. given clock None None None None) word.Clock (codes "clock")
+    0 clock_max s.clock refl (omega arith) refl refl refl (omega arith) (λ text. refl) h.clock)
+    (says_both _ _ _ _ _ (says_setting (λ limit. given s.clock limit None None None) word.Limit (codes "limit")
+    1 batch_max s.limit refl (omega arith) refl refl refl (omega arith) (λ text. refl) h.limit)
+    (says_both _ _ _ _ _ (says_setting (λ capacity. given s.clock s.limit capacity None None) word.Capacity (codes "capacity")
+    1 capacity_max s.capacity refl (omega arith) refl refl refl (omega arith) (λ text. refl) h.capacity)
+    (says_both _ _ _ _ _ (says_setting (λ credit. given s.clock s.limit s.capacity credit None) word.Credit (codes "credit")
+    1 capacity_max s.credit refl (omega arith) refl refl refl (omega arith) (λ text. refl) h.credit)
+    (says_setting (λ submitters. given s.clock s.limit s.capacity s.credit submitters) word.Submitters (codes "submitters")
+    1 submitters_max s.submitters refl (omega arith) refl refl refl (omega arith) (λ text. refl) h.submitters))))
+
+-- ---- packets
+
+digit_byte_is_word : (d : ℕ) → d < 16 → is_word_byte (slice_index lower_digits d) ≡ true
+digit_byte_is_word d h = AllPass-from_list_all is_word_byte lower_digits refl d 0 h
+
+encoded_is_word : (byte : ℕ) → byte < 256 → is_word (encode_lower (byte ∷ [])) ≡ true
+unfolding encode_with
+encoded_is_word byte h =
+    let high : byte / 16 < 16 = omega arith in
+    let low : byte % 16 < 16 = omega arith in
+    rw (digit_byte_is_word (byte / 16) high, digit_byte_is_word (byte % 16) low) refl
+
+length-encoded : (byte : ℕ) → length (encode_lower (byte ∷ [])) ≡ 2
+unfolding encode_with
+length-encoded byte = refl
+
+one_is_bytes : (byte : ℕ) → byte < 256 → IsBytes (byte ∷ [])
+one_is_bytes byte h zero = h
+one_is_bytes byte h (suc i) = omega arith
+
+one_byte : (byte : ℕ) → byte < 256 → hex_bytes (encode_lower (byte ∷ [])) ≡ Ok (byte ∷ [])
+unfolding hex_bytes
+one_byte byte h = rw (decode_of-encode_lower (byte ∷ []) (one_is_bytes byte h)) refl
+
+-- a packet to which lines add, after what was said
+abbrev adding : ParsedScript → ℕ → packets.Packet → ParsedScript
+adding parsed submitter packet = record parsed { items = items_of parsed; packet = Some (submitter, packet) }
+
+says_byte : (parsed : ParsedScript) (submitter : ℕ) (packet : packets.Packet) (byte : ℕ) → byte < 256
+    → SaysLine (adding parsed submitter packet) (byte_line byte)
+    (adding parsed submitter (record packet { bytes = packet.bytes ++ byte ∷ [] }))
+unfolding with_line keyword_of
+says_byte parsed submitter packet byte h =
+    let words : list_all is_word (codes "hex" ∷ encode_lower (byte ∷ []) ∷ []) ≡ true = rw (encoded_is_word byte h) refl in
+    record {
+      text = is_text-line_of_words (codes "hex" ∷ encode_lower (byte ∷ []) ∷ []) words;
+      read = keyword_line (adding parsed submitter packet) word.Hex (codes "hex") (encode_lower (byte ∷ []) ∷ [])
+          words (omega (arith, length-encoded byte)) refl refl refl ∙ rw (one_byte byte h) refl;
+    }
+
+says_bytes : (parsed : ParsedScript) (submitter : ℕ) (packet : packets.Packet) (bytes : List ℕ)
+    → All (λ byte. byte < 256) bytes →
+    Says (adding parsed submitter packet) (map byte_line bytes)
+    (adding parsed submitter (record packet { bytes = packet.bytes ++ bytes }))
+says_bytes parsed submitter packet [] h =
+    subst (λ bs. Says (adding parsed submitter packet) [] (adding parsed submitter (record packet { bytes = bs })))
+    (sym (append-nil packet.bytes)) (says_nothing _)
+says_bytes parsed submitter packet (byte ∷ bytes) h =
+    let small = All-head (λ b. b < 256) byte bytes h in
+    let more = record packet { bytes = packet.bytes ++ byte ∷ [] } in
+    says_more _ (adding parsed submitter more) _ _ _ (says_byte parsed submitter packet byte small)
+    (subst (λ bs. Says (adding parsed submitter more) (map byte_line bytes) (adding parsed submitter (record packet { bytes = bs })))
+    (append_assoc packet.bytes (byte ∷ []) bytes)
+    (says_bytes parsed submitter more bytes (All-tail (λ b. b < 256) byte bytes h)))
+
+abbrev packet_words : ℕ → packets.Packet → List (List ℕ)
+packet_words submitter packet = codes "packet" ∷ decimal submitter ∷ decimal packet.operation ∷ []
+
+-- a packet's line begins the packet, and those of its bytes add them
+says_packet : (parsed : ParsedScript) (submitter : ℕ) (packet : packets.Packet) → submitters_of parsed.settings ≤ submitters_max
+    → CanBeSubmitted (submitters_of parsed.settings) submitter packet →
+    Says parsed (packet_lines submitter packet) (adding parsed submitter packet)
+unfolding with_line keyword_of
+says_packet parsed submitter packet few h =
+    let empty = record packet { bytes = [] } in
+    let first : submitter < 2 ^ 128 = omega (arith, h.known) in
+    let second : packet.operation < 2 ^ 128 = omega (arith, h.operation) in
+    let words : list_all is_word (packet_words submitter packet) ≡ true =
+    rw (decimal_is_word submitter first, decimal_is_word packet.operation second) refl in
+    let short : length (line_of_words (packet_words submitter packet)) ≤ 65536 = omega (
+      arith,
+      length-append (decimal submitter) (32 ∷ decimal packet.operation),
+      length-decimal submitter first,
+      length-decimal packet.operation second,
+    ) in
+    says_more parsed (adding parsed submitter empty) (adding parsed submitter packet) _ (map byte_line packet.bytes) (record {
+      text = is_text-line_of_words (packet_words submitter packet) words;
+      read = keyword_line parsed word.Packet (codes "packet") (decimal submitter ∷ decimal packet.operation ∷ [])
+          words short refl refl refl
+          ∙ rw (
+            number_within-decimal 0 (submitters_of parsed.settings - 1) submitter (omega arith) (omega (arith, h.known)) first,
+            number_within-decimal 0 255 packet.operation (omega arith) (omega (arith, h.operation)) second,
+            h.user,
+          ) refl;
+    }) (says_bytes parsed submitter empty packet.bytes h.bytes)
+
+-- a pulse's line says its pulse
+says_pulse : (parsed : ParsedScript) (moment : ℕ) → parsed.shut ≡ false → moment < 2 ^ 64
+    → Says parsed (item_lines (Pulse moment)) (with_pulse parsed moment)
+unfolding with_line keyword_of
+says_pulse parsed moment unshut small =
+    says_line parsed (with_pulse parsed moment) _ (number_line parsed (with_pulse parsed) word.Pulse (codes "pulse")
+    0 (2 ^ 64 - 1) moment refl (omega arith) refl refl (rw unshut refl) (omega arith) (λ text. refl)
+    (omega arith) (omega (arith, small)))
+
+-- the line of the Close says it
+says_close : (parsed : ParsedScript) → parsed.shut ≡ false → Says parsed (item_lines Shut) (with_close parsed)
+unfolding with_line keyword_of
+says_close parsed unshut =
+    says_line parsed (with_close parsed) _ (record {
+      text = refl;
+      read = keyword_line parsed word.Shut (codes "shut") [] refl (omega arith) refl refl (rw unshut refl);
+    })
+
+-- one item after those that were said
+abbrev with_item : ParsedScript → ScriptItem → ParsedScript
+with_item parsed (Packet submitter packet) = adding parsed submitter packet
+with_item parsed (Pulse moment) = with_pulse parsed moment
+with_item parsed Shut = with_close parsed
+
+says_item : (parsed : ParsedScript) (item : ScriptItem) → submitters_of parsed.settings ≤ submitters_max
+    → CanBeWritten (submitters_of parsed.settings) parsed.shut item → Says parsed (item_lines item) (with_item parsed item)
+says_item parsed (Packet submitter packet) few h = says_packet parsed submitter packet few h
+says_item parsed (Pulse moment) few h = says_pulse parsed moment h.0 h.1
+says_item parsed Shut few h = says_close parsed h
+
+settings_stay : (parsed : ParsedScript) (item : ScriptItem) → (with_item parsed item).settings ≡ parsed.settings
+settings_stay parsed (Packet submitter packet) = refl
+settings_stay parsed (Pulse moment) = refl
+settings_stay parsed Shut = refl
+
+shut_after : (parsed : ParsedScript) (item : ScriptItem) → (with_item parsed item).shut ≡ shut_by parsed.shut item
+shut_after parsed (Packet submitter packet) = refl
+shut_after parsed (Pulse moment) = refl
+shut_after parsed Shut = refl
+
+item_is_last : (parsed : ParsedScript) (item : ScriptItem) → items_of (with_item parsed item) ≡ items_of parsed ++ item ∷ []
+item_is_last parsed (Packet submitter packet) = refl
+item_is_last parsed (Pulse moment) = append-nil (items_of parsed ++ Pulse moment ∷ [])
+item_is_last parsed Shut = append-nil (items_of parsed ++ Shut ∷ [])
+
+-- the items after those that were said
+record SaysItems (parsed : ParsedScript) (items : List ScriptItem) : Type 0 where
+  next : ParsedScript
+  says : Says parsed (flat_map item_lines items) next
+  settings : next.settings ≡ parsed.settings
+  all : items_of next ≡ items_of parsed ++ items
+
+says_items : (parsed : ParsedScript) (items : List ScriptItem) → submitters_of parsed.settings ≤ submitters_max
+    → CanAllBeWritten (submitters_of parsed.settings) parsed.shut items → SaysItems parsed items
+says_items parsed [] few all =
+    record { next = parsed; says = says_nothing parsed; settings = refl; all = sym (append-nil (items_of parsed)) }
+says_items parsed (item ∷ items) few all =
+    let between = with_item parsed item in
+    let same = settings_stay parsed item in
+    let can = subst (λ b. CanAllBeWritten (submitters_of between.settings) b items) (sym (shut_after parsed item))
+    (subst (λ (s : Settings). CanAllBeWritten (submitters_of s) (shut_by parsed.shut item) items)
+    (sym same) all.1) in
+    let later = says_items between items (subst (λ (s : Settings). submitters_of s ≤ submitters_max) (sym same) few)
+    can in
+    record {
+      next = later.next;
+      says = says_both parsed between later.next (item_lines item) (flat_map item_lines items)
+          (says_item parsed item few all.0) later.says;
+      settings = later.settings ∙ same;
+      all = later.all ∙ ap (λ xs. xs ++ items) (item_is_last parsed item)
+          ∙ append_assoc (items_of parsed) (item ∷ []) items;
+    }
+
+few_submitters : (submitters : Option ℕ) → IsWithin 1 submitters_max submitters → unwrap_or submitters 2 ≤ submitters_max
+few_submitters None h = omega arith
+few_submitters (Some n) h = h.1
+
+pub read_as_spelled : SpelledScriptsAreRead
+read_as_spelled settings items can all =
+    let start = given settings.clock settings.limit settings.capacity settings.credit settings.submitters in
+    let later = says_items start items (few_submitters settings.submitters can.submitters) all in
+    let whole = says_both nothing_parsed start later.next (settings_lines settings) (flat_map item_lines items)
+    (says_settings settings can) later.says in (
+      later.next,
+      ap (after_lines 1 nothing_parsed) (lines_of-text_of_lines
+          (settings_lines settings ++ flat_map item_lines items) whole.text)
+          ∙ whole.read 1,
+      later.settings,
+      later.all,
+    )

@@ -1,8 +1,0 @@
-use Rattle.std.proofs.Common.{rules, tests}
-use Rattle.tb_program_text.proofs.planning.Plan.add_pulse.Goals as goal
-
-pub returns : goal.returns
-returns c = search (tests, rules)
-
-pub returns-then-moment-gt-MOMENT_MAX : goal.returns-then-moment-gt-MOMENT_MAX
-returns-then-moment-gt-MOMENT_MAX c = search (tests, rules)

@@ -1,6 +1,0 @@
--- Found by the prover itself; on file since the check of an edit then costs less.
-use Rattle.std.proofs.Common.{rules}
-use Rattle.tb_program_text.proofs.script.output_of.Goals as goal
-
-pub returns-in-Script-clause-thread : goal.returns-in-Script-clause-thread
-returns-in-Script-clause-thread c = search rules
