@@ -1,9 +1,12 @@
 -- What the threads of the senders are started with, and what they bring back.
-use Rattle.std.specs.Prelude.{◌≡◌, List}
+use Rattle.std.specs.Prelude.{◌≡◌, ℕ, List, length, map}
 use Rattle.std.specs.declared.thread.PromisedHandle.{PromisedHandle}
-use Rattle.tb_submit.specs.Ends.{SenderState}
+use Rattle.tb_submit.specs.Ends.{EndedState, SenderState}
 use Rattle.tb_work.specs.declared.item.Item.{Item}
-use Rattle.tb_drive.specs.Tasks.{ControlTaskState, SubmitterResultState, SubmitterTaskState}
+use Rattle.tb_work.specs.Packet.{Numbered, ReplyValue}
+use Rattle.tb_work.specs.declared.packet.Packet.{Packet}
+use Rattle.tb_drive.specs.Seen.{HaveSeenEnds}
+use Rattle.tb_drive.specs.Tasks.{AreResultsOf, ControlTaskState, SubmitterResultState, SubmitterTaskState}
 use Rattle.tb_drive.specs.Plan.{with_items}
 use Rattle.tb_drive.specs.declared.controlling.ControlResult.{ControlResult}
 use Rattle.tb_drive.specs.declared.submitting.SubmitterPromise.{SubmitterPromise}
@@ -11,6 +14,15 @@ use Rattle.tb_drive.specs.declared.submitting.SubmitterPromise.{SubmitterPromise
 -- what a thread was started with
 abbrev pub started_from : {D : Type 0} → PromisedHandle SubmitterResultState (SubmitterPromise D) → SubmitterTaskState
 started_from handle = handle.promise.task.value
+
+-- the threads of these tasks brought back these ends, and drivers that have seen them and ended
+pub record HaveJoined {D : Type 0} (share : D → List Packet)
+    (has_seen has_ended : D → ℕ → List Numbered → List ReplyValue → Type 0) (tasks : List SubmitterTaskState)
+    (ends : List EndedState) (drivers : List D) : Type 0 where
+  pub results : AreResultsOf tasks ends (map share drivers)
+  pub number : length drivers ≡ length ends
+  pub seen : HaveSeenEnds has_seen drivers ends
+  pub ended : HaveSeenEnds has_ended drivers ends
 
 -- ---- the control
 

@@ -110,7 +110,6 @@ pub fn submit_once<R: Wait>(
 }
 
 /// Hands the next reply to the driver. Answers whether there was one; with no packet in flight there is none.
-#[tactic(auto, using(crate::proofs::Seen::fewer_read))]
 fn read<D: Driver>(submitter: &mut Submitter, driver: &mut D) -> bool
     ensures own { origin_of submitter.new ≡ origin_of submitter.old }
     ensures front { submitter.new.queued ≡ submitter.old.queued }

@@ -1,11 +1,11 @@
 //! The threads of a run: how they are started, and how they are joined.
 
-ghost use Rattle.std.specs.Prelude.{◌≡◌, [], map, length, IfOk, IfErr, IfSome};
+ghost use Rattle.std.specs.Prelude.{◌≡◌, [], ◌∷◌, ◌++◌, List, map, length, OnOk, IfOk, IfErr, IfSome};
 ghost use Rattle.tb_submit.specs.Ends.{origin_of};
 ghost use Rattle.tb_drive.specs.declared.drive_fault.DriveFault.TheVariants as fault;
 ghost use Rattle.tb_drive.specs.Seen.{HaveSeen, HaveSeenEnds};
-ghost use Rattle.tb_drive.specs.Tasks.{AreResultsOf, IsResultOf, task_origin, task_share, task_submitter};
-ghost use Rattle.tb_drive.specs.Threads.{IsControlResultOf};
+ghost use Rattle.tb_drive.specs.Tasks.{AreResultsOf, IsResultOf, SubmitterTaskState, task_origin, task_share, task_submitter};
+ghost use Rattle.tb_drive.specs.Threads.{HaveJoined, IsControlResultOf, started_from};
 
 use crate::control_driver::ControlDriver;
 use crate::controlling::{ControlPromise, ControlResult, ControlTask};
@@ -85,13 +85,13 @@ fn assign<D: Driver>(
     ensures shares { IfOk result (λ all. map task_share all.items ≡ map D.share drivers.items) }
     ensures memory { IfErr result (λ why. why ≡ fault.NoMemory) }
 {
-    let mut drivers = drivers.into_iter();
     let mut all = Vec::with_capacity(alloc, submitters.len())?;
+    let mut drivers = drivers.into_iter();
     for submitter in submitters {
         let Some(driver) = drivers.next() else {
             unreachable!()
         };
-        all.push(SubmitterTask { submitter, driver })?;
+        all.push_reserved(SubmitterTask { submitter, driver });
     }
     Ok(all)
 }
@@ -121,6 +121,37 @@ impl<D: Driver> SubmitterTask<D> {
         );
         started.ok().ok_or(DriveFault::NoThread)
     }
+}
+
+/// Returns empty vectors with capacity for the handles of so many submitters' threads, and for what these return.
+fn room_for<D: Driver>(
+    alloc: Global,
+    number: usize,
+) -> Result<(Vec<SubmitterThread<D>>, Vec<Ended>, Vec<D>), DriveFault>
+    ensures { IfOk result (λ room. (room.0.items ≡ []) × (room.1.items ≡ []) × (room.2.items ≡ [])) }
+{
+    let ends = Vec::with_capacity(alloc, number)?;
+    let drivers = Vec::with_capacity(alloc, number)?;
+    let submitters = Vec::with_capacity(alloc, number)?;
+    Ok((submitters, ends, drivers))
+}
+
+/// Starts the submitters' threads in their order.
+fn start_all<'s, D: Driver + Send + 's, E, R: Wait + Sync>(
+    tasks: Vec<SubmitterTask<D>>,
+    scope: &Scope<'s, E>,
+    rt: &'s R,
+    alloc: Global,
+    stop: &'s Stop,
+    threads: &mut Vec<SubmitterThread<D>>,
+) -> Result<(), DriveFault>
+    requires { threads.old.items ≡ [] }
+    ensures { OnOk result (map started_from threads.new.items ≡ tasks.items) }
+{
+    for task in tasks {
+        threads.push(task.start(scope, rt, alloc, stop)?)?;
+    }
+    Ok(())
 }
 
 impl<C: ControlDriver> ControlTask<C> {
@@ -200,12 +231,8 @@ impl<D: Driver + Send, C: ControlDriver + Send> Tasks<D, C> {
             submitters: tasks,
             control,
         } = self;
-        let ends = Vec::with_capacity(alloc, tasks.len())?;
-        let drivers = Vec::with_capacity(alloc, tasks.len())?;
-        let mut submitters = Vec::with_capacity(alloc, tasks.len())?;
-        for task in tasks {
-            submitters.push(task.start(scope, rt, alloc, stop)?)?;
-        }
+        let (mut submitters, ends, drivers) = room_for(alloc, tasks.len())?;
+        start_all(tasks, scope, rt, alloc, stop, &mut submitters)?;
         let control = control.start(scope, rt, stop)?;
         Ok(Running {
             submitters,
@@ -214,6 +241,48 @@ impl<D: Driver + Send, C: ControlDriver + Send> Tasks<D, C> {
             drivers,
         })
     }
+}
+
+/// Joins a submitter's thread, and puts what it returned behind what the others did.
+///
+/// Errors: `NoThread`, if the run was given up before the submitter ended.
+fn join_one<D: Driver, R: Threads>(
+    rt: &R,
+    handle: SubmitterThread<D>,
+    ends: &mut Vec<Ended>,
+    drivers: &mut Vec<D>,
+) -> Result<(), DriveFault>
+    ensures { (tasks : List SubmitterTaskState)
+        → HaveJoined D.share D.has_seen D.has_ended tasks ends.old.items drivers.old.items
+        → OnOk result (HaveJoined D.share D.has_seen D.has_ended (tasks ++ started_from handle ∷ []) ends.new.items
+            drivers.new.items) }
+{
+    let SubmitterResult { ended, driver } = handle.join(rt);
+    let Some(ended) = ended else {
+        return Err(DriveFault::NoThread);
+    };
+    ends.push(ended)?;
+    drivers.push(driver)?;
+    Ok(())
+}
+
+/// Joins the submitters' threads in their order, and leaves what they returned in two empty vectors.
+///
+/// Errors: `NoThread`, if the run was given up before a submitter ended.
+fn join_all<D: Driver, R: Threads>(
+    rt: &R,
+    submitters: Vec<SubmitterThread<D>>,
+    ends: &mut Vec<Ended>,
+    drivers: &mut Vec<D>,
+) -> Result<(), DriveFault>
+    requires { (ends.old.items ≡ []) × (drivers.old.items ≡ []) }
+    ensures { OnOk result (HaveJoined D.share D.has_seen D.has_ended (map started_from submitters.items) ends.new.items
+        drivers.new.items) }
+{
+    for handle in submitters {
+        join_one(rt, handle, ends, drivers)?;
+    }
+    Ok(())
 }
 
 impl<D: Driver, C: ControlDriver> Running<D, C> {
@@ -234,14 +303,7 @@ impl<D: Driver, C: ControlDriver> Running<D, C> {
             mut ends,
             mut drivers,
         } = self;
-        for handle in submitters {
-            let SubmitterResult { ended, driver } = handle.join(rt);
-            let Some(ended) = ended else {
-                return Err(DriveFault::NoThread);
-            };
-            ends.push(ended)?;
-            drivers.push(driver)?;
-        }
+        join_all(rt, submitters, &mut ends, &mut drivers)?;
         let Some(control) = control.join(rt) else {
             return Err(DriveFault::NoThread);
         };

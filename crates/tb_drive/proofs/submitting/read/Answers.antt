@@ -1,4 +1,4 @@
-use Rattle.std.proofs.Common.{◌<◌, length, ap, subst, sym}
+use Rattle.std.proofs.Common.{◌<◌, length, ap, refl, subst, sym}
 use Rattle.tb_submit.specs.Ends.{SubmitterState, origin_of}
 use Rattle.tb_drive.specs.Seen.{HasAsked, HasSeen, jobs_in}
 use Rattle.tb_drive.proofs.Seen.{fewer_read}
@@ -20,3 +20,25 @@ returns-in-Some g c =
           (c.receive.ensures.asked packet _ _ _ few had);
       share = c.receive.ensures.share;
     }
+
+pub returns-in-None : goal.returns-in-None
+returns-in-None g c =
+    let is = c.in-None.ensures.none in
+    record {
+      own = ap origin_of is;
+      front = ap (λ (one : SubmitterState). one.queued) is;
+      seen = subst (HasSeen g.D.Driver.has_seen c.args.driver.now) (sym is);
+      ended = subst (HasSeen g.D.Driver.has_ended c.args.driver.now) (sym is);
+      asked = λ packet. subst (HasAsked g.D.Driver.has_asked c.args.driver.now packet) (sym is);
+      share = refl;
+    }
+
+pub returns-then-in_flight-eq0 : goal.returns-then-in_flight-eq0
+returns-then-in_flight-eq0 g c = record {
+  own = refl;
+  front = refl;
+  seen = λ had. had;
+  ended = λ had. had;
+  asked = λ packet had. had;
+  share = refl;
+}

@@ -8,8 +8,8 @@ use Rattle.tb_drive.specs.Tasks.{SubmitterTaskState, task_origin, task_share, ta
 use Rattle.tb_drive.proofs.Seen.{first_has, others_have}
 use Rattle.tb_drive.proofs.threads.assign.Goals as goal
 
-pub invariant_of-push : goal.invariant_of-push
-invariant_of-push g c =
+pub invariant_of-push_reserved : goal.invariant_of-push_reserved
+invariant_of-push_reserved g c =
     let submitters : c.loop-submitter.submitter-iterator.rest.items
     ≡ c.in-Some.submitter ∷ c.next.new.self.rest.items = search rules in
     let drivers : into_iter_items c.loop-submitter.drivers
@@ -27,7 +27,7 @@ loop-submitter-preserved g c =
     let all = c.loop-submitter.all.items in
     let driver = c.in-Some-next.driver in
     let task : SubmitterTaskState = record { submitter = c.in-Some.submitter; share = g.D.Driver.share driver } in
-    let pushed : c.push.new.self.items ≡ all ++ task ∷ [] = c.in_ok-push.ensures.items in
+    let pushed : c.push_reserved.new.self.items ≡ all ++ task ∷ [] = c.push_reserved.ensures.items in
     record {
       own = rw (
         pushed,
@@ -42,6 +42,13 @@ loop-submitter-preserved g c =
           ∙ sym (ap (λ ds. map task_share all ++ map g.D.Driver.share ds) drivers)
           ∙ c.loop-submitter.invariant.shares);
       long = omega (arith, c.loop-submitter.invariant.long, ap length drivers, ap length submitters);
+      room = omega (
+        arith,
+        c.loop-submitter.invariant.room,
+        c.push_reserved.ensures.len,
+        c.push_reserved.ensures.capacity,
+        ap length submitters,
+      );
       seen = others_have g.D.Driver.has_seen drivers submitters c.loop-submitter.invariant.seen;
     }
 
@@ -62,3 +69,9 @@ returns g c =
           ∙ c.loop-submitter.invariant.shares;
       memory = tt;
     }
+
+pub push_reserved-requires : goal.push_reserved-requires
+push_reserved-requires g c =
+    let submitters : c.loop-submitter.submitter-iterator.rest.items
+    ≡ c.in-Some.submitter ∷ c.next.new.self.rest.items = search rules in
+    omega (arith, c.loop-submitter.invariant.room, ap length submitters)

@@ -1,4 +1,5 @@
-use Rattle.std.proofs.Common.{◌≡◌, ◌++◌, map, length}
+use Rattle.std.proofs.Common.{◌≡◌, ◌≤◌, ◌+◌, ◌++◌, map, length, vec_len}
+use Rattle.std.specs.Prelude.{vec_capacity}
 use Rattle.std.specs.Vec.Iter.{into_iter_items}
 use Rattle.tb_submit.specs.Ends.{origin_of}
 use Rattle.tb_drive.specs.Tasks.{task_origin, task_share, task_submitter}
@@ -12,5 +13,6 @@ invariant-loop-submitter g l = record {
   shares : map task_share l.all.items ++ map g.D.Driver.share (into_iter_items l.drivers)
       ≡ map g.D.Driver.share l.fn.drivers.items;
   long : length (into_iter_items l.drivers) ≡ length l.submitter-iterator.rest.items;
+  room : vec_len l.all + length l.submitter-iterator.rest.items ≤ vec_capacity l.all;
   seen : HaveSeen g.D.Driver.has_seen (into_iter_items l.drivers) l.submitter-iterator.rest.items;
 }

@@ -1,0 +1,23 @@
+use Rattle.std.proofs.Common.{rules, ◌≡◌, ◌∙◌, ◌∷◌, [], map, map-id, ap, subst, sym}
+use Rattle.std.proofs.lemmas.List.{map-append}
+use Rattle.std.proofs.lemmas.Iterator.Adapters.{YieldsList-from_vec}
+use Rattle.std.proofs.lemmas.Iterator.Consumers.{YieldsList-end}
+use Rattle.tb_drive.specs.Threads.{HaveJoined, started_from}
+use Rattle.tb_drive.proofs.threads.join_all.Goals as goal
+
+pub loop-handle-preserved : goal.loop-handle-preserved
+loop-handle-preserved g c =
+    subst (λ tasks. HaveJoined g.D.Driver.share g.D.Driver.has_seen g.D.Driver.has_ended tasks
+    c.join_one.new.ends.items c.join_one.new.drivers.items)
+    (sym (map-append started_from c.loop-handle.yielded (c.in-Some.handle ∷ [])))
+    (c.in_ok-join_one.ensures _ c.loop-handle.invariant)
+
+pub returns : goal.returns
+returns g c =
+    let given = c.into_iter-handle-iterator.ensures.into_iter_gives in
+    let all : c.loop-handle.yielded ≡ c.args.submitters.items =
+    sym (map-id c.loop-handle.yielded)
+    ∙ (YieldsList-end (YieldsList-from_vec {s = c.into_iter-handle-iterator.result} _ given.0 (search rules)) _ _
+    c.loop-handle.yielded_by _ c.next.new.self c.in-None.is c.next.ensures.steps).0 in
+    subst (λ handles. HaveJoined g.D.Driver.share g.D.Driver.has_seen g.D.Driver.has_ended (map started_from handles)
+    c.loop-handle.ends.items c.loop-handle.drivers.items) all c.loop-handle.invariant
