@@ -47,14 +47,19 @@ type SubmitterThread<D> = PromisedHandle<SubmitterResult<D>, SubmitterPromise<D>
 
 type ControlThread<C> = PromisedHandle<Option<ControlResult<C>>, ControlPromise<C>>;
 
-/// The threads of all senders, seen as the tasks that they run. `ends` and `drivers` are empty, with capacity for what the
-/// submitters' threads return.
+/// The threads of the submitters. `ends` and `drivers` are empty, with capacity for what the threads return.
 #[derive(Drop)]
-pub struct Running<D: Driver, C: ControlDriver> {
-    submitters: Vec<SubmitterThread<D>>,
-    control: ControlThread<C>,
+struct SubmitterThreads<D: Driver> {
+    handles: Vec<SubmitterThread<D>>,
     ends: Vec<Ended>,
     drivers: Vec<D>,
+}
+
+/// The threads of all senders, seen as the tasks that they run.
+#[derive(Drop)]
+pub struct Running<D: Driver, C: ControlDriver> {
+    submitters: SubmitterThreads<D>,
+    control: ControlThread<C>,
 }
 
 impl<D: Driver, C: ControlDriver> Model for Running<D, C> {
@@ -65,11 +70,11 @@ impl<D: Driver, C: ControlDriver> Model for Running<D, C> {
     ghost Value = { TasksState C };
 
     ghost view = { λ running. record {
-      submitters = map started_from running.submitters.items;
+      submitters = map started_from running.submitters.handles.items;
       control = running.control.promise.task.value;
     } };
 
-    ghost invariant = { λ running. (running.ends.items ≡ []) × (running.drivers.items ≡ []) };
+    ghost invariant = { λ running. (running.submitters.ends.items ≡ []) × (running.submitters.drivers.items ≡ []) };
 }
 
 /// Assigns each submitter the driver of its index.
@@ -123,33 +128,56 @@ impl<D: Driver> SubmitterTask<D> {
     }
 }
 
-/// Returns empty vectors with capacity for the handles of so many submitters' threads, and for what these return.
-fn room_for<D: Driver>(
-    alloc: Global,
-    number: usize,
-) -> Result<(Vec<SubmitterThread<D>>, Vec<Ended>, Vec<D>), DriveFault>
-    ensures { IfOk result (λ room. (room.0.items ≡ []) × (room.1.items ≡ []) × (room.2.items ≡ [])) }
-{
-    let ends = Vec::with_capacity(alloc, number)?;
-    let drivers = Vec::with_capacity(alloc, number)?;
-    let submitters = Vec::with_capacity(alloc, number)?;
-    Ok((submitters, ends, drivers))
+impl<D: Driver> SubmitterThreads<D> {
+    /// Returns no threads yet, with capacity for so many and for what they return.
+    fn with_capacity(alloc: Global, number: usize) -> Result<SubmitterThreads<D>, DriveFault>
+        ensures { IfOk result (λ threads. (threads.handles.items ≡ []) × (threads.ends.items ≡ [])
+            × (threads.drivers.items ≡ [])) }
+    {
+        let ends = Vec::with_capacity(alloc, number)?;
+        let drivers = Vec::with_capacity(alloc, number)?;
+        let handles = Vec::with_capacity(alloc, number)?;
+        Ok(SubmitterThreads {
+            handles,
+            ends,
+            drivers,
+        })
+    }
+
+    /// Joins the threads in their order, and returns the submitters' ends and drivers.
+    ///
+    /// Errors: `NoThread`, if the run was given up before a submitter ended.
+    fn join<R: Threads>(self, rt: &R) -> Result<(Vec<Ended>, Vec<D>), DriveFault>
+        requires { (self.ends.items ≡ []) × (self.drivers.items ≡ []) }
+        ensures { IfOk result (λ left. HaveJoined D.share D.has_seen D.has_ended (map started_from self.handles.items)
+            left.0.items left.1.items) }
+    {
+        let SubmitterThreads {
+            handles,
+            mut ends,
+            mut drivers,
+        } = self;
+        for handle in handles {
+            join_one(rt, handle, &mut ends, &mut drivers)?;
+        }
+        Ok((ends, drivers))
+    }
 }
 
 /// Starts the submitters' threads in their order.
 fn start_all<'s, D: Driver + Send + 's, E, R: Wait + Sync>(
     tasks: Vec<SubmitterTask<D>>,
+    handles: &mut Vec<SubmitterThread<D>>,
     scope: &Scope<'s, E>,
     rt: &'s R,
     alloc: Global,
     stop: &'s Stop,
-    threads: &mut Vec<SubmitterThread<D>>,
 ) -> Result<(), DriveFault>
-    requires { threads.old.items ≡ [] }
-    ensures { OnOk result (map started_from threads.new.items ≡ tasks.items) }
+    requires { handles.old.items ≡ [] }
+    ensures { OnOk result (map started_from handles.new.items ≡ tasks.items) }
 {
     for task in tasks {
-        threads.push(task.start(scope, rt, alloc, stop)?)?;
+        handles.push(task.start(scope, rt, alloc, stop)?)?;
     }
     Ok(())
 }
@@ -231,14 +259,12 @@ impl<D: Driver + Send, C: ControlDriver + Send> Tasks<D, C> {
             submitters: tasks,
             control,
         } = self;
-        let (mut submitters, ends, drivers) = room_for(alloc, tasks.len())?;
-        start_all(tasks, scope, rt, alloc, stop, &mut submitters)?;
+        let mut submitters = SubmitterThreads::with_capacity(alloc, tasks.len())?;
+        start_all(tasks, &mut submitters.handles, scope, rt, alloc, stop)?;
         let control = control.start(scope, rt, stop)?;
         Ok(Running {
             submitters,
             control,
-            ends,
-            drivers,
         })
     }
 }
@@ -255,7 +281,7 @@ fn join_one<D: Driver, R: Threads>(
     ensures { (tasks : List SubmitterTaskState)
         → HaveJoined D.share D.has_seen D.has_ended tasks ends.old.items drivers.old.items
         → OnOk result (HaveJoined D.share D.has_seen D.has_ended (tasks ++ started_from handle ∷ []) ends.new.items
-            drivers.new.items) }
+        drivers.new.items) }
 {
     let SubmitterResult { ended, driver } = handle.join(rt);
     let Some(ended) = ended else {
@@ -263,25 +289,6 @@ fn join_one<D: Driver, R: Threads>(
     };
     ends.push(ended)?;
     drivers.push(driver)?;
-    Ok(())
-}
-
-/// Joins the submitters' threads in their order, and leaves what they returned in two empty vectors.
-///
-/// Errors: `NoThread`, if the run was given up before a submitter ended.
-fn join_all<D: Driver, R: Threads>(
-    rt: &R,
-    submitters: Vec<SubmitterThread<D>>,
-    ends: &mut Vec<Ended>,
-    drivers: &mut Vec<D>,
-) -> Result<(), DriveFault>
-    requires { (ends.old.items ≡ []) × (drivers.old.items ≡ []) }
-    ensures { OnOk result (HaveJoined D.share D.has_seen D.has_ended (map started_from submitters.items) ends.new.items
-        drivers.new.items) }
-{
-    for handle in submitters {
-        join_one(rt, handle, ends, drivers)?;
-    }
     Ok(())
 }
 
@@ -300,10 +307,8 @@ impl<D: Driver, C: ControlDriver> Running<D, C> {
         let Running {
             submitters,
             control,
-            mut ends,
-            mut drivers,
         } = self;
-        join_all(rt, submitters, &mut ends, &mut drivers)?;
+        let (ends, drivers) = submitters.join(rt)?;
         let Some(control) = control.join(rt) else {
             return Err(DriveFault::NoThread);
         };

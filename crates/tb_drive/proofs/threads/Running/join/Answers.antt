@@ -5,10 +5,10 @@ use Rattle.tb_drive.proofs.threads.Running.join.Goals as goal
 
 pub returns : goal.returns
 returns g c =
-    let had = c.in_ok-join_all.ensures in
+    let had = c.in_ok-ends.ensures in
     record {
-      submitters = subst (λ tasks. AreResultsOf tasks c.join_all.new.ends.items
-          (map g.D.Driver.share c.join_all.new.drivers.items))
+      submitters = subst (λ tasks. AreResultsOf tasks c.in_ok-ends.ends.items
+          (map g.D.Driver.share c.in_ok-ends.drivers.items))
           (ap (λ (all : TasksState _). all.submitters) c.self.view_is) had.results;
       number = had.number;
       seen = had.seen;

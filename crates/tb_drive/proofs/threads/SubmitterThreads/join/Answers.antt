@@ -1,9 +1,9 @@
-use Rattle.std.proofs.Common.{rules, ◌≡◌, ◌∙◌, ◌∷◌, [], map, map-id, ap, subst, sym}
+use Rattle.std.proofs.Common.{rules, ◌≡◌, ◌∙◌, ◌∷◌, [], map, map-id, subst, sym}
 use Rattle.std.proofs.lemmas.List.{map-append}
 use Rattle.std.proofs.lemmas.Iterator.Adapters.{YieldsList-from_vec}
 use Rattle.std.proofs.lemmas.Iterator.Consumers.{YieldsList-end}
 use Rattle.tb_drive.specs.Threads.{HaveJoined, started_from}
-use Rattle.tb_drive.proofs.threads.join_all.Goals as goal
+use Rattle.tb_drive.proofs.threads.SubmitterThreads.join.Goals as goal
 
 pub loop-handle-preserved : goal.loop-handle-preserved
 loop-handle-preserved g c =
@@ -15,7 +15,7 @@ loop-handle-preserved g c =
 pub returns : goal.returns
 returns g c =
     let given = c.into_iter-handle-iterator.ensures.into_iter_gives in
-    let all : c.loop-handle.yielded ≡ c.args.submitters.items =
+    let all : c.loop-handle.yielded ≡ c.args.self.handles.items =
     sym (map-id c.loop-handle.yielded)
     ∙ (YieldsList-end (YieldsList-from_vec {s = c.into_iter-handle-iterator.result} _ given.0 (search rules)) _ _
     c.loop-handle.yielded_by _ c.next.new.self c.in-None.is c.next.ensures.steps).0 in

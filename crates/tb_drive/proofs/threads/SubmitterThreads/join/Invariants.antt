@@ -1,6 +1,6 @@
 use Rattle.std.proofs.Common.{map}
 use Rattle.tb_drive.specs.Threads.{HaveJoined, started_from}
-use Rattle.tb_drive.proofs.threads.join_all.Given as goal
+use Rattle.tb_drive.proofs.threads.SubmitterThreads.join.Given as goal
 
 abbrev pub invariant-loop-handle : goal.invariant-loop-handle
 invariant-loop-handle g l =
