@@ -1,6 +1,6 @@
 //! The threads of a run: how they are started, and how they are joined.
 
-ghost use Rattle.std.specs.Prelude.{◌≡◌, [], ◌∷◌, ◌++◌, List, map, length, OnOk, IfOk, IfErr, IfSome};
+ghost use Rattle.std.specs.Prelude.{◌≡◌, ◌≤◌, [], ◌∷◌, ◌++◌, List, map, length, vec_len, vec_capacity, OnOk, IfOk, IfErr, IfSome};
 ghost use Rattle.tb_submit.specs.Ends.{origin_of};
 ghost use Rattle.tb_drive.specs.declared.drive_fault.DriveFault.TheVariants as fault;
 ghost use Rattle.tb_drive.specs.Seen.{HaveSeen, HaveSeenEnds};
@@ -131,8 +131,9 @@ impl<D: Driver> SubmitterTask<D> {
 impl<D: Driver> SubmitterThreads<D> {
     /// Returns no threads yet, with capacity for so many and for what they return.
     fn with_capacity(alloc: Global, number: usize) -> Result<SubmitterThreads<D>, DriveFault>
-        ensures { IfOk result (λ threads. (threads.handles.items ≡ []) × (threads.ends.items ≡ [])
+        ensures empty { IfOk result (λ threads. (threads.handles.items ≡ []) × (threads.ends.items ≡ [])
             × (threads.drivers.items ≡ [])) }
+        ensures room { IfOk result (λ threads. (vec_len threads.handles ≡ 0) × (number ≤ vec_capacity threads.handles)) }
     {
         let ends = Vec::with_capacity(alloc, number)?;
         let drivers = Vec::with_capacity(alloc, number)?;
@@ -164,7 +165,7 @@ impl<D: Driver> SubmitterThreads<D> {
     }
 }
 
-/// Starts the submitters' threads in their order.
+/// Starts the submitters' threads in their order; there is room for their handles.
 fn start_all<'s, D: Driver + Send + 's, E, R: Wait + Sync>(
     tasks: Vec<SubmitterTask<D>>,
     handles: &mut Vec<SubmitterThread<D>>,
@@ -173,11 +174,12 @@ fn start_all<'s, D: Driver + Send + 's, E, R: Wait + Sync>(
     alloc: Global,
     stop: &'s Stop,
 ) -> Result<(), DriveFault>
-    requires { handles.old.items ≡ [] }
+    requires empty { (handles.old.items ≡ []) × (vec_len handles.old ≡ 0) }
+    requires room { vec_len tasks ≤ vec_capacity handles.old }
     ensures { OnOk result (map started_from handles.new.items ≡ tasks.items) }
 {
     for task in tasks {
-        handles.push(task.start(scope, rt, alloc, stop)?)?;
+        handles.push_reserved(task.start(scope, rt, alloc, stop)?);
     }
     Ok(())
 }

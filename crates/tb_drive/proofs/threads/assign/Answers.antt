@@ -11,7 +11,7 @@ use Rattle.tb_drive.proofs.threads.assign.Goals as goal
 pub invariant_of-push_reserved : goal.invariant_of-push_reserved
 invariant_of-push_reserved g c =
     let submitters : c.loop-submitter.submitter-iterator.rest.items
-    ≡ c.in-Some.submitter ∷ c.next.new.self.rest.items = search rules in
+    ≡ c.in-Some.submitter ∷ c.next.new.self.rest.items = c.in-Some.ensures.steps.0 in
     let drivers : into_iter_items c.loop-submitter.drivers
     ≡ c.in-Some-next.driver ∷ into_iter_items c.next-in-loop-submitter.new.self =
     c.in-Some-next.ensures.items in
@@ -20,7 +20,7 @@ invariant_of-push_reserved g c =
 pub loop-submitter-preserved : goal.loop-submitter-preserved
 loop-submitter-preserved g c =
     let submitters : c.loop-submitter.submitter-iterator.rest.items
-    ≡ c.in-Some.submitter ∷ c.next.new.self.rest.items = search rules in
+    ≡ c.in-Some.submitter ∷ c.next.new.self.rest.items = c.in-Some.ensures.steps.0 in
     let drivers : into_iter_items c.loop-submitter.drivers
     ≡ c.in-Some-next.driver ∷ into_iter_items c.next-in-loop-submitter.new.self =
     c.in-Some-next.ensures.items in
@@ -73,5 +73,5 @@ returns g c =
 pub push_reserved-requires : goal.push_reserved-requires
 push_reserved-requires g c =
     let submitters : c.loop-submitter.submitter-iterator.rest.items
-    ≡ c.in-Some.submitter ∷ c.next.new.self.rest.items = search rules in
+    ≡ c.in-Some.submitter ∷ c.next.new.self.rest.items = c.in-Some.ensures.steps.0 in
     omega (arith, c.loop-submitter.invariant.room, ap length submitters)

@@ -1,6 +1,10 @@
-use Rattle.std.proofs.Common.{◌≡◌, map}
+use Rattle.std.proofs.Common.{◌≡◌, ◌≤◌, ◌+◌, length, map, vec_len}
+use Rattle.std.specs.Prelude.{vec_capacity}
 use Rattle.tb_drive.specs.Threads.{started_from}
 use Rattle.tb_drive.proofs.threads.start_all.Given as goal
 
 abbrev pub invariant-loop-task : goal.invariant-loop-task
-invariant-loop-task g l = map started_from l.handles.items ≡ l.yielded
+invariant-loop-task g l = record {
+  started : map started_from l.handles.items ≡ l.yielded;
+  room : vec_len l.handles + length l.task-iterator.rest.items ≤ vec_capacity l.handles;
+}
