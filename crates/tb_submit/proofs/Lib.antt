@@ -4,3 +4,4 @@ pub mod RuleSteps
 pub mod OpenedSubmitters
 pub mod SubmitterCounts
 pub mod ReplyRefusals
+mod SubmitRefusals

@@ -1,12 +1,13 @@
-use Rattle.std.proofs.Common.{◌≡◌, ◌<◌, ◌-◌, ◌+◌, ap, arith, length, subst, sym, ◌∙◌}
+use Rattle.std.proofs.Common.{inr, refl, ◌≡◌, ◌<◌, ◌-◌, ◌+◌, ap, arith, length, subst, sym, ◌∙◌}
 use Rattle.tb_work.specs.Admission.{admission_of}
 use Rattle.tb_work.specs.Packet.{Numbered}
 use Rattle.tb_rings.specs.Ends.{taken}
 use Rattle.std.specs.Prelude.{IsOk}
-use Rattle.tb_submit.specs.Ends.{SenderState}
+use Rattle.tb_submit.specs.Ends.{SenderState, SubmitterState}
 use Rattle.tb_submit.specs.Inside.{IsSubmitter}
 use Rattle.tb_submit.specs.Refusals.{in_flight}
 use Rattle.tb_submit.proofs.SubmitterCounts.{counts_packet}
+use Rattle.tb_submit.proofs.SubmitRefusals.{is_due, is_other, none_is_due, told_is_due}
 use Rattle.tb_submit.proofs.submitter.Submitter.submit.Goals as goal
 
 pub invariant_of-self : goal.invariant_of-self
@@ -27,3 +28,19 @@ invariant_of-self g c =
     (subst (λ p. IsOk (admission_of before.sender.seat.limit p)) (sym packet)
     (subst (λ limit. IsOk (admission_of limit c.args.packet)) c.limit.ensures c.in_ok-admitted.ensures.admitted)))
     left)
+
+pub returns-in-Some-clause-refusal : goal.returns-in-Some-clause-refusal
+returns-in-Some-clause-refusal g c =
+    is_due _ c.in-Some.refusal _ (told_is_due _ _ c.args.packet _ _ c.self.view_is c.self.invariant.told c.in-Some.is)
+
+pub returns-in-Ok-clause-admitted : goal.returns-in-Ok-clause-admitted
+returns-in-Ok-clause-admitted g c =
+    none_is_due _ _ c.args.packet _ _ _ c.self.view_is c.self.invariant.told c.in_default.is
+    c.in_ok-admitted.ensures.admitted (c.limit.ensures ∙ ap (λ (s : SubmitterState). s.origin.seat.limit) c.self.view_is)
+    c.in_flight.ensures.value c.if-in_flight-self.false
+
+pub returns-in-Err-Packet-clause-refusal : goal.returns-in-Err-Packet-clause-refusal
+returns-in-Err-Packet-clause-refusal g c =
+    is_other _ _ _ (none_is_due _ _ c.args.packet _ _ _ c.self.view_is c.self.invariant.told c.in_default.is
+    c.in_ok-admitted.ensures.admitted (c.limit.ensures ∙ ap (λ (s : SubmitterState). s.origin.seat.limit) c.self.view_is)
+    c.in_flight.ensures.value c.if-in_flight-self.false) (inr refl)
