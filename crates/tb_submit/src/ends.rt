@@ -1,6 +1,6 @@
 //! Opening a queue.
 
-ghost use Rattle.std.specs.Prelude.{◌≡◌, ◌<◌, ◌≤◌, [], map, length, None, All, OnOk, IfOk, IfErr};
+ghost use Rattle.std.specs.Prelude.{◌≡◌, ◌<◌, ◌≤◌, [], map, length, Some, None, All, OnOk, IfOk, IfErr};
 ghost use Rattle.tb_layout.specs.inside.Limits.{batch_max, capacity_max, submitters_max};
 ghost use Rattle.tb_rings.specs.Ends.{given, slots};
 ghost use Rattle.tb_submit.specs.Ends.{new_submitter, new_control, new_intake, origins, origin_of};
@@ -43,12 +43,11 @@ fn open_submitters(
     requires range { (limit ≤ batch_max) × (credit ≤ capacity_max) }
     requires fresh { (reader.old.entries ≡ []) × (reader.old.taken ≡ []) × (reader.old.count ≡ 0) }
     ensures reader { OnOk result (reader.new ≡ record reader.old { count = submitters }) }
-    ensures submitters { IfOk result (λ ends. ends.submitters.items
+    ensures ends { IfOk result (λ ends. (ends.submitters.items
         ≡ map (new_submitter credit) (origins (new_intake reader.old.queue submitters limit
-        reader.old.capacity) ends.outlets.items)) }
-    ensures outlets { IfOk result (λ ends. (length ends.outlets.items ≡ submitters)
-        × All (λ outlet. given outlet ≡ []) ends.outlets.items) }
-    ensures slots { IfOk result (λ ends. All (λ outlet. slots outlet ≡ credit) ends.outlets.items) }
+        reader.old.capacity) ends.outlets.items))
+        × ((length ends.outlets.items ≡ submitters) × All (λ outlet. given outlet ≡ []) ends.outlets.items)
+        × All (λ outlet. slots outlet ≡ credit) ends.outlets.items) }
 {
     let mut opened = Vec::new(alloc);
     let mut outlets = Vec::new(alloc);
@@ -93,6 +92,23 @@ fn open_ends(
     })
 }
 
+/// Checks the limit, then the capacity and the credit, then the number of submitters.
+fn check_bounds(limit: u32, capacity: u32, credit: u32, submitters: u32) -> Result<(), Refusal>
+    ensures opens { OnOk result (queue_refusal limit capacity credit submitters ≡ None) }
+    ensures refusal { IfErr result (λ refusal. queue_refusal limit capacity credit submitters ≡ Some refusal) }
+{
+    if limit < 1 || limit > BATCH_MAX {
+        return Err(Refusal::BadLimit);
+    }
+    if capacity < 1 || capacity > CAPACITY_MAX || credit < 1 || credit > CAPACITY_MAX {
+        return Err(Refusal::BadCapacity);
+    }
+    if submitters < 1 || submitters > SUBMITTERS_MAX {
+        return Err(Refusal::BadSubmitters);
+    }
+    Ok(())
+}
+
 /// Returns a queue of `capacity` slots with all its ends, for submitters with this credit. It is refused for its limit
 /// (1 to 8190), then its capacity or credit (1 to 65,536), then the number of submitters (1 to 16), then memory. All
 /// memory but that of packets is taken here: the queue's slots and a ring of `credit` slots for each submitter.
@@ -114,14 +130,6 @@ pub fn open_queue(
     ensures opens { OnOk result (queue_refusal limit capacity credit submitters ≡ None) }
     ensures refusal { IfErr result (IsQueueRefusal limit capacity credit submitters) }
 {
-    if limit < 1 || limit > BATCH_MAX {
-        return Err(Refusal::BadLimit);
-    }
-    if capacity < 1 || capacity > CAPACITY_MAX || credit < 1 || credit > CAPACITY_MAX {
-        return Err(Refusal::BadCapacity);
-    }
-    if submitters < 1 || submitters > SUBMITTERS_MAX {
-        return Err(Refusal::BadSubmitters);
-    }
+    check_bounds(limit, capacity, credit, submitters)?;
     open_ends(alloc, limit, capacity, credit, submitters).map_err(|_| Refusal::NoMemory)
 }
