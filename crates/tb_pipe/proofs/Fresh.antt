@@ -1,14 +1,22 @@
 -- Stages that took nothing.
-use Rattle.std.proofs.Common.{refl, sym, ap, subst, ◌∙◌, ◌≡◌, List, [], ◌∷◌, ◌++◌}
-use Rattle.tb_work.specs.Packet.{Numbered}
+use Rattle.std.proofs.Common.{refl, sym, ap, subst, ◌∙◌, ◌≡◌, ℕ, List, [], ◌∷◌, ◌++◌}
+use Rattle.std.proofs.lemmas.List.Elements.{All-get_or}
+use Rattle.std.specs.Prelude.{All}
+use Rattle.tb_work.specs.Packet.{Numbered, ReplyValue}
 use Rattle.tb_work.specs.Ahead.{items_in}
 use Rattle.tb_core.specs.declared.parcel.Parcel.{Parcel}
 use Rattle.tb_core.specs.declared.parcel.Parcel.TheVariants as parcel
+use Rattle.tb_core.specs.declared.outcomes.Outcomes.{Outcomes}
+use Rattle.tb_core.specs.Due.{replies_to}
+use Rattle.tb_core.specs.Journal.{LedgerState}
+use Rattle.tb_core.specs.Ledger.{new_ledger}
 use Rattle.tb_core.specs.Front.{FrontState, group_as_batch, held_by, KnowsEnds}
 use Rattle.tb_core.specs.inside.Decision.{AreDecisions}
-use Rattle.tb_rings.specs.Ends.{given}
+use Rattle.tb_rings.specs.Ends.{given as given_to}
+use Rattle.tb_rings.specs.declared.Outlet.{Outlet}
 use Rattle.tb_submit.specs.Ends.{IntakeState}
-use Rattle.tb_pipe.specs.Carried.{IsBatched}
+use Rattle.tb_pipe.specs.Carried.{IsBatched, IsCommitted, answers_in}
+use Rattle.tb_pipe.specs.Outlets.{AllGiven}
 
 pub fresh_batched : (intake : IntakeState) (front : FrontState) (given : List Parcel)
     → front.limit ≡ intake.limit → front.submitters ≡ intake.submitters
@@ -36,3 +44,29 @@ fresh_batched intake front given under among passes knows holds no_queue none =
         → [] ≡ before ++ parcel.Batch group ∷ parcel.Batch next ∷ after → ⊥
     none_in_a_row [] after group next is = cc
     none_in_a_row (x ∷ before) after group next is = cc
+
+pub fresh_committed : (clock : ℕ) (taken : List Parcel) (ledger : LedgerState) (given : List Outcomes)
+    → ledger ≡ new_ledger clock → taken ≡ [] → given ≡ [] → IsCommitted ledger.opening taken ledger given
+fresh_committed clock taken ledger given new untaken none =
+    subst (λ ps. IsCommitted ledger.opening ps ledger given) (sym untaken)
+    (subst (λ os. IsCommitted ledger.opening [] ledger os) (sym none)
+    (subst (λ (l : LedgerState). IsCommitted l.opening [] l []) (sym new) (record {
+      commits = record {
+        from = refl;
+        remainder = [];
+        committed = refl;
+        whole = λ is. refl;
+        unstopped = λ is. refl;
+        state = refl;
+        replied = refl;
+      };
+      joined = λ limit is. tt;
+      unended = refl;
+      unfinished = refl;
+    })))
+
+pub fresh_replies : (taken : List Outcomes) (outlets : List (Outlet ReplyValue)) → taken ≡ []
+    → All (λ (outlet : Outlet ReplyValue). given_to outlet ≡ []) outlets → AllGiven (answers_in taken) outlets
+fresh_replies taken outlets untaken none k d below =
+    All-get_or (λ (outlet : Outlet ReplyValue). given_to outlet ≡ []) outlets k d below none
+    ∙ ap (λ outcomes. replies_to (answers_in outcomes) k) (sym untaken)

@@ -1,9 +1,9 @@
-use Rattle.std.proofs.Common.{◌∙◌, ap, arith, rules, sym}
+use Rattle.std.proofs.Common.{◌∙◌, ap, arith, sym}
 use Rattle.tb_core.specs.Front.{FrontState}
-use Rattle.tb_rings.specs.Ends.{given}
+use Rattle.tb_rings.specs.Ends.{given, taken}
 use Rattle.tb_submit.specs.Ends.{IntakeState, seat_at}
 use Rattle.tb_pipe.specs.Carried.{IsBatched}
-use Rattle.tb_pipe.proofs.Fresh.{fresh_batched}
+use Rattle.tb_pipe.proofs.Fresh.{fresh_batched, fresh_committed, fresh_replies}
 use Rattle.tb_pipe.proofs.Origins.{length-origins, seat-origins}
 use Rattle.tb_pipe.proofs.opening.open.Goals as goal
 
@@ -29,4 +29,16 @@ invariant_of-result c =
     (ap (λ (f : FrontState). f.submitters) front_is ∙ sym (ap (λ (i : IntakeState). i.submitters) intake_is))
     c.in-Ok.ensures.passes c.in-Ok.ensures.ends (ap (λ (f : FrontState). f.held) front_is)
     (ap (λ (i : IntakeState). i.taken) intake_is) c.in-Some.ensures.empty.0 in
-    search (rules, batched)
+    let empty = c.in-Some.ensures.empty in
+    record {
+      ready = record {
+        batched = batched;
+        committed = fresh_committed c.args.clock (taken c.in-Some.rings.parcels) c.new-2.result
+            (given c.in-Some.rings.made) c.new-2.ensures.ledger empty.1 empty.2;
+        replies = fresh_replies (taken c.in-Some.rings.outcomes) c.in_ok-ends.ends.outlets.items empty.3
+            c.in_ok-ends.ensures.outlets.1;
+      };
+      unserved = (empty.1, empty.2);
+      rings = c.in-Some.ensures.pairs;
+      number = c.in_ok-ends.ensures.outlets.0 ∙ sym (ap (λ (i : IntakeState). i.submitters) intake_is);
+    }

@@ -1,13 +1,19 @@
-use Rattle.std.proofs.Common.{rules, subst, sym, ℕ, []}
-use Rattle.tb_core.specs.Grouping.{AreJoined}
-use Rattle.tb_core.specs.Journal.{LedgerState}
-use Rattle.tb_core.specs.Run.{Commits}
+use Rattle.tb_rings.specs.Ends.{given, taken}
+use Rattle.tb_pipe.proofs.Fresh.{fresh_committed}
 use Rattle.tb_pipe.proofs.serving.Pipeline.with_ledger.Goals as goal
 
 pub invariant_of-result : goal.invariant_of-result
 invariant_of-result c =
-    let commits : Commits c.args.ledger.opening [] c.args.ledger [] =
-    subst (λ ledger. Commits c.args.ledger.opening [] ledger []) (sym c.requires) (search rules) in
-    let joined : (limit : ℕ) → AreJoined limit c.args.ledger.groups =
-    subst (λ (ledger : LedgerState). (limit : ℕ) → AreJoined limit ledger.groups) (sym c.requires) (search rules) in
-    search (rules, commits, joined)
+    let is = c.self.invariant in
+    let committer = c.self.inside.stages.committer in
+    record {
+      ready = record {
+        batched = is.ready.batched;
+        committed = fresh_committed c.args.ledger.opening (taken committer.inlet) c.args.ledger
+            (given committer.outlet) c.requires is.unserved.0 is.unserved.1;
+        replies = is.ready.replies;
+      };
+      unserved = is.unserved;
+      rings = is.rings;
+      number = is.number;
+    }
