@@ -1,5 +1,7 @@
 -- Batches that a gate let through, one after the other.
-use Rattle.std.proofs.Common.{refl, ap, ◌∙◌, subst, sym, append_assoc, append-nil, ◌≡◌, ℕ, true, List, [], ◌∷◌, ◌++◌}
+use Rattle.std.proofs.Common.{refl, ap, ◌∙◌, subst, sym, append_assoc, append-nil, ◌≡◌, ℕ, true, arith, length, List, [], ◌∷◌, ◌++◌}
+use Rattle.std.proofs.lemmas.Bool.{eqb-true}
+use Rattle.std.specs.Prelude.{◌==◌}
 use Rattle.tb_core.specs.declared.parcel.Parcel.{Parcel}
 use Rattle.tb_pipe.specs.Carried.{is_batch, next_number, number_after, AreLetThrough, AreCleared}
 
@@ -47,3 +49,7 @@ pub one_counted : (first now next : ℕ) (yielded : List Parcel) (handed : Parce
     → now ≡ number_after first yielded → next ≡ number_after first (yielded ++ handed ∷ [])
 one_counted first now next yielded handed one is =
     one ∙ ap (λ n. next_number n handed) is ∙ sym (number_more first yielded handed)
+
+pub none_in_empty : {A : Type 0} (xs : List A) → (length xs == 0) ≡ true → xs ≡ []
+none_in_empty [] is = refl
+none_in_empty (x ∷ xs) is = absurd (omega (arith, eqb-true (length (x ∷ xs)) 0 is))
