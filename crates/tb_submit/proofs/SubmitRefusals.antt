@@ -1,5 +1,5 @@
 -- Why a packet isn't queued.
-use Rattle.std.proofs.Common.{◌≡◌, ℕ, false, true≢false, Option, Some, None, Result, Ok, Err, subst, sym, refl, ap, ◌∙◌}
+use Rattle.std.proofs.Common.{◌≡◌, ℕ, true≢false, Option, Some, None, Result, Ok, Err, subst, sym, refl, ap, ◌∙◌}
 use Rattle.std.proofs.lemmas.Bool.{ne_eqb}
 use Rattle.std.specs.Prelude.{◌==◌, IsOk, if◌then◌else◌}
 use Rattle.tb_work.specs.Admission.{admission_of}

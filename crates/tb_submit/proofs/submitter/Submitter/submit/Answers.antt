@@ -1,4 +1,4 @@
-use Rattle.std.proofs.Common.{inr, refl, ◌≡◌, ◌<◌, ◌-◌, ◌+◌, ap, arith, length, subst, sym, ◌∙◌}
+use Rattle.std.proofs.Common.{◌≡◌, ◌<◌, ◌-◌, ◌+◌, ap, arith, inr, length, refl, subst, sym, ◌∙◌}
 use Rattle.tb_work.specs.Admission.{admission_of}
 use Rattle.tb_work.specs.Packet.{Numbered}
 use Rattle.tb_rings.specs.Ends.{taken}
