@@ -4,3 +4,6 @@ use Rattle.tb_program.proofs.list.output_of.Goals as goal
 
 pub returns-in-Script-clause-thread : goal.returns-in-Script-clause-thread
 returns-in-Script-clause-thread c = search rules
+
+pub returns-in-Script-clause-output : goal.returns-in-Script-clause-output
+returns-in-Script-clause-output c = search rules
