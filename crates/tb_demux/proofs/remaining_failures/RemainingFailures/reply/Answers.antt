@@ -1,4 +1,5 @@
-use Rattle.std.proofs.Common.{◌≡◌, arith, ap, sym, ◌∙◌, refl, ◌+◌, map, take, drop}
+use Rattle.std.proofs.Common.{◌≡◌, arith, ap, sym, ◌∙◌, refl, ◌+◌, map, take, drop, rules}
+use Rattle.std.proofs.lemmas.Grind.{common_steps}
 use Rattle.tb_layout.specs.Failures.{from_offset}
 use Rattle.tb_work.specs.Admission.{count_of}
 use Rattle.tb_work.specs.Answer.{reply_with}
@@ -47,3 +48,12 @@ returns-clause-reply c =
     (ap (map (from_offset c.args.self.now.offset)) own
     ∙ sym (cut_leading c.args.self.now.offset (count_of c.args.job.packet) c.requires.rise.0
     (failures_remaining c.args.self.now) c.requires.rise.1))
+
+pub returns-clause-left : goal.returns-clause-left
+returns-clause-left c = grind (arith, common_steps)
+
+pub returns-clause-offset : goal.returns-clause-offset
+returns-clause-offset c = grind (arith, common_steps)
+
+pub returns-clause-place : goal.returns-clause-place
+returns-clause-place c = search rules
