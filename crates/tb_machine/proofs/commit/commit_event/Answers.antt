@@ -4,3 +4,6 @@ use Rattle.tb_machine.proofs.commit.commit_event.Goals as goal
 
 pub returns-in_ok-remember-clause-failures : goal.returns-in_ok-remember-clause-failures
 returns-in_ok-remember-clause-failures g c = search rules
+
+pub returns-in_ok-remember-clause-facts : goal.returns-in_ok-remember-clause-facts
+returns-in_ok-remember-clause-facts g c = search rules

@@ -1,0 +1,13 @@
+-- Found by the prover itself; on file since the check of an edit then costs less.
+use Rattle.std.proofs.Common.{arith, rules}
+use Rattle.std.proofs.lemmas.Grind.{common_steps}
+use Rattle.tb_machine.proofs.commit.commit_first.Goals as goal
+
+pub returns-then-not-is_chunk_linked-clause-count : goal.returns-then-not-is_chunk_linked-clause-count
+returns-then-not-is_chunk_linked-clause-count c = grind (arith, common_steps)
+
+pub returns-then-not-is_chunk_linked-clause-facts : goal.returns-then-not-is_chunk_linked-clause-facts
+returns-then-not-is_chunk_linked-clause-facts c = search rules
+
+pub returns-then-not-is_chunk_linked-clause-failures : goal.returns-then-not-is_chunk_linked-clause-failures
+returns-then-not-is_chunk_linked-clause-failures c = search rules
