@@ -129,7 +129,7 @@ impl<D: Driver> SubmitterTask<D> {
 }
 
 impl<D: Driver> SubmitterThreads<D> {
-    /// Returns no threads yet, with capacity for so many and for what they return.
+    /// Returns no threads yet, with capacity for `number` threads and for what they return.
     fn with_capacity(alloc: Global, number: usize) -> Result<SubmitterThreads<D>, DriveFault>
         ensures empty { IfOk result (λ threads. (threads.handles.items ≡ []) × (threads.ends.items ≡ [])
             × (threads.drivers.items ≡ [])) }
@@ -243,7 +243,7 @@ impl<D: Driver + Send, C: ControlDriver + Send> Tasks<D, C> {
 
     /// Starts a thread for each sender, once there is memory for all handles and results.
     ///
-    /// Errors: `NoMemory`, or `NoThread` if a thread can't be started. Threads that run already go on until `stop` is
+    /// Errors: `NoMemory`, or `NoThread` if a thread can't be started. Threads that run already continue until `stop` is
     /// asked.
     pub fn start<'s, E, R: Wait + Sync>(
         self,
@@ -271,7 +271,7 @@ impl<D: Driver + Send, C: ControlDriver + Send> Tasks<D, C> {
     }
 }
 
-/// Joins a submitter's thread, and puts what it returned behind what the others did.
+/// Joins a submitter's thread, and appends the end and the driver that it returned.
 ///
 /// Errors: `NoThread`, if the run was given up before the submitter ended.
 fn join_one<D: Driver, R: Threads>(
