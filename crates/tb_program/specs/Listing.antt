@@ -1,5 +1,6 @@
 -- What is printed of a script, and what `list` writes.
-use Rattle.std.specs.Prelude.{ℕ, Bool, true, false, Result, Ok, Err, List, [], ◌∷◌, ◌++◌, codes, flat_map}
+use Rattle.std.specs.Prelude.{ℕ, Bool, Result, Ok, Err, List, [], ◌∷◌, ◌++◌, codes, flat_map}
+use Rattle.std.specs.Result.{is_ok}
 use Rattle.tb_core.specs.Due.{Place, Ahead, Behind, outcome_at}
 use Rattle.tb_core.specs.inside.Decision.{place_after}
 use Rattle.tb_layout.specs.Events.{Input}
@@ -54,10 +55,6 @@ text_of_source (Err line) = line
 abbrev pub out : List ℕ → List ℕ
 out bytes = text_of_source (source_in bytes)
 
-abbrev pub is_ok_source : Result ParsedScript (List ℕ) → Bool
-is_ok_source (Ok parsed) = true
-is_ok_source (Err line) = false
-
 -- whether a script has no fault
 abbrev pub is_faultless : List ℕ → Bool
-is_faultless bytes = is_ok_source (source_in bytes)
+is_faultless bytes = is_ok (source_in bytes)
