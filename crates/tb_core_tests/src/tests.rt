@@ -32,8 +32,6 @@ mod ledger;
 mod list;
 mod machine;
 mod made;
-mod plain;
-mod rule;
 mod tables;
 mod told;
 mod work;

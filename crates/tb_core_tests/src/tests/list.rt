@@ -3,14 +3,13 @@
 ghost use Rattle.std.specs.Prelude.{◌≤◌};
 ghost use Rattle.tb_layout.specs.inside.Limits.{batch_max};
 
-use super::made::{Made, creating, item, transferring};
+use super::made::{Made, creating, item};
 use super::push;
-use super::told::{Noted, SIX_PLACES, Told, assert_failures, assert_noted, assert_told};
+use super::told::{Noted, SIX_PLACES, Told, assert_noted, assert_told};
 use std::alloc::Global;
 use std::process::Abort;
 use tb_core::{Listed, run_list};
-use tb_layout::{Account, BATCH_MAX};
-use tb_test_makers::{account, transfer};
+use tb_test_makers::account;
 use tb_work::Item;
 
 /// Items of submitter 0.
@@ -94,17 +93,6 @@ fn packet_of_accounts(
     Item::Packet(job)
 }
 
-/// Returns a packet of submitter 0 that creates `count` transfers of 1 from account 1 to account 2, with ids from 1 on.
-fn packet_of_transfers(rt: &(impl Abort + Alloc<A = Global>), number: u64, count: u32) -> Item {
-    let mut transfers = Vec::new(rt.alloc());
-    for place in 0..count {
-        let id = u128::from(place) + 1;
-        push(rt, &mut transfers, transfer(id, [1, 2], 1, 0));
-    }
-    let job = transferring(rt.alloc(), number, &transfers).expect(rt, "the packet is admitted");
-    Item::Packet(job)
-}
-
 const FIRST_THREE: [Told; 3] = [Told::Committed(0), Told::Committed(1), Told::Committed(2)];
 
 #[test]
@@ -120,68 +108,4 @@ fn full_batch_then_overflow(rt: HostRuntime) {
     let noted = [Noted::Batch(1), Noted::Batch(2)];
     let listed = run_listed(&rt, 4, items, &FIRST_THREE, &noted, 5);
     drop(listed);
-}
-
-/// Asserts that all events succeeded, and that account 1 was debited by each transfer.
-fn assert_largest(rt: &impl Abort, listed: &Listed) {
-    for reply in &listed.replies {
-        assert_failures(rt, Some(reply), &[]);
-    }
-    let machine = listed.ledger.machine();
-    check!(rt; machine.accounts() == 8200);
-    let debtor = Account {
-        debits_posted: 8190,
-        timestamp: 1,
-        ..account(1, 0)
-    };
-    check!(rt; machine.account(1) == Some(debtor));
-}
-
-#[test]
-fn largest_packets(rt: HostRuntime) {
-    let mut items = Vec::new(rt.alloc());
-    push(&rt, &mut items, packet_of_accounts(&rt, 0, 1, BATCH_MAX));
-    push(&rt, &mut items, packet_of_transfers(&rt, 1, BATCH_MAX));
-    push(&rt, &mut items, packet_of_accounts(&rt, 2, 8191, 10));
-    let noted = [Noted::Batch(1), Noted::Batch(1), Noted::Batch(1)];
-    let listed = run_listed(&rt, BATCH_MAX, items, &FIRST_THREE, &noted, 16_390);
-    assert_largest(&rt, &listed);
-    drop(listed);
-}
-
-/// How many packets have no events. They are one batch.
-const EMPTY: u64 = 1000;
-
-/// How many lookups there are, each followed by a pulse.
-const PULSES: u64 = 150;
-
-#[test]
-fn a_thousand_replies_and_many_entries(rt: HostRuntime) {
-    let mut list = Vec::new(rt.alloc());
-    let mut told = Vec::new(rt.alloc());
-    let mut noted = Vec::new(rt.alloc());
-    for number in 0..EMPTY {
-        push(&rt, &mut list, zeros(number, 129, 0));
-        push(&rt, &mut told, Told::Committed(number));
-    }
-    push(&rt, &mut noted, Noted::Batch(EMPTY as usize));
-    for number in 0..PULSES {
-        push(&rt, &mut list, zeros(EMPTY + number, 131, 1));
-        push(&rt, &mut list, Made::Pulse(number));
-        push(&rt, &mut told, Told::Committed(EMPTY + 2 * number));
-        push(&rt, &mut noted, Noted::Batch(1));
-        push(&rt, &mut noted, Noted::Pulse(number));
-    }
-    let items = items_of(&rt, &list);
-    let listed = run_listed(&rt, 4, items, &told, &noted, PULSES - 1);
-    drop(listed);
-}
-
-/// Returns a packet with its number, whose `count` events or ids are zeros.
-fn zeros(number: u64, operation: u8, count: u32) -> Made {
-    Made::Zeros {
-        number,
-        operation,
-        count,
-    }
 }

@@ -11,10 +11,9 @@ use tb_machine::Machine;
 use tb_test_makers::{account_bytes, transfer, transfer_bytes};
 
 mod calls;
-mod chains;
-mod full;
-mod late;
 mod memory;
+mod plain;
+mod rule;
 mod running;
 
 const MOST: u128 = u128::MAX;
@@ -64,11 +63,6 @@ fn commits(rt: &impl Alloc<A = Global>, machine: &mut Machine, operation: u8, bo
         Some(failures) => failures.is_empty(),
         None => false,
     }
-}
-
-/// Adds an event to a body.
-fn add_event(rt: &impl Abort, body: &mut Vec<u8>, event: &[u8; 128]) {
-    body.extend_from_slice(event).expect(rt, "memory");
 }
 
 /// Makes accounts; none fails.

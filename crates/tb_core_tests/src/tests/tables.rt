@@ -1,10 +1,7 @@
-//! Facts: each call once with ample memory, and hundreds of events in the maps and in plain lists.
+//! Facts: each call once with ample memory.
 
 ghost use Rattle.std.specs.Prelude.{◌≡◌, []};
 ghost use Rattle.tb_tables.specs.Facts.{no_facts};
-
-mod both;
-mod plain;
 
 use std::process::Abort;
 use tb_layout::{Account, Transfer};

@@ -1,9 +1,9 @@
 //! 400 events, made by a rule from a counter, against plain lists: the transfers in order of making, with whether each
 //! expired, and balances as sums.
 
+use super::plain::{Row, expire, have_all, status_of, transfer_in, with_balances};
+use super::rule::{Rule, large, pick, small};
 use super::{MOST, commits, failures_of, make_accounts};
-use crate::tests::plain::{Row, expire, have_all, status_of, transfer_in, with_balances};
-use crate::tests::rule::{Rule, large, pick, small};
 use std::alloc::{AllocError, Global};
 use std::process::Abort;
 use tb_layout::{
