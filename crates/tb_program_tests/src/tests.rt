@@ -11,9 +11,7 @@ mod cases;
 mod codes;
 mod examples;
 mod faults;
-mod running;
 mod streams;
-mod submitters;
 
 /// Returns what `list` writes for a script.
 fn listed(rt: &(impl Abort + Alloc<A = Global>), script: &str) -> String {

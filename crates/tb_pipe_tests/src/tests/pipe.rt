@@ -27,7 +27,6 @@ mod memory;
 mod openings;
 mod queued;
 mod reply;
-mod sizes;
 
 /// How often a test gives way before it gives up.
 const MOST_TURNS: u32 = 1_000_000;

@@ -1,8 +1,6 @@
 //! Openings and submissions that are refused, before anything is served.
 
-use super::{
-    Told, answer_to, assert_run, finish_lone, look_of, open_lone, packet_of, queue_pulse, submit,
-};
+use super::{Told, answer_to, assert_run, finish_lone, look_of, open_lone, packet_of, submit};
 use std::alloc::Global;
 use std::process::Abort;
 use std::sync::Wait;
@@ -48,20 +46,6 @@ fn full_queue_of_one(rt: HostRuntime) {
     check!(&rt; answer_to(&rt, rt.alloc(), submitter, CREATE_ACCOUNTS, 1) == Ok(0));
     assert_full(&rt, rt.alloc(), submitter, 2);
     drop(lone);
-}
-
-/// The queue has as many places as the capacity that was asked for.
-#[test]
-fn full_queues(rt: HostRuntime) {
-    for capacity in [1, 3, 100, 65_536] {
-        let mut lone = open_lone(&rt, rt.alloc(), 4, capacity, 4);
-        for moment in 0..capacity {
-            queue_pulse(&rt, &mut lone.control, u64::from(moment));
-        }
-        check!(&rt; lone.control.queued() < 1 << 56);
-        check!(&rt; lone.control.pulse(&rt, 0) == Err(Refusal::Full));
-        drop(lone);
-    }
 }
 
 /// The new ledger has reserved capacity and another clock.

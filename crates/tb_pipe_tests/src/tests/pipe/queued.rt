@@ -27,7 +27,7 @@ pub(super) enum Step {
 }
 
 /// Queues packets by the submitter and pulses by the control, step by step.
-pub(super) fn queue_steps<R: Wait + Abort>(
+fn queue_steps<R: Wait + Abort>(
     rt: &R,
     alloc: Global,
     submitter: &mut Submitter,
