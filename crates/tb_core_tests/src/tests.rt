@@ -9,21 +9,6 @@ use tb_layout::Failure;
 use tb_test_makers::zeros;
 use tb_work::{Answer, Outcome, Packet};
 
-/// Ends the test unless a fact holds. The failure names the line of the call and, in a loop over a table, its row. Its proof
-/// takes a tenth of the time of that of `assert!`, which also writes the fact out.
-macro_rules! check {
-    ($rt:expr; $fact:expr $(,)?) => {
-        if !$fact {
-            std::process::Abort::abort($rt)
-        }
-    };
-    ($rt:expr; $fact:expr, $row:expr $(,)?) => {
-        if !$fact {
-            std::process::Abort::panic($rt, $row)
-        }
-    };
-}
-
 mod batch;
 mod demux;
 mod embed;

@@ -13,21 +13,6 @@ use tb_submit::Ended;
 use tb_test_makers::zeros;
 use tb_work::{Outcome, Packet, Refusal, Reply};
 
-/// Ends the test unless a fact holds. The failure names the line of the call and, in a loop over a table, its row. Its proof
-/// takes a tenth of the time of that of `assert!`, which also writes the fact out.
-macro_rules! check {
-    ($rt:expr; $fact:expr $(,)?) => {
-        if !$fact {
-            std::process::Abort::abort($rt)
-        }
-    };
-    ($rt:expr; $fact:expr, $row:expr $(,)?) => {
-        if !$fact {
-            std::process::Abort::panic($rt, $row)
-        }
-    };
-}
-
 mod pipe;
 mod queue;
 mod reading;

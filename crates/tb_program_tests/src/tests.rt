@@ -6,6 +6,7 @@ use std::process::Abort;
 use std::sync::Wait;
 use std::thread::Threads;
 use tb_program::{run_script, run_threads};
+use tb_test_makers::check;
 
 mod cases;
 mod codes;
@@ -30,10 +31,7 @@ fn ran<R: Abort + Threads + Wait + Sync + Alloc<A = Global>>(rt: &R, script: &st
 /// Asserts what `list` writes for a script.
 fn assert_list(rt: &(impl Abort + Alloc<A = Global>), script: &str, output: &str) {
     let text = listed(rt, script);
-    assert!(rt;
-        text.as_str() == output,
-        "list wrote {text:?} for {script:?}"
-    );
+    check!(rt; text.as_str() == output, script);
 }
 
 /// Asserts what `run` writes for a script.
@@ -43,10 +41,7 @@ fn assert_run<R: Abort + Threads + Wait + Sync + Alloc<A = Global>>(
     output: &str,
 ) {
     let text = ran(rt, script);
-    assert!(rt;
-        text.as_str() == output,
-        "run wrote {text:?} for {script:?}"
-    );
+    check!(rt; text.as_str() == output, script);
 }
 
 /// Asserts what both write, for a script in which the schedule decides nothing.

@@ -1,4 +1,4 @@
-//! Accounts, transfers, packets and jobs for tests.
+//! Accounts, transfers, packets and jobs for tests, and how a test asserts.
 //!
 //! Each maker returns an error only if memory runs out, and `job` also if the packet isn't admitted.
 #![tactic(auto)]
@@ -8,6 +8,22 @@ ghost use Rattle.std.specs.Prelude.{◌≡◌, IfOk};
 use std::alloc::Global;
 use tb_layout::{Account, BATCH_MAX, NoMemory, Transfer};
 use tb_work::{Bytes, Job, Packet, Refusal};
+
+/// Ends the test unless a fact holds. The failure names the line of the call and, in a loop over a table, its row. Its proof
+/// takes a tenth of the time of that of `assert!`, which also writes the fact out.
+#[macro_export]
+macro_rules! check {
+    ($rt:expr; $fact:expr $(,)?) => {
+        if !$fact {
+            std::process::Abort::abort($rt)
+        }
+    };
+    ($rt:expr; $fact:expr, $row:expr $(,)?) => {
+        if !$fact {
+            std::process::Abort::panic($rt, $row)
+        }
+    };
+}
 
 /// Returns an account's event in ledger 1 with code 1.
 pub fn account(id: u128, flags: u16) -> Account {

@@ -10,6 +10,7 @@ use std::alloc::Global;
 use std::process::Abort;
 use tb_demux::Cutter;
 use tb_layout::{CREATE_ACCOUNTS, Failure, LOOKUP_ACCOUNTS, read_account};
+use tb_test_makers::check;
 use tb_work::{Accounts, Answer, Failures, Job, Outcome, Reply};
 
 /// Returns what packets say of the submitter that queued them.

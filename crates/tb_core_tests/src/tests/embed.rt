@@ -4,7 +4,7 @@ use std::alloc::Global;
 use std::process::Abort;
 use tb_embed::{Engine, Seed};
 use tb_layout::{CREATE_ACCOUNTS, CREATE_TRANSFERS, LOOKUP_ACCOUNTS, MOMENT_MAX};
-use tb_test_makers::zeros;
+use tb_test_makers::{check, zeros};
 use tb_work::{Outcome, Packet, Refusal, Reply};
 
 #[derive(Clone, Copy)]

@@ -9,6 +9,7 @@ use std::alloc::Global;
 use std::process::Abort;
 use std::slice;
 use tb_core::{Cause, Front, Ledger, Outcomes, Parcel};
+use tb_test_makers::check;
 use tb_work::{Refusal, Reply, Ticket};
 
 /// What the front yields.

@@ -12,7 +12,7 @@ use tb_batch::{Batch, Batcher, Offered};
 use tb_core::{BareLedger, Cause, Front, Ledger, Outcomes, Parcel, Seed};
 use tb_demux::Cutter;
 use tb_layout::Account;
-use tb_test_makers::{account, job};
+use tb_test_makers::{account, check, job};
 use tb_work::{Answer, Job, Moment, Outcome, Packet, Reply, Ticket};
 
 /// Adds what a reply says to the text.

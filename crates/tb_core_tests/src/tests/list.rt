@@ -9,7 +9,7 @@ use super::told::{Noted, SIX_PLACES, Told, assert_noted, assert_told};
 use std::alloc::Global;
 use std::process::Abort;
 use tb_core::{Listed, run_list};
-use tb_test_makers::account;
+use tb_test_makers::{account, check};
 use tb_work::Item;
 
 /// Items of submitter 0.

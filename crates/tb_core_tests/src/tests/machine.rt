@@ -8,7 +8,7 @@ use std::alloc::Global;
 use std::process::Abort;
 use tb_layout::{Account, BATCH_MAX, CREATE_ACCOUNTS, CREATE_TRANSFERS, Failure, Transfer};
 use tb_machine::Machine;
-use tb_test_makers::{account_bytes, transfer, transfer_bytes};
+use tb_test_makers::{account_bytes, check, transfer, transfer_bytes};
 
 mod calls;
 mod memory;

@@ -6,6 +6,7 @@ ghost use Rattle.tb_tables.specs.Facts.{no_facts};
 use std::process::Abort;
 use tb_layout::{Account, Transfer};
 use tb_tables::{Seed, Status, Tables};
+use tb_test_makers::check;
 
 fn account(id: u128) -> Account
     ensures { result ≡ record {

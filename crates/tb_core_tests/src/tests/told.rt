@@ -3,6 +3,7 @@
 use std::process::Abort;
 use tb_core::{Entry, Outcomes};
 use tb_layout::Failure;
+use tb_test_makers::check;
 use tb_work::{Answer, Outcome, Reply};
 
 /// What became of a packet.

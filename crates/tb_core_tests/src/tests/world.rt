@@ -5,6 +5,7 @@ use super::number_of;
 use super::told::{Noted, Told, assert_noted, assert_told};
 use std::alloc::Global;
 use std::process::Abort;
+use tb_test_makers::check;
 use tb_work::{Refusal, Ticket};
 use tb_world::{Event, World, run_world};
 

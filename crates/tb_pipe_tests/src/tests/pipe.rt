@@ -16,7 +16,7 @@ use tb_core::Entry;
 use tb_layout::{CREATE_ACCOUNTS, NoMemory};
 use tb_pipe::{Gate, Opened, Pipeline, Report, open, settle};
 use tb_submit::{Control, ControlEnd, Ended, Intake, Submitter};
-use tb_test_makers::{account, accounts_packet};
+use tb_test_makers::{account, accounts_packet, check};
 use tb_work::{Outcome, Packet, Refusal, Reply};
 
 mod clients;

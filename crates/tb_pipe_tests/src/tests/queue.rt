@@ -4,7 +4,7 @@ use std::alloc::{AllocError, Global};
 use std::process::Abort;
 use std::sync::Wait;
 use tb_submit::{Control, Ends, Intake, Submitter, open_queue};
-use tb_test_makers::packet_of;
+use tb_test_makers::{check, packet_of};
 use tb_work::{Answer, Failures, Item, Job, Outcome, Packet, Refusal, Reply, Ticket};
 
 mod calls;

@@ -11,6 +11,7 @@ use std::thread::Threads;
 use tb_drive::{Action, ControlPlan, Driver, PlanDriver};
 use tb_layout::CREATE_ACCOUNTS;
 use tb_pipe::{Finished, drive_all, open};
+use tb_test_makers::check;
 use tb_work::{Refusal, Reply};
 
 /// Submits packets without waiting between them, and then reads a reply for each of them.

@@ -3,6 +3,7 @@
 use super::{Noter, SUBMIT, Saw, Seen, Step, run, run_one, seen_in};
 use std::alloc::Global;
 use std::process::Abort;
+use tb_test_makers::check;
 
 /// Waits before there is a packet, for the one that is queued, for two of two, and after the last reply.
 const WAITS: [Step; 8] = [

@@ -1,6 +1,7 @@
 //! The results that a driver receives.
 
 use super::{CREATE_ACCOUNTS, SUBMIT, Saw, Step, run_one};
+use tb_test_makers::check;
 use tb_work::Refusal;
 
 /// A packet of no operation that there is, one of a byte, one of an event more than the limit, and one that is queued.

@@ -9,6 +9,7 @@ use std::thread;
 use tb_drive::{Action, ControlAction, ControlDriver, Driver};
 use tb_layout::CREATE_ACCOUNTS;
 use tb_pipe::{drive_all, open};
+use tb_test_makers::check;
 use tb_work::{Outcome, Refusal, Reply};
 
 /// How many pulses and how many packets there are.

@@ -9,6 +9,7 @@ use std::thread::Threads;
 use tb_drive::{Action, ControlPlan, Driver};
 use tb_layout::CREATE_ACCOUNTS;
 use tb_pipe::{drive_all, open};
+use tb_test_makers::check;
 use tb_work::{Refusal, Reply};
 
 /// Sends packets without events, at most `credit` ahead of the replies, and waits for all replies. Before each packet it

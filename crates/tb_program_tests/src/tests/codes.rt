@@ -3,6 +3,7 @@
 use super::listed;
 use std::alloc::Global;
 use std::process::Abort;
+use tb_test_makers::check;
 
 /// Returns a script in which each row is a packet of its own after a setup.
 fn script_of(rt: &(impl Abort + Alloc<A = Global>), setup: &str, rows: &str) -> String {
@@ -42,10 +43,7 @@ fn assert_codes(
     let script = script_of(rt, setup, rows);
     let output = listed(rt, script.as_str());
     let answers = answers_of(rt, packets, pulses, rows);
-    assert!(rt;
-        output.as_str().contains(answers.as_str()),
-        "{output} has not {answers}"
-    );
+    check!(rt; output.as_str().contains(answers.as_str()), answers.as_str());
 }
 
 /// Accounts 1, 2, 6, 7, 8 and 9 of ledger 1, 3 of ledger 2. The debits of account 4 must not exceed

@@ -3,6 +3,7 @@ use std::io;
 use std::io::{Read, Write};
 use std::process::Abort;
 use tb_program::{ProgramFault, run_script, run_threads};
+use tb_test_makers::check;
 
 /// Gives a line with its first read, fails at the second, and has ended from then on: whoever continues to read after
 /// the fault finds the end of a script.
@@ -117,12 +118,12 @@ fn one_at_a_time() -> OneAtATime {
 fn flush_after_the_last_byte(rt: HostRuntime) {
     let mut listed = one_at_a_time();
     let answer = run_script(rt.alloc(), &mut "clock 1\n".as_bytes(), &mut listed);
-    assert!(rt; matches!(&answer, Ok(true)));
+    check!(&rt; matches!(&answer, Ok(true)));
     let mut ran = one_at_a_time();
     let answer = run_threads(&rt, rt.alloc(), &mut "clock 1\n".as_bytes(), &mut ran);
-    assert!(rt; matches!(&answer, Ok(true)));
+    check!(&rt; matches!(&answer, Ok(true)));
     for writer in [listed, ran] {
-        assert_eq!(rt; (writer.taken, writer.flushed), (8, 8));
+        check!(&rt; (writer.taken, writer.flushed) == (8, 8));
     }
 }
 
@@ -130,26 +131,26 @@ fn flush_after_the_last_byte(rt: HostRuntime) {
 fn read_fails_in_mid_stream(rt: HostRuntime) {
     let mut out = Vec::new(rt.alloc());
     let answer = run_script(rt.alloc(), &mut FailsAtSecond { reads: 0 }, &mut out);
-    assert!(rt; matches!(&answer, Err(ProgramFault::Read)));
-    assert!(rt; out.is_empty());
+    check!(&rt; matches!(&answer, Err(ProgramFault::Read)));
+    check!(&rt; out.is_empty());
 }
 
 #[test]
 fn write_fails(rt: HostRuntime) {
     let answer = run_script(rt.alloc(), &mut "clock 1\n".as_bytes(), &mut TakesNothing);
-    assert!(rt; matches!(&answer, Err(ProgramFault::Write)));
+    check!(&rt; matches!(&answer, Err(ProgramFault::Write)));
 }
 
 #[test]
 fn flush_fails(rt: HostRuntime) {
     let answer = run_script(rt.alloc(), &mut "clock 1\n".as_bytes(), &mut FailsToFlush);
-    assert!(rt; matches!(&answer, Err(ProgramFault::Write)));
+    check!(&rt; matches!(&answer, Err(ProgramFault::Write)));
 }
 
 #[test]
 fn flush_of_a_run_fails(rt: HostRuntime) {
     let answer = run_threads(&rt, rt.alloc(), &mut "shut\n".as_bytes(), &mut FailsToFlush);
-    assert!(rt; matches!(&answer, Err(ProgramFault::Write)));
+    check!(&rt; matches!(&answer, Err(ProgramFault::Write)));
 }
 
 #[test]
@@ -157,15 +158,15 @@ fn read_of_a_run_fails(rt: HostRuntime) {
     let mut out = Vec::new(rt.alloc());
     let mut reader = FailsAtSecond { reads: 0 };
     let answer = run_threads(&rt, rt.alloc(), &mut reader, &mut out);
-    assert!(rt; matches!(&answer, Err(ProgramFault::Read)));
-    assert!(rt; out.is_empty());
+    check!(&rt; matches!(&answer, Err(ProgramFault::Read)));
+    check!(&rt; out.is_empty());
 }
 
 #[test]
 fn write_of_a_run_fails(rt: HostRuntime) {
     let mut reader = "packet 0 129\nshut\n".as_bytes();
     let answer = run_threads(&rt, rt.alloc(), &mut reader, &mut TakesNothing);
-    assert!(rt; matches!(&answer, Err(ProgramFault::Write)));
+    check!(&rt; matches!(&answer, Err(ProgramFault::Write)));
 }
 
 /// A byte, how often a script consists of it, and what is written for the script. One that never ends isn't read to its
@@ -182,8 +183,8 @@ fn assert_output(rt: &(impl Abort + Alloc<A = Global>), script: Repeated, output
     let mut script = script;
     let mut out = Vec::new(rt.alloc());
     let faultless = run_script(rt.alloc(), &mut script, &mut out).expect(rt, "memory");
-    assert!(rt; out.as_slice() == output.as_bytes());
-    assert!(rt; faultless == (output == "clock 0\n"));
+    check!(rt; out.as_slice() == output.as_bytes());
+    check!(rt; faultless == (output == "clock 0\n"));
 }
 
 #[test]

@@ -2,6 +2,7 @@ use super::{batcher_of, job_of};
 use std::alloc::Global;
 use std::process::Abort;
 use tb_batch::{Batch, Batcher, Offered};
+use tb_test_makers::check;
 use tb_work::{Job, Refusal};
 
 const LIMITS: [(u32, Option<Refusal>); 5] = [

@@ -3,6 +3,7 @@ use crate::tests::{number_of, push};
 use std::alloc::Global;
 use std::process::Abort;
 use tb_batch::{Batch, Batcher, Offered};
+use tb_test_makers::check;
 use tb_work::Job;
 
 /// A row for each example: its name, the limit, its packets, and the packets and bytes of the batch that is left. A packet is

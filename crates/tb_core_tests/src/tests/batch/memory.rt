@@ -2,7 +2,7 @@ use super::batcher_of;
 use std::alloc::Global;
 use std::process::Abort;
 use tb_batch::{Batcher, Offered};
-use tb_test_makers::zeros;
+use tb_test_makers::{check, zeros};
 use tb_work::Job;
 
 /// Returns the job of a packet of an account of zeros, or None if memory runs out.

@@ -4,6 +4,7 @@ use super::{batcher_of, job_of};
 use std::alloc::Global;
 use std::process::Abort;
 use tb_batch::{Batch, Batcher, Offered};
+use tb_test_makers::check;
 
 /// Returns 'J' if the packet joined the group held, and 'S' if it sealed that group.
 fn letter(offered: &Offered) -> u8 {

@@ -6,7 +6,7 @@ use std::process::Abort;
 use tb_layout::{Account, Transfer};
 use tb_machine::{Machine, Seed};
 use tb_tables::Status;
-use tb_test_makers::{account, transfer};
+use tb_test_makers::{account, check, transfer};
 
 /// Makes a pending transfer with a timeout, one that is voided, and a plain one. Once the first has expired, only the plain
 /// transfer is in the balances.

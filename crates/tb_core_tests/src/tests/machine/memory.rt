@@ -12,7 +12,7 @@ use tb_layout::{
 };
 use tb_machine::Machine;
 use tb_tables::Status;
-use tb_test_makers::{account, account_bytes, transfer, transfer_bytes};
+use tb_test_makers::{account, account_bytes, check, transfer, transfer_bytes};
 
 /// What the look-ups of a machine answer for ids 1, 2 and 3.
 #[derive(Clone, Copy)]

@@ -10,7 +10,7 @@ use tb_layout::{
     Account, CREATE_ACCOUNTS, CREATE_TRANSFERS, NANOSECONDS_PER_SECOND, Transfer, write_transfer,
 };
 use tb_machine::Machine;
-use tb_test_makers::{account, account_bytes, transfer};
+use tb_test_makers::{account, account_bytes, check, transfer};
 
 /// Returns the accounts of a rule.
 fn accounts(rule: Rule) -> [Account; 4] {

@@ -3,7 +3,7 @@ use crate::tests::{failures_at, packet_of};
 use std::alloc::Global;
 use std::process::Abort;
 use tb_layout::{Account, Failure};
-use tb_test_makers::account;
+use tb_test_makers::{account, check};
 use tb_work::{
     Accounts, Answer, Bytes, Failures, Item, Job, Moment, Outcome, Packet, Refusal, Reply, Stub,
     Ticket,

@@ -3,7 +3,7 @@
 use std::alloc::Global;
 use std::process::Abort;
 use tb_layout::{Account, AccountCode, Transfer, TransferCode, read_account, read_transfer};
-use tb_test_makers::{account, accounts_packet, transfers_packet};
+use tb_test_makers::{account, accounts_packet, check, transfers_packet};
 use tb_work::{Packet, Refusal, admit};
 
 /// Returns a packet of these accounts, with user word 7.

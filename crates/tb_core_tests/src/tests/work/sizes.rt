@@ -3,6 +3,7 @@
 use crate::tests::packet_of;
 use std::alloc::Global;
 use std::process::Abort;
+use tb_test_makers::check;
 use tb_work::{Job, Stub};
 
 /// Operations, each with the size of its event in bytes.

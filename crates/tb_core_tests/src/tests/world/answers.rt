@@ -6,7 +6,7 @@ use crate::tests::told::Noted;
 use std::alloc::Global;
 use std::process::Abort;
 use tb_layout::Account;
-use tb_test_makers::account;
+use tb_test_makers::{account, check};
 use tb_work::{Item, Job, Ticket};
 use tb_world::{Event, World};
 

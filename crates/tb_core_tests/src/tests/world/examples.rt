@@ -4,6 +4,7 @@ use super::assert_steps;
 use crate::tests::told::{Noted, Told};
 use std::alloc::Global;
 use std::process::Abort;
+use tb_test_makers::check;
 use tb_work::Refusal;
 use tb_world::World;
 

@@ -8,6 +8,7 @@ use std::alloc::Global;
 use std::process::Abort;
 use tb_core::Entry;
 use tb_layout::{CLOCK_MAX, CREATE_TRANSFERS, LOOKUP_ACCOUNTS, MOMENT_MAX};
+use tb_test_makers::check;
 use tb_work::{Reply, Stub};
 use tb_world::World;
 

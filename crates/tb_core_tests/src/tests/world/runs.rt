@@ -9,7 +9,7 @@ use std::alloc::Global;
 use std::process::Abort;
 use std::slice;
 use tb_layout::{Account, Failure, Transfer};
-use tb_test_makers::{account, transfer};
+use tb_test_makers::{account, check, transfer};
 use tb_work::{Item, Job, Refusal, Ticket};
 use tb_world::{Event, World, run_world};
 

@@ -16,6 +16,7 @@ use tb_blocking::Client;
 use tb_drive::Stop;
 use tb_layout::CREATE_ACCOUNTS;
 use tb_pipe::{Open, Report, settle};
+use tb_test_makers::check;
 use tb_work::Refusal;
 
 /// How often a thread yields before it gives a run up, while another goes to sleep.

@@ -19,6 +19,7 @@ use tb_drive::Stop;
 use tb_layout::CREATE_ACCOUNTS;
 use tb_pipe::{Open, Pipeline, Report, settle};
 use tb_submit::{Control, ControlEnd, Ended};
+use tb_test_makers::check;
 use tb_work::Refusal;
 
 /// More nanoseconds than a pulse may have.

@@ -17,6 +17,7 @@ use std::thread::{Promise, Threads};
 use tb_layout::{CREATE_ACCOUNTS, CREATE_TRANSFERS};
 use tb_pipe::{Opened, Pipeline, Report, settle};
 use tb_submit::{Control, ControlEnd, Ended, Submitter};
+use tb_test_makers::check;
 use tb_work::{Packet, Refusal};
 
 /// How often a reply is looked for that the gate holds back.

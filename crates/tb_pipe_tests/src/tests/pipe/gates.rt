@@ -11,6 +11,7 @@ use std::thread;
 use std::thread::Threads;
 use tb_layout::{CREATE_ACCOUNTS, CREATE_TRANSFERS};
 use tb_pipe::Gate;
+use tb_test_makers::check;
 
 /// Gives way until a counter has reached a number; false if it doesn't in time.
 fn waits_for(counter: &AtomicU64, number: u64) -> bool {

@@ -19,6 +19,7 @@ use std::thread::Threads;
 use tb_layout::{CREATE_ACCOUNTS, NoMemory};
 use tb_pipe::{Open, Report};
 use tb_submit::{Control, Ended, Intake, Submitter};
+use tb_test_makers::check;
 use tb_work::{Item, Refusal, Ticket};
 
 /// Returns a pipeline of one submitter, opened again if memory ran out, and whether it did.

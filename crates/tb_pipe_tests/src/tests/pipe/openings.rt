@@ -8,6 +8,7 @@ use tb_core::Ledger;
 use tb_layout::CREATE_ACCOUNTS;
 use tb_pipe::{Open, open};
 use tb_submit::Submitter;
+use tb_test_makers::check;
 use tb_work::Refusal;
 
 /// Returns why an opening with a credit of 4 is refused.

@@ -15,6 +15,7 @@ use std::thread::Threads;
 use tb_layout::CREATE_ACCOUNTS;
 use tb_pipe::{Gate, Open, Opened, Report};
 use tb_submit::{Control, Submitter};
+use tb_test_makers::check;
 use tb_work::Refusal;
 
 /// What is queued ahead of the control's end.

@@ -15,7 +15,7 @@ use std::thread::Threads;
 use tb_layout::{CREATE_ACCOUNTS, Failure};
 use tb_pipe::{Open, Pipeline, Report, open, settle};
 use tb_submit::{Control, ControlEnd, Ended, Submitter};
-use tb_test_makers::{account, accounts_packet};
+use tb_test_makers::{account, accounts_packet, check};
 use tb_work::{Answer, Outcome, Packet, Reply};
 
 /// A pipeline whose one submitter queued one packet and ended, as did the control.

@@ -2,6 +2,7 @@ use super::{Says, answer, pulse, queue_of, reads_reply, submit};
 use std::process::Abort;
 use std::sync::Wait;
 use tb_submit::{Control, Ended, Intake, Submitter};
+use tb_test_makers::check;
 use tb_work::{Item, Refusal, Ticket};
 
 #[derive(Clone, Copy, PartialEq, Eq)]

@@ -3,6 +3,7 @@ use std::alloc::Global;
 use std::process::Abort;
 use std::sync::Wait;
 use tb_submit::{Submitter, open_queue};
+use tb_test_makers::check;
 use tb_work::{Packet, Refusal};
 
 /// Queues the packet as number 0, or gets it back as it was and none is queued.

@@ -3,7 +3,7 @@ use std::alloc::Global;
 use std::process::Abort;
 use tb_rings::Outlet;
 use tb_submit::open_queue;
-use tb_test_makers::job;
+use tb_test_makers::{check, job};
 use tb_work::{Refusal, Reply};
 
 /// Limit, capacity, credit and submitters, and why such a queue is refused.

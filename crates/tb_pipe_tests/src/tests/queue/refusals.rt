@@ -3,6 +3,7 @@ use std::alloc::Global;
 use std::process::Abort;
 use std::sync::Wait;
 use tb_submit::Submitter;
+use tb_test_makers::check;
 use tb_work::Refusal;
 
 /// What a packet, of an operation and a number of bytes, is answered.

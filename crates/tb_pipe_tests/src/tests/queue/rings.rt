@@ -1,6 +1,7 @@
 //! Rings: the worked example, and each call once with ample memory.
 
 use tb_rings::{SpinWait, ring};
+use tb_test_makers::check;
 
 /// What both ends answer in one thread.
 #[test]

@@ -4,6 +4,7 @@ use std::alloc::Global;
 use std::process::Abort;
 use std::sync::Wait;
 use tb_submit::{Control, Ends, Intake, Submitter};
+use tb_test_makers::check;
 use tb_work::{Item, Packet};
 
 /// Passes a packet through the queue and returns its number, and the packet of its reply.

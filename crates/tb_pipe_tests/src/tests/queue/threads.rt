@@ -4,6 +4,7 @@ use std::sync::Wait;
 use std::thread;
 use std::thread::Threads;
 use tb_submit::{Control, Ends, Intake, Submitter, open_queue};
+use tb_test_makers::check;
 use tb_work::{Bytes, Item, Packet, Stub, Ticket};
 
 /// How often in all a thread gives way before it gives up.
