@@ -1,0 +1,225 @@
+"""Scripts of the largest sizes, each with the lines that the rules give for it: packets of 8,190 events, chains of each length, ids
+near 2^128, 25,000 packets, lines of 65,536 bytes, 16 submitters, the longest timeout and the last timestamps."""
+
+import functools
+
+MAX = 2**128 - 1
+BATCH_MAX = 8190
+CLOCK_MAX = 2**63 - 1
+# The longest timeout, in nanoseconds.
+TIMEOUT_MAX = (2**32 - 1) * 10**9
+
+
+def account(number, flags=0):
+    return f"account id={number} ledger=1 code=1 flags={flags}"
+
+
+def transfer(number, debit=1, credit=2, amount=1, flags=0):
+    return f"transfer id={number} debit_account_id={debit} credit_account_id={credit} amount={amount} ledger=1 code=1 flags={flags}"
+
+
+def failed(codes):
+    """Returns what the line of a packet says of its failures, given as pairs of index and code."""
+    return "".join(f" {index}:{code}" for index, code in codes)
+
+
+def account_bytes(number):
+    """Returns an account in ledger 1 with code 1 as a line of `hex` has it."""
+    return (number.to_bytes(16, "little") + bytes(96) + (1).to_bytes(4, "little") + (1).to_bytes(2, "little") + bytes(10)).hex()
+
+
+def account_lines(ids):
+    return [f"account {number} {timestamp} 0 0 0 0" for timestamp, number in enumerate(ids, 1)]
+
+
+def largest_packet():
+    """One packet of 8,190 accounts, with the greatest ids that there are."""
+    ids = range(MAX - BATCH_MAX, MAX)
+    script = ["packet 0 129", *map(account, ids)]
+    return script, ["packet 0 0 committed 0", f"clock {BATCH_MAX}", *account_lines(ids)]
+
+
+def one_event_too_many():
+    """8,191 accounts in one packet are refused."""
+    return ["packet 0 129", *map(account, range(1, BATCH_MAX + 2))], ["packet 0 refused 3 TooMuchData", "clock 0"]
+
+
+def many_packets():
+    """25,000 packets of one event each, of one submitter."""
+    script, printed = [], []
+    for number in range(25_000):
+        script += ["packet 0 129", account(number + 1)]
+        printed.append(f"packet 0 {number} committed {number}")
+    return script, [*printed, "clock 25000", *account_lines(range(1, 25_001))]
+
+
+def longest_line():
+    """A line of 65,536 bytes: 255 accounts in hexadecimal digits, and spaces."""
+    ids = range(1, 256)
+    line = "hex " + "".join(map(account_bytes, ids))
+    script = ["packet 0 129", line.ljust(65_536)]
+    return script, ["packet 0 0 committed 0", "clock 255", *account_lines(ids)]
+
+
+def line_too_long():
+    return ["packet 0 129", "#".ljust(65_537)], ["fault 2 line too long"]
+
+
+def largest_lookup():
+    """8,190 ids looked up, of which every second is there."""
+    there = range(2, BATCH_MAX + 1, 2)
+    script = ["packet 0 129", *map(account, there), "packet 0 131", *(f"id {number}" for number in range(1, BATCH_MAX + 1))]
+    found = "".join(f" {number}:0:0:0:0" for number in there)
+    return script, ["packet 0 0 committed 0", "packet 0 1 committed 1" + found, f"clock {len(there)}", *account_lines(there)]
+
+
+def resolved_late():
+    """1,110 pending transfers with the longest timeout. After 6,790 other transfers half of the first 1,100 are posted and half voided.
+    The last ten expire one by one, to the nanosecond: their timestamps are 1,103 to 1,112."""
+    resolved, posted = 1100, 550
+    script = ["packet 0 129", account(1), account(2), "packet 0 130"]
+    script += [f"{transfer(number, amount=3, flags=2)} timeout=4294967295" for number in range(1, resolved + 11)]
+    script += ["packet 0 130", *(transfer(number + 10_000) for number in range(6790)), "packet 0 130"]
+    script += [f"transfer id={number + 20_000} pending_id={number} amount={MAX} flags=4" for number in range(1, posted + 1)]
+    script += [f"transfer id={number + 20_000} pending_id={number} flags=8" for number in range(posted + 1, resolved + 1)]
+    printed = [f"packet 0 {number} committed {number}" for number in range(4)]
+    for turn, (timestamp, left) in enumerate([(1102, 10), (1107, 5), (1111, 1), (1112, 0)]):
+        script += [f"pulse {TIMEOUT_MAX + timestamp}", "packet 0 131", "id 1"]
+        printed += [f"pulse {4 + 2 * turn}", f"packet 0 {4 + turn} committed {5 + 2 * turn} 1:{3 * left}:{6790 + 3 * posted}:0:0"]
+    both = 6790 + 3 * posted
+    return script, [*printed, f"clock {TIMEOUT_MAX + 1112}", f"account 1 1 0 {both} 0 0", f"account 2 2 0 0 0 {both}"]
+
+
+def failed_ids():
+    """1,100 transfers whose account isn't there, each refused with 68 afterwards."""
+    transfers = [transfer(number, credit=9) for number in range(1, 1101)]
+    script = ["packet 0 129", account(1), account(2), "packet 0 130", *transfers, "packet 0 130", *transfers]
+    return script, [
+        "packet 0 0 committed 0",
+        "packet 0 1 committed 1" + failed((index, 22) for index in range(1100)),
+        "packet 0 2 committed 2" + failed((index, 68) for index in range(1100)),
+        "clock 2202", "account 1 1 0 0 0 0", "account 2 2 0 0 0 0",
+    ]
+
+
+def full_bodies():
+    """8,190 accounts, 8,190 transfers between them, each of another pair, and 8,190 more accounts."""
+    first, more = range(1, BATCH_MAX + 1), range(BATCH_MAX + 1, 2 * BATCH_MAX + 1)
+    script = ["packet 0 129", *map(account, first), "packet 0 130"]
+    script += [transfer(number, number, BATCH_MAX + 1 - number) for number in first]
+    script += ["packet 0 129", *map(account, more)]
+    printed = [f"packet 0 {number} committed {number}" for number in range(3)]
+    printed += [f"clock {3 * BATCH_MAX}", *(f"account {number} {number} 0 1 0 1" for number in first)]
+    return script, printed + [f"account {number} {BATCH_MAX + number} 0 0 0 0" for number in more]
+
+
+# Numbers of single events, each with the length of the chain behind them.
+CHAINS = [(0, 2), (1, 2), (7, 3), (255, 256), (1000, 1024), (4000, 4190), (8000, 190), (1, 8189), (0, BATCH_MAX)]
+
+
+def chain_packet(event, first, chain, code):
+    """Returns the events of a packet, with ids from `first` on, and its failures. Behind single events comes a chain, which succeeds
+    (code 0), is left open (2), or fails by another code, since the id of its last event is 0."""
+    before, length = chain
+    last = before + length - 1
+    events = []
+    for index in range(last + 1):
+        linked = before <= index < last or index == last and code == 2
+        events.append(event(0 if index == last and code > 2 else first + index, flags=int(linked)))
+    return events, [(index, 1 if index < last else code) for index in range(before, last + 1) if code]
+
+
+def chains(operation):
+    """A packet for each chain and each of its ends. The id of an event is its timestamp."""
+    event, id_is_zero = (account, 6) if operation == 129 else (transfer, 5)
+    script, printed, made, clock = ["packet 0 129", account(1), account(2)], ["packet 0 0 committed 0"], [], 2
+    packets = [(chain, code) for chain in CHAINS for code in (0, id_is_zero, 2)]
+    for number, (chain, code) in enumerate(packets, 1):
+        events, failures = chain_packet(event, clock + 1, chain, code)
+        script += [f"packet 0 {operation}", *events]
+        printed.append(f"packet 0 {number} committed {number}" + failed(failures))
+        made += range(clock + 1, clock + 1 + len(events) - len(failures))
+        clock += len(events)
+    amount = len(made) if operation == 130 else 0
+    printed += [f"clock {clock}", f"account 1 1 0 {amount} 0 0", f"account 2 2 0 0 0 {amount}"]
+    return script, printed + [f"account {id} {id} 0 0 0 0" for id in made if operation == 129]
+
+
+def chains_of_accounts():
+    return chains(129)
+
+
+def chains_of_transfers():
+    return chains(130)
+
+
+def end_of_clock(operation, left):
+    """Three events of which the last timestamps are left for some; the others have code 201."""
+    codes = failed((index, 201) for index in range(left, 3))
+    if operation == 129:
+        script = [f"clock {CLOCK_MAX - left}", "packet 0 129", *map(account, range(1, 4))]
+        accounts = [f"account {number} {CLOCK_MAX - left + number} 0 0 0 0" for number in range(1, left + 1)]
+        return script, ["packet 0 0 committed 0" + codes, f"clock {CLOCK_MAX}", *accounts]
+    clock = CLOCK_MAX - 2 - left
+    script = [f"clock {clock}", "packet 0 129", account(1), account(2), "packet 0 130", *map(transfer, range(1, 4))]
+    accounts = [f"account 1 {clock + 1} 0 {left} 0 0", f"account 2 {clock + 2} 0 0 0 {left}"]
+    return script, ["packet 0 0 committed 0", "packet 0 1 committed 1" + codes, f"clock {CLOCK_MAX}", *accounts]
+
+
+def limits_of_accounts():
+    """The debits of account 2 must not exceed its credits, nor the credits of account 3 its debits; pending amounts count."""
+    script = ["packet 0 129", account(1), account(2, flags=2), account(3, flags=4), "packet 0 130"]
+    moves = [(2, 1, 1, 0), (1, 3, 1, 2), (1, 2, 5, 0), (2, 1, 6, 2), (2, 1, 5, 2), (3, 1, 5, 0), (1, 3, 6, 0), (1, 3, 5, 0)]
+    script += [transfer(number, *move) for number, move in enumerate(moves, 1)]
+    return script, [
+        "packet 0 0 committed 0", "packet 0 1 committed 1" + failed([(0, 54), (1, 55), (3, 54), (6, 55)]), "clock 11",
+        "account 1 1 0 10 5 5", "account 2 2 5 0 0 5", "account 3 3 0 5 0 5",
+    ]
+
+
+def many_entries():
+    """1,000 packets without events, which are one batch, and then 150 lookups, each followed by a pulse."""
+    script, printed = ["packet 0 129"] * 1000, [f"packet 0 {number} committed {number}" for number in range(1000)]
+    for number in range(150):
+        script += ["packet 0 131", "id 0", f"pulse {number}"]
+        printed += [f"packet 0 {1000 + number} committed {1000 + 2 * number}", f"pulse {1001 + 2 * number}"]
+    return script, [*printed, "clock 149"]
+
+
+def one_place_one_credit():
+    """50 packets, each of which waits for the reply to the one before it. There is no account of id 0."""
+    script = ["submitters 1", "capacity 1", "credit 1"]
+    for number in range(50):
+        script += ["packet 0 129", account(number)]
+    printed = ["packet 0 0 committed 0 0:6", *(f"packet 0 {number} committed {number}" for number in range(1, 50))]
+    return script, [*printed, "clock 50", *(f"account {number} {number + 1} 0 0 0 0" for number in range(1, 50))]
+
+
+def two_thousand_packets():
+    """A transfer in each packet but the first; each even one repeats the transfer before it, which exists."""
+    script = ["submitters 1", "capacity 4", "credit 3", "packet 0 129", account(1), account(2)]
+    printed = ["packet 0 0 committed 0"]
+    for number in range(1, 2000):
+        script += ["packet 0 130", transfer(number - (number % 2 == 0))]
+        printed.append(f"packet 0 {number} committed {number}" + " 0:46" * (number % 2 == 0))
+    return script, [*printed, "clock 2001", "account 1 1 0 1000 0 0", "account 2 2 0 0 0 1000"]
+
+
+def sixteen_submitters():
+    """A packet of each of 16 submitters, for `list`: the places are those of the script."""
+    script, printed = ["submitters 16"], []
+    for submitter in range(16):
+        script += [f"packet {submitter} 129", *map(account, range(submitter * 500 + 1, submitter * 500 + 501))]
+        printed.append(f"packet {submitter} 0 committed {submitter}")
+    return script, [*printed, "clock 8000", *account_lines(range(1, 8001))]
+
+
+# What `list` and `run` print alike: scripts of one submitter, whose order is no schedule's.
+ALIKE = [
+    largest_packet, one_event_too_many, many_packets, longest_line, line_too_long, largest_lookup, failed_ids, full_bodies,
+    chains_of_accounts, chains_of_transfers, limits_of_accounts, one_place_one_credit, two_thousand_packets,
+    *(functools.partial(end_of_clock, operation, left) for operation in (129, 130) for left in range(4)),
+]
+
+# What is for `list` alone: scripts with pulses or of several submitters.
+BY_LIST = [sixteen_submitters, resolved_late, many_entries]
