@@ -14,7 +14,6 @@ use tb_test_makers::zeros;
 use tb_work::{Outcome, Packet, Refusal, Reply};
 
 mod pipe;
-mod queue;
 mod reading;
 mod replies;
 mod tellings;
