@@ -3,7 +3,7 @@ use std::process::Abort;
 use std::sync::Wait;
 use tb_submit::{Control, Ended, Intake, Submitter};
 use tb_test_makers::check;
-use tb_work::{Item, Refusal, Ticket};
+use tb_work::{Item, Refusal};
 
 #[derive(Clone, Copy, PartialEq, Eq)]
 enum Kind {

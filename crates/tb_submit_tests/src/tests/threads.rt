@@ -3,7 +3,7 @@ use std::process::Abort;
 use std::sync::Wait;
 use std::thread;
 use std::thread::Threads;
-use tb_submit::{Control, Ends, Intake, Submitter, open_queue};
+use tb_submit::{Ends, Intake, Submitter, open_queue};
 use tb_test_makers::check;
 use tb_work::{Bytes, Item, Packet, Stub, Ticket};
 

@@ -7,7 +7,7 @@ ghost use Rattle.tb_work.specs.declared.item.Item.TheVariants as item;
 ghost use Rattle.tb_work.specs.declared.packet.Packet.{Packet as PacketValue};
 ghost use Rattle.tb_pipe_tests.specs.OnePacket.{IsReplyToOne, IsRunOfOne, one_and_end};
 
-use super::{Lone, lone_of, look_of, put, room_for_ends};
+use super::{lone_of, look_of, put, room_for_ends};
 use std::alloc::Global;
 use std::process::Abort;
 use std::sync::Wait;
