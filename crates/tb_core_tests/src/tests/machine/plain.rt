@@ -42,16 +42,6 @@ pub(super) fn status_of(rows: &[Row], row: &Row) -> Option<Status> {
     }
 }
 
-/// Returns the status of the transfer with an id.
-pub(super) fn status_in(rows: &[Row], id: u128) -> Option<Status> {
-    for row in rows {
-        if row.transfer.id == id {
-            return status_of(rows, row);
-        }
-    }
-    None
-}
-
 /// Raises a balance by an amount that belongs to it.
 fn raise(balance: &mut u128, belongs: bool, amount: u128) {
     if belongs {
