@@ -113,12 +113,12 @@ def full_bodies():
     return script, printed + [f"account {number} {BATCH_MAX + number} 0 0 0 0" for number in more]
 
 
-# Numbers of single events, each with the length of the chain behind them.
+# Numbers of single events, each with the length of the chain after them.
 CHAINS = [(0, 2), (1, 2), (7, 3), (255, 256), (1000, 1024), (4000, 4190), (8000, 190), (1, 8189), (0, BATCH_MAX)]
 
 
 def chain_packet(event, first, chain, code):
-    """Returns the events of a packet, with ids from `first` on, and its failures. Behind single events comes a chain, which succeeds
+    """Returns the events of a packet, with ids from `first` on, and its failures. After single events comes a chain, which succeeds
     (code 0), is left open (2), or fails by another code, since the id of its last event is 0."""
     before, length = chain
     last = before + length - 1
