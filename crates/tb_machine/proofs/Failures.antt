@@ -5,7 +5,8 @@ use Rattle.std.proofs.lemmas.List.{length-replicate, replicate_more}
 use Rattle.tb_layout.specs.declared.failure.Failure.{Failure}
 use Rattle.tb_tables.specs.Facts.{Facts}
 use Rattle.tb_machine.specs.declared.fault.ChainFault.{ChainFault}
-use Rattle.tb_machine.specs.Chain.{Operation, closed_outcome, failed_results, failures_from}
+use Rattle.tb_machine.specs.Chain.{Operation, failures_from}
+use Rattle.tb_machine.specs.inside.Faults.{closed_outcome, results_of_failed}
 use Rattle.tb_machine.specs.Examining.{LiesBelow}
 use Rattle.tb_machine.proofs.Faults.{eqb-false, length-failed_results}
 
@@ -57,11 +58,11 @@ failures_from-fault index before code count fault =
 
 -- the last event of an open chain reports so
 pub failures_from-open : {Event : Type 0} (index count : ℕ) (fault : Option (ChainFault Event)) → LiesBelow count fault →
-    failures_from index (failed_results count fault ++ 2 ∷ [])
-    ≡ failures_from index (failed_results count fault) ++ failure (index + count) 2 ∷ []
+    failures_from index (results_of_failed count fault ++ 2 ∷ [])
+    ≡ failures_from index (results_of_failed count fault) ++ failure (index + count) 2 ∷ []
 failures_from-open index count fault below =
-    failures_from-append index (failed_results count fault) (2 ∷ [])
-    ∙ ap (λ n. failures_from index (failed_results count fault) ++ failure (index + n) 2 ∷ [])
+    failures_from-append index (results_of_failed count fault) (2 ∷ [])
+    ∙ ap (λ n. failures_from index (results_of_failed count fault) ++ failure (index + n) 2 ∷ [])
     (length-failed_results count fault below)
 
 -- a chain without a fault reports nothing

@@ -1,12 +1,15 @@
 -- The first fault of events, and how many results a chain has.
-use Rattle.std.proofs.Common.{refl, ◌∙◌, arith, ◌≡◌, ◌≢◌, ℕ, suc, ◌+◌, ◌-◌, ◌<◌, ◌≤◌, Bool, true, false, List, [], ◌∷◌, length, replicate, eqb, Option, Some, None, map, take, length-append, length-take-le, ⊎_elim}
+use Rattle.std.proofs.Common.{refl, ap, nat_lt, ◌∙◌, arith, ◌≡◌, ◌≢◌, ℕ, suc, ◌+◌, ◌-◌, ◌<◌, ◌≤◌, Bool, true, false, List, [], ◌∷◌, length, replicate, eqb, Option, Some, None, map, take, length-append, length-take-le, ⊎_elim}
 use Rattle.std.specs.Prelude.{if◌then◌else◌, ◌==◌, is_some}
+use Rattle.std.proofs.lemmas.Bool.{ltb-true}
 use Rattle.std.proofs.lemmas.List.{length-map, length-replicate}
 use Rattle.std.proofs.lemmas.Bool.Decides.{eqb_tells}
 use Rattle.tb_layout.specs.Events.{is_last_linked}
 use Rattle.tb_tables.specs.Facts.{Facts}
 use Rattle.tb_machine.specs.declared.fault.ChainFault.{ChainFault}
-use Rattle.tb_machine.specs.Chain.{next_timestamp, clock_after, Operation, Results, verdict_at, facts_with, first_fault, failed_results, closed_outcome, chain_outcome}
+use Rattle.tb_layout.specs.Limits.{clock_max}
+use Rattle.tb_machine.specs.Chain.{clock_after, clock_exhausted, Operation, Results, Attempt, Stored, Failed, verdict_after, try_events, failed_results, closed_chain, open_chain, chain_outcome}
+use Rattle.tb_machine.specs.inside.Faults.{next_timestamp, verdict_at, facts_with, facts_with_all, first_fault, results_of_failed, closed_outcome, open_outcome}
 use Rattle.tb_machine.specs.Examining.{LiesBelow, fault_as}
 
 pub eqb-false : (a b : ℕ) → a ≢ b → (a == b) ≡ false
@@ -49,8 +52,74 @@ pub quiet_as : {A B : Type 0} (become : A → B) (fault : Option (ChainFault A))
 quiet_as become None h = refl
 quiet_as become (Some fault) h = h
 
+-- ---- a walk of a chain is its first fault, or the facts that all its events leave
+
+abbrev attempt_of : {Event : Type 0} → Facts → Option (ChainFault Event) → Attempt Event
+attempt_of after None = Stored after
+attempt_of after (Some fault) = Failed fault
+
+chosen_attempt : {Event : Type 0} (is_ok : Bool) (after : Facts) (rest : Option (ChainFault Event))
+    (fault : ChainFault Event) → (if is_ok then attempt_of after rest else Failed fault)
+    ≡ attempt_of after (if is_ok then rest else Some fault)
+chosen_attempt true after rest fault = refl
+chosen_attempt false after rest fault = refl
+
+tried : {Event : Type 0} (operation : Operation Event) (index clock : ℕ) (facts : Facts) (events : List Event) →
+    try_events operation index clock facts events
+    ≡ attempt_of (facts_with_all operation clock facts events) (first_fault operation index clock facts events)
+tried operation index clock facts [] = refl
+tried operation index clock facts (event ∷ events) =
+    by (nat_lt clock clock_max) refl
+    (tried operation (index + 1) (clock + 1) (operation.stored facts (clock + 1) event) events)
+  where
+    by : (within : Bool) → nat_lt clock clock_max ≡ within →
+        (let next = operation.stored facts (clock + 1) event in
+        try_events operation (index + 1) (clock + 1) next events
+        ≡ attempt_of (facts_with_all operation (clock + 1) next events)
+        (first_fault operation (index + 1) (clock + 1) next events)) →
+        try_events operation index clock facts (event ∷ events)
+        ≡ attempt_of (facts_with_all operation clock facts (event ∷ events))
+        (first_fault operation index clock facts (event ∷ events))
+    by true is rest =
+        let code = operation.verdict facts (clock + 1) event in
+        let next : clock_after clock 1 ≡ clock + 1 = omega (arith, ltb-true clock clock_max is) in
+        rw (is, next) (
+          ap (λ attempt. if code == 0 then attempt
+              else Failed (record { index = index; event = event; code = code })) rest
+              ∙ chosen_attempt (code == 0) _ _ (record { index = index; event = event; code = code })
+        )
+    by false is rest = rw is refl
+
+pub closed_is : {Event : Type 0} (operation : Operation Event) (clock : ℕ) (facts : Facts) (chain : List Event) →
+    closed_chain operation facts (length chain) (try_events operation 0 clock facts chain)
+    ≡ closed_outcome operation clock facts chain (first_fault operation 0 clock facts chain)
+closed_is operation clock facts chain =
+    ap (closed_chain operation facts (length chain)) (tried operation 0 clock facts chain)
+    ∙ by (first_fault operation 0 clock facts chain)
+  where
+    by : (fault : Option (ChainFault _)) →
+        closed_chain operation facts (length chain) (attempt_of (facts_with_all operation clock facts chain) fault)
+        ≡ closed_outcome operation clock facts chain fault
+    by None = refl
+    by (Some fault) = refl
+
+pub open_is : {Event : Type 0} (operation : Operation Event) (clock : ℕ) (facts : Facts) (front : List Event) →
+    open_chain operation facts (length front) (try_events operation 0 clock facts front)
+    ≡ open_outcome operation facts front (first_fault operation 0 clock facts front)
+open_is operation clock facts front =
+    ap (open_chain operation facts (length front)) (tried operation 0 clock facts front)
+    ∙ by (first_fault operation 0 clock facts front)
+  where
+    by : (fault : Option (ChainFault _)) →
+        open_chain operation facts (length front) (attempt_of (facts_with_all operation clock facts front) fault)
+        ≡ open_outcome operation facts front fault
+    by None = refl
+    by (Some fault) = refl
+
+-- ---- as many results as events
+
 pub length-failed_results : {Event : Type 0} (count : ℕ) (fault : Option (ChainFault Event)) → LiesBelow count fault
-    → length (failed_results count fault) ≡ count
+    → length (results_of_failed count fault) ≡ count
 length-failed_results count None below = length-replicate count 1
 length-failed_results count (Some fault) below =
     let at = below.0 in
@@ -90,10 +159,12 @@ length-chain_outcome operation clock facts chain =
     length-chosen (is_last_linked operation.is_linked chain) _ _ (length chain)
     (λ open_one. omega (
       arith,
-      length-append (failed_results (length front) fault) (2 ∷ []),
+      ap (λ (outcome : Results). length outcome.results) (open_is operation clock facts front),
+      length-append (results_of_failed (length front) fault) (2 ∷ []),
       length-failed_results
           (length front) fault (first_fault-below operation 0 clock facts front (length front) (omega arith)),
       length-front operation.is_linked chain open_one,
     ))
-    (λ _. length-closed operation clock facts chain (first_fault operation 0 clock facts chain)
+    (λ _. ap (λ (outcome : Results). length outcome.results) (closed_is operation clock facts chain)
+    ∙ length-closed operation clock facts chain (first_fault operation 0 clock facts chain)
     (first_fault-below operation 0 clock facts chain (length chain) (omega arith)))

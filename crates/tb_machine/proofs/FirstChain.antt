@@ -5,9 +5,10 @@ use Rattle.std.proofs.lemmas.List.{length-map, take-map, get_or-map, take_rest, 
 use Rattle.tb_layout.specs.declared.failure.Failure.{Failure}
 use Rattle.tb_layout.specs.Events.{is_last_linked}
 use Rattle.tb_tables.specs.Facts.{Facts}
-use Rattle.tb_machine.specs.Chain.{Operation, Results, before_chains, chains_of, chain_outcome, chains_outcome, open_outcome, closed_outcome, first_fault, clock_after, events_outcome, failures_from}
+use Rattle.tb_machine.specs.Chain.{Operation, Results, before_chains, chains_of, chain_outcome, chains_outcome, open_chain, closed_chain, try_events, clock_after, events_outcome, failures_from}
+use Rattle.tb_machine.specs.inside.Faults.{open_outcome, closed_outcome, first_fault}
 use Rattle.tb_machine.specs.Examining.{first_chain_length, then_outcome}
-use Rattle.tb_machine.proofs.Faults.{length-chain_outcome}
+use Rattle.tb_machine.proofs.Faults.{length-chain_outcome, open_is, closed_is}
 use Rattle.tb_machine.proofs.Failures.{failures_from-append}
 
 -- ---- the last event decides whether a chain is open
@@ -21,15 +22,24 @@ last_linked is_linked (event ∷ next ∷ events) d h =
     ∙ (let e : suc (length (next ∷ events) - 1) ≡ length (event ∷ next ∷ events) - 1 = omega arith in ap
     (λ k. is_linked (get_or (event ∷ next ∷ events) k d)) e)
 
+-- which of both it is
+chosen_outcome : {Event : Type 0} (operation : Operation Event) (clock : ℕ) (facts : Facts) (chain : List Event)
+    (is_open : Bool) → is_last_linked operation.is_linked chain ≡ is_open →
+    let front = take (length chain - 1) chain in chain_outcome operation clock facts chain
+    ≡ (if is_open then open_chain operation facts (length front) (try_events operation 0 clock facts front)
+    else closed_chain operation facts (length chain) (try_events operation 0 clock facts chain))
+chosen_outcome operation clock facts chain is_open is =
+    let front = take (length chain - 1) chain in
+    ap (λ b. if b then open_chain operation facts (length front) (try_events operation 0 clock facts front)
+    else closed_chain operation facts (length chain) (try_events operation 0 clock facts chain)) is
+
 chain_outcome-open : {Event : Type 0} (operation : Operation Event) (clock : ℕ) (facts : Facts) (chain : List Event)
     (d : Event) → 0 < length chain → operation.is_linked (get_or chain (length chain - 1) d) ≡ true →
     let front = take (length chain - 1) chain in chain_outcome operation clock facts chain
     ≡ open_outcome operation facts front (first_fault operation 0 clock facts front)
 chain_outcome-open operation clock facts chain d h linked =
-    let front = take (length chain - 1) chain in
-    ap (λ b. if b then open_outcome operation facts front (first_fault operation 0 clock facts front)
-    else closed_outcome operation clock facts chain (first_fault operation 0 clock facts chain))
-    (last_linked operation.is_linked chain d h ∙ linked)
+    chosen_outcome operation clock facts chain true (last_linked operation.is_linked chain d h ∙ linked)
+    ∙ open_is operation clock facts (take (length chain - 1) chain)
 
 chain_outcome-closed : {Event : Type 0} (operation : Operation Event) (clock : ℕ) (facts : Facts)
     (chain : List Event) (d : Event) → 0 < length chain
@@ -37,10 +47,8 @@ chain_outcome-closed : {Event : Type 0} (operation : Operation Event) (clock : �
     chain_outcome operation clock facts chain ≡ closed_outcome operation clock facts chain
     (first_fault operation 0 clock facts chain)
 chain_outcome-closed operation clock facts chain d h linked =
-    let front = take (length chain - 1) chain in
-    ap (λ b. if b then open_outcome operation facts front (first_fault operation 0 clock facts front)
-    else closed_outcome operation clock facts chain (first_fault operation 0 clock facts chain))
-    (last_linked operation.is_linked chain d h ∙ linked)
+    chosen_outcome operation clock facts chain false (last_linked operation.is_linked chain d h ∙ linked)
+    ∙ closed_is operation clock facts chain
 
 -- the same for events that chunks of bytes hold
 

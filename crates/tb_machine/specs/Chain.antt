@@ -6,9 +6,6 @@ use Rattle.tb_machine.specs.declared.fault.ChainFault.{ChainFault}
 use Rattle.tb_layout.specs.Limits.{clock_max}
 use Rattle.tb_layout.specs.declared.failure.Failure.{Failure}
 
-abbrev pub next_timestamp : ℕ → Option ℕ
-next_timestamp clock = if nat_lt clock clock_max then Some (clock + 1) else None
-
 abbrev pub clock_after : ℕ → ℕ → ℕ
 clock_after clock count = min (clock + count) clock_max
 
@@ -28,6 +25,11 @@ pub record Operation (Event : Type 0) : Type 0 where
   pub stored : Facts → ℕ → Event → Facts
   pub remembered : Facts → ℕ → Event → Facts
 
+-- all events are stored, or one is the first that fails
+pub data Attempt (Event : Type 0) : Type 0 where
+  Stored : Facts → Attempt Event
+  Failed : ChainFault Event → Attempt Event
+
 -- a result for each event
 pub record Results : Type 0 where
   pub results : List ℕ
@@ -46,63 +48,46 @@ module _ {Event : Type 0} where
       else (event ∷ []) ∷ chains_of is_linked events
 
   -- `count` events fail together; the first fault has its own code
-  abbrev pub failed_results : ℕ → Option (ChainFault Event) → List ℕ
-  failed_results count None = replicate count linked_event_failed
-  failed_results count (Some fault) =
+  abbrev pub failed_results : ℕ → ChainFault Event → List ℕ
+  failed_results count fault =
       replicate fault.index linked_event_failed ++ fault.code
       ∷ replicate (count - fault.index - 1) linked_event_failed
 
 module _ {Event : Type 0} (operation : Operation Event) where
-  -- an event is examined only if it has a timestamp
-  abbrev pub verdict_at : Facts → Option ℕ → Event → ℕ
-  verdict_at facts (Some timestamp) event = operation.verdict facts timestamp event
-  verdict_at facts None event = clock_exhausted
+  -- an event is examined only if the clock can give it a timestamp
+  abbrev pub verdict_after : ℕ → Facts → Event → ℕ
+  verdict_after clock facts event =
+      if nat_lt clock clock_max then operation.verdict facts (clock + 1) event else clock_exhausted
 
-  abbrev pub facts_with : Facts → Option ℕ → Event → Facts
-  facts_with facts (Some timestamp) event = operation.stored facts timestamp event
-  facts_with facts None event = facts
+  -- events one after the other, each on the facts that those before it left
+  abbrev pub try_events : ℕ → ℕ → Facts → List Event → Attempt Event
+  try_events index clock facts [] = Stored facts
+  try_events index clock facts (event ∷ events) =
+      let code = verdict_after clock facts event in
+      if code == 0 then try_events (index + 1) (clock + 1) (operation.stored facts (clock + 1) event) events
+      else Failed (record { index = index; event = event; code = code })
 
-  abbrev pub facts_with_all : ℕ → Facts → List Event → Facts
-  facts_with_all clock facts [] = facts
-  facts_with_all clock facts (event ∷ events) =
-      facts_with_all (clock_after clock 1) (facts_with facts (next_timestamp clock) event) events
+  abbrev pub closed_chain : Facts → ℕ → Attempt Event → Results
+  closed_chain facts count (Stored after) = record { results = replicate count 0; facts = after }
+  closed_chain facts count (Failed fault) =
+      record { results = failed_results count fault; facts = operation.remembered facts fault.code fault.event }
 
-  -- the first event that fails once those before it are stored
-  abbrev pub first_fault : ℕ → ℕ → Facts → List Event → Option (ChainFault Event)
-  first_fault index clock facts [] = None
-  first_fault index clock facts (event ∷ events) =
-      let code = verdict_at facts (next_timestamp clock) event in
-      if code == 0 then first_fault (index + 1) (clock_after clock 1)
-      (facts_with facts (next_timestamp clock) event) events
-      else Some (record { index = index; event = event; code = code })
-
-  abbrev pub facts_after_failure : Facts → Option (ChainFault Event) → Facts
-  facts_after_failure facts None = facts
-  facts_after_failure facts (Some fault) = operation.remembered facts fault.code fault.event
-
-  abbrev pub closed_outcome : ℕ → Facts → List Event
-      → Option (ChainFault Event) → Results
-  closed_outcome clock facts chain None =
-      record { results = replicate (length chain) 0; facts = facts_with_all clock facts chain }
-  closed_outcome clock facts chain (Some fault) =
+  -- an open chain fails; its last event, after `count` others, isn't examined
+  abbrev pub open_chain : Facts → ℕ → Attempt Event → Results
+  open_chain facts count (Stored after) =
+      record { results = replicate count linked_event_failed ++ linked_event_chain_open ∷ []; facts = facts }
+  open_chain facts count (Failed fault) =
       record {
-        results = failed_results (length chain) (Some fault);
-        facts = facts_after_failure facts (Some fault);
-      }
-
-  -- an open chain fails; its last event isn't examined
-  abbrev pub open_outcome : Facts → List Event → Option (ChainFault Event) → Results
-  open_outcome facts front fault =
-      record {
-        results = failed_results (length front) fault ++ linked_event_chain_open ∷ [];
-        facts = facts_after_failure facts fault;
+        results = failed_results count fault ++ linked_event_chain_open ∷ [];
+        facts = operation.remembered facts fault.code fault.event;
       }
 
   abbrev pub chain_outcome : ℕ → Facts → List Event → Results
   chain_outcome clock facts chain =
       let front = take (length chain - 1) chain in
-      if is_last_linked operation.is_linked chain then open_outcome facts front (first_fault 0 clock facts front)
-      else closed_outcome clock facts chain (first_fault 0 clock facts chain)
+      if is_last_linked operation.is_linked chain then
+      open_chain facts (length front) (try_events 0 clock facts front)
+      else closed_chain facts (length chain) (try_events 0 clock facts chain)
 
   abbrev pub chains_outcome : ℕ → Facts → List (List Event) → Results
   chains_outcome clock facts [] = record { results = []; facts = facts }

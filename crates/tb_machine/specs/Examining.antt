@@ -2,7 +2,8 @@
 use Rattle.std.specs.Prelude.{◌≢◌, ◌<◌, ℕ, suc, Bool, List, [], ◌∷◌, ◌++◌, Option, Some, None, if◌then◌else◌}
 use Rattle.tb_tables.specs.Facts.{Facts}
 use Rattle.tb_machine.specs.declared.fault.ChainFault.{ChainFault}
-use Rattle.tb_machine.specs.Chain.{Operation, Results, closed_outcome, first_fault}
+use Rattle.tb_machine.specs.Chain.{Operation, Results}
+use Rattle.tb_machine.specs.inside.Faults.{closed_outcome, first_fault}
 use Rattle.tb_layout.specs.declared.transfer.Transfer.{Transfer}
 use Rattle.tb_layout.specs.declared.transfer_code.TransferCode.{TransferCode}
 use Rattle.tb_machine.specs.AccountVerdict.{first_row}

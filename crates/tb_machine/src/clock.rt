@@ -3,13 +3,14 @@
 ghost use Rattle.std.specs.Prelude.{◌≡◌, ◌+◌, ◌*◌, ◌≤◌};
 ghost use Rattle.tb_layout.specs.Limits.{clock_max, nanoseconds_per_second};
 ghost use Rattle.tb_machine.specs.Chain as spec;
+ghost use Rattle.tb_machine.specs.inside.Faults as faults;
 
 use tb_layout::{CLOCK_MAX, NANOSECONDS_PER_SECOND};
 
 /// Returns the timestamp of the next event, in nanoseconds: the clock raised by one, or None if it is `CLOCK_MAX`.
 pub(crate) fn next_timestamp(clock: u64) -> Option<u64>
     requires { clock ≤ clock_max }
-    ensures { result ≡ spec.next_timestamp clock }
+    ensures { result ≡ faults.next_timestamp clock }
 {
     if clock < CLOCK_MAX {
         Some(clock + 1)

@@ -3,8 +3,9 @@
 ghost use Rattle.std.specs.Prelude.{◌≡◌, ◌≢◌, ◌+◌, ◌^◌, ◌<◌, ◌≤◌, ◌++◌, [], length, map, take, vec_len, vec_capacity, Ok, None, IfOk, OnOk};
 ghost use Rattle.tb_tables.specs.History.{mark_of, back_to, Extends};
 ghost use Rattle.tb_layout.specs.Limits.{clock_max};
-ghost use Rattle.tb_machine.specs.Chain as spec;
-ghost use Rattle.tb_machine.specs.Chain.{verdict_at, facts_with, facts_with_all, first_fault, facts_after_failure, open_outcome, closed_outcome, chain_outcome, events_outcome, failures_from};
+ghost use Rattle.tb_machine.specs.inside.Faults as faults;
+ghost use Rattle.tb_machine.specs.Chain.{chain_outcome, events_outcome, failures_from};
+ghost use Rattle.tb_machine.specs.inside.Faults.{verdict_at, facts_with, facts_with_all, first_fault, facts_after_failure, open_outcome, closed_outcome};
 ghost use Rattle.tb_machine.specs.Examining.{event_outcome, fault_as, first_chain_length};
 
 use crate::chain::{ChainStart, first_chain_length};
@@ -32,9 +33,9 @@ fn examine_at<E: CreateEvent>(clock: u64, tables: &mut Tables, event: E) -> Resu
     requires { clock ≤ clock_max }
     ensures extends { Extends tables.old tables.new }
     ensures code { IfOk result (λ code. code ≡ verdict_at E.operation tables.old.now
-        (spec.next_timestamp clock) event) }
+        (faults.next_timestamp clock) event) }
     ensures stored { result ≡ Ok 0 → tables.new.now
-        ≡ facts_with E.operation tables.old.now (spec.next_timestamp clock) event }
+        ≡ facts_with E.operation tables.old.now (faults.next_timestamp clock) event }
     ensures same { result ≢ Ok 0 → tables.new ≡ tables.old }
 {
     match next_timestamp(clock) {

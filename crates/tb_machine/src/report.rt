@@ -1,7 +1,8 @@
 //! The failures of a chain that failed.
 
 ghost use Rattle.std.specs.Prelude.{◌≡◌, ◌+◌, ◌^◌, ◌<◌, ◌≤◌, ◌++◌, replicate, vec_len, vec_capacity};
-ghost use Rattle.tb_machine.specs.Chain.{linked_event_failed, failed_results, failures_from};
+ghost use Rattle.tb_machine.specs.Chain.{linked_event_failed, failures_from};
+ghost use Rattle.tb_machine.specs.inside.Faults.{results_of_failed};
 ghost use Rattle.tb_machine.specs.Examining.{LiesBelow};
 
 use crate::fault::ChainFault;
@@ -35,7 +36,7 @@ pub(crate) fn report_failed<E: Copy>(
     requires room { vec_len out.old + count ≤ vec_capacity out.old }
     requires fits { index + count < 2 ^ 32 }
     requires below { LiesBelow count fault }
-    ensures items { out.new.items ≡ out.old.items ++ failures_from index (failed_results count fault) }
+    ensures items { out.new.items ≡ out.old.items ++ failures_from index (results_of_failed count fault) }
     ensures len { vec_len out.new ≡ vec_len out.old + count }
     ensures capacity { vec_capacity out.new ≡ vec_capacity out.old }
 {

@@ -1,7 +1,7 @@
 use Rattle.std.proofs.Common.{◌≡◌, ◌≤◌, drop, map}
 use Rattle.tb_tables.specs.History.{Extends}
 use Rattle.tb_layout.specs.Limits.{clock_max}
-use Rattle.tb_machine.specs.Chain.{first_fault, facts_with_all}
+use Rattle.tb_machine.specs.inside.Faults.{first_fault, facts_with_all}
 use Rattle.tb_machine.proofs.commit.examine_all.Given as goal
 
 abbrev pub invariant-loop-index : goal.invariant-loop-index
