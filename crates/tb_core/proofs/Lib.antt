@@ -9,6 +9,9 @@ mod OneMoreEntry
 pub mod LedgerSteps
 mod JournalGroups
 pub mod Runs
+mod Packets
 pub mod HeadlineLemmas
+mod EachSubmitter
+mod BadRuns
 mod ItemList
 mod Examples

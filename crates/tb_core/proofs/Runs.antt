@@ -329,10 +329,10 @@ none_after front rest is = nil_from_length rest (omega (arith, ap length is, len
 
 pub run_is_lawful : RunIsLawful
 run_is_lawful run answers filled ran theirs =
-    let far = run_so_far run.clock (items_in run.queue) run.ledger answers ran in
-    let is_due : answers ≡ all_due run.clock (items_in run.queue) (committed_in run) = far.replied refl in
+    let far = run_so_far run.ledger.opening (items_in run.queue) run.ledger answers ran in
+    let is_due : answers ≡ all_due run.ledger.opening (items_in run.queue) (committed_in run) = far.replied refl in
     let among = subst (AreAmong run.submitters) (sym is_due)
-    (due_among run.clock run.submitters (committed_in run) (Ahead 0) run.queue filled.submitted) in
+    (due_among run.ledger.opening run.submitters (committed_in run) (Ahead 0) run.queue filled.submitted) in
     record {
       filled = filled;
       committed = (far.remainder, far.committed);

@@ -10,11 +10,9 @@ use Rattle.tb_work.specs.declared.item.Item.{Item}
 use Rattle.tb_work.specs.declared.item.Ticket.{Ticket}
 use Rattle.tb_core.specs.Journal.{LedgerState, inputs}
 
--- `clock` is the opening's, `queue` is as the intake popped it, `queued` what each sender queued itself. The control is
--- the sender after the last submitter.
+-- `queue` is as the intake popped it, `queued` what each sender queued itself. The control is the sender after the last
+-- submitter.
 pub record Run : Type 0 where
-  pub clock : ℕ
-  pub limit : ℕ
   pub submitters : ℕ
   pub queue : List Ticket
   pub queued : ℕ → List Item

@@ -1,60 +1,40 @@
 -- The headline.
-use Rattle.std.specs.Prelude.{◌≡◌, ◌<◌, ◌≤◌, ℕ, ◌==◌, Bool, false, List, [], ◌∷◌, map, filter, take, slice_get, Some}
-use Rattle.tb_layout.specs.declared.answer.Answer.{Answer}
-use Rattle.tb_layout.specs.Events.{Input, Packet, Pulse}
+use Rattle.std.specs.Prelude.{◌≡◌, ◌≢◌, ◌<◌, ℕ, List, [], ◌∷◌, map, take, slice_get, Some}
 use Rattle.tb_machine.specs.Replay.{replay, answer_of}
-use Rattle.tb_work.specs.Ahead.{part}
+use Rattle.tb_work.specs.Queue.{IsQueueOf}
 use Rattle.tb_work.specs.Packet.{Numbered, events_in, ReplyValue, input_of}
 use Rattle.tb_work.specs.declared.item.Item.{Item}
 use Rattle.tb_work.specs.declared.item.Item.TheVariants as item
-use Rattle.tb_work.specs.declared.outcome.Outcome.TheVariants.{Committed}
+use Rattle.tb_work.specs.declared.outcome.Outcome.{Outcome}
+use Rattle.tb_work.specs.declared.outcome.Outcome.TheVariants.{Committed, Shutdown, Stopped}
 use Rattle.tb_core.specs.EndedRun.{Run, committed_in, ahead_in, IsPrefix, NothingStopped}
-
-abbrev pub is_packet_of : ℕ → Input → Bool
-is_packet_of submitter (Packet its_submitter number events) = its_submitter == submitter
-is_packet_of submitter (Pulse moment) = false
-
-abbrev pub packets_of : ℕ → List Input → List Input
-packets_of submitter inputs = filter (is_packet_of submitter) inputs
-
-abbrev pub moments_in : List Input → List ℕ
-moments_in [] = []
-moments_in (Packet submitter number events ∷ inputs) = moments_in inputs
-moments_in (Pulse moment ∷ inputs) = moment ∷ moments_in inputs
 
 abbrev pub packets_queued : List Item → List Numbered
 packets_queued [] = []
 packets_queued (item.Packet packet ∷ items) = packet ∷ packets_queued items
 packets_queued (other ∷ items) = packets_queued items
 
-abbrev pub moments_queued : List Item → List ℕ
-moments_queued [] = []
-moments_queued (item.Pulse moment ∷ items) = moment ∷ moments_queued items
-moments_queued (other ∷ items) = moments_queued items
-
 abbrev pub numbered_of : ReplyValue → Numbered
 numbered_of reply = record { submitter = reply.submitter; number = reply.number; packet = reply.packet }
 
--- the state machine gives this answer to the reply's packet alone, at its place
-pub record IsAnsweredAt (run : Run) (place : ℕ) (reply : ReplyValue) (answer : Answer) : Type 0 where
-  pub stands : slice_get (committed_in run) place ≡ Some (input_of (numbered_of reply))
-  pub alone : answer ≡ answer_of (replay run.clock (take place (committed_in run))) (events_in reply.packet)
+-- What an outcome says of its packet is true. A committed packet is at its place, with the answer that the state machine
+-- gives it alone after what is before it. A stopped one isn't committed, and one that is shut down isn't ahead of the Close.
+abbrev pub IsTrueOf : Run → Numbered → Outcome → Type 0
+IsTrueOf run packet (Committed place answer) =
+    (slice_get (committed_in run) place ≡ Some (input_of packet))
+    × (answer ≡ answer_of (replay run.ledger.opening (take place (committed_in run))) (events_in packet.packet))
+IsTrueOf run packet Stopped = (place : ℕ) → slice_get (committed_in run) place ≢ Some (input_of packet)
+IsTrueOf run packet Shutdown = (place : ℕ) → slice_get (ahead_in run) place ≢ Some (input_of packet)
 
--- The queue has what each sender queued. The packets committed of each submitter are a prefix of those ahead of the
--- Close, all of them unless something stopped. Its replies are one per queued packet, in order. Each committed one is
--- what the state machine gives that packet alone at its place. Committed pulses are a prefix of the control's.
+-- The queue has what each sender queued, its end last. What is committed is a prefix of what is ahead of the Close, all of
+-- it unless something stopped. Replies are one per queued packet, in order, and what each says is true. The state is
+-- that of all that is committed.
 pub record Headline (run : Run) : Type 0 where
-  pub filled : (sender : ℕ) → sender ≤ run.submitters → part sender run.queue ≡ run.queued sender
-  pub no_other_sender : (sender : ℕ) → run.submitters < sender → part sender run.queue ≡ []
-  pub committed : (submitter : ℕ) → submitter < run.submitters
-      → IsPrefix (packets_of submitter (committed_in run)) (packets_of submitter (ahead_in run))
-  pub queued : (submitter : ℕ) → submitter < run.submitters
-      → IsPrefix (packets_of submitter (ahead_in run)) (map input_of (packets_queued (run.queued submitter)))
-  pub all : NothingStopped run → (submitter : ℕ) → submitter < run.submitters
-      → packets_of submitter (committed_in run) ≡ packets_of submitter (ahead_in run)
+  pub queued : IsQueueOf run.submitters run.queue run.queued
+  pub committed : IsPrefix (committed_in run) (ahead_in run)
+  pub all : NothingStopped run → committed_in run ≡ ahead_in run
   pub replied : (submitter : ℕ) → submitter < run.submitters
       → map numbered_of (run.replies submitter) ≡ packets_queued (run.queued submitter)
-  pub answered : (submitter index place : ℕ) (reply : ReplyValue) (answer : Answer) → submitter < run.submitters
-      → slice_get (run.replies submitter) index ≡ Some reply → reply.outcome ≡ Committed place answer
-      → IsAnsweredAt run place reply answer
-  pub pulses : IsPrefix (moments_in (committed_in run)) (moments_queued (run.queued run.submitters))
+  pub answered : (submitter index : ℕ) (reply : ReplyValue) → submitter < run.submitters
+      → slice_get (run.replies submitter) index ≡ Some reply → IsTrueOf run (numbered_of reply) reply.outcome
+  pub state : run.ledger.state ≡ replay run.ledger.opening (committed_in run)

@@ -3,6 +3,8 @@ pub mod Journal
 pub mod EndedRun
 pub mod Report
 pub mod Headline
+pub mod EachSubmitter
+pub mod BadRuns
 pub mod Front
 pub mod Grouping
 pub mod Ledger

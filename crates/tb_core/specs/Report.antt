@@ -12,9 +12,9 @@ pub record LawfulReport (run : Run) : Type 0 where
   pub filled : IsQueueOf run.submitters run.queue run.queued
   pub committed : IsPrefix (committed_in run) (ahead_in run)
   pub complete : NothingStopped run ↔ (committed_in run ≡ ahead_in run)
-  pub state : run.ledger.state ≡ replay run.clock (committed_in run)
+  pub state : run.ledger.state ≡ replay run.ledger.opening (committed_in run)
   pub replied : (submitter : ℕ) → submitter < run.submitters
-      → run.replies submitter ≡ due run.clock run.queue (committed_in run) submitter
+      → run.replies submitter ≡ due run.ledger.opening run.queue (committed_in run) submitter
 
 -- a lawful report has all that the headline says
 abbrev pub ReportsHeadline : Type 0

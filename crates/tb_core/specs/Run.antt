@@ -80,7 +80,7 @@ pub record IsDrained (clock limit : ℕ) (items : List Item) (ledger : LedgerSta
 abbrev pub RunIsLawful : Type 0
 RunIsLawful =
     (run : Run) (answers : List ReplyValue) → IsQueueOf run.submitters run.queue run.queued →
-    Ran run.clock (items_in run.queue) run.ledger answers
+    Ran run.ledger.opening (items_in run.queue) run.ledger answers
     → ((submitter : ℕ) → submitter < run.submitters → run.replies submitter ≡ replies_to answers submitter)
     → LawfulReport run
 

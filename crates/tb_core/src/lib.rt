@@ -36,7 +36,10 @@ mod parcel;
 pub use bare_ledger::BareLedger;
 pub use front::Front;
 pub use journal::Entry;
-pub use laws::{each_part_is_lawful, headline, run_is_lawful};
+pub use laws::{
+    bad_runs_are_excluded, committed_are_answered, committed_of_each_submitter,
+    each_part_is_lawful, headline, pulses_are_the_controls, run_is_lawful, two_bad_runs_remain,
+};
 pub use ledger::Ledger;
 pub use list::{Listed, run_list};
 pub use outcomes::Outcomes;

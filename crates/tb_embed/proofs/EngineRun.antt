@@ -84,6 +84,7 @@ serving_is_lawful each_part run clock queue read engine serves =
     record {
       ledger = ledger;
       own = refl;
+      opening = commits.from;
       replayed = commits.state;
       counted = taken.has_sent.committed.counted;
       joined = taken.has_sent.joined;
@@ -91,7 +92,7 @@ serving_is_lawful each_part run clock queue read engine serves =
       due = far.due;
       replied = λ none. far.replied (ap (map Admitted) none);
       whole = far.whole;
-      report = λ none done. run (run_of clock queue read engine ledger) read
+      report = λ none done. run (run_of queue read engine ledger) read
           (queue_ended front.submitters queue engine.numbers engine.shut serves.queued)
           (record {
             closed = front.closed;
@@ -100,8 +101,8 @@ serving_is_lawful each_part run clock queue read engine serves =
             passed = passes_ended (if engine.shut then front.submitters else front.submitters + 1) queue front.closed front.stopped taken.sent
                 (subst (AreDecisions (items_in queue) front.closed front.stopped)
                 (ap (λ jobs. taken.sent ++ map Admitted jobs) none ∙ append-nil taken.sent) taken.passed);
-            commits = subst (Commits clock taken.sent ledger)
-                (ap (λ replies. read ++ replies) done ∙ append-nil read) commits;
+            commits = subst (λ opened. Commits opened taken.sent ledger read) (sym commits.from)
+                (subst (Commits clock taken.sent ledger) (ap (λ replies. read ++ replies) done ∙ append-nil read) commits);
           })
           (λ submitter below. refl);
     }

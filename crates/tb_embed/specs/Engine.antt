@@ -121,12 +121,10 @@ IsRefusal first refusal = (first ≡ Some refusal) ⊎ ((first ≡ None) × (ref
 
 -- the run that ends here, if this is the journal of what was committed: each sender's end is queued after all that it
 -- queued
-abbrev pub run_of : ℕ → List Ticket → List ReplyValue → EngineState → LedgerState → Run
-run_of clock queue read engine ledger =
+abbrev pub run_of : List Ticket → List ReplyValue → EngineState → LedgerState → Run
+run_of queue read engine ledger =
     let whole = ended_queue engine.front.submitters engine.shut queue in
     record {
-      clock = clock;
-      limit = engine.front.limit;
       submitters = engine.front.submitters;
       queue = whole;
       queued = λ sender. part sender whole;
@@ -141,6 +139,7 @@ run_of clock queue read engine ledger =
 pub record IsServed (clock : ℕ) (queue : List Ticket) (read : List ReplyValue) (engine : EngineState) : Type 0 where
   pub ledger : LedgerState
   pub own : ledger ≡ with_journal engine.ledger ledger.groups
+  pub opening : ledger.opening ≡ clock
   pub replayed : state_of engine ≡ replay clock (inputs ledger)
   pub counted : engine.ledger.places ≡ length (inputs ledger)
   pub joined : AreJoined engine.front.limit ledger.groups
@@ -149,7 +148,7 @@ pub record IsServed (clock : ℕ) (queue : List Ticket) (read : List ReplyValue)
   pub replied : engine.front.held ≡ [] → read ++ engine.unread ≡ all_due clock (items_in queue) (inputs ledger)
   pub whole : engine.front.stopped ≡ false → ledger.stopped ≡ false
       → inputs ledger ++ inputs_in (held_by engine.front) ≡ ahead (items_in queue)
-  pub report : engine.front.held ≡ [] → engine.unread ≡ [] → LawfulReport (run_of clock queue read engine ledger)
+  pub report : engine.front.held ≡ [] → engine.unread ≡ [] → LawfulReport (run_of queue read engine ledger)
 
 -- Whatever was queued and read, in any order of calls.
 abbrev pub ServingIsLawful : Type 0

@@ -2,15 +2,12 @@
 use Rattle.std.specs.Prelude.{ℕ, List}
 use Rattle.tb_core.specs.Journal.{LedgerState}
 use Rattle.tb_core.specs.EndedRun.{Run}
-use Rattle.tb_submit.specs.Ends.{EndedState, IntakeState, SenderState, queued_by, replies_of}
+use Rattle.tb_submit.specs.Ended.{EndedState, IntakeState, SenderState, queued_by, replies_of}
 
--- the run of a pipeline that was opened with a clock and settled with these ends, with its ledger and the ends as they
--- came back
-abbrev pub run_of : ℕ → IntakeState → List EndedState → SenderState → LedgerState → List EndedState → Run
-run_of clock intake ends control ledger settled =
+-- the run of a pipeline that was settled with these ends, with its ledger and the ends as they came back
+abbrev pub run_of : IntakeState → List EndedState → SenderState → LedgerState → List EndedState → Run
+run_of intake ends control ledger settled =
     record {
-      clock = clock;
-      limit = intake.limit;
       submitters = intake.submitters;
       queue = intake.taken;
       queued = queued_by ends control;

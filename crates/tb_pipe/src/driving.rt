@@ -11,7 +11,7 @@ ghost use Rattle.tb_pipe.specs.Reported.{AreTasksOf, AreTogether, HasFinishedWit
 
 use crate::gate::Open;
 use crate::opening::Opened;
-use crate::serving::Pipeline;
+use crate::serving::{Pipeline, Served};
 use crate::settling::{Report, settle};
 use std::alloc::Global;
 use std::snapshot::Snapshot;
@@ -31,6 +31,8 @@ pub struct Finished<D, C> {
     /// The report's ends from before they were settled, as a ghost copy without bytes. Contracts name by it what each
     /// submitter queued, since a settled end doesn't say that.
     pub unsettled: Snapshot<Vec<Ended>>,
+    /// The pipeline as it was served, as a ghost copy. Contracts name by it the queue that the batcher took.
+    pub served: Snapshot<Served>,
     pub drivers: Vec<D>,
     pub control: C,
 }
@@ -95,10 +97,12 @@ where
     } = running.join(rt)?;
     let ControlResult { end, driver } = control;
     let unsettled = Snapshot::of(&ends);
+    let taken = Snapshot::of(&served);
     let report = settle(served, ends, end);
     Ok(Finished {
         report,
         unsettled,
+        served: taken,
         drivers,
         control: driver,
     })

@@ -2,7 +2,8 @@
 
 ghost use Rattle.std.specs.Prelude.{◌≡◌, ◌<◌, ℕ, true, map, length, slice_index_or, All};
 ghost use Rattle.tb_core.specs.Grouping.{IsGrouping};
-ghost use Rattle.tb_core.specs.Headline.{Headline, moments_in, moments_queued};
+ghost use Rattle.tb_core.specs.EachSubmitter.{moments_in, moments_queued};
+ghost use Rattle.tb_core.specs.Headline.{Headline};
 ghost use Rattle.tb_core.specs.Journal.{inputs};
 ghost use Rattle.tb_core.specs.EndedRun.{IsPrefix};
 ghost use Rattle.tb_core.specs.Report.{LawfulReport};
@@ -12,7 +13,7 @@ ghost use Rattle.tb_pipe.specs.SettledRun.{run_of};
 
 use crate::serving::Served;
 use crate::stages::Remains;
-use tb_core::{Ledger, headline, run_is_lawful};
+use tb_core::{Ledger, headline, pulses_are_the_controls, run_is_lawful};
 use tb_submit::{ControlEnd, Ended, settle_queue};
 
 /// The result of all that was queued: the ledger with its journal and its machine, and each submitter's end, in the
@@ -28,9 +29,9 @@ fn settle_remains(remains: Remains, ends: Vec<Ended>, control: ControlEnd) -> Re
     requires served { IsServed remains }
     requires ends { map end_origin ends.items ≡ origins remains.intake remains.routed.outlets.items }
     requires control { control.seat ≡ control_seat remains.intake }
-    ensures report { LawfulReport (run_of remains.committed.ledger.opening remains.intake ends.items control
+    ensures report { LawfulReport (run_of remains.intake ends.items control
         result.ledger result.ends.items) }
-    ensures headline { Headline (run_of remains.committed.ledger.opening remains.intake ends.items control
+    ensures headline { Headline (run_of remains.intake ends.items control
         result.ledger result.ends.items) }
     ensures grouping { IsGrouping remains.intake.limit result.ledger.groups }
     ensures pulses { IsPrefix (moments_in (inputs result.ledger)) (moments_queued control.queued) }
@@ -44,6 +45,7 @@ fn settle_remains(remains: Remains, ends: Vec<Ended>, control: ControlEnd) -> Re
 {
     run_is_lawful();
     headline();
+    pulses_are_the_controls();
     let Remains {
         intake,
         mut batches,
@@ -65,13 +67,14 @@ fn settle_remains(remains: Remains, ends: Vec<Ended>, control: ControlEnd) -> Re
 pub fn settle(served: Served, ends: Vec<Ended>, control: ControlEnd) -> Report
     requires ends { map end_origin ends.items ≡ served.submitters }
     requires control { control.seat ≡ control_seat served.intake }
-    ensures report { LawfulReport (run_of served.clock served.intake ends.items control
+    ensures report { LawfulReport (run_of served.intake ends.items control
         result.ledger result.ends.items) }
-    ensures headline { Headline (run_of served.clock served.intake ends.items control
+    ensures headline { Headline (run_of served.intake ends.items control
         result.ledger result.ends.items) }
     ensures grouping { IsGrouping served.intake.limit result.ledger.groups }
     ensures pulses { IsPrefix (moments_in (inputs result.ledger)) (moments_queued control.queued) }
     ensures ledger { result.ledger ≡ served.ledger }
+    ensures opening { result.ledger.opening ≡ served.clock }
     ensures long { length result.ends.items ≡ served.intake.submitters }
     ensures read { (k : ℕ) (d : EndedState) → (slice_index_or result.ends.items k d).read
         ≡ (slice_index_or ends.items k d).read }

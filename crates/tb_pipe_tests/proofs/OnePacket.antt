@@ -108,12 +108,12 @@ abbrev one_reply : ℕ → List Input → Packet → ReplyValue
 one_reply clock done packet = reply_with (outcome_at clock done (Ahead 0)) (numbered_packet 0 0 packet)
 
 pub replies_to_one : (clock : ℕ) (packet : Packet) (ledger : LedgerState) (ends : List EndedState)
-    → IsRunOfOne clock packet ledger ends → replies_of ends 0 ≡ one_reply clock (inputs ledger) packet ∷ []
+    → IsRunOfOne clock packet ledger ends → replies_of ends 0 ≡ one_reply ledger.opening (inputs ledger) packet ∷ []
 replies_to_one clock packet ledger ends run =
     let first : part 0 run.queue ≡ one_and_end packet = run.lawful.filled.parts 0 (omega arith) ∙ run.submitted in
     run.lawful.replied 0 (omega arith)
-    ∙ ap (λ replies. replies_to replies 0) (due_to_first clock (inputs ledger) (Ahead 0) run.queue
-    (others_end clock packet ledger ends run) ∙ ap (all_due_from clock (inputs ledger) (Ahead 0)) first)
+    ∙ ap (λ replies. replies_to replies 0) (due_to_first ledger.opening (inputs ledger) (Ahead 0) run.queue
+    (others_end clock packet ledger ends run) ∙ ap (all_due_from ledger.opening (inputs ledger) (Ahead 0)) first)
 
 reply_where : (clock : ℕ) (packet : Packet) (done : List Input)
     → (done ≡ []) ⊎ (done ≡ input_of (numbered_packet 0 0 packet) ∷ [])
@@ -122,17 +122,17 @@ reply_where clock packet done (inl none) = inl (ap (λ d. one_reply clock d pack
 reply_where clock packet done (inr all) = inr (ap (λ d. one_reply clock d packet) all)
 
 pub is_reply : (clock : ℕ) (packet : Packet) (ledger : LedgerState) (ends : List EndedState)
-    → IsRunOfOne clock packet ledger ends → IsReplyToOne clock packet (one_reply clock (inputs ledger) packet)
+    → IsRunOfOne clock packet ledger ends → IsReplyToOne ledger.opening packet (one_reply ledger.opening (inputs ledger) packet)
 is_reply clock packet ledger ends run =
     let first : part 0 run.queue ≡ one_and_end packet = run.lawful.filled.parts 0 (omega arith) ∙ run.submitted in
-    reply_where clock packet (inputs ledger) (front_of_one (inputs ledger) run.lawful.committed.0
+    reply_where ledger.opening packet (inputs ledger) (front_of_one (inputs ledger) run.lawful.committed.0
     (input_of (numbered_packet 0 0 packet))
     (run.lawful.committed.1 ∙ ahead_of_first run.queue (others_end clock packet ledger ends run) ∙ ap ahead first))
 
 -- the one end has the reply still to read
 pub lies_for_one : (clock : ℕ) (packet : Packet) (ledger : LedgerState) (ends front : List EndedState)
     (ended : EndedState) → IsRunOfOne clock packet ledger ends → ends ≡ front ++ ended ∷ []
-    → ended.lying ≡ one_reply clock (inputs ledger) packet ∷ []
+    → ended.lying ≡ one_reply ledger.opening (inputs ledger) packet ∷ []
 lies_for_one clock packet ledger ends [] ended run is =
     let unread : ended.read ≡ [] = ap (λ (l : List EndedState). (get_or l 0 ended).read) (sym is) ∙ run.unread ended in
     ap (λ read. read ++ ended.lying) (sym unread) ∙ ap (λ l. replies_of l 0) (sym is)
@@ -146,8 +146,9 @@ pub is_reply_read : (clock : ℕ) (packet : Packet) (ledger : LedgerState) (ends
     ends ≡ front ++ ended ∷ [] → ended.lying ≡ reply ∷ rest → IsReplyToOne clock packet reply
 is_reply_read clock packet ledger ends front ended reply rest run is lies =
     let known = lies_for_one clock packet ledger ends front ended run is in
-    let same : one_reply clock (inputs ledger) packet ≡ reply = cc in
-    subst (IsReplyToOne clock packet) same (is_reply clock packet ledger ends run)
+    let same : one_reply ledger.opening (inputs ledger) packet ≡ reply = cc in
+    subst (λ opening. IsReplyToOne opening packet reply) run.opening
+    (subst (IsReplyToOne ledger.opening packet) same (is_reply clock packet ledger ends run))
 
 -- the one submitter of a pipeline that was just opened
 pub record IsFirst (first : SubmitterState) : Type 0 where

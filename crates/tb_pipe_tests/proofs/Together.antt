@@ -1,5 +1,5 @@
 -- A run from opening to the report, put together from what the calls say.
-use Rattle.std.proofs.Common.{◌≡◌, ℕ, List, ap, subst}
+use Rattle.std.proofs.Common.{◌≡◌, ◌∙◌, ℕ, List, ap, subst}
 use Rattle.tb_core.specs.Grouping.{IsGrouping}
 use Rattle.tb_core.specs.Journal.{LedgerState}
 use Rattle.tb_core.specs.Report.{LawfulReport}
@@ -13,16 +13,16 @@ pub is_run : (pipeline : PipelineState) (served : ServedState) (queued : ℕ →
     (ends : List EndedState) → served.clock ≡ pipeline.clock
     → served.intake
     ≡ record pipeline.intake { taken = served.intake.taken; seen_empty = served.intake.seen_empty } →
-    LawfulReport (run_with served.clock served.intake.limit served.intake.submitters served.intake.taken queued ledger
-    ends) → IsGrouping served.intake.limit ledger.groups →
+    ledger.opening ≡ served.clock →
+    LawfulReport (run_with served.intake.submitters served.intake.taken queued ledger ends)
+    → IsGrouping served.intake.limit ledger.groups →
     IsRun pipeline.clock pipeline.intake.limit pipeline.intake.submitters ledger ends
-is_run pipeline served queued ledger ends clock intake lawful grouping = (
+is_run pipeline served queued ledger ends clock intake opening lawful grouping = (
   served.intake.taken,
   queued,
-  subst (λ n. LawfulReport (run_with n pipeline.intake.limit pipeline.intake.submitters served.intake.taken queued
-      ledger ends)) clock
-      (subst (λ (i : IntakeState). LawfulReport (run_with served.clock i.limit i.submitters served.intake.taken queued
-      ledger ends)) intake lawful),
+  opening ∙ clock,
+  subst (λ (i : IntakeState). LawfulReport (run_with i.submitters served.intake.taken queued ledger ends)) intake
+      lawful,
   subst (λ n. IsGrouping n ledger.groups) (ap (λ (i : IntakeState). i.limit) intake) grouping,
 )
 

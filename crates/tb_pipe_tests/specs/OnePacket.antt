@@ -20,14 +20,14 @@ one_and_end packet = item.Packet (numbered_packet 0 0 packet) ∷ item.End ∷ [
 
 -- the report is lawful of a queue that one submitter filled so; the control only ended, and no reply was read yet
 pub record IsRunOfOne (clock : ℕ) (packet : Packet) (ledger : LedgerState) (ends : List EndedState) : Type 0 where
-  pub limit : ℕ
   pub queue : List Ticket
   pub queued : ℕ → List Item
   pub submitted : queued 0 ≡ one_and_end packet
   pub controlled : queued 1 ≡ item.End ∷ []
   pub long : length ends ≡ 1
   pub unread : (d : EndedState) → (slice_index_or ends 0 d).read ≡ []
-  pub lawful : LawfulReport (run_with clock limit 1 queue queued ledger ends)
+  pub opening : ledger.opening ≡ clock
+  pub lawful : LawfulReport (run_with 1 queue queued ledger ends)
 
 -- the packet as it was handed in, Stopped, or committed at place 0 and answered by the state that was opened
 abbrev pub IsReplyToOne : ℕ → Packet → ReplyValue → Type 0

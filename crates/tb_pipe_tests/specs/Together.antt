@@ -19,11 +19,9 @@ abbrev pub IsOpenedAs : ℕ → ℕ → ℕ → PipelineState → Type 0
 IsOpenedAs clock limit submitters pipeline =
     (pipeline.clock ≡ clock) × (pipeline.intake.limit ≡ limit) × (pipeline.intake.submitters ≡ submitters)
 
-abbrev pub run_with : ℕ → ℕ → ℕ → List Ticket → (ℕ → List Item) → LedgerState → List EndedState → Run
-run_with clock limit submitters queue queued ledger ends =
+abbrev pub run_with : ℕ → List Ticket → (ℕ → List Item) → LedgerState → List EndedState → Run
+run_with submitters queue queued ledger ends =
     record {
-      clock = clock;
-      limit = limit;
       submitters = submitters;
       queue = queue;
       queued = queued;
@@ -34,5 +32,5 @@ run_with clock limit submitters queue queued ledger ends =
 -- of some queue that its senders filled, the report is lawful, and the journal's groups are lawful under the limit
 abbrev pub IsRun : ℕ → ℕ → ℕ → LedgerState → List EndedState → Type 0
 IsRun clock limit submitters ledger ends =
-    (queue : List Ticket) × (queued : ℕ → List Item)
-    × LawfulReport (run_with clock limit submitters queue queued ledger ends) × IsGrouping limit ledger.groups
+    (queue : List Ticket) × (queued : ℕ → List Item) × (ledger.opening ≡ clock)
+    × LawfulReport (run_with submitters queue queued ledger ends) × IsGrouping limit ledger.groups

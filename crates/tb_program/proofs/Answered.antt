@@ -3,9 +3,9 @@ use Rattle.std.proofs.Common.{◌≡◌, ◌∙◌, ◌<◌, ℕ, zero, suc, Boo
 use Rattle.std.specs.Prelude.{◌==◌, slice_get, if◌then◌else◌}
 use Rattle.std.proofs.lemmas.Option.{slice_get_within}
 use Rattle.tb_core.specs.Due.{outcome_at, reply_due, all_due_from, replies_to, Place, Ahead, next_place}
-use Rattle.tb_core.specs.Journal.{LedgerState, inputs}
+use Rattle.tb_core.specs.EndedRun.{Run, committed_in}
 use Rattle.tb_layout.specs.Events.{Input}
-use Rattle.tb_submit.specs.Ends.{EndedState, SenderState, SubmitterState, queued_by, replies_of}
+use Rattle.tb_submit.specs.Ends.{EndedState, SenderState, SubmitterState, replies_of}
 use Rattle.tb_work.specs.Ahead.{items_in, part}
 use Rattle.tb_work.specs.Queue.{AreSubmitted, IsSubmitted}
 use Rattle.tb_work.specs.declared.item.Item.{Item}
@@ -60,21 +60,23 @@ some_at [] k below = absurd (omega (arith, below))
 some_at (x ∷ xs) zero below = (x, refl)
 some_at (x ∷ xs) (suc k) below = some_at xs k (omega (arith, below))
 
-module _ {clock limit submitters : ℕ} {before : List SubmitterState} {unsettled : List EndedState} {control : SenderState}
-    {drivers : List ScriptDriver} {ledger : LedgerState} {ends : List EndedState}
-    (reported : HasReported HasSeenOf HasEndedOf clock limit submitters before unsettled control drivers ledger ends) where
+module _ {run : Run} {clock limit : ℕ} {before : List SubmitterState} {unsettled ends : List EndedState}
+    {control : SenderState} {drivers : List ScriptDriver}
+    (replies : run.replies ≡ replies_of ends)
+    (reported : HasReported HasSeenOf HasEndedOf run clock limit before unsettled ends control drivers) where
   pub all_answered : AreAllAnswered drivers ends
   all_answered k driver ended driver_is ended_is =
-      let below : k < submitters = subst (λ n. k < n) reported.number (slice_get_within ends k ended ended_is) in
+      let below : k < run.submitters = subst (λ n. k < n) reported.number (slice_get_within ends k ended ended_is) in
       let filled = reported.report.filled in
-      let parts : part k reported.queue ≡ queued_by unsettled control k = filled.parts k (omega (arith, below)) in
+      let parts : part k run.queue ≡ run.queued k = filled.parts k (omega (arith, below)) in
       record {
         limit = limit;
-        queued = jobs_in (queued_by unsettled control k);
+        queued = jobs_in (run.queued k);
         seen = reported.seen k driver ended driver_is ended_is;
         number = ap (λ items. length (jobs_in items)) (sym parts)
-            ∙ as_many_due clock submitters k (inputs ledger) (Ahead 0) reported.queue filled.submitted
-            ∙ ap length (sym (reported.report.replied k below) ∙ replies_at ends k ended ended_is);
+            ∙ as_many_due run.ledger.opening run.submitters k (committed_in run) (Ahead 0) run.queue filled.submitted
+            ∙ ap length (sym (reported.report.replied k below) ∙ ap (λ by_submitter. by_submitter k) replies
+            ∙ replies_at ends k ended ended_is);
       }
 
   -- the driver whose share and notes these are
@@ -86,7 +88,7 @@ module _ {clock limit submitters : ℕ} {before : List SubmitterState} {unsettle
   driver_at (first ∷ all) (suc k) share told share_is told_is = driver_at all k share told share_is told_is
 
   pub all_handed_in : AreAllDone drivers
-      → AreHandedIn limit (replies_of ends) (map share_of drivers) (map told_of drivers) (queued_by unsettled control)
+      → AreHandedIn limit (replies_of ends) (map share_of drivers) (map told_of drivers) run.queued
   all_handed_in done k share told share_is told_is =
       let its = driver_at drivers k share told share_is told_is in
       let driver = its.0 in
@@ -98,7 +100,7 @@ module _ {clock limit submitters : ℕ} {before : List SubmitterState} {unsettle
       ) in
       let end = some_at ends k within in
       let is_done = done k driver its.1 in
-      let jobs = jobs_in (queued_by unsettled control k) in
+      let jobs = jobs_in (run.queued k) in
       let seen = reported.seen k driver end.0 its.1 end.1 is_done.0 in
       let longer = handed_longer limit end.0.read end.0.lying (share_of driver) _ (told_of driver) jobs seen.0 in
       subst (λ replies. IsHandedIn limit replies share [] told jobs) (sym (replies_at ends k end.0 end.1))

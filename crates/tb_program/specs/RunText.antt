@@ -1,7 +1,7 @@
 -- What is printed of a run.
 use Rattle.std.specs.Prelude.{◌≡◌, ℕ, ◌+◌, zero, suc, List, [], ◌∷◌, ◌++◌, Ok, Some, length, slice_get}
 use Rattle.tb_core.specs.Grouping.{IsGrouping}
-use Rattle.tb_core.specs.Headline.{moments_in, moments_queued}
+use Rattle.tb_core.specs.EachSubmitter.{moments_in, moments_queued}
 use Rattle.tb_core.specs.EndedRun.{Run, committed_in, IsPrefix}
 use Rattle.tb_core.specs.Report.{LawfulReport}
 use Rattle.tb_layout.specs.Events.{Input, Packet, Pulse}
@@ -83,7 +83,7 @@ pub record IsRunText (clock limit : ℕ) (shares : List (List packets.Packet)) (
     (refused_pulses : ℕ) (text : List ℕ) : Type 0 where
   pub run : Run
   pub told : List (List Told)
-  pub clock_is : run.clock ≡ clock
+  pub clock_is : run.ledger.opening ≡ clock
   pub submitters_are : run.submitters ≡ length shares
   pub report : LawfulReport run
   pub grouping : IsGrouping limit run.ledger.groups

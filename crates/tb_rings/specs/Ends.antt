@@ -1,18 +1,9 @@
 -- What a contract sees of the two ends of a ring.
 use Rattle.std.specs.Prelude.{◌≡◌, ℕ, List}
-use Rattle.std.specs.declared.alloc.Global.{Global}
-use denote.RawPtr.{Ptr}
 use Rattle.rtrb.specs.Ring.{sent, received, known_items, known_free, producer_capacity}
-use Rattle.rtrb.specs.Shared.{Names}
+pub use Rattle.tb_rings.specs.RingId.{RingId}
 use Rattle.tb_rings.specs.declared.Outlet.{Outlet}
 use Rattle.tb_rings.specs.declared.Inlet.{Inlet}
-
--- which ring it is: two ends with one identity are ends of one ring
-pub record RingId : Type 0 where
-  pub words : Ptr
-  pub slots : Ptr
-  pub names : Names
-  pub heap : Global
 
 module _ {T : Type 0} where
   -- all that was given so far, oldest first

@@ -38,6 +38,7 @@ is_refused other = false
 
 -- whatever happened: who pushed what, what was committed of it, and what each submitter received
 pub record IsLawfulSoFar (clock submitters : ℕ) (queue : List Ticket) (world : WorldState) : Type 0 where
+  pub opening : world.ledger.opening ≡ clock
   pub submitted : AreSubmitted submitters queue
   pub numbered : (sender : ℕ) → sender ≤ submitters → AreNumbered sender 0 (part sender queue)
   pub committed : IsPrefix (inputs world.ledger) (ahead (items_in queue))
@@ -50,11 +51,9 @@ NoneStopped submitters world =
     (submitter : ℕ) → submitter < submitters → any_stopped (received_of world submitter) ≡ false
 
 -- the report of a World: its senders queued what they pushed
-abbrev pub Reports : ℕ → ℕ → List Ticket → WorldState → Type 0
-Reports clock submitters queue world =
+abbrev pub Reports : ℕ → List Ticket → WorldState → Type 0
+Reports submitters queue world =
     LawfulReport (record {
-      clock = clock;
-      limit = world.limit;
       submitters = submitters;
       queue = queue;
       queued = λ sender. part sender queue;
@@ -66,7 +65,7 @@ Reports clock submitters queue world =
 pub record IsLawfulAtRest (clock submitters : ℕ) (queue : List Ticket) (world : WorldState) : Type 0 where
   pub received : (submitter : ℕ) → submitter < submitters
       → received_of world submitter ≡ due clock queue (inputs world.ledger) submitter
-  pub reports : HaveAllEnded submitters queue → Reports clock submitters queue world
+  pub reports : HaveAllEnded submitters queue → Reports submitters queue world
 
 -- A World after these events, whatever they are; and what also holds if no allocation failed, and at rest.
 pub record HasRun (clock limit submitters : ℕ) (events : List Event) (world : WorldState) : Type 0 where

@@ -59,6 +59,7 @@ module _ (U : Type 0) (clock n : ℕ) (pushed : List Ticket) (w : WorldState) (h
       let after = items_in w.queue in
       let journal = inputs w.ledger in
       record {
+        opening = h.commits.from;
         submitted = h.senders.submitted;
         numbered = numbered_by n pushed w.senders h.senders;
         committed = rw items_are (is-prefix-trans journal (ahead before) (ahead (before ++ after))
@@ -175,7 +176,8 @@ module _ (U : Type 0) (clock n : ℕ) (pushed : List Ticket) (w : WorldState)
       (λ (queue : List Ticket). all_due clock (items_in queue) (inputs w.ledger)) taken_all in
       record {
         received = λ submitter among. received_all submitter among ∙ ap (λ rs. replies_to rs submitter) all;
-        reports = λ over. run_is_lawful _ h.answers (queue_of_all n pushed w.senders h.senders over) ran received_all;
+        reports = λ over. run_is_lawful _ h.answers (queue_of_all n pushed w.senders h.senders over)
+            (subst (λ opened. Ran opened (items_in pushed) w.ledger h.answers) (sym h.commits.from) ran) received_all;
       }
 
   whole : Goes w.front w.ledger → inputs w.ledger ≡ ahead (items_in pushed)

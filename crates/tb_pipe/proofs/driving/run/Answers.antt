@@ -5,6 +5,8 @@ use Rattle.std.specs.Prelude.{slice_index_or}
 use Rattle.tb_submit.specs.Ends.{EndedState, IntakeState, Seat, SenderState, end_origin, origin_of}
 use Rattle.tb_drive.specs.Plan.{with_items}
 use Rattle.tb_pipe.specs.Reported.{HasReported}
+use Rattle.tb_pipe.specs.SettledRun.{run_of}
+use Rattle.tb_work.specs.declared.item.Ticket.{Ticket}
 use Rattle.tb_drive.specs.Tasks.{AreResultsOf, TasksState, task_submitter}
 use Rattle.tb_drive.specs.Threads.{IsControlResultOf}
 use Rattle.tb_pipe.proofs.Control.{queued_by_control}
@@ -40,16 +42,20 @@ returns g c =
     → (slice_index_or ends k d).origin.seat.limit ≡ served.intake.limit =
     λ k d within. ap (λ (seat : Seat). seat.limit) (settled.seats k d within) in
     let copied : c.of-unsettled.result.value.items ≡ ends = search rules in
-    let said = λ (clock : ℕ) (intake : IntakeState) (unsettled : List EndedState) (last : SenderState).
-    HasReported g.D.Driver.has_seen g.D.Driver.has_ended clock intake.limit intake.submitters before unsettled last
-    drivers c.settle-report.result.ledger c.settle-report.result.ends.items in
-    let reported : said served.clock served.intake ends end = record {
-      queue = served.intake.taken;
+    let taken : c.of-taken.result.value.intake.taken ≡ served.intake.taken = search rules in
+    let said = λ (clock : ℕ) (intake : IntakeState) (queue : List Ticket) (unsettled : List EndedState)
+    (last : SenderState).
+    HasReported g.D.Driver.has_seen g.D.Driver.has_ended (run_of (record intake { taken = queue }) unsettled last
+    c.settle-report.result.ledger c.settle-report.result.ends.items) clock intake.limit before unsettled
+    c.settle-report.result.ends.items last drivers in
+    let reported : said served.clock served.intake served.intake.taken ends end = record {
+      opening = settled.opening;
       own = results.own ∙ sym (map-map origin_of task_submitter tasks);
       ahead = results.front;
       settled = settled.settled;
       controlled = queued_by_control ends end served.intake.submitters served.submitters own number;
       report = settled.report;
+      headline = settled.headline;
       grouping = settled.grouping;
       pulses = settled.pulses;
       number = settled.long;
@@ -59,14 +65,17 @@ returns g c =
       ended = once_settled g.D.Driver.has_ended served.intake.limit drivers ends _ end (settled.long ∙ sym long) limits
           settled.read said_joined.ended;
     } in
-    let after : SenderState = with_items c.args.tasks.control.control control.0 in (
+    let after : SenderState = with_items c.args.tasks.control.control control.0 in
+    let queue = c.of-taken.result.value.intake.taken in
+    let unsettled = c.of-unsettled.result.value.items in (
       (
         control.0,
         control.2,
-        subst (λ clock. said clock c.args.pipeline.intake c.of-unsettled.result.value.items after) c.in-Ok.ensures.clock
-            (subst (λ intake. said served.clock intake c.of-unsettled.result.value.items after) c.in-Ok.ensures.intake
-            (subst (λ last. said served.clock served.intake c.of-unsettled.result.value.items last) control.1
-            (subst (λ unsettled. said served.clock served.intake unsettled end) (sym copied) reported))),
+        subst (λ clock. said clock c.args.pipeline.intake queue unsettled after) c.in-Ok.ensures.clock
+            (subst (λ intake. said served.clock intake queue unsettled after) c.in-Ok.ensures.intake
+            (subst (λ last. said served.clock served.intake queue unsettled last) control.1
+            (subst (λ copied. said served.clock served.intake queue copied end) (sym copied)
+            (subst (λ tickets. said served.clock served.intake tickets ends end) (sym taken) reported)))),
       ),
       results.shares_are,
     )

@@ -1,5 +1,5 @@
 use Rattle.std.proofs.Common.{◌≡◌, ◌∙◌, sym, ap, subst, arith, ◌<◌, ℕ, zero, suc, List, [], ◌∷◌, ◌++◌, length}
-use Rattle.tb_core.specs.Headline.{moments_in, moments_queued}
+use Rattle.tb_core.specs.EachSubmitter.{moments_in, moments_queued}
 use Rattle.tb_core.specs.Journal.{inputs}
 use Rattle.tb_core.specs.EndedRun.{IsPrefix}
 use Rattle.tb_core.specs.Report.{LawfulReport}
@@ -29,8 +29,7 @@ run c =
     (given remains.committed.outlet) (taken remains.routed.inlet)
     (lies c.lying-2.new.self) is.batched is.committed parcels outs is.routed.ended
 
-report : (c : goal.After-drop-batches) → LawfulReport (run_of c.args.remains.committed.ledger.opening
-    c.args.remains.intake c.args.ends.items c.args.control c.args.remains.committed.ledger
+report : (c : goal.After-drop-batches) → LawfulReport (run_of c.args.remains.intake c.args.ends.items c.args.control c.args.remains.committed.ledger
     c.settle_queue-ends.result.items)
 report c =
     let remains = c.args.remains in
@@ -70,4 +69,4 @@ returns-clause-pulses c =
     ∙ length-origins (seat_at remains.intake) 0 remains.routed.outlets.items ∙ c.requires.served.number in
     subst (λ items. IsPrefix (moments_in (inputs remains.committed.ledger)) (moments_queued items))
     (last_is_control c.args.ends.items c.args.control remains.intake.submitters long)
-    (c.headline.ensures _ (report c)).pulses
+    (c.pulses_are_the_controls.ensures _ (c.headline.ensures _ (report c)))

@@ -3,8 +3,9 @@ use Rattle.std.proofs.lemmas.List.{length-map}
 use Rattle.std.specs.Prelude.{ℕ, Vec}
 use Rattle.std.specs.declared.alloc.Global.{Global}
 use Rattle.tb_core.specs.Journal.{inputs}
-use Rattle.tb_core.specs.Headline.{moments_in, moments_queued}
+use Rattle.tb_core.specs.EachSubmitter.{moments_in, moments_queued}
 use Rattle.tb_core.specs.EndedRun.{IsPrefix}
+use Rattle.tb_pipe.specs.Reported.{run_in}
 use Rattle.tb_drive.specs.Plan.{planned_items, refused_of, with_items}
 use Rattle.tb_drive.specs.Seen.{jobs_in}
 use Rattle.tb_submit.specs.Ends.{queued_by, replies_of}
@@ -24,7 +25,7 @@ drive_all-requires-clause-seen g c κs within = λ k driver submitter driver_is 
     (c.requires.new limit k driver driver_is))
 
 pub text_of-requires-clause-answered : goal.text_of-requires-clause-answered
-text_of-requires-clause-answered g c = all_answered c.in-Ok.ensures.reported.2
+text_of-requires-clause-answered g c = all_answered refl c.in-Ok.ensures.reported.2
 
 pub returns-in_ok-text_of-in-Ok : goal.returns-in_ok-text_of-in-Ok
 returns-in_ok-text_of-in-Ok g c =
@@ -49,17 +50,9 @@ returns-in_ok-text_of-in-Ok g c =
     let shares : map share_of drivers ≡ map share_of c.args.drivers.items = c.in-Ok.ensures.shares in
     let long = length-map c.args.drivers.items share_of ∙ c.requires.number ∙ c.requires.together.2 in
     record {
-      run = record {
-        clock = opened.pipeline.clock;
-        limit = opened.pipeline.intake.limit;
-        submitters = opened.pipeline.intake.submitters;
-        queue = reported.queue;
-        queued = queued;
-        ledger = ledger;
-        replies = replies;
-      };
+      run = run_in opened.pipeline.intake (with_items opened.control items) finished;
       told = told;
-      clock_is = refl;
+      clock_is = reported.opening;
       submitters_are = sym long;
       report = reported.report;
       grouping = reported.grouping;
@@ -68,7 +61,7 @@ returns-in_ok-text_of-in-Ok g c =
           reported.pulses;
       number = length-map drivers told_of ∙ sym (length-map drivers share_of) ∙ ap length shares;
       handed = subst (λ all. AreHandedIn opened.pipeline.intake.limit replies all told queued) shares
-          (all_handed_in reported c.in_ok-text_of-in-Ok.ensures.done);
+          (all_handed_in refl reported c.in_ok-text_of-in-Ok.ensures.done);
       printed = subst (λ refused. string_bytes c.in_ok-text_of-in-Ok.field-0
           ≡ run_text told replies (inputs ledger) refused ledger.state) counted
           c.in_ok-text_of-in-Ok.ensures.text;
