@@ -76,7 +76,7 @@ queued-ahead submitters submitter (ticket ∷ queue) all =
 -- ---- replies
 
 -- one reply for each packet of a submitter, in order
-one-each : (clock submitters submitter : ℕ) (inputs : List Input) (place : Place) (queue : List Ticket)
+pub one-each : (clock submitters submitter : ℕ) (inputs : List Input) (place : Place) (queue : List Ticket)
     → AreSubmitted submitters queue →
     map numbered_of (replies_to (all_due_from clock inputs place (items_in queue)) submitter)
     ≡ packets_queued (part submitter queue)
