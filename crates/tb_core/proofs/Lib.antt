@@ -9,7 +9,7 @@ mod OneMoreEntry
 pub mod LedgerSteps
 mod JournalGroups
 pub mod Runs
-mod Packets
+pub mod Packets
 pub mod HeadlineLemmas
 mod EachSubmitter
 mod BadRuns

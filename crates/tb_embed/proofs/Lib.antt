@@ -1,3 +1,4 @@
 mod Queued
 mod Parcels
 mod EngineRun
+mod Replies

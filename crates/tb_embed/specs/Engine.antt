@@ -1,5 +1,5 @@
 -- An engine: what was queued in it, which replies were read, and what follows. No batch is in it.
-use Rattle.std.specs.Prelude.{◌≡◌, ◌≤◌, ◌==◌, ◌⊎◌, ◌^◌, ◌-◌, ℕ, Bool, false, nat_lt, nat_le, if◌then◌else◌, List, [], ◌∷◌, ◌++◌, length, get_or, Option, Some, None, Result, Ok, Err}
+use Rattle.std.specs.Prelude.{◌≡◌, ◌≤◌, ◌==◌, ◌⊎◌, ◌^◌, ◌-◌, ℕ, Bool, false, nat_lt, nat_le, if◌then◌else◌, List, [], ◌∷◌, ◌++◌, ◌+◌, map, length, get_or, Option, Some, None, Result, Ok, Err}
 use Rattle.tb_layout.specs.inside.Limits.{batch_max, moment_max, submitters_max}
 use Rattle.tb_machine.specs.Replay.{State, replay}
 use Rattle.tb_work.specs.Admission.{admission_of}
@@ -18,7 +18,7 @@ use Rattle.tb_core.specs.EndedRun.{Run, IsPrefix}
 use Rattle.tb_core.specs.Grouping.{AreJoined}
 use Rattle.tb_core.specs.Report.{LawfulReport}
 use Rattle.tb_core.specs.BareLedger.{BareLedgerState, HasSent, with_journal}
-use Rattle.tb_embed.specs.Queued.{AreQueued, ended_queue}
+use Rattle.tb_embed.specs.Queued.{AreQueued, ended_queue, packets_in}
 
 -- the front, the bare ledger, the replies that are not read, of each submitter the number of its next packet, and whether
 -- the Close was queued
@@ -155,3 +155,36 @@ abbrev pub ServingIsLawful : Type 0
 ServingIsLawful =
     (clock : ℕ) (queue : List Ticket) (read : List ReplyValue) (engine : EngineState) → Serves clock queue read engine
     → IsServed clock queue read engine
+
+-- ---- reading to the end
+
+-- what `reply` returns, and the engine after it: the call's clauses
+abbrev pub IsReply : EngineState → Option ReplyValue → EngineState → Type 0
+IsReply old (Some reply) new = Reads old reply new × (old.unread ≡ reply ∷ new.unread)
+IsReply old None new = (old.unread ≡ []) × (new ≡ old)
+
+-- what calls of `reply` in a row return, and the engine after them
+abbrev pub AreReplies : EngineState → List (Option ReplyValue) → EngineState → Type 0
+AreReplies old [] new = new ≡ old
+AreReplies old (result ∷ results) new =
+    (middle : EngineState) × IsReply old result middle × AreReplies middle results new
+
+-- Each call returned a reply, and with those read before they are all that are due. The report is lawful, and any further call
+-- returns none.
+pub record HaveAllCome (clock : ℕ) (queue : List Ticket) (read : List ReplyValue) (engine : EngineState)
+    (results : List (Option ReplyValue)) (last : EngineState) : Type 0 where
+  pub ledger : LedgerState
+  pub replies : results ≡ map Some engine.unread
+  pub due : read ++ engine.unread ≡ all_due clock (items_in queue) (inputs ledger)
+  pub report : LawfulReport (run_of queue (read ++ engine.unread) last ledger)
+  pub none : (result : Option ReplyValue) (next : EngineState) → IsReply last result next → result ≡ None
+
+-- Whatever was queued and read: if nothing is held, as after a `flush` that returned Ok, as many calls of `reply` as packets have
+-- unread replies return all of these.
+abbrev pub RepliesCome : Type 0
+RepliesCome =
+    (clock : ℕ) (queue : List Ticket) (read : List ReplyValue) (engine : EngineState)
+    (results : List (Option ReplyValue)) (last : EngineState)
+    → Serves clock queue read engine → engine.front.held ≡ []
+    → length read + length results ≡ packets_in (items_in queue) → AreReplies engine results last
+    → HaveAllCome clock queue read engine results last

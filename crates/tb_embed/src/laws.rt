@@ -1,6 +1,6 @@
 //! What follows from an engine's calls.
 
-ghost use Rattle.tb_embed.specs.Engine.{ServingIsLawful};
+ghost use Rattle.tb_embed.specs.Engine.{RepliesCome, ServingIsLawful};
 
 use tb_core::{each_part_is_lawful, run_is_lawful};
 
@@ -11,4 +11,12 @@ pub fn serving_is_lawful()
 {
     each_part_is_lawful();
     run_is_lawful();
+}
+
+/// Establishes, after a `flush` that returned Ok, that as many calls of `reply` as packets have unread replies return all of these,
+/// and any further call none.
+pub fn replies_come()
+    ensures { RepliesCome }
+{
+    serving_is_lawful();
 }

@@ -4,16 +4,19 @@
 //! (`Outlet::give`, `Inlet::take`). With both ends in one thread, `Inlet::lying` counts what is in the ring, and the next takes
 //! return it. A value is returned to its giver only if no slot was seen to be free (`none_free`, `room`).
 //!
-//! A thread that finds nothing to take waits with the ring's `Sleeper`, which each `give` wakes. No clause speaks of waiting.
+//! A thread that finds nothing to take waits with the ring's `Sleeper`, which each `give` wakes. No clause speaks of waiting:
+//! `no_wake_up_is_lost` and `waking_ends` are laws of a model of it (`specs/Waking.antt`).
 //!
 //! `ring_of_two` in tb_pipe_tests is an example that the gate compiles.
 #![tactic(auto)]
 
+mod laws;
 mod waiting;
 
 ghost use Rattle.std.specs.Prelude.{◌≡◌, ◌<◌, ◌≤◌, ◌+◌, ◌↔◌, [], ◌∷◌, ◌++◌, length, IsTrue, OnOk, IfOk, IfErr, IsOk, IfSome, IfNone, IsSomeAnd};
 ghost use Rattle.tb_rings.specs.Ends.{given, taken, lies, slots, free, IsRing, SameOutlet, SameInlet};
 
+pub use laws::{no_wake_up_is_lost, waking_ends};
 use rtrb::{Consumer, Producer, RingBuffer};
 use std::alloc::Global;
 use std::sync::Wait;

@@ -1,1 +1,2 @@
 mod orders
+mod progress

@@ -1,4 +1,4 @@
-mod Pushed
-mod Holding
-mod Runs
+pub mod Pushed
+pub mod Holding
+pub mod Runs
 pub mod Told

@@ -3,6 +3,7 @@ pub mod Mailbox
 pub mod PendingReplies
 pub mod World
 pub mod EveryOrder
+pub mod Progress
 pub use Rattle.tb_core.specs.Front
 pub use Rattle.tb_core.specs.Ledger
 pub use Rattle.tb_core.specs.EndedRun

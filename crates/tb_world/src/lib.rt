@@ -8,6 +8,7 @@
 #![tactic(auto)]
 
 mod event;
+mod laws;
 mod mailbox;
 mod pending_replies;
 mod run;
@@ -15,5 +16,9 @@ mod sender;
 mod world;
 
 pub use event::Event;
-pub use run::run_world;
+pub use laws::{
+    credit_leaves_room, each_step_counts, fair_lists_rest, fair_runs_are_answered, left_is_bounded,
+    none_is_stuck, one_round_is_a_round,
+};
+pub use run::{run_to_rest, run_world};
 pub use world::World;

@@ -1,7 +1,8 @@
 //! The submitters' reply rings, and what was taken from them.
 
-ghost use Rattle.std.specs.Prelude.{◌≡◌, replicate, slice_set, is_some, true, unwrap_or, IfOk, OnOk, IfErr, OnErr};
+ghost use Rattle.std.specs.Prelude.{◌≡◌, replicate, slice_set, is_some, true, unwrap_or, sum_by, IfOk, OnOk, IfErr, OnErr, IfSome, IfNone};
 ghost use Rattle.tb_world.specs.Mailbox.{mailbox_at, mailboxes_with, with_reply, empty_mailbox, after_pop};
+ghost use Rattle.tb_world.specs.Progress.{unread};
 
 use std::alloc::{AllocError, Global};
 use std::collections::VecDeque;
@@ -66,12 +67,14 @@ pub(crate) struct Mailboxes {
 }
 
 impl Model for Mailboxes {
-    ghost use Rattle.std.specs.Prelude.{List};
+    ghost use Rattle.std.specs.Prelude.{List, length, ◌<◌, ◌^◌};
     ghost use Rattle.tb_world.specs.Mailbox.{Mailbox as MailboxValue};
 
     ghost Value = { List MailboxValue };
 
     ghost view = { λ mailboxes. mailboxes.mailboxes.items };
+
+    ghost invariant = { λ mailboxes. length mailboxes.mailboxes.items < 2 ^ 32 };
 }
 
 impl Mailboxes {
@@ -115,6 +118,19 @@ impl Mailboxes {
         }
         let mailbox = &mut self.mailboxes[submitter];
         mailbox.take()
+    }
+
+    /// Returns the first submitter whose ring has a reply, if there is one.
+    pub(crate) fn first_unread(&self) -> Option<u32>
+        ensures some { IfSome result (λ own. is_some (after_pop (mailbox_at self.now own)) ≡ true) }
+        ensures none { IfNone result (sum_by unread self.now ≡ 0) }
+    {
+        for own in 0..self.mailboxes.len() {
+            if !self.mailboxes[own].ring.is_empty() {
+                return Some(own as u32);
+            }
+        }
+        None
     }
 
     /// Returns what a submitter received; nothing if there is no such submitter.

@@ -4,6 +4,7 @@ ghost use Rattle.std.specs.Prelude.{◌≡◌, ◌≤◌, true, IfOk, OnOk, OnEr
 ghost use Rattle.tb_layout.specs.inside.Limits.{batch_max, submitters_max};
 ghost use Rattle.tb_layout.specs.Limits.{clock_max};
 ghost use Rattle.tb_world.specs.EveryOrder.{HasRun};
+ghost use Rattle.tb_world.specs.Progress.{HasFinished, HasRested, MayRunOut};
 ghost use Rattle.tb_world.specs.World.{TakeMemory, after_event, run, takes_memory};
 
 use crate::event::Event;
@@ -33,6 +34,17 @@ fn go_through(world: &mut World, events: Vec<Event>) -> Result<(), NoMemory>
     Ok(())
 }
 
+/// Takes steps, none of them a push, until none moves.
+fn finish(world: &mut World) -> Result<(), NoMemory>
+    ensures ok { OnOk result (HasFinished world.old world.new) }
+    ensures memory { OnErr result (MayRunOut world.old) }
+{
+    while let Some(event) = world.next_event() {
+        go_on(world, event)?;
+    }
+    Ok(())
+}
+
 /// Returns a World, from a clock in nanoseconds, 0 to `CLOCK_MAX`, on, after events in order; one that returns false is
 /// passed over. The limit is 1 to 8190 events, and there are 1 to 16 submitters. It takes memory for the World and in
 /// its steps; if that really fails, nothing is returned.
@@ -52,6 +64,35 @@ pub fn run_world(
         return Err(NoMemory);
     };
     match go_through(&mut world, events) {
+        Ok(()) => Ok(world),
+        Err(refused) => {
+            drop(world);
+            Err(refused)
+        }
+    }
+}
+
+/// Returns a World after events in order, and after the steps that bring it to rest, whatever the events were. None of these
+/// steps is a push, and they are at most seven for each ticket that was pushed. So each submitter has received exactly what is due
+/// to it. The ranges are those of `run_world`. It always returns.
+///
+/// # Errors
+///
+/// `NoMemory` if an allocation fails.
+pub fn run_to_rest(
+    alloc: Global,
+    clock: u64,
+    limit: u32,
+    submitters: u32,
+    events: Vec<Event>,
+) -> Result<World, NoMemory>
+    requires clock { clock ≤ clock_max }
+    requires limit { (1 ≤ limit) × (limit ≤ batch_max) }
+    requires submitters { (1 ≤ submitters) × (submitters ≤ submitters_max) }
+    ensures { IfOk result (λ world. HasRested clock limit submitters events.items world) }
+{
+    let mut world = run_world(alloc, clock, limit, submitters, events)?;
+    match finish(&mut world) {
         Ok(()) => Ok(world),
         Err(refused) => {
             drop(world);

@@ -1,6 +1,6 @@
 //! The stages in one thread, in any order of their steps.
 
-ghost use Rattle.std.specs.Prelude.{◌≡◌, ◌≤◌, ◌<◌, ◌+◌, ◌⊎◌, true, replicate, Some, None, IfOk, OnOk, IfErr, OnErr, is_some};
+ghost use Rattle.std.specs.Prelude.{◌≡◌, ◌≤◌, ◌<◌, ◌+◌, ◌⊎◌, true, replicate, Some, None, IfOk, OnOk, IfErr, OnErr, is_some, IfSome, IfNone};
 ghost use Rattle.tb_layout.specs.Limits.{clock_max};
 ghost use Rattle.tb_layout.specs.inside.Limits.{submitters_max};
 ghost use Rattle.tb_work.specs.declared.refusal.Refusal.TheVariants.{NoMemory as NoMemoryRefusal};
@@ -8,6 +8,7 @@ ghost use Rattle.tb_core.specs.Front.{opening_refusal};
 ghost use Rattle.tb_world.specs.Pushing.{newcomer};
 ghost use Rattle.tb_world.specs.Mailbox.{empty_mailbox};
 ghost use Rattle.tb_world.specs.World.{pending_of, new_world, IsMove, batch_push};
+ghost use Rattle.tb_world.specs.Progress.{MayMove, left};
 
 use crate::event::Event;
 use crate::mailbox::Mailboxes;
@@ -341,6 +342,35 @@ impl World {
         ensures err { OnErr result ((is_some (moved self.old (event.ReplyPop sender)) ≡ true) × (self.new ≡ self.old)) }
     {
         self.mailboxes.take(sender)
+    }
+
+    /// Returns a step that moves, none of them a push: the one nearest to the submitters. None if the World is at rest.
+    pub fn next_event(&self) -> Option<Event>
+        ensures some { IfSome result (λ event. MayMove self.now event) }
+        ensures none { IfNone result (left self.now ≡ 0) }
+    {
+        if let Some(sender) = self.mailboxes.first_unread() {
+            return Some(Event::ReplyPop { sender });
+        }
+        if !self.pending.is_empty() {
+            return Some(Event::ReplyPush);
+        }
+        if !self.outcomes.is_empty() {
+            return Some(Event::OutcomePop);
+        }
+        if self.outcome.is_some() {
+            return Some(Event::OutcomePush);
+        }
+        if !self.batches.is_empty() {
+            return Some(Event::BatchPop { refused: false });
+        }
+        if self.has_parcel() {
+            return Some(Event::BatchPush);
+        }
+        if !self.queue.is_empty() {
+            return Some(Event::Pop { refused: false });
+        }
+        None
     }
 
     /// Takes one event. Returns true if it may happen, and the World then moves as its table says; false changes

@@ -127,7 +127,7 @@ run_holds U clock n pushed w (e ∷ es) u short h =
     (omega (arith, short, length-append pushed (pushed_at w e ++ others))) h))
 
 -- at most one ticket an event
-length-history : (w : WorldState) (es : List Event) → length (history w es) ≤ length es
+pub length-history : (w : WorldState) (es : List Event) → length (history w es) ≤ length es
 length-history w [] = omega arith
 length-history w (e ∷ es) =
     omega (
@@ -179,10 +179,9 @@ opened_holds U clock limit n =
       goes = λ is. record { front = refl; ledger = refl };
     }
 
-pub all_holds : (clock limit n : ℕ) (es : List Event) → length es ≤ 2 ^ 63
+pub all_holds : (clock limit n : ℕ) (es : List Event) → length (history (new_world clock limit n) es) ≤ 2 ^ 63
     → Holds (list_any is_refused es ≡ false) clock n (history (new_world clock limit n) es)
     (run (new_world clock limit n) es)
 all_holds clock limit n es short =
-    run_holds (list_any is_refused es ≡ false) clock n [] (new_world clock limit n) es (λ is. is)
-    (omega (arith, short, length-history (new_world clock limit n) es))
+    run_holds (list_any is_refused es ≡ false) clock n [] (new_world clock limit n) es (λ is. is) short
     (opened_holds (list_any is_refused es ≡ false) clock limit n)

@@ -53,6 +53,14 @@ module _ (U : Type 0) (clock n : ℕ) (pushed : List Ticket) (w : WorldState) (h
   items_are : items_in pushed ≡ items_in h.taken ++ items_in w.queue
   items_are = ap items_in h.split ∙ map-append (λ (ticket : Ticket). ticket.item) h.taken w.queue
 
+  pub far_prefix : IsPrefix h.answers (all_due clock (items_in pushed) (inputs w.ledger))
+  far_prefix =
+      let before = items_in h.taken in
+      let after = items_in w.queue in
+      let journal = inputs w.ledger in
+      rw items_are (is-prefix-trans h.answers (all_due clock before journal) (all_due clock (before ++ after) journal)
+      (far.later, far.due) (due-prefix clock journal (Ahead 0) before after))
+
   is_lawful_so_far : IsLawfulSoFar clock n pushed w
   is_lawful_so_far =
       let before = items_in h.taken in
@@ -188,8 +196,8 @@ module _ (U : Type 0) (clock n : ℕ) (pushed : List Ticket) (w : WorldState)
 
 -- ---- a list of events
 
-pub has_run : (clock limit n : ℕ) (events : List Event) (world : WorldState) → length events ≤ 2 ^ 63
-    → world ≡ run (new_world clock limit n) events → HasRun clock limit n events world
+pub has_run : (clock limit n : ℕ) (events : List Event) (world : WorldState)
+    → length (history (new_world clock limit n) events) ≤ 2 ^ 63 → world ≡ run (new_world clock limit n) events → HasRun clock limit n events world
 has_run clock limit n events world short is = subst (HasRun clock limit n events) (sym is) there
   where
     U : Type 0

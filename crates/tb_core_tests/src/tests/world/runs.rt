@@ -11,7 +11,7 @@ use std::slice;
 use tb_layout::{Account, Failure, Transfer};
 use tb_test_makers::{account, check, transfer};
 use tb_work::{Item, Job, Refusal, Ticket};
-use tb_world::{Event, World, run_world};
+use tb_world::{Event, World, run_to_rest, run_world};
 
 /// Adds the events of several texts. Returns false if memory ran out.
 fn add_texts(rt: &impl Abort, alloc: Global, events: &mut Vec<Event>, texts: &[&str]) -> bool {
@@ -259,5 +259,50 @@ fn a_thousand_replies_and_many_pulses(rt: HostRuntime) {
         assert_noted(&rt, slice::from_ref(entry), &[Noted::Pulse(moment as u64)]);
     }
     check!(&rt; world.ledger().machine().clock() == PULSES - 1);
+    drop(world);
+}
+
+/// Pushes and no pop: six packets and a pulse.
+const PUSHES: &str =
+    "0:packet0=1 0:packet1=2 1:pulse5 0:packet2=3 0:packet3=4 0:packet4=5 0:packet5=6 0:end";
+
+#[test]
+fn pushes_come_to_rest(rt: HostRuntime) {
+    let mut events = Vec::new(rt.alloc());
+    check!(&rt; add_words(&rt, rt.alloc(), &mut events, PUSHES));
+    let world = run_to_rest(rt.alloc(), 0, 4, 1, events).expect(&rt, "memory");
+    assert_told(&rt, world.received(0), &SIX_PLACES);
+    drop(world);
+}
+
+/// How many packets each of 16 submitters pushes, so that there are ten thousand.
+const EACH: u64 = 625;
+
+/// Pushes the packets in turns: the first of each submitter, then the second of each.
+fn ten_thousand(rt: &(impl Abort + Alloc<A = Global>), events: &mut Vec<Event>) {
+    for number in 0..EACH {
+        for sender in 0..16 {
+            let packet = Made::Zeros {
+                number,
+                operation: 130,
+                count: 0,
+            };
+            add_times(rt, events, Step::Push(sender, packet), 1);
+        }
+    }
+}
+
+#[test]
+fn ten_thousand_packets_come_to_rest(rt: HostRuntime) {
+    let mut events = Vec::new(rt.alloc());
+    ten_thousand(&rt, &mut events);
+    let world = run_to_rest(rt.alloc(), 0, 4, 16, events).expect(&rt, "memory");
+    for sender in 0..16 {
+        let replies = world.received(sender);
+        check!(&rt; replies.len() as u64 == EACH);
+        for (turn, reply) in replies.iter().enumerate() {
+            check!(&rt; told_by(reply) == Told::Committed(16 * turn as u64 + u64::from(sender)));
+        }
+    }
     drop(world);
 }

@@ -1,0 +1,86 @@
+-- Reading an engine to the end.
+use Rattle.std.proofs.Common.{◌≡◌, refl, sym, ap, ◌∙◌, subst, arith, ℕ, ◌+◌, List, [], ◌∷◌, ◌++◌, map, length, length-append, append-nil, append_assoc, Option, Some, None}
+use Rattle.std.proofs.lemmas.List.{nil_from_length}
+use Rattle.tb_layout.specs.Events.{Input}
+use Rattle.tb_work.specs.Packet.{ReplyValue}
+use Rattle.tb_work.specs.Ahead.{items_in}
+use Rattle.tb_work.specs.declared.item.Item.{Item}
+use Rattle.tb_work.specs.declared.item.Item.TheVariants as item
+use Rattle.tb_work.specs.declared.item.Ticket.{Ticket}
+use Rattle.tb_core.specs.Due.{all_due_from, Place, Ahead, next_place}
+use Rattle.tb_core.specs.Front.{FrontState}
+use Rattle.tb_core.specs.Journal.{inputs}
+use Rattle.tb_embed.specs.Engine.{EngineState, Serves, IsReply, AreReplies, RepliesCome, ServingIsLawful}
+use Rattle.tb_embed.specs.Queued.{packets_in}
+
+-- a reply is due to each packet
+due_counted : (clock : ℕ) (journal : List Input) (place : Place) (items : List Item)
+    → length (all_due_from clock journal place items) ≡ packets_in items
+due_counted clock journal place [] = refl
+due_counted clock journal place (item.Packet job ∷ items) =
+    omega (arith, due_counted clock journal (next_place place (item.Packet job)) items)
+due_counted clock journal place (item.Pulse moment ∷ items) =
+    due_counted clock journal (next_place place (item.Pulse moment)) items
+due_counted clock journal place (item.End ∷ items) = due_counted clock journal (next_place place item.End) items
+due_counted clock journal place (item.Close ∷ items) = due_counted clock journal (next_place place item.Close) items
+
+record AllCome (clock : ℕ) (queue : List Ticket) (read : List ReplyValue) (engine : EngineState)
+    (results : List (Option ReplyValue)) (last : EngineState) : Type 0 where
+  replies : results ≡ map Some engine.unread
+  empty : last.unread ≡ []
+  serves : Serves clock queue (read ++ engine.unread) last
+  same : last.front ≡ engine.front
+
+all_come : (clock : ℕ) (queue : List Ticket) (read : List ReplyValue) (engine last : EngineState)
+    (results : List (Option ReplyValue)) → Serves clock queue read engine → length results ≡ length engine.unread
+    → AreReplies engine results last → AllCome clock queue read engine results last
+all_come clock queue read engine last [] serves as_many are =
+    let empty : engine.unread ≡ [] = nil_from_length engine.unread (sym as_many) in
+    record {
+      replies = ap (map Some) (sym empty);
+      empty = ap (λ (engine : EngineState). engine.unread) are ∙ empty;
+      serves = subst (λ (read : List ReplyValue). Serves clock queue read last)
+          (sym (ap (λ (unread : List ReplyValue). read ++ unread) empty ∙ append-nil read))
+          (subst (Serves clock queue read) (sym are) serves);
+      same = ap (λ (engine : EngineState). engine.front) are;
+    }
+all_come clock queue read engine last (None ∷ results) serves as_many (middle, (empty, same), are) =
+    absurd (omega (arith, as_many, ap length empty))
+all_come clock queue read engine last (Some reply ∷ results) serves as_many (middle, (reads, unread), are) =
+    let others = all_come clock queue (read ++ reply ∷ []) middle last results (reads.adds clock queue read serves)
+    (omega (arith, as_many, ap length unread)) are in
+    record {
+      replies = ap (λ (results : List (Option ReplyValue)). Some reply ∷ results) others.replies
+          ∙ ap (map Some) (sym unread);
+      empty = others.empty;
+      serves = subst (λ (read : List ReplyValue). Serves clock queue read last)
+          (append_assoc read (reply ∷ []) middle.unread
+          ∙ ap (λ (unread : List ReplyValue). read ++ unread) (sym unread)) others.serves;
+      same = others.same ∙ reads.stays;
+    }
+
+pub replies_come : ServingIsLawful → RepliesCome
+replies_come lawful clock queue read engine results last serves flushed as_many are =
+    let now = lawful clock queue read engine serves in
+    let come = all_come clock queue read engine last results serves
+    (omega (
+      arith,
+      as_many,
+      length-append read engine.unread,
+      ap length (now.replied flushed),
+      due_counted clock (inputs now.ledger) (Ahead 0) (items_in queue),
+    )) are in
+    let after = lawful clock queue (read ++ engine.unread) last come.serves in
+    let held : last.front.held ≡ [] = ap (λ (front : FrontState). front.held) come.same ∙ flushed in
+    record {
+      ledger = after.ledger;
+      replies = come.replies;
+      due = sym (append-nil (read ++ engine.unread))
+          ∙ ap (λ (unread : List ReplyValue). (read ++ engine.unread) ++ unread) (sym come.empty) ∙ after.replied held;
+      report = after.report held come.empty;
+      none = no_more come.empty;
+    }
+  where
+    no_more : last.unread ≡ [] → (result : Option ReplyValue) (next : EngineState) → IsReply last result next → result ≡ None
+    no_more empty None next is = refl
+    no_more empty (Some reply) next is = absurd (omega (arith, ap length empty, ap length is.1))
