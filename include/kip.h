@@ -54,7 +54,7 @@ typedef struct kip_t {
 } kip_t;
 
 enum {
-    KIP_VERSION = 0x000200, /* major, minor, patch: a byte each */
+    KIP_VERSION = 0x000100, /* major, minor, patch: a byte each */
     KIP_BATCH_MAX = 8190,
     KIP_SUBMITTERS_MAX = 16,
 };
@@ -245,21 +245,24 @@ static inline uint32_t kip_leave(kip_t *kip, uint32_t status) {
 }
 
 static inline uint32_t kip_guarded_open(kip_t *kip, uint64_t clock, uint32_t limit, uint32_t submitters) {
-    return kip_enter(kip) ? kip_leave(kip, kip_open(kip, clock, limit, submitters)) : KIP_BUSY;
+    if (!kip_enter(kip)) return KIP_BUSY;
+    return kip_leave(kip, kip_open(kip, clock, limit, submitters));
 }
 
 static inline uint32_t kip_guarded_open_seeded(kip_t *kip, uint64_t clock, uint32_t limit, uint32_t submitters,
                                                uint64_t seed_low, uint64_t seed_high) {
-    return kip_enter(kip) ? kip_leave(kip, kip_open_seeded(kip, clock, limit, submitters, seed_low, seed_high))
-                          : KIP_BUSY;
+    if (!kip_enter(kip)) return KIP_BUSY;
+    return kip_leave(kip, kip_open_seeded(kip, clock, limit, submitters, seed_low, seed_high));
 }
 
 static inline uint32_t kip_guarded_reserve(kip_t *kip, size_t accounts, size_t transfers) {
-    return kip_enter(kip) ? kip_leave(kip, kip_reserve(kip, accounts, transfers)) : KIP_BUSY;
+    if (!kip_enter(kip)) return KIP_BUSY;
+    return kip_leave(kip, kip_reserve(kip, accounts, transfers));
 }
 
 static inline uint32_t kip_guarded_close(kip_t *kip) {
-    return kip_enter(kip) ? kip_leave(kip, kip_close(kip)) : KIP_BUSY;
+    if (!kip_enter(kip)) return KIP_BUSY;
+    return kip_leave(kip, kip_close(kip));
 }
 
 static inline uint32_t kip_guarded_submit_bytes(kip_t *kip, uint32_t submitter, uint8_t operation, const void *data,
@@ -269,42 +272,50 @@ static inline uint32_t kip_guarded_submit_bytes(kip_t *kip, uint32_t submitter, 
 }
 
 static inline uint32_t kip_guarded_pulse(kip_t *kip, uint64_t nanoseconds) {
-    return kip_enter(kip) ? kip_leave(kip, kip_pulse(kip, nanoseconds)) : KIP_BUSY;
+    if (!kip_enter(kip)) return KIP_BUSY;
+    return kip_leave(kip, kip_pulse(kip, nanoseconds));
 }
 
 static inline uint32_t kip_guarded_shut(kip_t *kip) {
-    return kip_enter(kip) ? kip_leave(kip, kip_shut(kip)) : KIP_BUSY;
+    if (!kip_enter(kip)) return KIP_BUSY;
+    return kip_leave(kip, kip_shut(kip));
 }
 
 static inline uint32_t kip_guarded_flush(kip_t *kip) {
-    return kip_enter(kip) ? kip_leave(kip, kip_flush(kip)) : KIP_BUSY;
+    if (!kip_enter(kip)) return KIP_BUSY;
+    return kip_leave(kip, kip_flush(kip));
 }
 
 static inline uint32_t kip_guarded_reply_bytes(kip_t *kip, kip_reply_t *reply, void *results, size_t results_size) {
-    return kip_enter(kip) ? kip_leave(kip, kip_reply_bytes(kip, reply, results, results_size)) : KIP_BUSY;
+    if (!kip_enter(kip)) return KIP_BUSY;
+    return kip_leave(kip, kip_reply_bytes(kip, reply, results, results_size));
 }
 
 static inline uint32_t kip_guarded_stopped(kip_t *kip) {
-    return kip_enter(kip) ? kip_leave(kip, kip_stopped(kip)) : KIP_BUSY;
+    if (!kip_enter(kip)) return KIP_BUSY;
+    return kip_leave(kip, kip_stopped(kip));
 }
 
 static inline uint32_t kip_guarded_lookup_account(kip_t *kip, uint64_t id_low, uint64_t id_high,
                                                   kip_account *account) {
-    return kip_enter(kip) ? kip_leave(kip, kip_lookup_account(kip, id_low, id_high, account)) : KIP_BUSY;
+    if (!kip_enter(kip)) return KIP_BUSY;
+    return kip_leave(kip, kip_lookup_account(kip, id_low, id_high, account));
 }
 
 static inline uint32_t kip_guarded_account_at(kip_t *kip, size_t index, kip_account *account) {
-    return kip_enter(kip) ? kip_leave(kip, kip_account_at(kip, index, account)) : KIP_BUSY;
+    if (!kip_enter(kip)) return KIP_BUSY;
+    return kip_leave(kip, kip_account_at(kip, index, account));
 }
 
 static inline uint32_t kip_guarded_lookup_transfer(kip_t *kip, uint64_t id_low, uint64_t id_high,
                                                    kip_transfer *transfer, uint32_t *pending_status) {
-    return kip_enter(kip) ? kip_leave(kip, kip_lookup_transfer(kip, id_low, id_high, transfer, pending_status))
-                          : KIP_BUSY;
+    if (!kip_enter(kip)) return KIP_BUSY;
+    return kip_leave(kip, kip_lookup_transfer(kip, id_low, id_high, transfer, pending_status));
 }
 
 static inline uint32_t kip_guarded_clock(kip_t *kip, uint64_t *nanoseconds) {
-    return kip_enter(kip) ? kip_leave(kip, kip_clock(kip, nanoseconds)) : KIP_BUSY;
+    if (!kip_enter(kip)) return KIP_BUSY;
+    return kip_leave(kip, kip_clock(kip, nanoseconds));
 }
 
 #define kip_open kip_guarded_open

@@ -244,7 +244,7 @@ def library_path():
     """Returns the library's path."""
     here = pathlib.Path(__file__).resolve().parent
     beside = here / "libkip.so"
-    return str(beside) if beside.exists() else "libkip.so.0.2"
+    return str(beside) if beside.exists() else "libkip.so.0.1"
 
 
 @functools.cache

@@ -127,7 +127,7 @@ fn refusals_have_names() {
     assert!(buffer.is_empty());
     assert_eq!(ledger.create_transfers(&[]), Err(Error::NotCommitted(NotCommitted::Shutdown)));
     assert!(!ledger.stopped());
-    assert_eq!(kip::version(), 0x200);
+    assert_eq!(kip::version(), 0x100);
 }
 
 #[test]

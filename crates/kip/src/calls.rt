@@ -20,8 +20,8 @@ use tb_layout::{Account, CLOCK_MAX, U64_VALUES, write_account, write_transfer};
 use tb_tables::Status;
 use tb_work::{Bytes, Packet, Refusal};
 
-/// Version 0.2.0, a byte for each number.
-const VERSION: u32 = 0x0000_0200;
+/// Version 0.1.0, a byte for each number.
+const VERSION: u32 = 0x0000_0100;
 
 /// The handle is closed.
 const CLOSED: u32 = 100;
@@ -41,7 +41,7 @@ const NOT_FOUND: u32 = 104;
 /// Returns the version of the library: major, minor and patch in a byte each, patch lowest.
 #[unsafe(no_mangle)]
 pub extern "C" fn kip_version() -> u32
-    ensures { result ≡ 512 }
+    ensures { result ≡ 256 }
 {
     VERSION
 }
