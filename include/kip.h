@@ -1,22 +1,31 @@
 /* kip.h: TigerBeetle's ledger in one process and in memory, for tests, simulators and small services.
  *
- * Link with libkip.a and with the Rattle kit's c/liblibc_c.a, which has the heap calls. Nothing here starts a thread,
- * takes a lock, sleeps, or reads a file or a clock: the same calls give the same replies.
+ * Link with libkip.a or libkip.so, which need only the C library. Nothing here starts a thread, sleeps, or reads a file or
+ * a clock: the same calls give the same replies.
+ *
+ * A packet that isn't committed has no results, and neither has one whose events all succeeded. So read a reply's outcome
+ * before its results, or ask kip_succeeded.
  *
  * Proved, of the engine behind a handle, for every sequence of calls: what it committed is a prefix of what was queued
  * ahead of kip_shut, in order; the replies read are a prefix of those due, and each is what the state machine gives that
  * packet alone at its place, however packets were joined. Once kip_flush returned KIP_OK and kip_reply KIP_NO_REPLY they
  * are all of them, and unless the engine stopped, all that was queued ahead of kip_shut is committed. A call that returns
- * another status than KIP_OK leaves the engine as it was. Only tested: an engine stops only if memory ran out.
+ * another status than KIP_OK leaves the engine as it was. A handle may move from one thread to another. Only tested: an
+ * engine stops only if memory ran out, and KIP_BUSY.
+ *
+ * Memory grows by what is stored: 148 bytes a transfer, and 36 for each id that failed with a code that later transfers
+ * with that id get again (id_already_failed). Nothing limits failed ids: who may send transfers may fill memory.
  *
  * The caller must ensure, and nothing checks:
  *  - Each pointer is valid, aligned and not null, and its memory belongs to no other argument of the call. Null is
  *    allowed only for data and results of size 0, in kip_submit and kip_reply.
  *  - Buffers are as large as their sizes say.
- *  - A handle is zeroed before its first kip_open. Only the functions below change it, no copy of it is used, and it
- *    stays on the thread that opened it. Each thread may have handles of its own.
- *  - malloc, realloc and free belong to one allocator. No call is made from a signal handler, or from the forked child
- *    of a process with threads.
+ *  - A handle is zeroed before its first kip_open. Only the functions below change it, and no copy of it is used.
+ *  - One call at a time is made with a handle, on any thread; what one thread did is visible to the next, as by a lock.
+ *    The functions of this header return KIP_BUSY to a thread that enters during another's call. The exports, which
+ *    callers in other languages use, don't look.
+ *  - malloc, realloc and free belong to one allocator, whose memory is aligned to 16. No call is made from a signal
+ *    handler, or from the forked child of a process with threads.
  */
 #ifndef KIP_H
 #define KIP_H
@@ -29,10 +38,19 @@
 extern "C" {
 #endif
 
-/* Opaque: a handle is zeroed, then passed by its address. */
+#ifdef __cplusplus
+#define KIP_STATIC_ASSERT static_assert
+#else
+#define KIP_STATIC_ASSERT _Static_assert
+#endif
+
+/* Opaque: a handle is zeroed, then passed by its address. The library reads and writes its first 16 bytes; `entered` is
+ * this header's, and 1 during a call. */
 typedef struct kip_t {
     void *engine;
     bool is_open;
+    uint32_t reserved;
+    uint32_t entered;
 } kip_t;
 
 enum {
@@ -47,7 +65,9 @@ typedef enum KIP_OPERATION {
     KIP_OPERATION_LOOKUP_ACCOUNTS = 131,
 } KIP_OPERATION;
 
-/* Up to 99 a status is the number of a refusal of the pipeline. */
+/* Up to 99 a status is the number of a refusal of the pipeline. Each function below lists what it returns besides KIP_OK, in
+ * the order in which it looks: the first that applies is returned. With another status than KIP_OK nothing is written
+ * through its pointers, but kip_reply's head, and the engine is as it was. */
 typedef enum KIP_STATUS {
     KIP_OK = 0,
     KIP_INVALID_OPERATION = 1,
@@ -56,6 +76,7 @@ typedef enum KIP_STATUS {
     KIP_FULL = 5, /* the submitter has no number left */
     KIP_NO_MEMORY = 6,
     KIP_SHUTDOWN = 7, /* kip_pulse or kip_shut after kip_shut */
+    KIP_STOPPED = 8,  /* memory ran out as a batch was committed: nothing more is committed */
     KIP_BAD_LIMIT = 9,
     KIP_BAD_SUBMITTERS = 11,
     KIP_MOMENT_TOO_LARGE = 12,
@@ -65,6 +86,7 @@ typedef enum KIP_STATUS {
     KIP_TOO_SMALL = 103,
     KIP_NOT_FOUND = 104,
     KIP_NULL_POINTER = 105, /* null data or results of a size above 0 */
+    KIP_BUSY = 106,         /* another thread is in a call with this handle */
 } KIP_STATUS;
 
 typedef enum KIP_OUTCOME {
@@ -73,7 +95,29 @@ typedef enum KIP_OUTCOME {
     KIP_OUTCOME_STOPPED = 8,  /* memory ran out at its batch or before */
 } KIP_OUTCOME;
 
-/* TigerBeetle's layouts, little-endian; the flags are those of tb_client.h. */
+typedef enum KIP_PENDING_STATUS {
+    KIP_PENDING_NONE = 0, /* the transfer isn't pending */
+    KIP_PENDING_PENDING = 1,
+    KIP_PENDING_POSTED = 2,
+    KIP_PENDING_VOIDED = 3,
+    KIP_PENDING_EXPIRED = 4,
+} KIP_PENDING_STATUS;
+
+typedef enum KIP_ACCOUNT_FLAGS {
+    KIP_ACCOUNT_LINKED = 1,
+    KIP_ACCOUNT_DEBITS_MUST_NOT_EXCEED_CREDITS = 2,
+    KIP_ACCOUNT_CREDITS_MUST_NOT_EXCEED_DEBITS = 4,
+    KIP_ACCOUNT_HISTORY = 8,
+} KIP_ACCOUNT_FLAGS;
+
+typedef enum KIP_TRANSFER_FLAGS {
+    KIP_TRANSFER_LINKED = 1,
+    KIP_TRANSFER_PENDING = 2,
+    KIP_TRANSFER_POST_PENDING_TRANSFER = 4,
+    KIP_TRANSFER_VOID_PENDING_TRANSFER = 8,
+} KIP_TRANSFER_FLAGS;
+
+/* TigerBeetle's layouts, little-endian. */
 typedef struct kip_uint128 {
     uint64_t low;
     uint64_t high;
@@ -111,14 +155,24 @@ typedef struct kip_reply_t {
     uint32_t reserved;
 } kip_reply_t;
 
+KIP_STATIC_ASSERT(sizeof(void *) == 8 && sizeof(size_t) == 8, "64 bits");
+KIP_STATIC_ASSERT(offsetof(kip_t, is_open) == 8 && offsetof(kip_t, entered) == 16, "kip_t");
+KIP_STATIC_ASSERT(sizeof(kip_account) == 128 && offsetof(kip_account, user_data_64) == 96, "kip_account");
+KIP_STATIC_ASSERT(offsetof(kip_account, ledger) == 112 && offsetof(kip_account, timestamp) == 120, "kip_account");
+KIP_STATIC_ASSERT(sizeof(kip_transfer) == 128 && offsetof(kip_transfer, amount) == 48, "kip_transfer");
+KIP_STATIC_ASSERT(offsetof(kip_transfer, flags) == 118 && offsetof(kip_transfer, timestamp) == 120, "kip_transfer");
+KIP_STATIC_ASSERT(sizeof(kip_failure) == 8 && offsetof(kip_failure, result) == 4, "kip_failure");
+KIP_STATIC_ASSERT(sizeof(kip_reply_t) == 48 && offsetof(kip_reply_t, outcome) == 36, "kip_reply_t");
+
 /* Returns KIP_VERSION of the library. */
 uint32_t kip_version(void);
 
-/* Opens a closed handle. clock: nanoseconds, at most 2^63 - 1. limit: 1 to 8190 events a batch and a packet. submitters: 1 to
- * 16. */
+/* Opens a closed handle. clock: nanoseconds, at most 2^63 - 1. limit: 1 to 8190 events a batch and a packet. submitters: 1
+ * to 16. Statuses: KIP_ALREADY_OPEN, KIP_MOMENT_TOO_LARGE, KIP_BAD_LIMIT, KIP_BAD_SUBMITTERS, KIP_NO_MEMORY. */
 uint32_t kip_open(kip_t *kip, uint64_t clock, uint32_t limit, uint32_t submitters);
 
-/* Opens a closed handle as kip_open does, and hashes ids with a seed. Replies don't depend on the seed.
+/* Opens a closed handle as kip_open does, and hashes ids with a seed. Replies don't depend on the seed. Statuses: those of
+ * kip_open.
  *
  * Use a seed whenever ids can be chosen by someone you don't trust. Take both numbers from the operating system's random
  * source, for example by getentropy, and keep them secret: nothing random is in the library. kip_open hashes with numbers
@@ -128,38 +182,156 @@ uint32_t kip_open_seeded(kip_t *kip, uint64_t clock, uint32_t limit, uint32_t su
                          uint64_t seed_high);
 
 /* Reserves capacity for accounts and transfers that are still to be made. Until then no commit waits for their maps to
- * grow, which moves all that is stored; failed ids and expiries grow as needed. KIP_NO_MEMORY: the engine is
- * as it was and can be used further. */
+ * grow, which moves all that is stored; failed ids and expiries grow as needed. Statuses: KIP_CLOSED, KIP_NO_MEMORY. */
 uint32_t kip_reserve(kip_t *kip, size_t accounts, size_t transfers);
 
-/* Frees all that is behind the handle. */
+/* Frees all that is behind the handle. Statuses: KIP_CLOSED. */
 uint32_t kip_close(kip_t *kip);
 
 /* Queues a packet with a copy of the data. The packet waits for neighbours of its operation, until one that doesn't join
- * it, kip_pulse, kip_shut or kip_flush commits it. kip_submit, below, also takes null data of size 0. */
+ * it, kip_pulse, kip_shut or kip_flush commits it. Data needs no alignment, and isn't read if the packet is refused.
+ * Statuses: KIP_CLOSED, KIP_BAD_SUBMITTERS, KIP_STOPPED, KIP_FULL, KIP_INVALID_OPERATION, KIP_INVALID_DATA_SIZE,
+ * KIP_TOO_MUCH_DATA, KIP_NO_MEMORY. kip_submit, below, also takes null data of size 0. */
 uint32_t kip_submit_bytes(kip_t *kip, uint32_t submitter, uint8_t operation, const void *data, size_t data_size,
                           uint64_t user_data, uint64_t *number);
 
 /* Queues a pulse, which raises the clock to a moment of at most 2^62 nanoseconds; pending transfers whose timeout is over
- * by then expire. */
+ * by then expire. Statuses: KIP_CLOSED, KIP_MOMENT_TOO_LARGE, KIP_SHUTDOWN, KIP_STOPPED, KIP_NO_MEMORY. */
 uint32_t kip_pulse(kip_t *kip, uint64_t nanoseconds);
 
-/* Queues the Close: packets after it aren't committed. */
+/* Queues the Close: packets after it aren't committed. Statuses: KIP_CLOSED, KIP_SHUTDOWN, KIP_NO_MEMORY. */
 uint32_t kip_shut(kip_t *kip);
 
-/* Commits the packets that wait. */
+/* Commits the packets that wait. If the engine stops meanwhile, their replies say so. Statuses: KIP_CLOSED, KIP_NO_MEMORY. */
 uint32_t kip_flush(kip_t *kip);
 
 /* Reads the next reply, in the order in which packets were queued. Results are kip_failure or, of a look-up,
- * kip_account. KIP_TOO_SMALL: reply->size has the size that is needed, and the reply stays the next one. kip_reply,
- * below, also takes null results of size 0. */
+ * kip_account. With KIP_TOO_SMALL the head is written, its size is the one that is needed, and the reply stays the next
+ * one. Statuses: KIP_CLOSED, KIP_NO_REPLY, KIP_TOO_SMALL. kip_reply, below, also takes null results of size 0. */
 uint32_t kip_reply_bytes(kip_t *kip, kip_reply_t *reply, void *results, size_t results_size);
 
-/* Writes the account with an id; packets that wait aren't in it. */
+/* Returns KIP_STOPPED if the engine stopped. Statuses: KIP_CLOSED, KIP_STOPPED. */
+uint32_t kip_stopped(kip_t *kip);
+
+/* Writes the account with an id; packets that wait aren't in it. Statuses: KIP_CLOSED, KIP_NOT_FOUND. */
 uint32_t kip_lookup_account(kip_t *kip, uint64_t id_low, uint64_t id_high, kip_account *account);
 
-/* Writes the clock in nanoseconds. */
+/* Writes the account at an index in the order of making, from 0. Statuses: KIP_CLOSED, KIP_NOT_FOUND. */
+uint32_t kip_account_at(kip_t *kip, size_t index, kip_account *account);
+
+/* Writes the transfer with an id and its KIP_PENDING_STATUS. A post or a void has its resolved fields. Statuses: KIP_CLOSED,
+ * KIP_NOT_FOUND. */
+uint32_t kip_lookup_transfer(kip_t *kip, uint64_t id_low, uint64_t id_high, kip_transfer *transfer,
+                             uint32_t *pending_status);
+
+/* Writes the clock in nanoseconds. Statuses: KIP_CLOSED. */
 uint32_t kip_clock(kip_t *kip, uint64_t *nanoseconds);
+
+/* Returns whether a packet is committed. If it isn't, it has no results, and nothing of it happened. */
+static inline bool kip_committed(const kip_reply_t *reply) { return reply->outcome == KIP_OUTCOME_COMMITTED; }
+
+/* Returns whether a packet is committed and none of its events failed. */
+static inline bool kip_succeeded(const kip_reply_t *reply) {
+    return kip_committed(reply) && (reply->size == 0 || reply->operation == KIP_OPERATION_LOOKUP_ACCOUNTS);
+}
+
+/* ---- The same calls, each refused with KIP_BUSY during another thread's call. In C and C++ the names above are these. */
+
+static inline bool kip_enter(kip_t *kip) { return __atomic_exchange_n(&kip->entered, 1, __ATOMIC_ACQUIRE) == 0; }
+
+static inline uint32_t kip_leave(kip_t *kip, uint32_t status) {
+    __atomic_store_n(&kip->entered, 0, __ATOMIC_RELEASE);
+    return status;
+}
+
+static inline uint32_t kip_guarded_open(kip_t *kip, uint64_t clock, uint32_t limit, uint32_t submitters) {
+    if (!kip_enter(kip)) return KIP_BUSY;
+    return kip_leave(kip, kip_open(kip, clock, limit, submitters));
+}
+
+static inline uint32_t kip_guarded_open_seeded(kip_t *kip, uint64_t clock, uint32_t limit, uint32_t submitters,
+                                               uint64_t seed_low, uint64_t seed_high) {
+    if (!kip_enter(kip)) return KIP_BUSY;
+    return kip_leave(kip, kip_open_seeded(kip, clock, limit, submitters, seed_low, seed_high));
+}
+
+static inline uint32_t kip_guarded_reserve(kip_t *kip, size_t accounts, size_t transfers) {
+    if (!kip_enter(kip)) return KIP_BUSY;
+    return kip_leave(kip, kip_reserve(kip, accounts, transfers));
+}
+
+static inline uint32_t kip_guarded_close(kip_t *kip) {
+    if (!kip_enter(kip)) return KIP_BUSY;
+    return kip_leave(kip, kip_close(kip));
+}
+
+static inline uint32_t kip_guarded_submit_bytes(kip_t *kip, uint32_t submitter, uint8_t operation, const void *data,
+                                                size_t data_size, uint64_t user_data, uint64_t *number) {
+    if (!kip_enter(kip)) return KIP_BUSY;
+    return kip_leave(kip, kip_submit_bytes(kip, submitter, operation, data, data_size, user_data, number));
+}
+
+static inline uint32_t kip_guarded_pulse(kip_t *kip, uint64_t nanoseconds) {
+    if (!kip_enter(kip)) return KIP_BUSY;
+    return kip_leave(kip, kip_pulse(kip, nanoseconds));
+}
+
+static inline uint32_t kip_guarded_shut(kip_t *kip) {
+    if (!kip_enter(kip)) return KIP_BUSY;
+    return kip_leave(kip, kip_shut(kip));
+}
+
+static inline uint32_t kip_guarded_flush(kip_t *kip) {
+    if (!kip_enter(kip)) return KIP_BUSY;
+    return kip_leave(kip, kip_flush(kip));
+}
+
+static inline uint32_t kip_guarded_reply_bytes(kip_t *kip, kip_reply_t *reply, void *results, size_t results_size) {
+    if (!kip_enter(kip)) return KIP_BUSY;
+    return kip_leave(kip, kip_reply_bytes(kip, reply, results, results_size));
+}
+
+static inline uint32_t kip_guarded_stopped(kip_t *kip) {
+    if (!kip_enter(kip)) return KIP_BUSY;
+    return kip_leave(kip, kip_stopped(kip));
+}
+
+static inline uint32_t kip_guarded_lookup_account(kip_t *kip, uint64_t id_low, uint64_t id_high,
+                                                  kip_account *account) {
+    if (!kip_enter(kip)) return KIP_BUSY;
+    return kip_leave(kip, kip_lookup_account(kip, id_low, id_high, account));
+}
+
+static inline uint32_t kip_guarded_account_at(kip_t *kip, size_t index, kip_account *account) {
+    if (!kip_enter(kip)) return KIP_BUSY;
+    return kip_leave(kip, kip_account_at(kip, index, account));
+}
+
+static inline uint32_t kip_guarded_lookup_transfer(kip_t *kip, uint64_t id_low, uint64_t id_high,
+                                                   kip_transfer *transfer, uint32_t *pending_status) {
+    if (!kip_enter(kip)) return KIP_BUSY;
+    return kip_leave(kip, kip_lookup_transfer(kip, id_low, id_high, transfer, pending_status));
+}
+
+static inline uint32_t kip_guarded_clock(kip_t *kip, uint64_t *nanoseconds) {
+    if (!kip_enter(kip)) return KIP_BUSY;
+    return kip_leave(kip, kip_clock(kip, nanoseconds));
+}
+
+#define kip_open kip_guarded_open
+#define kip_open_seeded kip_guarded_open_seeded
+#define kip_reserve kip_guarded_reserve
+#define kip_close kip_guarded_close
+#define kip_submit_bytes kip_guarded_submit_bytes
+#define kip_pulse kip_guarded_pulse
+#define kip_shut kip_guarded_shut
+#define kip_flush kip_guarded_flush
+#define kip_reply_bytes kip_guarded_reply_bytes
+#define kip_stopped kip_guarded_stopped
+#define kip_lookup_account kip_guarded_lookup_account
+#define kip_account_at kip_guarded_account_at
+#define kip_lookup_transfer kip_guarded_lookup_transfer
+#define kip_clock kip_guarded_clock
 
 static inline uint32_t kip_submit(kip_t *kip, uint32_t submitter, uint8_t operation, const void *data, size_t data_size,
                                   uint64_t user_data, uint64_t *number) {
@@ -183,6 +355,7 @@ static inline const char *kip_status_name(uint32_t status) {
         case KIP_FULL: return "full";
         case KIP_NO_MEMORY: return "no_memory";
         case KIP_SHUTDOWN: return "shutdown";
+        case KIP_STOPPED: return "stopped";
         case KIP_BAD_LIMIT: return "bad_limit";
         case KIP_BAD_SUBMITTERS: return "bad_submitters";
         case KIP_MOMENT_TOO_LARGE: return "moment_too_large";
@@ -192,9 +365,107 @@ static inline const char *kip_status_name(uint32_t status) {
         case KIP_TOO_SMALL: return "too_small";
         case KIP_NOT_FOUND: return "not_found";
         case KIP_NULL_POINTER: return "null_pointer";
+        case KIP_BUSY: return "busy";
         default: return "unknown";
     }
 }
+
+/* Results, by tools/result-names: begin */
+/* Returns the name of a result of create_accounts; "unknown" for any other number. */
+static inline const char *kip_account_result_name(uint32_t result) {
+    switch (result) {
+        case 0: return "ok";
+        case 1: return "linked_event_failed";
+        case 2: return "linked_event_chain_open";
+        case 3: return "timestamp_must_be_zero";
+        case 4: return "reserved_field";
+        case 5: return "reserved_flag";
+        case 6: return "id_must_not_be_zero";
+        case 7: return "id_must_not_be_int_max";
+        case 8: return "flags_are_mutually_exclusive";
+        case 9: return "debits_pending_must_be_zero";
+        case 10: return "debits_posted_must_be_zero";
+        case 11: return "credits_pending_must_be_zero";
+        case 12: return "credits_posted_must_be_zero";
+        case 13: return "ledger_must_not_be_zero";
+        case 14: return "code_must_not_be_zero";
+        case 15: return "exists_with_different_flags";
+        case 16: return "exists_with_different_user_data_128";
+        case 17: return "exists_with_different_user_data_64";
+        case 18: return "exists_with_different_user_data_32";
+        case 19: return "exists_with_different_ledger";
+        case 20: return "exists_with_different_code";
+        case 21: return "exists";
+        case 201: return "clock_exhausted";
+        default: return "unknown";
+    }
+}
+
+/* Returns the name of a result of create_transfers; "unknown" for any other number. */
+static inline const char *kip_transfer_result_name(uint32_t result) {
+    switch (result) {
+        case 0: return "ok";
+        case 1: return "linked_event_failed";
+        case 2: return "linked_event_chain_open";
+        case 3: return "timestamp_must_be_zero";
+        case 4: return "reserved_flag";
+        case 5: return "id_must_not_be_zero";
+        case 6: return "id_must_not_be_int_max";
+        case 7: return "flags_are_mutually_exclusive";
+        case 8: return "debit_account_id_must_not_be_zero";
+        case 9: return "debit_account_id_must_not_be_int_max";
+        case 10: return "credit_account_id_must_not_be_zero";
+        case 11: return "credit_account_id_must_not_be_int_max";
+        case 12: return "accounts_must_be_different";
+        case 13: return "pending_id_must_be_zero";
+        case 14: return "pending_id_must_not_be_zero";
+        case 15: return "pending_id_must_not_be_int_max";
+        case 16: return "pending_id_must_be_different";
+        case 17: return "timeout_reserved_for_pending_transfer";
+        case 19: return "ledger_must_not_be_zero";
+        case 20: return "code_must_not_be_zero";
+        case 21: return "debit_account_not_found";
+        case 22: return "credit_account_not_found";
+        case 23: return "accounts_must_have_the_same_ledger";
+        case 24: return "transfer_must_have_the_same_ledger_as_accounts";
+        case 25: return "pending_transfer_not_found";
+        case 26: return "pending_transfer_not_pending";
+        case 27: return "pending_transfer_has_different_debit_account_id";
+        case 28: return "pending_transfer_has_different_credit_account_id";
+        case 29: return "pending_transfer_has_different_ledger";
+        case 30: return "pending_transfer_has_different_code";
+        case 31: return "exceeds_pending_transfer_amount";
+        case 32: return "pending_transfer_has_different_amount";
+        case 33: return "pending_transfer_already_posted";
+        case 34: return "pending_transfer_already_voided";
+        case 35: return "pending_transfer_expired";
+        case 36: return "exists_with_different_flags";
+        case 37: return "exists_with_different_debit_account_id";
+        case 38: return "exists_with_different_credit_account_id";
+        case 39: return "exists_with_different_amount";
+        case 40: return "exists_with_different_pending_id";
+        case 41: return "exists_with_different_user_data_128";
+        case 42: return "exists_with_different_user_data_64";
+        case 43: return "exists_with_different_user_data_32";
+        case 44: return "exists_with_different_timeout";
+        case 45: return "exists_with_different_code";
+        case 46: return "exists";
+        case 47: return "overflows_debits_pending";
+        case 48: return "overflows_credits_pending";
+        case 49: return "overflows_debits_posted";
+        case 50: return "overflows_credits_posted";
+        case 51: return "overflows_debits";
+        case 52: return "overflows_credits";
+        case 53: return "overflows_timeout";
+        case 54: return "exceeds_credits";
+        case 55: return "exceeds_debits";
+        case 67: return "exists_with_different_ledger";
+        case 68: return "id_already_failed";
+        case 201: return "clock_exhausted";
+        default: return "unknown";
+    }
+}
+/* end */
 
 #ifdef __cplusplus
 }

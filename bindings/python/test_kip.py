@@ -1,7 +1,12 @@
-"""Tests of kip.py: KIP_SO=libkip.so python3 -m unittest test_kip"""
+"""Tests of kip: python3 -m unittest test_kip. KIP_SO may name the library."""
+import threading
 import unittest
 
-from kip import CREATE_ACCOUNTS, SHUTDOWN, Account, KipError, Ledger, Transfer
+import kip
+from kip import (
+    CREATE_ACCOUNTS, CREATE_TRANSFERS, SHUTDOWN, Account, AccountFlags, ClientSync, CreateAccountResult, CreateTransferResult,
+    KipError, Ledger, NotCommitted, PendingStatus, Transfer, TransferFlags,
+)
 
 PAIR = [Account(id=1, ledger=1, code=1), Account(id=2, ledger=1, code=1)]
 ROUTE = dict(debit_account_id=1, credit_account_id=2, ledger=1, code=1)
@@ -29,11 +34,23 @@ class Refused(unittest.TestCase):
                 ledger.submit(CREATE_ACCOUNTS + 256, b"")
             self.assertEqual(ledger.submit(CREATE_ACCOUNTS, b""), 0)
 
+    def test_fields_out_of_range(self):
+        with Ledger() as ledger:
+            for field, value in ("id", -1), ("id", 2**128), ("amount", 2**128), ("code", 2**16), ("timestamp", -1):
+                with self.subTest(field=field, value=value), self.assertRaises(OverflowError):
+                    ledger.create_transfers([Transfer(**{field: value})])
+            for field, value in ("debits_posted", -1), ("credits_pending", 2**128), ("reserved", 2**32):
+                with self.subTest(field=field, value=value), self.assertRaises(OverflowError):
+                    ledger.create_accounts([Account(**{field: value})])
+            self.assertIsNone(ledger.reply())
+
     def test_closed(self):
         ledger = Ledger()
         ledger.close()
         self.refused("closed", ledger.close)
         self.refused("closed", ledger.clock)
+        self.refused("closed", ledger.stopped)
+        self.refused("closed", ledger.accounts)
 
     def test_shut(self):
         with Ledger() as ledger:
@@ -41,7 +58,21 @@ class Refused(unittest.TestCase):
             self.refused("shutdown", ledger.shut)
             ledger.submit(CREATE_ACCOUNTS, b"", user_data=5)
             reply = ledger.reply()
-            self.assertEqual((reply.outcome, reply.user_data, reply.results), (SHUTDOWN, 5, b""))
+            self.assertEqual((reply.outcome, reply.user_data), (SHUTDOWN, 5))
+            with self.assertRaises(NotCommitted):
+                reply.results
+            with self.assertRaises(NotCommitted):
+                reply.place
+
+    def test_not_committed_never_looks_like_success(self):
+        with Ledger() as ledger:
+            ledger.create_accounts(PAIR)
+            ledger.shut()
+            for call in ledger.create_accounts, ledger.create_transfers:
+                with self.subTest(call=call.__name__), self.assertRaises(NotCommitted) as caught:
+                    call([])
+                self.assertEqual(caught.exception.outcome, SHUTDOWN)
+            self.assertFalse(ledger.stopped())
 
 
 class Bank(unittest.TestCase):
@@ -59,13 +90,27 @@ class Bank(unittest.TestCase):
             ledger.create_accounts(PAIR)
             self.assertEqual(ledger.create_transfers([Transfer(id=3, amount=10, flags=2, timeout=5, **ROUTE)]), [])
             self.assertEqual(ledger.lookup_account(1).debits_pending, 10)
+            self.assertEqual(ledger.transfer_status(3), PendingStatus.PENDING)
             ledger.pulse(10 * 10**9)
             self.assertEqual(ledger.lookup_account(1).debits_pending, 0)
+            self.assertEqual(ledger.transfer_status(3), PendingStatus.EXPIRED)
             self.assertEqual(ledger.clock(), 10 * 10**9)
 
     def test_results_larger_than_the_buffer(self):
         with Ledger() as ledger:
             self.assertEqual(len(ledger.create_accounts([Account()] * 8190)), 8190)
+
+    def test_a_call_returns_its_own_reply(self):
+        """A packet queued earlier, whose event fails, leaves its reply to whoever asks for it."""
+        with Ledger() as ledger:
+            ledger.create_accounts(PAIR)
+            failing = Transfer(id=1, amount=1, **ROUTE | {"credit_account_id": 9})
+            number = ledger.submit(CREATE_TRANSFERS, kip._pack([failing], kip._put_transfer), user_data=7)
+            self.assertEqual(ledger.create_transfers([Transfer(id=2, amount=5, **ROUTE)]), [])
+            reply = ledger.reply(number)
+            self.assertEqual((reply.user_data, reply.results), (7, bytes([0, 0, 0, 0, 22, 0, 0, 0])))
+            self.assertIsNone(ledger.reply(number))
+            self.assertIsNone(ledger.reply())
 
     def replies_to_colliding_ids(self, ledger):
         """Returns the results of accounts and transfers whose ids all have hash 0 without a seed."""
@@ -89,6 +134,64 @@ class Bank(unittest.TestCase):
             self.assertEqual(self.replies_to_colliding_ids(seeded), replies)
         with self.assertRaises(OverflowError):
             Ledger(seed=(0, 2**64))
+
+
+class Threads(unittest.TestCase):
+    """Four threads with one ledger: each waits for the others' calls, and gets the reply to its own packet."""
+
+    def test_each_call_returns_its_own_reply(self):
+        rounds, threads, wrong = 300, 4, []
+        with Ledger() as ledger:
+            ledger.create_accounts(PAIR)
+
+            def work(thread):
+                # An odd thread's transfers fail, an even one's don't.
+                route = ROUTE | {"credit_account_id": 9} if thread % 2 else ROUTE
+                for i in range(rounds):
+                    results = ledger.create_transfers([Transfer(id=1 + thread * rounds + i, amount=1, **route)])
+                    if results != ([(0, 22)] if thread % 2 else []):
+                        wrong.append((thread, i, results))
+
+            running = [threading.Thread(target=work, args=(thread,)) for thread in range(threads)]
+            for thread in running:
+                thread.start()
+            for thread in running:
+                thread.join()
+            self.assertEqual(wrong, [])
+            self.assertEqual(ledger.lookup_account(1).debits_posted, 2 * rounds)
+
+
+class StandIn(unittest.TestCase):
+    """The calls and names of TigerBeetle's Python client."""
+
+    def test_results_have_indices_and_names(self):
+        with ClientSync(cluster_id=0, replica_addresses="3000") as client:
+            bad = Account(id=2, ledger=1, code=0, flags=AccountFlags.LINKED | AccountFlags.DEBITS_MUST_NOT_EXCEED_CREDITS)
+            results = client.create_accounts([PAIR[0], bad])
+            self.assertEqual([(it.index, it.result) for it in results], [(1, CreateAccountResult.LINKED_EVENT_CHAIN_OPEN)])
+            client.create_accounts([PAIR[1]])
+            results = client.create_transfers([Transfer(id=5, amount=1, **ROUTE), Transfer(id=5, amount=1, **ROUTE)])
+            self.assertEqual([(it.index, it.result) for it in results], [(1, CreateTransferResult.EXISTS)])
+
+    def test_lookups(self):
+        with ClientSync() as client:
+            client.create_accounts(PAIR)
+            held = Transfer(id=3, amount=10, flags=TransferFlags.PENDING, **ROUTE)
+            post = Transfer(id=4, pending_id=3, amount=kip.amount_max, flags=TransferFlags.POST_PENDING_TRANSFER)
+            self.assertEqual(client.create_transfers([held, post]), [])
+            self.assertEqual([it.id for it in client.lookup_accounts([2, 7, 1])], [2, 1])
+            found = client.lookup_transfers([4, 9, 3])
+            self.assertEqual([it.id for it in found], [4, 3])
+            # A post has the pending transfer's accounts and amount.
+            self.assertEqual((found[0].amount, found[0].debit_account_id, found[0].code), (10, 1, 1))
+            self.assertEqual([client.transfer_status(id) for id in (3, 4, 9)],
+                             [PendingStatus.POSTED, PendingStatus.NONE, PendingStatus.NONE])
+            self.assertEqual([it.id for it in client.accounts()], [1, 2])
+
+    def test_ids_rise(self):
+        ids = [kip.id() for _ in range(10_000)]
+        self.assertTrue(all(one < other for one, other in zip(ids, ids[1:])))
+        self.assertTrue(0 < ids[0] < 2**128 - 1)
 
 
 if __name__ == "__main__":

@@ -16,6 +16,10 @@ static void closed_handle(void) {
     assert(kip_reply(&kip, &reply, results, 8) == KIP_CLOSED && results[0] == 7);
     assert(kip_clock(&kip, &number) == KIP_CLOSED && number == 99);
     assert(kip_lookup_account(&kip, 1, 0, &account) == KIP_CLOSED && kip_pulse(&kip, 1) == KIP_CLOSED);
+    assert(kip_stopped(&kip) == KIP_CLOSED && kip_account_at(&kip, 0, &account) == KIP_CLOSED);
+    kip_transfer transfer = {.code = 7};
+    uint32_t pending = 99;
+    assert(kip_lookup_transfer(&kip, 1, 0, &transfer, &pending) == KIP_CLOSED && transfer.code == 7 && pending == 99);
     assert(kip_reserve(&kip, 1, 1) == KIP_CLOSED && kip_reserve(&kip, SIZE_MAX, SIZE_MAX) == KIP_CLOSED && !kip.is_open);
 }
 
@@ -72,6 +76,19 @@ static void packets(kip_t *kip) {
     assert(kip_submit(kip, 15, 129, bytes, 128, 6, &number) == KIP_OK && number == 0);
 }
 
+/* What a size alone refuses is refused before the data is read: here it is in no memory at all, and one byte of each page
+ * would be read in seconds if it were there. */
+static void sizes_of_no_memory(kip_t *kip) {
+    uint64_t number = 99;
+    const void *nowhere = (const void *)16;
+    const size_t gigabyte = (size_t)1 << 30;
+    assert(kip_submit(kip, 0, 129, nowhere, gigabyte, 0, &number) == KIP_TOO_MUCH_DATA);
+    assert(kip_submit(kip, 0, 131, nowhere, 2 * gigabyte, 0, &number) == KIP_TOO_MUCH_DATA);
+    assert(kip_submit(kip, 0, 130, nowhere, gigabyte + 1, 0, &number) == KIP_INVALID_DATA_SIZE);
+    assert(kip_submit(kip, 0, 0, nowhere, SIZE_MAX / 2, 0, &number) == KIP_INVALID_OPERATION);
+    assert(kip_submit(kip, 16, 129, nowhere, gigabyte, 0, &number) == KIP_BAD_SUBMITTERS && number == 99);
+}
+
 static void replies(kip_t *kip) {
     unsigned char results[8];
     kip_reply_t reply;
@@ -83,7 +100,8 @@ static void replies(kip_t *kip) {
     assert(kip_reply(kip, &reply, results, 7) == KIP_TOO_SMALL && reply.size == 8 && results[0] == 0xAA);
     assert(kip_reply(kip, &reply, NULL, 0) == KIP_TOO_SMALL && reply.user_data == 5);
     assert(kip_reply(kip, &reply, results, 8) == KIP_OK && reply.user_data == 5 && reply.submitter == 0);
-    assert(results[0] == 0 && results[4] == 6); /* id_must_not_be_zero */
+    assert(results[0] == 0 && strcmp(kip_account_result_name(results[4]), "id_must_not_be_zero") == 0);
+    assert(kip_committed(&reply) && !kip_succeeded(&reply));
     assert(kip_reply(kip, &reply, results, 8) == KIP_OK && reply.user_data == 6 && reply.submitter == 15);
     assert(kip_reply(kip, &reply, results, 8) == KIP_NO_REPLY);
     assert(kip_lookup_account(kip, 0, 0, &account) == KIP_NOT_FOUND);
@@ -97,6 +115,7 @@ static void after_the_close(kip_t *kip) {
     assert(kip_shut(kip) == KIP_OK && kip_shut(kip) == KIP_SHUTDOWN && kip_pulse(kip, 5) == KIP_SHUTDOWN);
     assert(kip_submit(kip, 0, 129, bytes, 128, 7, &number) == KIP_OK && number == 2);
     assert(kip_reply(kip, &reply, NULL, 0) == KIP_OK && reply.outcome == KIP_OUTCOME_SHUTDOWN && reply.size == 0);
+    assert(!kip_committed(&reply) && !kip_succeeded(&reply) && kip_stopped(kip) == KIP_OK);
     assert(kip_reply(kip, &reply, NULL, 0) == KIP_NO_REPLY);
 }
 
@@ -104,11 +123,14 @@ int main(void) {
     kip_t kip = {0};
     assert(kip_version() == KIP_VERSION);
     assert(strcmp(kip_status_name(KIP_SHUTDOWN), "shutdown") == 0 && strcmp(kip_status_name(4), "unknown") == 0);
+    assert(strcmp(kip_transfer_result_name(22), "credit_account_not_found") == 0);
+    assert(strcmp(kip_transfer_result_name(18), "unknown") == 0 && strcmp(kip_account_result_name(201), "clock_exhausted") == 0);
     closed_handle();
     settings();
     seeded_settings();
     assert(kip_open(&kip, 0, 1, 16) == KIP_OK);
     reservations(&kip);
+    sizes_of_no_memory(&kip);
     packets(&kip);
     replies(&kip);
     after_the_close(&kip);

@@ -1,5 +1,6 @@
 /* Lets the Nth allocation fail, for each N. A call that fails returns KIP_NO_MEMORY, or the engine stops and says so in
- * its replies; replies stay in order, each queued packet has one, and closing frees all. Link with
+ * its replies, by kip_stopped and by refusing packets and pulses; replies stay in order, each queued packet has one, and
+ * closing frees all. Link with
  * -Wl,--wrap=malloc,--wrap=realloc,--wrap=free. */
 #undef NDEBUG
 #include <assert.h>
@@ -46,10 +47,20 @@ static void made(void) {
     }
 }
 
-static void submitted(uint32_t status) {
-    assert(status == KIP_OK || status == KIP_NO_MEMORY);
-    queued += status == KIP_OK;
+/* A call that queues: it is refused as stopped exactly if the engine is. */
+static int taken(kip_t *kip, uint32_t was, uint32_t status) {
+    assert(was == KIP_OK || was == KIP_STOPPED);
+    assert(status == KIP_OK || status == KIP_NO_MEMORY || status == KIP_STOPPED);
+    assert((status == KIP_STOPPED) == (was == KIP_STOPPED));
+    assert(status == KIP_OK || kip_stopped(kip) == was);
     refused += status != KIP_OK;
+    return status == KIP_OK;
+}
+
+static void submitted(kip_t *kip, uint32_t submitter, uint8_t operation, const void *data, size_t size, uint64_t user) {
+    uint64_t number;
+    uint32_t was = kip_stopped(kip);
+    queued += taken(kip, was, kip_submit(kip, submitter, operation, data, size, user, &number));
 }
 
 static void reserved(kip_t *kip, size_t count) {
@@ -59,15 +70,13 @@ static void reserved(kip_t *kip, size_t count) {
 }
 
 static void one_round(kip_t *kip, int round, uint64_t *last) {
-    uint64_t number;
     kip_uint128 ids[2] = {{1, 0}, {2, 0}};
-    submitted(kip_submit(kip, 0, 129, accounts, sizeof accounts, 1, &number));
-    submitted(kip_submit(kip, 0, 130, transfers + 2 * round, 4 * sizeof *transfers, 2, &number));
-    submitted(kip_submit(kip, 1, 130, transfers, sizeof transfers, 3, &number));
-    submitted(kip_submit(kip, 1, 131, ids, sizeof ids, 4, &number));
-    uint32_t status = kip_pulse(kip, (uint64_t)round * 1000000000);
-    assert(status == KIP_OK || status == KIP_NO_MEMORY);
-    refused += status != KIP_OK;
+    submitted(kip, 0, 129, accounts, sizeof accounts, 1);
+    submitted(kip, 0, 130, transfers + 2 * round, 4 * sizeof *transfers, 2);
+    submitted(kip, 1, 130, transfers, sizeof transfers, 3);
+    submitted(kip, 1, 131, ids, sizeof ids, 4);
+    uint32_t status = kip_stopped(kip);
+    taken(kip, status, kip_pulse(kip, (uint64_t)round * 1000000000));
     while ((status = kip_flush(kip)) != KIP_OK) assert(status == KIP_NO_MEMORY), refused++;
     kip_reply_t reply;
     char results[20 * 128];
@@ -75,6 +84,7 @@ static void one_round(kip_t *kip, int round, uint64_t *last) {
         read_so_far++;
         assert(reply.outcome == (stopped ? KIP_OUTCOME_STOPPED : reply.outcome));
         stopped |= reply.outcome == KIP_OUTCOME_STOPPED;
+        assert(!stopped || (kip_stopped(kip) == KIP_STOPPED && !kip_committed(&reply) && !kip_succeeded(&reply)));
         assert(stopped || (reply.outcome == KIP_OUTCOME_COMMITTED && reply.place >= *last));
         *last = reply.place;
     }

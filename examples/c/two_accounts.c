@@ -1,4 +1,4 @@
-/* Two accounts, one transfer that succeeds and one that fails. Prints their replies and a balance. */
+/* Two accounts, one transfer that succeeds and one that fails, and a packet after the Close. Prints their replies and a balance. */
 #include <kip.h>
 #include <stdio.h>
 #include <stdlib.h>
@@ -25,15 +25,23 @@ int main(void) {
     uint64_t number;
     must(kip_submit(&kip, 0, KIP_OPERATION_CREATE_ACCOUNTS, accounts, sizeof accounts, 70, &number));
     must(kip_submit(&kip, 1, KIP_OPERATION_CREATE_TRANSFERS, transfers, sizeof transfers, 71, &number));
+    must(kip_shut(&kip));
+    must(kip_submit(&kip, 1, KIP_OPERATION_CREATE_TRANSFERS, transfers, sizeof transfers, 72, &number));
     must(kip_flush(&kip));
 
     kip_reply_t reply;
     kip_failure failures[2];
     while (kip_reply(&kip, &reply, failures, sizeof failures) == KIP_OK) {
-        printf("packet %u %llu, user word %llu: place %llu", reply.submitter, (unsigned long long)reply.number,
-               (unsigned long long)reply.user_data, (unsigned long long)reply.place);
+        printf("packet %u %llu, user word %llu: ", reply.submitter, (unsigned long long)reply.number,
+               (unsigned long long)reply.user_data);
+        /* The outcome first: a packet that isn't committed has no results. */
+        if (!kip_committed(&reply)) {
+            printf("not committed (%s)\n", reply.outcome == KIP_OUTCOME_SHUTDOWN ? "shutdown" : "stopped");
+            continue;
+        }
+        printf("place %llu, %s", (unsigned long long)reply.place, kip_succeeded(&reply) ? "all succeeded" : "failed:");
         for (size_t i = 0; i < reply.size / sizeof *failures; i++) {
-            printf(" %u:%u", failures[i].index, failures[i].result);
+            printf(" %u %s", failures[i].index, kip_transfer_result_name(failures[i].result));
         }
         printf("\n");
     }

@@ -72,11 +72,10 @@ impl Both {
     }
 
     fn read(&mut self) {
-        while let Some(head) = self.ledger.reply(&mut self.results) {
+        while let Some(reply) = self.ledger.reply(&mut self.results) {
             let wanted = self.wanted.pop_front().expect("a packet");
-            assert_eq!(head.outcome(), Outcome::Committed(wanted.place));
-            assert_eq!((head.user_data, head.number), (wanted.user, wanted.number));
-            assert!(self.results == wanted.results, "results at place {}", wanted.place);
+            assert_eq!((reply.user_data, reply.number), (wanted.user, wanted.number));
+            assert_eq!(reply.outcome, Outcome::Committed { place: wanted.place, results: &wanted.results });
         }
     }
 
@@ -88,7 +87,8 @@ impl Both {
         for id in 0..ACCOUNTS + 2 {
             let id = u128::from(id);
             let found = self.machine.lookup_accounts(&id.to_le_bytes());
-            assert_eq!(self.ledger.lookup_account(id), found.first().map(account_bytes));
+            let account = self.ledger.lookup_account(id);
+            assert_eq!(account.map(|account| account.to_bytes()), found.first().map(account_bytes));
         }
     }
 }

@@ -1,13 +1,35 @@
 //! TigerBeetle's ledger in one process and in memory, for tests, simulators and small services.
 //!
 //! Safe Rust over `include/kip.h`: this crate upholds what that header asks of a caller.
+//!
+//! ```
+//! use kip::{Account, Ledger, Transfer};
+//!
+//! # fn main() -> Result<(), kip::Error> {
+//! let mut ledger = Ledger::open(0, 8190, 1)?;
+//! let account = Account { ledger: 1, code: 1, ..Account::default() };
+//! ledger.create_accounts(&[Account { id: 1, ..account }, Account { id: 2, ..account }])?;
+//! let transfer = Transfer {
+//!     id: kip::id(), debit_account_id: 1, credit_account_id: 2, amount: 30, ledger: 1, code: 1,
+//!     ..Transfer::default()
+//! };
+//! assert!(ledger.create_transfers(&[transfer])?.is_empty());
+//! assert_eq!(ledger.lookup_accounts(&[1])[0].debits_posted, 30);
+//! # Ok(())
+//! # }
+//! ```
 
+mod ids;
 mod raw;
+mod records;
+mod results;
 
+use std::collections::VecDeque;
 use std::fmt;
-use std::marker::PhantomData;
 
-pub use raw::Head;
+pub use ids::id;
+pub use records::{Account, AccountFlags, PendingStatus, Transfer, TransferFlags};
+pub use results::{CreateAccountResult, CreateTransferResult};
 
 pub const CREATE_ACCOUNTS: u8 = 129;
 pub const CREATE_TRANSFERS: u8 = 130;
@@ -24,6 +46,8 @@ pub enum Refusal {
     NoMemory,
     /// `shut` was called.
     Shutdown,
+    /// The ledger stopped.
+    Stopped,
     BadLimit,
     BadSubmitters,
     MomentTooLarge,
@@ -38,6 +62,7 @@ impl Refusal {
             5 => Refusal::Full,
             6 => Refusal::NoMemory,
             7 => Refusal::Shutdown,
+            8 => Refusal::Stopped,
             9 => Refusal::BadLimit,
             11 => Refusal::BadSubmitters,
             12 => Refusal::MomentTooLarge,
@@ -46,13 +71,39 @@ impl Refusal {
     }
 }
 
-impl fmt::Display for Refusal {
-    fn fmt(&self, out: &mut fmt::Formatter<'_>) -> fmt::Result {
-        fmt::Debug::fmt(self, out)
+/// Why a packet was queued and isn't committed.
+#[derive(Clone, Copy, Debug, PartialEq, Eq)]
+pub enum NotCommitted {
+    Shutdown,
+    Stopped,
+}
+
+/// Why events weren't committed.
+#[derive(Clone, Copy, Debug, PartialEq, Eq)]
+pub enum Error {
+    Refused(Refusal),
+    NotCommitted(NotCommitted),
+}
+
+impl From<Refusal> for Error {
+    fn from(refusal: Refusal) -> Error {
+        Error::Refused(refusal)
     }
 }
 
-impl std::error::Error for Refusal {}
+macro_rules! shown_as_debug {
+    ($($name:ident)*) => {$(
+        impl fmt::Display for $name {
+            fn fmt(&self, out: &mut fmt::Formatter<'_>) -> fmt::Result {
+                fmt::Debug::fmt(self, out)
+            }
+        }
+
+        impl std::error::Error for $name {}
+    )*};
+}
+
+shown_as_debug! { Refusal NotCommitted Error }
 
 fn done(status: u32) -> Result<(), Refusal> {
     if status == 0 {
@@ -62,46 +113,108 @@ fn done(status: u32) -> Result<(), Refusal> {
     }
 }
 
-/// What happened to a packet.
+/// What happened to a packet. Only a committed one has results: 8 bytes for each event that failed, or 128 for each account
+/// found.
 #[derive(Clone, Copy, Debug, PartialEq, Eq)]
-pub enum Outcome {
+pub enum Outcome<'a> {
     /// Committed at this place among all packets and pulses.
-    Committed(u64),
+    Committed { place: u64, results: &'a [u8] },
     /// Queued after `shut`.
     Shutdown,
     /// Memory ran out at this packet or before it.
     Stopped,
 }
 
-impl Head {
-    /// Returns the packet's outcome.
-    pub fn outcome(&self) -> Outcome {
-        match self.outcome {
-            0 => Outcome::Committed(self.place),
+/// The reply to one packet.
+#[derive(Clone, Copy, Debug, PartialEq, Eq)]
+pub struct Reply<'a> {
+    pub submitter: u32,
+    /// The packet's number among its submitter's.
+    pub number: u64,
+    pub operation: u8,
+    pub user_data: u64,
+    pub outcome: Outcome<'a>,
+}
+
+/// An event that failed, and its result's number.
+#[derive(Clone, Copy, Debug, PartialEq, Eq)]
+pub struct Failure {
+    pub index: u32,
+    pub result: u32,
+}
+
+/// Returns the failures in the results of a packet that creates.
+pub fn failures(results: &[u8]) -> impl Iterator<Item = Failure> + '_ {
+    let word = |bytes: &[u8]| u32::from_le_bytes([bytes[0], bytes[1], bytes[2], bytes[3]]);
+    results.chunks_exact(8).map(move |each| Failure {
+        index: word(each),
+        result: word(&each[4..]),
+    })
+}
+
+/// An account that wasn't created.
+#[derive(Clone, Copy, Debug, PartialEq, Eq)]
+pub struct CreateAccountsResult {
+    pub index: u32,
+    pub result: CreateAccountResult,
+}
+
+/// A transfer that wasn't created.
+#[derive(Clone, Copy, Debug, PartialEq, Eq)]
+pub struct CreateTransfersResult {
+    pub index: u32,
+    pub result: CreateTransferResult,
+}
+
+/// A reply that was read while another was looked for.
+struct Kept {
+    head: raw::Head,
+    results: Vec<u8>,
+}
+
+fn reply_of<'a>(head: &raw::Head, results: &'a [u8]) -> Reply<'a> {
+    Reply {
+        submitter: head.submitter,
+        number: head.number,
+        operation: head.operation as u8,
+        user_data: head.user_data,
+        outcome: match head.outcome {
+            0 => Outcome::Committed {
+                place: head.place,
+                results,
+            },
             7 => Outcome::Shutdown,
             _ => Outcome::Stopped,
-        }
+        },
     }
 }
 
-/// A ledger in memory. It stays on its thread: the pointer in it is neither `Send` nor `Sync`.
+/// A ledger in memory. It may move to another thread; calls are made one at a time.
 pub struct Ledger {
     handle: Box<raw::Handle>,
-    stays: PhantomData<*mut ()>,
+    kept: VecDeque<Kept>,
 }
+
+// SAFETY: what is behind the handle is memory of the heap that belongs to no thread, which is proved of the library
+// (`crates/kip/proofs/held`). Each call takes `&mut self`, so none is made during another.
+unsafe impl Send for Ledger {}
 
 // SAFETY, of each call below: the handle was zeroed before it was opened, has one owner, and is changed only by these
 // calls; each slice passes its own pointer, which is never null, and its own length; the arguments don't overlap.
 impl Ledger {
+    fn opened(handle: Box<raw::Handle>) -> Ledger {
+        Ledger {
+            handle,
+            kept: VecDeque::new(),
+        }
+    }
+
     /// Opens a ledger whose clock starts at `clock` nanoseconds, for packets of up to `limit` events (1 to 8190) and
     /// 1 to 16 submitters.
     pub fn open(clock: u64, limit: u32, submitters: u32) -> Result<Ledger, Refusal> {
         let mut handle = Box::new(raw::Handle::closed());
         done(unsafe { raw::kip_open(&mut *handle, clock, limit, submitters) })?;
-        Ok(Ledger {
-            handle,
-            stays: PhantomData,
-        })
+        Ok(Ledger::opened(handle))
     }
 
     /// Opens a ledger as `open` does, and hashes ids with a seed. Use a seed if ids can be chosen by someone you don't
@@ -115,10 +228,7 @@ impl Ledger {
         let mut handle = Box::new(raw::Handle::closed());
         let [low, high] = seed;
         done(unsafe { raw::kip_open_seeded(&mut *handle, clock, limit, submitters, low, high) })?;
-        Ok(Ledger {
-            handle,
-            stays: PhantomData,
-        })
+        Ok(Ledger::opened(handle))
     }
 
     /// Reserves capacity for accounts and transfers that are still to be made. Until then no commit waits for their maps
@@ -165,36 +275,134 @@ impl Ledger {
         done(unsafe { raw::kip_flush(&mut *self.handle) })
     }
 
-    /// Reads the next reply. Its results replace what the buffer had.
-    pub fn reply(&mut self, results: &mut Vec<u8>) -> Option<Head> {
-        let mut head = Head::default();
-        results.resize(results.capacity(), 0);
+    /// Returns whether memory ran out as a batch was committed: nothing more is committed.
+    pub fn stopped(&mut self) -> bool {
+        unsafe { raw::kip_stopped(&mut *self.handle) == 8 }
+    }
+
+    /// Reads the next reply's head, and its results into the buffer, whose former contents are gone.
+    fn read(&mut self, buffer: &mut Vec<u8>) -> Option<raw::Head> {
+        let mut head = raw::Head::default();
+        buffer.clear();
         loop {
-            let (at, size) = (results.as_mut_ptr(), results.len());
+            let (at, size) = (buffer.as_mut_ptr(), buffer.capacity());
             match unsafe { raw::kip_reply_bytes(&mut *self.handle, &mut head, at, size) } {
                 0 => {
-                    results.truncate(head.size as usize);
+                    // SAFETY: as many bytes as the head says were written at the start of the buffer.
+                    unsafe { buffer.set_len(head.size as usize) };
                     return Some(head);
                 }
-                103 => results.resize(head.size as usize, 0),
-                102 => {
-                    results.clear();
-                    return None;
-                }
+                103 => buffer.reserve(head.size as usize),
+                102 => return None,
                 other => unreachable!("status {other}"),
             }
         }
     }
 
-    /// Returns the 128 bytes of the account with an id.
-    pub fn lookup_account(&mut self, id: u128) -> Option<[u8; 128]> {
-        let mut account = [0; 128];
+    /// Reads the next reply. Its results are in the buffer, in place of what was there, and nothing else of it is written.
+    pub fn reply<'a>(&mut self, buffer: &'a mut Vec<u8>) -> Option<Reply<'a>> {
+        let head = match self.kept.pop_front() {
+            Some(kept) => {
+                *buffer = kept.results;
+                kept.head
+            }
+            None => self.read(buffer)?,
+        };
+        Some(reply_of(&head, buffer))
+    }
+
+    /// Commits one packet of submitter 0, and returns its results. Replies to other packets are kept for `reply`.
+    fn committed(&mut self, operation: u8, data: &[u8]) -> Result<Vec<u8>, Error> {
+        let number = self.submit(0, operation, data, 0)?;
+        self.flush()?;
+        loop {
+            let mut results = Vec::new();
+            let Some(head) = self.read(&mut results) else {
+                unreachable!("a flushed packet has a reply")
+            };
+            if (head.submitter, head.number) != (0, number) {
+                self.kept.push_back(Kept { head, results });
+                continue;
+            }
+            return match head.outcome {
+                0 => Ok(results),
+                7 => Err(Error::NotCommitted(NotCommitted::Shutdown)),
+                _ => Err(Error::NotCommitted(NotCommitted::Stopped)),
+            };
+        }
+    }
+
+    /// Commits one packet of submitter 0, and returns a result for each account that failed.
+    pub fn create_accounts(&mut self, accounts: &[Account]) -> Result<Vec<CreateAccountsResult>, Error> {
+        let data: Vec<u8> = accounts.iter().flat_map(Account::to_bytes).collect();
+        let results = self.committed(CREATE_ACCOUNTS, &data)?;
+        let of = |failure: Failure| CreateAccountsResult {
+            index: failure.index,
+            result: CreateAccountResult::of(failure.result).expect("a result of an account"),
+        };
+        Ok(failures(&results).map(of).collect())
+    }
+
+    /// Commits one packet of submitter 0, and returns a result for each transfer that failed.
+    pub fn create_transfers(&mut self, transfers: &[Transfer]) -> Result<Vec<CreateTransfersResult>, Error> {
+        let data: Vec<u8> = transfers.iter().flat_map(Transfer::to_bytes).collect();
+        let results = self.committed(CREATE_TRANSFERS, &data)?;
+        let of = |failure: Failure| CreateTransfersResult {
+            index: failure.index,
+            result: CreateTransferResult::of(failure.result).expect("a result of a transfer"),
+        };
+        Ok(failures(&results).map(of).collect())
+    }
+
+    /// Returns the account with an id; packets that wait aren't in it.
+    pub fn lookup_account(&mut self, id: u128) -> Option<Account> {
+        let mut bytes = [0; 128];
         let (low, high) = (id as u64, (id >> 64) as u64);
-        match unsafe { raw::kip_lookup_account(&mut *self.handle, low, high, &mut account) } {
-            0 => Some(account),
+        match unsafe { raw::kip_lookup_account(&mut *self.handle, low, high, &mut bytes) } {
+            0 => Some(Account::from_bytes(&bytes)),
             104 => None,
             other => unreachable!("status {other}"),
         }
+    }
+
+    /// Returns the account at an index in the order of making.
+    pub fn account_at(&mut self, index: usize) -> Option<Account> {
+        let mut bytes = [0; 128];
+        match unsafe { raw::kip_account_at(&mut *self.handle, index, &mut bytes) } {
+            0 => Some(Account::from_bytes(&bytes)),
+            104 => None,
+            other => unreachable!("status {other}"),
+        }
+    }
+
+    fn transfer_and_status(&mut self, id: u128) -> Option<(Transfer, Option<PendingStatus>)> {
+        let (mut bytes, mut pending) = ([0; 128], 0);
+        let (low, high) = (id as u64, (id >> 64) as u64);
+        match unsafe { raw::kip_lookup_transfer(&mut *self.handle, low, high, &mut bytes, &mut pending) } {
+            0 => Some((Transfer::from_bytes(&bytes), PendingStatus::of(pending))),
+            104 => None,
+            other => unreachable!("status {other}"),
+        }
+    }
+
+    /// Returns the transfer with an id; a post or a void with its resolved fields.
+    pub fn lookup_transfer(&mut self, id: u128) -> Option<Transfer> {
+        Some(self.transfer_and_status(id)?.0)
+    }
+
+    /// Returns the status of the pending transfer with an id.
+    pub fn transfer_status(&mut self, id: u128) -> Option<PendingStatus> {
+        self.transfer_and_status(id)?.1
+    }
+
+    /// Returns the accounts with these ids, in their order; ids without one are left out.
+    pub fn lookup_accounts(&mut self, ids: &[u128]) -> Vec<Account> {
+        ids.iter().filter_map(|id| self.lookup_account(*id)).collect()
+    }
+
+    /// Returns the transfers with these ids, in their order; ids without one are left out.
+    pub fn lookup_transfers(&mut self, ids: &[u128]) -> Vec<Transfer> {
+        ids.iter().filter_map(|id| self.lookup_transfer(*id)).collect()
     }
 
     /// Returns the clock in nanoseconds.

@@ -19,15 +19,15 @@ impl Handle {
 
 /// The head of a reply.
 #[repr(C)]
-#[derive(Clone, Copy, Debug, Default, PartialEq, Eq)]
-pub struct Head {
-    pub user_data: u64,
-    pub number: u64,
-    pub place: u64,
-    pub size: u64,
-    pub submitter: u32,
+#[derive(Clone, Copy, Default)]
+pub(crate) struct Head {
+    pub(crate) user_data: u64,
+    pub(crate) number: u64,
+    pub(crate) place: u64,
+    pub(crate) size: u64,
+    pub(crate) submitter: u32,
     pub(crate) outcome: u32,
-    pub operation: u32,
+    pub(crate) operation: u32,
     reserved: u32,
 }
 
@@ -68,5 +68,14 @@ extern "C" {
         id_high: u64,
         account: *mut [u8; 128],
     ) -> u32;
+    pub(crate) fn kip_account_at(kip: *mut Handle, index: usize, account: *mut [u8; 128]) -> u32;
+    pub(crate) fn kip_lookup_transfer(
+        kip: *mut Handle,
+        id_low: u64,
+        id_high: u64,
+        transfer: *mut [u8; 128],
+        pending_status: *mut u32,
+    ) -> u32;
+    pub(crate) fn kip_stopped(kip: *mut Handle) -> u32;
     pub(crate) fn kip_clock(kip: *mut Handle, nanoseconds: *mut u64) -> u32;
 }

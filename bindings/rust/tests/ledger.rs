@@ -1,38 +1,110 @@
-use kip::{Head, Ledger, Outcome, Refusal, CREATE_ACCOUNTS, CREATE_TRANSFERS};
+use kip::{
+    failures, Account, AccountFlags, CreateAccountResult, CreateTransferResult, Error, Ledger, NotCommitted, Outcome,
+    PendingStatus, Refusal, Transfer, TransferFlags, CREATE_ACCOUNTS, CREATE_TRANSFERS,
+};
 
-/// Lays out an account or a transfer: six numbers of 16 bytes, then ledger, code and flags.
-fn record(words: [u128; 6], code: u16, flags: u16) -> [u8; 128] {
-    let mut bytes = [0; 128];
-    for (at, word) in words.iter().enumerate() {
-        bytes[16 * at..16 * at + 16].copy_from_slice(&word.to_le_bytes());
-    }
-    bytes[112..116].copy_from_slice(&1u32.to_le_bytes());
-    bytes[116..118].copy_from_slice(&code.to_le_bytes());
-    bytes[118..120].copy_from_slice(&flags.to_le_bytes());
-    bytes
+const ACCOUNT: Account = Account {
+    id: 0,
+    debits_pending: 0,
+    debits_posted: 0,
+    credits_pending: 0,
+    credits_posted: 0,
+    user_data_128: 0,
+    user_data_64: 0,
+    user_data_32: 0,
+    reserved: 0,
+    ledger: 1,
+    code: 1,
+    flags: 0,
+    timestamp: 0,
+};
+
+fn transfer(id: u128, from: u128, to: u128) -> Transfer {
+    Transfer { id, debit_account_id: from, credit_account_id: to, amount: 5, ledger: 1, code: 1, ..Transfer::default() }
+}
+
+fn bytes_of(transfers: &[Transfer]) -> Vec<u8> {
+    transfers.iter().flat_map(Transfer::to_bytes).collect()
 }
 
 fn two_accounts() -> Vec<u8> {
-    [record([1, 0, 0, 0, 0, 0], 1, 0), record([2, 0, 0, 0, 0, 0], 1, 0)].concat()
+    [Account { id: 1, ..ACCOUNT }.to_bytes(), Account { id: 2, ..ACCOUNT }.to_bytes()].concat()
 }
 
 #[test]
-fn linked_pair_fails_whole() -> Result<(), Refusal> {
+fn records_have_tigerbeetles_layout() {
+    let account = Account { id: 1 << 64, reserved: 7, flags: AccountFlags::HISTORY, timestamp: 9, ..ACCOUNT };
+    let bytes = account.to_bytes();
+    // id at 0, reserved at 108, ledger at 112, code at 116, flags at 118, timestamp at 120.
+    assert_eq!((bytes[8], bytes[108], bytes[112], bytes[116], bytes[118], bytes[120]), (1, 7, 1, 1, 8, 9));
+    assert_eq!(bytes.iter().filter(|byte| **byte != 0).count(), 6);
+    assert_eq!(Account::from_bytes(&bytes), account);
+    let transfer = Transfer { amount: 3, pending_id: 4, timeout: 5, flags: TransferFlags::PENDING, ..Transfer::default() };
+    let bytes = transfer.to_bytes();
+    assert_eq!((bytes[48], bytes[64], bytes[108], bytes[118]), (3, 4, 5, 2));
+    assert_eq!(Transfer::from_bytes(&bytes), transfer);
+}
+
+#[test]
+fn linked_pair_fails_whole() -> Result<(), Error> {
     let mut ledger = Ledger::open(0, 8190, 1)?;
     ledger.submit(0, CREATE_ACCOUNTS, &two_accounts(), 1)?;
-    let pair = [record([1, 1, 2, 5, 0, 0], 1, 1), record([2, 1, 9, 5, 0, 0], 1, 0)];
-    ledger.submit(0, CREATE_TRANSFERS, &pair.concat(), 2)?;
+    let pair = [Transfer { flags: TransferFlags::LINKED, ..transfer(1, 1, 2) }, transfer(2, 1, 9)];
+    ledger.submit(0, CREATE_TRANSFERS, &bytes_of(&pair), 2)?;
     ledger.flush()?;
-    let mut results = Vec::new();
-    let head = ledger.reply(&mut results).unwrap();
-    assert_eq!((head.outcome(), results.len()), (Outcome::Committed(0), 0));
-    let head = ledger.reply(&mut results).unwrap();
-    assert_eq!((head.user_data, head.outcome(), head.number), (2, Outcome::Committed(1), 1));
+    let mut buffer = Vec::new();
+    let reply = ledger.reply(&mut buffer).unwrap();
+    assert_eq!(reply.outcome, Outcome::Committed { place: 0, results: &[] });
+    let reply = ledger.reply(&mut buffer).unwrap();
+    assert_eq!((reply.user_data, reply.number, reply.operation), (2, 1, CREATE_TRANSFERS));
     // Event 0 fails with 1 (linked_event_failed), event 1 with 22 (credit_account_not_found).
-    assert_eq!(results, [0, 0, 0, 0, 1, 0, 0, 0, 1, 0, 0, 0, 22, 0, 0, 0]);
-    assert_eq!(ledger.reply(&mut results), None);
-    assert_eq!(ledger.lookup_account(1).unwrap()[16..80], [0; 64]);
+    let results = [0, 0, 0, 0, 1, 0, 0, 0, 1, 0, 0, 0, 22, 0, 0, 0];
+    assert_eq!(reply.outcome, Outcome::Committed { place: 1, results: &results });
+    assert_eq!(failures(&results).map(|it| (it.index, it.result)).collect::<Vec<_>>(), [(0, 1), (1, 22)]);
+    assert_eq!(ledger.reply(&mut buffer), None);
+    let account = ledger.lookup_account(1).unwrap();
+    assert_eq!((account.debits_posted, account.credits_posted), (0, 0));
     assert_eq!(ledger.lookup_account(9), None);
+    Ok(())
+}
+
+#[test]
+fn calls_of_a_client() -> Result<(), Error> {
+    let mut ledger = Ledger::open(0, 8190, 1)?;
+    let results = ledger.create_accounts(&[Account { id: 1, ..ACCOUNT }, Account { code: 0, id: 2, ..ACCOUNT }])?;
+    assert_eq!((results[0].index, results[0].result), (1, CreateAccountResult::CodeMustNotBeZero));
+    assert_eq!(results[0].result.name(), "code_must_not_be_zero");
+    assert!(ledger.create_accounts(&[Account { id: 2, ..ACCOUNT }])?.is_empty());
+    let held = Transfer { flags: TransferFlags::PENDING, ..transfer(3, 1, 2) };
+    let void = Transfer { id: 4, pending_id: 3, flags: TransferFlags::VOID_PENDING_TRANSFER, ..Transfer::default() };
+    assert!(ledger.create_transfers(&[held])?.is_empty());
+    assert_eq!(ledger.transfer_status(3), Some(PendingStatus::Pending));
+    let results = ledger.create_transfers(&[void, held])?;
+    assert_eq!((results.len(), results[0].index, results[0].result), (1, 1, CreateTransferResult::Exists));
+    assert_eq!(ledger.transfer_status(3), Some(PendingStatus::Voided));
+    assert_eq!((ledger.transfer_status(4), ledger.transfer_status(9)), (None, None));
+    // A void has the amount and the accounts of what it voids.
+    let found = ledger.lookup_transfers(&[4, 9, 3]);
+    assert_eq!(found.iter().map(|it| (it.id, it.amount, it.code)).collect::<Vec<_>>(), [(4, 5, 1), (3, 5, 1)]);
+    assert_eq!(ledger.lookup_accounts(&[2, 7, 1]).iter().map(|it| it.id).collect::<Vec<_>>(), [2, 1]);
+    assert_eq!(ledger.account_at(1).map(|it| it.id), Some(2));
+    assert_eq!(ledger.account_at(2), None);
+    Ok(())
+}
+
+#[test]
+fn a_call_returns_its_own_reply() -> Result<(), Error> {
+    let mut ledger = Ledger::open(0, 8190, 2)?;
+    ledger.submit(0, CREATE_ACCOUNTS, &two_accounts(), 1)?;
+    ledger.submit(1, CREATE_TRANSFERS, &bytes_of(&[transfer(1, 1, 9)]), 7)?;
+    // That packet's event fails, this one's doesn't.
+    assert!(ledger.create_transfers(&[transfer(2, 1, 2)])?.is_empty());
+    let mut buffer = Vec::new();
+    assert_eq!(ledger.reply(&mut buffer).unwrap().user_data, 1);
+    let reply = ledger.reply(&mut buffer).unwrap();
+    assert_eq!((reply.submitter, reply.user_data), (1, 7));
+    assert_eq!(reply.outcome, Outcome::Committed { place: 1, results: &[0, 0, 0, 0, 22, 0, 0, 0] });
+    assert_eq!(ledger.reply(&mut buffer), None);
     Ok(())
 }
 
@@ -50,9 +122,11 @@ fn refusals_have_names() {
     assert_eq!(ledger.shut(), Ok(()));
     assert_eq!(ledger.shut().unwrap_err().to_string(), "Shutdown");
     assert_eq!(ledger.submit(0, CREATE_ACCOUNTS, &[], 3), Ok(0));
-    let mut results = vec![1, 2, 3];
-    assert_eq!(ledger.reply(&mut results).unwrap().outcome(), Outcome::Shutdown);
-    assert!(results.is_empty());
+    let mut buffer = vec![1, 2, 3];
+    assert_eq!(ledger.reply(&mut buffer).unwrap().outcome, Outcome::Shutdown);
+    assert!(buffer.is_empty());
+    assert_eq!(ledger.create_transfers(&[]), Err(Error::NotCommitted(NotCommitted::Shutdown)));
+    assert!(!ledger.stopped());
     assert_eq!(kip::version(), 0x100);
 }
 
@@ -64,21 +138,50 @@ fn dropped_with_packets_held() {
     }
 }
 
-/// Commits accounts and transfers whose ids all have hash 0 without a seed, and returns each reply with its results.
-fn replies_to_colliding_ids(ledger: &mut Ledger) -> Result<Vec<(Head, Vec<u8>)>, Refusal> {
-    let id = |low: u128| (0x9e37_79b9_7f4a_7c15 << 64) + low;
-    let accounts: Vec<_> = (0..100).map(|i| record([id(i), 0, 0, 0, 0, 0], 1, 0)).collect();
-    let transfers: Vec<_> =
-        (0..100).map(|i| record([id(i), id(i), id(2 * i), 5, 0, 0], 1, 0)).collect();
-    ledger.submit(0, CREATE_ACCOUNTS, &accounts.concat(), 1)?;
-    ledger.submit(0, CREATE_TRANSFERS, &transfers.concat(), 2)?;
-    ledger.submit(0, CREATE_TRANSFERS, &transfers.concat(), 3)?;
-    ledger.flush()?;
-    let (mut replies, mut results) = (Vec::new(), Vec::new());
-    while let Some(head) = ledger.reply(&mut results) {
-        replies.push((head, results.clone()));
+#[test]
+fn moves_from_thread_to_thread() -> Result<(), Error> {
+    let mut ledger = Ledger::open(0, 8190, 1)?;
+    ledger.create_accounts(&[Account { id: 1, ..ACCOUNT }, Account { id: 2, ..ACCOUNT }])?;
+    for id in 1..=20 {
+        ledger = std::thread::spawn(move || {
+            assert!(ledger.create_transfers(&[transfer(id, 1, 2)]).unwrap().is_empty());
+            ledger
+        })
+        .join()
+        .unwrap();
     }
-    Ok(replies)
+    assert_eq!(ledger.lookup_account(1).unwrap().debits_posted, 100);
+    Ok(())
+}
+
+#[test]
+fn reply_leaves_the_rest_of_its_buffer() -> Result<(), Error> {
+    let mut ledger = Ledger::open(0, 8190, 1)?;
+    ledger.submit(0, CREATE_ACCOUNTS, &[0; 128], 0)?;
+    ledger.flush()?;
+    let mut buffer = vec![0xAA; 1 << 20];
+    assert!(ledger.reply(&mut buffer).is_some());
+    assert_eq!(buffer.len(), 8);
+    // SAFETY: all of it was written above.
+    unsafe { buffer.set_len(1 << 20) };
+    assert!(buffer[8..].iter().all(|byte| *byte == 0xAA));
+    Ok(())
+}
+
+/// Commits accounts and transfers whose ids all have hash 0 without a seed, and returns the results of each packet.
+fn results_of_colliding_ids(ledger: &mut Ledger) -> Result<[Vec<u8>; 3], Refusal> {
+    let id = |low: u128| (0x9e37_79b9_7f4a_7c15 << 64) + low;
+    let accounts: Vec<u8> = (0..100).flat_map(|i| Account { id: id(i), ..ACCOUNT }.to_bytes()).collect();
+    let transfers: Vec<_> = (0..100).map(|i| transfer(id(i), id(i), id(2 * i))).collect();
+    ledger.submit(0, CREATE_ACCOUNTS, &accounts, 1)?;
+    ledger.submit(0, CREATE_TRANSFERS, &bytes_of(&transfers), 2)?;
+    ledger.submit(0, CREATE_TRANSFERS, &bytes_of(&transfers), 3)?;
+    ledger.flush()?;
+    let mut buffer = Vec::new();
+    Ok(std::array::from_fn(|at| match ledger.reply(&mut buffer).expect("a reply").outcome {
+        Outcome::Committed { place, results } if place == at as u64 => results.to_vec(),
+        other => panic!("{other:?}"),
+    }))
 }
 
 #[test]
@@ -88,11 +191,10 @@ fn seed_and_reservations_change_no_reply() -> Result<(), Refusal> {
     seeded.reserve(100, 200)?;
     assert_eq!(seeded.reserve(0, 1 << 60), Err(Refusal::NoMemory));
     assert_eq!(seeded.reserve(usize::MAX, 0), Err(Refusal::NoMemory));
-    let replies = replies_to_colliding_ids(&mut fair)?;
-    assert_eq!(replies.len(), 3);
+    let results = results_of_colliding_ids(&mut fair)?;
     // The transfer from account 0 to itself, the 50 to accounts that aren't there, and then all 100 again fail.
-    assert_eq!((replies[1].1.len(), replies[2].1.len()), (8 * 51, 8 * 100));
-    assert_eq!(replies_to_colliding_ids(&mut seeded)?, replies);
+    assert_eq!((results[0].len(), results[1].len(), results[2].len()), (0, 8 * 51, 8 * 100));
+    assert_eq!(results_of_colliding_ids(&mut seeded)?, results);
     let account = (0x9e37_79b9_7f4a_7c15 << 64) + 2;
     assert_eq!(seeded.lookup_account(account), fair.lookup_account(account));
     assert!(seeded.lookup_account(account).is_some());
@@ -110,14 +212,15 @@ fn resident() -> usize {
 /// Commits packets of 8,190 transfers that all fail, so that nothing is stored, and reads the replies.
 #[cfg(target_os = "linux")]
 fn commit_failing(ledger: &mut Ledger, packets: usize) -> Result<(), Refusal> {
-    let transfer = record([0, 1, 2, 5, 0, 0], 1, 0);
-    let data = transfer.repeat(8190);
-    let mut results = Vec::new();
+    let data = transfer(0, 1, 2).to_bytes().repeat(8190);
+    let mut buffer = Vec::new();
     for _ in 0..packets {
         ledger.submit(0, CREATE_TRANSFERS, &data, 0)?;
         ledger.flush()?;
-        assert!(matches!(ledger.reply(&mut results).unwrap().outcome(), Outcome::Committed(_)));
-        assert_eq!(results.len(), 8 * 8190);
+        match ledger.reply(&mut buffer).unwrap().outcome {
+            Outcome::Committed { results, .. } => assert_eq!(results.len(), 8 * 8190),
+            other => panic!("{other:?}"),
+        }
     }
     Ok(())
 }

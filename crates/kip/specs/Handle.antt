@@ -1,16 +1,19 @@
 -- what a call did to the engine inside a handle; a closed handle has none.
 use Rattle.std.specs.Prelude.{◌≡◌, ◌<◌, ◌≤◌, ◌⊎◌, ◌+◌, ◌*◌, ◌^◌, ℕ, List, [], nat_lt, if◌then◌else◌, length, slice_get, Option, Some, None}
-use Rattle.tb_layout.specs.inside.Records.{account_bytes}
+use Rattle.tb_layout.specs.inside.Records.{account_bytes, transfer_bytes}
 use Rattle.tb_layout.specs.Limits.{clock_max}
 use Rattle.tb_layout.specs.declared.account.Account.{Account}
-use Rattle.tb_tables.specs.Balances.{balanced_account}
+use Rattle.tb_layout.specs.declared.transfer.Transfer.{Transfer}
+use Rattle.tb_tables.specs.Facts.{transfer_with}
+use Rattle.tb_tables.specs.inside.Status.{status_with}
+use Rattle.tb_tables.specs.declared.status.Status.{Status}
+use Rattle.tb_tables.specs.declared.status.Status.TheVariants.{Pending, Posted, Voided, Expired}
 use Rattle.tb_work.specs.Refusal.{number_of}
 use Rattle.tb_work.specs.Packet.{ReplyValue}
-use Rattle.tb_work.specs.declared.packet.Packet.{Packet}
 use Rattle.tb_work.specs.declared.refusal.Refusal.{Refusal}
-use Rattle.tb_work.specs.declared.refusal.Refusal.TheVariants.{MomentTooLarge, NoMemory}
+use Rattle.tb_work.specs.declared.refusal.Refusal.TheVariants.{MomentTooLarge, Stopped}
 use Rattle.tb_core.specs.Front.{opening_refusal}
-use Rattle.tb_embed.specs.Engine.{EngineState, Reads, IsRefusal, submit_refusal, state_of}
+use Rattle.tb_embed.specs.Engine.{EngineState, Reads, IsRefusal, has_stopped, state_of}
 use Rattle.kip.specs.declared.reading.KipReply.{KipReply}
 use Rattle.kip.specs.Results.{AreWritten, IsHeadOf, result_bytes, result_size}
 
@@ -25,9 +28,6 @@ abbrev pub IsOpen : (EngineState → Type 0) → Option EngineState → Type 0
 IsOpen P (Some engine) = P engine
 IsOpen P None = ⊥
 
-abbrev pub packet_with : ℕ → List ℕ → ℕ → Packet
-packet_with operation bytes user = record { operation = operation; bytes = bytes; user = user }
-
 -- ---- statuses
 
 -- 0 if nothing is refused, else the number of the first refusal that applies or of NoMemory
@@ -41,11 +41,10 @@ abbrev pub IsStatusOf : (EngineState → Option Refusal) → Option EngineState 
 IsStatusOf refusal (Some engine) status = IsStatus (refusal engine) status
 IsStatusOf refusal None status = status ≡ 100
 
--- the status of a submission: memory for the copy of the data is needed before anything else
-abbrev pub IsSubmitStatus : ℕ → Packet → Option EngineState → ℕ → Type 0
-IsSubmitStatus submitter packet (Some engine) status =
-    IsStatus (submit_refusal engine submitter packet) status ⊎ (status ≡ number_of NoMemory)
-IsSubmitStatus submitter packet None status = status ≡ 100
+-- whether the engine stopped, as a status
+abbrev pub stopped_status : Option EngineState → ℕ
+stopped_status None = 100
+stopped_status (Some engine) = if has_stopped engine then number_of Stopped else 0
 
 -- why a handle isn't opened, if memory is there
 abbrev pub open_refusal : ℕ → ℕ → ℕ → Option Refusal
@@ -103,16 +102,35 @@ abbrev pub id_of : ℕ → ℕ → ℕ
 id_of low high = high * 2 ^ 64 + low
 
 -- 0 with the account's bytes, 104 without an account
-pub record IsLookup (status id : ℕ) (before after : List ℕ) (engine : EngineState) : Type 0 where
-  pub found : status ≡ 0
-      → (account : Account) × ((balanced_account (state_of engine).facts id ≡ Some account)
-      × (after ≡ account_bytes account))
-  pub none : status ≡ 104 → (balanced_account (state_of engine).facts id ≡ None) × (after ≡ before)
+pub record IsAccount (status : ℕ) (found : Option Account) (before after : List ℕ) : Type 0 where
+  pub written : status ≡ 0 → (account : Account) × ((found ≡ Some account) × (after ≡ account_bytes account))
+  pub none : status ≡ 104 → (found ≡ None) × (after ≡ before)
   pub one_of : (status ≡ 0) ⊎ (status ≡ 104)
 
-abbrev pub IsLookupIn : ℕ → ℕ → List ℕ → List ℕ → Option EngineState → Type 0
-IsLookupIn status id before after (Some engine) = IsLookup status id before after engine
-IsLookupIn status id before after None = (status ≡ 100) × (after ≡ before)
+-- the account that is looked for in the engine
+abbrev pub IsAccountIn : (EngineState → Option Account) → ℕ → List ℕ → List ℕ → Option EngineState → Type 0
+IsAccountIn found status before after (Some engine) = IsAccount status (found engine) before after
+IsAccountIn found status before after None = (status ≡ 100) × (after ≡ before)
+
+-- 0 for a transfer that isn't pending
+abbrev pub pending_number : Option Status → ℕ
+pending_number None = 0
+pending_number (Some Pending) = 1
+pending_number (Some Posted) = 2
+pending_number (Some Voided) = 3
+pending_number (Some Expired) = 4
+
+-- 0 with the transfer's bytes and the number of its status, 104 without a transfer
+pub record IsTransfer (status : ℕ) (found : Option Transfer) (pending : Option Status) (before after : List ℕ × ℕ) : Type 0 where
+  pub written : status ≡ 0 → (transfer : Transfer) × ((found ≡ Some transfer) × (after ≡ (transfer_bytes transfer, pending_number pending)))
+  pub none : status ≡ 104 → (found ≡ None) × (after ≡ before)
+  pub one_of : (status ≡ 0) ⊎ (status ≡ 104)
+
+-- the transfer with an id in the engine
+abbrev pub IsTransferIn : ℕ → ℕ → List ℕ × ℕ → List ℕ × ℕ → Option EngineState → Type 0
+IsTransferIn id status before after (Some engine) =
+    IsTransfer status (transfer_with (state_of engine).facts id) (status_with (state_of engine).facts id) before after
+IsTransferIn id status before after None = (status ≡ 100) × (after ≡ before)
 
 -- 0 with the clock
 abbrev pub IsClockOf : ℕ → ℕ → ℕ → Option EngineState → Type 0

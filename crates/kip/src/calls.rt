@@ -1,18 +1,23 @@
 //! The exported functions.
 
-ghost use Rattle.std.specs.Prelude.{◌≡◌, ◌<◌, ◌⊎◌, [], length, IfOk, IfErr, OnOk, OnErr, IsOk, None};
+ghost use Rattle.std.specs.Prelude.{◌≡◌, ◌<◌, [], length, slice_get, IfOk, IfErr, OnOk, OnErr, IsOk, None};
+ghost use Rattle.tb_tables.specs.Facts.{transfer_with};
+ghost use Rattle.tb_tables.specs.Balances.{balanced_account};
+ghost use Rattle.tb_tables.specs.inside.Status.{status_with};
+ghost use Rattle.tb_machine.specs.inside.Accounts.{balanced_accounts};
 ghost use Rattle.tb_work.specs.Refusal.{number_of};
 ghost use Rattle.tb_work.specs.declared.item.Item.TheVariants as item;
 ghost use Rattle.tb_work.specs.declared.refusal.Refusal.TheVariants.{NoMemory as NoMemoryRefusal};
-ghost use Rattle.tb_embed.specs.Engine.{EngineState, IsOpened, Queues, Continues, IsRefusal, submit_refusal, pulse_refusal, shut_refusal, state_of};
+ghost use Rattle.tb_embed.specs.Engine.{EngineState, IsOpened, Queues, Continues, IsRefusal, packet_with, submit_refusal, pulse_refusal, shut_refusal, state_of};
 ghost use Rattle.tb_embed.specs.Queued.{packet_ticket, ticket_of};
-ghost use Rattle.kip.specs.Handle.{Moves, IsOpen, IsStatus, IsStatusOf, IsSubmitStatus, IsOpeningStatus, IsClosingStatus, IsPeek, IsReading, IsReadingOf, IsLookup, IsLookupIn, IsClockOf, id_of, open_refusal, packet_with};
+ghost use Rattle.kip.specs.Handle.{Moves, IsOpen, IsStatus, IsStatusOf, IsOpeningStatus, IsClosingStatus, IsPeek, IsReading, IsReadingOf, IsAccount, IsAccountIn, IsTransfer, IsTransferIn, IsClockOf, id_of, open_refusal, pending_number, stopped_status};
 
 use crate::handle::Kip;
 use crate::reading::{KipReply, head_of, put_results};
 use std::alloc::{AllocError, Global};
 use tb_embed::{Engine, Seed};
-use tb_layout::{CLOCK_MAX, U64_VALUES, write_account};
+use tb_layout::{Account, CLOCK_MAX, U64_VALUES, write_account, write_transfer};
+use tb_tables::Status;
 use tb_work::{Bytes, Packet, Refusal};
 
 /// Version 0.1.0, a byte for each number.
@@ -30,7 +35,7 @@ const NO_REPLY: u32 = 102;
 /// The buffer is too small for the results.
 const TOO_SMALL: u32 = 103;
 
-/// There is no such account.
+/// There is no such account or transfer.
 const NOT_FOUND: u32 = 104;
 
 /// Returns the version of the library: major, minor and patch in a byte each, patch lowest.
@@ -171,6 +176,7 @@ pub extern "C" fn kip_close(alloc: Global, kip: &mut Kip) -> u32
     }
 }
 
+/// Returns a packet with a copy of the data.
 fn packet_of(alloc: Global, operation: u8, bytes: &[u8], user: u64) -> Result<Packet, AllocError>
     ensures { IfOk result (λ packet. packet ≡ packet_with operation bytes.now user) }
 {
@@ -183,7 +189,30 @@ fn packet_of(alloc: Global, operation: u8, bytes: &[u8], user: u64) -> Result<Pa
     })
 }
 
-/// Queues a packet with a copy of the data, and writes its number.
+/// Returns the packet with a copy of the data, or the first refusal that applies: nothing is copied for a packet that is
+/// refused anyway.
+fn checked_packet(
+    alloc: Global,
+    engine: &Engine,
+    submitter: u32,
+    operation: u8,
+    bytes: &[u8],
+    user: u64,
+) -> Result<Packet, Refusal>
+    ensures ok { IfOk result (λ packet. packet ≡ packet_with operation bytes.now user) }
+    ensures refusal { IfErr result (λ refusal.
+        IsRefusal (submit_refusal engine.now submitter (packet_with operation bytes.now user)) refusal) }
+{
+    if let Some(refusal) = engine.refusal_of(submitter, operation, bytes) {
+        return Err(refusal);
+    }
+    match packet_of(alloc, operation, bytes, user) {
+        Ok(packet) => Ok(packet),
+        Err(_) => Err(Refusal::NoMemory),
+    }
+}
+
+/// Queues a packet, and writes its number.
 fn submit(
     alloc: Global,
     engine: &mut Engine,
@@ -221,22 +250,24 @@ pub extern "C" fn kip_submit_bytes(
     ensures ok { result ≡ 0 → Moves (λ old new. Queues old
         (packet_ticket submitter number.new (packet_with operation bytes.now user_data)) new)
         kip.old.held.engine kip.new.held.engine }
-    ensures status { IsSubmitStatus submitter (packet_with operation bytes.now user_data)
+    ensures status { IsStatusOf (λ engine. submit_refusal engine submitter (packet_with operation bytes.now user_data))
         kip.old.held.engine result }
     ensures same { (result ≡ 0 → ⊥) → (kip.new.held.engine ≡ kip.old.held.engine) × (number.new ≡ number.old) }
 {
-    if !kip.is_open {
-        return CLOSED;
-    }
-    let Ok(packet) = packet_of(alloc, operation, bytes, user_data) else {
-        return Refusal::NoMemory.number();
-    };
     let Some(mut engine) = kip.take(alloc) else {
-        unreachable!()
+        return CLOSED;
     };
-    let status = submit(alloc, &mut engine, submitter, packet, number);
-    kip.put(engine);
-    status
+    match checked_packet(alloc, &engine, submitter, operation, bytes, user_data) {
+        Ok(packet) => {
+            let status = submit(alloc, &mut engine, submitter, packet, number);
+            kip.put(engine);
+            status
+        }
+        Err(refusal) => {
+            kip.put(engine);
+            refusal.number()
+        }
+    }
 }
 
 /// Queues a pulse: a moment in nanoseconds to which the clock is raised.
@@ -337,10 +368,11 @@ pub extern "C" fn kip_reply_bytes(
     status
 }
 
-fn lookup(engine: &Engine, id: u128, account: &mut [u8; 128]) -> u32
-    ensures { IsLookup result id account.old account.new engine.now }
+/// Writes an account that was found, in 128 bytes.
+fn put_found(found: Option<Account>, account: &mut [u8; 128]) -> u32
+    ensures { IsAccount result found account.old account.new }
 {
-    match engine.lookup_account(id) {
+    match found {
         Some(found) => {
             *account = write_account(&found);
             0
@@ -358,16 +390,112 @@ pub extern "C" fn kip_lookup_account(
     id_high: u64,
     account: &mut [u8; 128],
 ) -> u32
-    ensures lookup { IsLookupIn result (id_of id_low id_high) account.old account.new kip.old.held.engine }
+    ensures lookup { IsAccountIn (λ engine. balanced_account (state_of engine).facts (id_of id_low id_high))
+        result account.old account.new kip.old.held.engine }
     ensures same { kip.new.held.engine ≡ kip.old.held.engine }
 {
     let Some(engine) = kip.take(alloc) else {
         return CLOSED;
     };
     let id = u128::from(id_high) * U64_VALUES + u128::from(id_low);
-    let status = lookup(&engine, id, account);
+    let status = put_found(engine.lookup_account(id), account);
     kip.put(engine);
     status
+}
+
+/// Writes the account at an index in the order of making, counted from 0, in 128 bytes.
+#[unsafe(no_mangle)]
+pub extern "C" fn kip_account_at(
+    alloc: Global,
+    kip: &mut Kip,
+    index: usize,
+    account: &mut [u8; 128],
+) -> u32
+    ensures lookup { IsAccountIn (λ engine. slice_get (balanced_accounts (state_of engine).facts) index)
+        result account.old account.new kip.old.held.engine }
+    ensures same { kip.new.held.engine ≡ kip.old.held.engine }
+{
+    let Some(engine) = kip.take(alloc) else {
+        return CLOSED;
+    };
+    let status = put_found(engine.account_at(index), account);
+    kip.put(engine);
+    status
+}
+
+/// Returns the number of a pending transfer's status; 0 for a transfer that isn't pending.
+fn number_of_status(status: Option<Status>) -> u32
+    ensures { result ≡ pending_number status }
+{
+    match status {
+        None => 0,
+        Some(Status::Pending) => 1,
+        Some(Status::Posted) => 2,
+        Some(Status::Voided) => 3,
+        Some(Status::Expired) => 4,
+    }
+}
+
+/// Writes the transfer with an id, in 128 bytes, and the number of its status.
+fn put_transfer(
+    engine: &Engine,
+    id: u128,
+    transfer: &mut [u8; 128],
+    pending_status: &mut u32,
+) -> u32
+    ensures { IsTransfer result (transfer_with (state_of engine.now).facts id)
+        (status_with (state_of engine.now).facts id)
+        (transfer.old, pending_status.old) (transfer.new, pending_status.new) }
+{
+    match engine.lookup_transfer(id) {
+        Some(found) => {
+            *transfer = write_transfer(&found);
+            *pending_status = number_of_status(engine.transfer_status(id));
+            0
+        }
+        None => NOT_FOUND,
+    }
+}
+
+/// Writes the transfer with an id, in 128 bytes, and the number of its status if it is pending.
+#[unsafe(no_mangle)]
+pub extern "C" fn kip_lookup_transfer(
+    alloc: Global,
+    kip: &mut Kip,
+    id_low: u64,
+    id_high: u64,
+    transfer: &mut [u8; 128],
+    pending_status: &mut u32,
+) -> u32
+    ensures lookup { IsTransferIn (id_of id_low id_high) result (transfer.old, pending_status.old)
+        (transfer.new, pending_status.new) kip.old.held.engine }
+    ensures same { kip.new.held.engine ≡ kip.old.held.engine }
+{
+    let Some(engine) = kip.take(alloc) else {
+        return CLOSED;
+    };
+    let id = u128::from(id_high) * U64_VALUES + u128::from(id_low);
+    let status = put_transfer(&engine, id, transfer, pending_status);
+    kip.put(engine);
+    status
+}
+
+/// Returns whether the engine stopped: 0 if it didn't, 8 if it did.
+#[unsafe(no_mangle)]
+pub extern "C" fn kip_stopped(alloc: Global, kip: &mut Kip) -> u32
+    ensures status { result ≡ stopped_status kip.old.held.engine }
+    ensures same { kip.new.held.engine ≡ kip.old.held.engine }
+{
+    let Some(engine) = kip.take(alloc) else {
+        return CLOSED;
+    };
+    let has_stopped = engine.stopped();
+    kip.put(engine);
+    if has_stopped {
+        Refusal::Stopped.number()
+    } else {
+        0
+    }
 }
 
 /// Writes the clock in nanoseconds.

@@ -9,7 +9,7 @@ use Rattle.tb_work.specs.declared.item.Item.{Item}
 use Rattle.tb_work.specs.declared.item.Ticket.{Ticket}
 use Rattle.tb_work.specs.declared.packet.Packet.{Packet}
 use Rattle.tb_work.specs.declared.refusal.Refusal.{Refusal}
-use Rattle.tb_work.specs.declared.refusal.Refusal.TheVariants.{BadSubmitters, Full, MomentTooLarge, NoMemory, Shutdown}
+use Rattle.tb_work.specs.declared.refusal.Refusal.TheVariants.{BadSubmitters, Full, MomentTooLarge, NoMemory, Shutdown, Stopped}
 use Rattle.tb_core.specs.Due.{all_due, replies_to}
 use Rattle.tb_core.specs.inside.Decision.{inputs_in, Decision, AreDecisions}
 use Rattle.tb_core.specs.Front.{FrontState, held_by, take_step, with_group}
@@ -29,17 +29,23 @@ pub record EngineState : Type 0 where
   pub numbers : List ℕ
   pub shut : Bool
 
--- the limit and the number of submitters are those of the front
+-- The limit and the number of submitters are those of the front. The front doesn't stop: a packet for which it has no memory
+-- isn't queued.
 pub record IsEngine (limit submitters : ℕ) (front : FrontState) (numbers : List ℕ) : Type 0 where
   pub limited : front.limit ≡ limit
   pub counted : front.submitters ≡ submitters
   pub few : limit ≤ batch_max
   pub among : submitters ≤ submitters_max
   pub each : length numbers ≡ 16
+  pub goes : front.stopped ≡ false
 
 -- the state of the machine
 abbrev pub state_of : EngineState → State
 state_of engine = engine.ledger.state
+
+-- nothing more is committed
+abbrev pub has_stopped : EngineState → Bool
+has_stopped engine = engine.ledger.stopped
 
 -- ---- what a call adds to the run so far
 
@@ -61,9 +67,9 @@ pub record IsOpened (clock limit submitters : ℕ) (engine : EngineState) : Type
   pub limited : engine.front.limit ≡ limit
   pub counted : engine.front.submitters ≡ submitters
 
--- a front took a ticket; memory may have run out
+-- a front took a ticket, for which there was memory
 abbrev pub Steps : FrontState → Ticket → FrontState → Type 0
-Steps old ticket new = (refused : Bool) × (new ≡ (take_step refused old ticket.sender ticket.item).front)
+Steps old ticket new = new ≡ (take_step false old ticket.sender ticket.item).front
 
 -- the call added this ticket to what was queued, and the front took it
 pub record Queues (old : EngineState) (ticket : Ticket) (new : EngineState) : Type 0 where
@@ -93,10 +99,14 @@ abbrev pub refusal_in : Result ℕ Refusal → Option Refusal
 refusal_in (Ok count) = None
 refusal_in (Err refusal) = Some refusal
 
--- why no packet of a submitter is queued: there is no such submitter, or it has no number left
+abbrev pub packet_with : ℕ → List ℕ → ℕ → Packet
+packet_with operation bytes user = record { operation = operation; bytes = bytes; user = user }
+
+-- why no packet of a submitter is queued: there is no such submitter, the engine stopped, or the submitter has no number left
 abbrev pub sender_refusal : EngineState → ℕ → Option Refusal
 sender_refusal engine submitter =
     if nat_le engine.front.submitters submitter then Some BadSubmitters
+    else if has_stopped engine then Some Stopped
     else if get_or engine.numbers submitter 0 == 2 ^ 64 - 1 then Some Full else None
 
 -- why a packet isn't queued, if memory is there: its submitter's refusal, or that of its admission
@@ -107,7 +117,8 @@ submit_refusal engine submitter packet =
 -- why a pulse isn't queued, if memory is there
 abbrev pub pulse_refusal : EngineState → ℕ → Option Refusal
 pulse_refusal engine moment =
-    if nat_lt moment_max moment then Some MomentTooLarge else if engine.shut then Some Shutdown else None
+    if nat_lt moment_max moment then Some MomentTooLarge else if engine.shut then Some Shutdown
+    else if has_stopped engine then Some Stopped else None
 
 -- why the Close isn't queued, if memory is there
 abbrev pub shut_refusal : EngineState → Option Refusal

@@ -4,7 +4,12 @@ ghost use Rattle.std.specs.Prelude.{◌≡◌, ◌<◌, ◌≤◌, ◌+◌, ◌+
 ghost use Rattle.std.specs.Option.{option_copied};
 ghost use Rattle.std.specs.List.{flat_map};
 ghost use Rattle.tb_layout.specs.Limits.{clock_max};
+ghost use Rattle.tb_tables.specs.Facts.{transfer_with};
 ghost use Rattle.tb_tables.specs.Balances.{balanced_account};
+ghost use Rattle.tb_tables.specs.inside.Status.{status_with};
+ghost use Rattle.tb_machine.specs.inside.Accounts.{balanced_accounts};
+ghost use Rattle.tb_work.specs.Admission.{admission_of_size};
+ghost use Rattle.tb_work.specs.Admission as admission;
 ghost use Rattle.tb_work.specs.Packet.{ReplyValue};
 ghost use Rattle.tb_work.specs.declared.item.Item.{Item as ItemValue};
 ghost use Rattle.tb_work.specs.declared.item.Item.TheVariants as item;
@@ -13,7 +18,7 @@ ghost use Rattle.tb_core.specs.Front.{opening_refusal, all_decisions_in};
 ghost use Rattle.tb_core.specs.Grouping.{AreJoinedParcels};
 ghost use Rattle.tb_core.specs.inside.Decision.{Decision};
 ghost use Rattle.tb_core.specs.BareLedger.{HasSent};
-ghost use Rattle.tb_embed.specs.Engine.{HasTaken, IsOpened, Steps, Queues, Reads, Continues, IsRefusal, sender_refusal, submit_refusal, pulse_refusal, shut_refusal, state_of};
+ghost use Rattle.tb_embed.specs.Engine.{HasTaken, IsOpened, Steps, Queues, Reads, Continues, IsRefusal, either, refusal_in, sender_refusal, packet_with, submit_refusal, pulse_refusal, shut_refusal, has_stopped, state_of};
 ghost use Rattle.tb_embed.specs.Queued.{ticket_of, packet_ticket};
 
 use crate::unread::Unread;
@@ -21,7 +26,10 @@ use arrayvec::ArrayVec;
 use std::alloc::Global;
 use std::marker::Model;
 use tb_core::{BareLedger, Front, Parcel, Seed};
-use tb_layout::{Account, MOMENT_MAX};
+use tb_layout::{
+    Account, CREATE_ACCOUNTS, CREATE_TRANSFERS, LOOKUP_ACCOUNTS, MOMENT_MAX, Transfer,
+};
+use tb_tables::Status;
 use tb_work::{Item, Job, Moment, Packet, Refusal, Reply, Ticket};
 
 /// A ledger without a journal, with its front and cutter, driven by its caller one call at a time.
@@ -80,6 +88,35 @@ fn apply_all(ledger: &mut BareLedger, unread: &mut Unread, parcels: &mut ArrayVe
     while let Some(parcel) = parcels.pop_at(0) {
         unread.push(ledger.apply(parcel));
     }
+}
+
+/// Returns how many bytes an event of an operation has; None if there is no such operation.
+fn event_size(operation: u8) -> Option<usize>
+    ensures { result ≡ admission.event_size operation }
+{
+    if operation == CREATE_ACCOUNTS || operation == CREATE_TRANSFERS {
+        Some(128)
+    } else if operation == LOOKUP_ACCOUNTS {
+        Some(16)
+    } else {
+        None
+    }
+}
+
+/// Returns why a packet of an operation with this data isn't admitted; None if it is.
+fn admission_refusal(limit: u32, operation: u8, bytes: &[u8]) -> Option<Refusal>
+    ensures { result ≡ refusal_in (admission_of_size limit bytes.now (admission.event_size operation)) }
+{
+    let Some(size) = event_size(operation) else {
+        return Some(Refusal::InvalidOperation);
+    };
+    if bytes.len() % size != 0 {
+        return Some(Refusal::InvalidDataSize);
+    }
+    if bytes.len() / size > limit as usize {
+        return Some(Refusal::TooMuchData);
+    }
+    None
 }
 
 impl Engine {
@@ -144,8 +181,8 @@ impl Engine {
         Ok(())
     }
 
-    /// Passes a ticket through the front and the ledger. If there is no memory for its outcomes, it is returned and
-    /// nothing has changed.
+    /// Passes a ticket through the front and the ledger. If there is no memory to queue it or for its outcomes, it is
+    /// returned and nothing has changed.
     fn take(&mut self, ticket: Ticket) -> Result<(), Ticket>
         requires { ticket.sender ≤ self.old.front.submitters }
         ensures taken { OnOk result ((clock : ℕ) (items : List ItemValue) (read : List ReplyValue)
@@ -161,7 +198,11 @@ impl Engine {
             return Err(ticket);
         }
         let mut parcels = ArrayVec::new();
-        self.front.take_into(&mut parcels, ticket);
+        let mut ticket = ticket;
+        match self.front.try_take(&mut parcels, &mut ticket) {
+            Ok(()) => {}
+            Err(_) => return Err(ticket),
+        }
         let count = parcels.len();
         prove!(count <= 2);
         apply_all(&mut self.ledger, &mut self.unread, &mut parcels);
@@ -193,10 +234,24 @@ impl Engine {
         if submitter >= self.submitters {
             return Some(Refusal::BadSubmitters);
         }
+        if self.stopped() {
+            return Some(Refusal::Stopped);
+        }
         if self.numbers[submitter as usize] == u64::MAX {
             return Some(Refusal::Full);
         }
         None
+    }
+
+    /// Returns why `submit` would refuse a packet with this operation and data if memory is there; None if it would
+    /// queue the packet. Reads only the length of the data.
+    pub fn refusal_of(&self, submitter: u32, operation: u8, bytes: &[u8]) -> Option<Refusal>
+        ensures { (user : ℕ) → result ≡ submit_refusal self.now submitter (packet_with operation bytes.now user) }
+    {
+        match self.refusal(submitter) {
+            Some(refusal) => Some(refusal),
+            None => admission_refusal(self.limit, operation, bytes),
+        }
     }
 
     /// Queues a submitter's packet and returns its number, which counts that submitter's packets from 0. The packet
@@ -205,7 +260,8 @@ impl Engine {
     /// # Errors
     ///
     /// Returns the packet with the first refusal that applies, and nothing has changed: `BadSubmitters` if there is no
-    /// such submitter, `Full` if it has no number left, the refusal of `admit`, `NoMemory`.
+    /// such submitter, `Stopped` if the engine stopped, `Full` if the submitter has no number left, the refusal of
+    /// `admit`, `NoMemory`.
     pub fn submit(
         &mut self,
         alloc: Global,
@@ -247,7 +303,8 @@ impl Engine {
     ///
     /// # Errors
     ///
-    /// `MomentTooLarge` above `MOMENT_MAX`, then `Shutdown` after `shut`, then `NoMemory`. Nothing has changed then.
+    /// `MomentTooLarge` above `MOMENT_MAX`, then `Shutdown` after `shut`, then `Stopped` if the engine stopped, then
+    /// `NoMemory`. Nothing has changed then.
     pub fn pulse(&mut self, nanoseconds: u64) -> Result<(), Refusal>
         ensures ok { OnOk result (Queues self.old
             (ticket_of self.old.front.submitters (item.Pulse nanoseconds)) self.new) }
@@ -260,6 +317,9 @@ impl Engine {
         }
         if self.shut {
             return Err(Refusal::Shutdown);
+        }
+        if self.stopped() {
+            return Err(Refusal::Stopped);
         }
         self.take_control(Item::Pulse(Moment::new(nanoseconds)))?;
         Ok(())
@@ -329,6 +389,35 @@ impl Engine {
         ensures { result ≡ balanced_account (state_of self.now).facts id }
     {
         self.ledger.machine().account(id)
+    }
+
+    /// Returns the account at an index in the order of making, counted from 0, and its balances; None if there are no
+    /// more.
+    pub fn account_at(&self, index: usize) -> Option<Account>
+        ensures { result ≡ slice_get (balanced_accounts (state_of self.now).facts) index }
+    {
+        self.ledger.machine().account_at(index)
+    }
+
+    /// Returns the transfer with this id; None if there is none. A post or a void has its resolved fields.
+    pub fn lookup_transfer(&self, id: u128) -> Option<Transfer>
+        ensures { result ≡ transfer_with (state_of self.now).facts id }
+    {
+        self.ledger.machine().transfer(id)
+    }
+
+    /// Returns the status of the pending transfer with this id; None if there is no such transfer or it isn't pending.
+    pub fn transfer_status(&self, id: u128) -> Option<Status>
+        ensures { result ≡ status_with (state_of self.now).facts id }
+    {
+        self.ledger.machine().status(id)
+    }
+
+    /// Returns whether the engine stopped: memory ran out as a batch was committed, and nothing more is committed.
+    pub fn stopped(&self) -> bool
+        ensures { result ≡ has_stopped self.now }
+    {
+        self.ledger.stopped()
     }
 
     /// Returns the clock in nanoseconds.

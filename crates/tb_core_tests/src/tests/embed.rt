@@ -3,8 +3,11 @@
 use std::alloc::Global;
 use std::process::Abort;
 use tb_embed::{Engine, Seed};
-use tb_layout::{CREATE_ACCOUNTS, CREATE_TRANSFERS, LOOKUP_ACCOUNTS, MOMENT_MAX};
-use tb_test_makers::{check, zeros};
+use tb_layout::{
+    Account, CREATE_ACCOUNTS, CREATE_TRANSFERS, LOOKUP_ACCOUNTS, MOMENT_MAX, NoMemory, Transfer,
+};
+use tb_tables::Status;
+use tb_test_makers::{account, accounts_packet, check, transfer, transfers_packet, zeros};
 use tb_work::{Outcome, Packet, Refusal, Reply};
 
 #[derive(Clone, Copy)]
@@ -151,5 +154,79 @@ fn calls_in_a_row_with_a_seed_after_refused_reservations(rt: HostRuntime) {
     check!(&rt; engine.reserve(0, 1 << 60) == Err(Refusal::NoMemory));
     check!(&rt; engine.reserve(usize::MAX, 0) == Err(Refusal::NoMemory));
     check!(&rt; rows_hold(&mut engine, rt.alloc()));
+    drop(engine);
+}
+
+/// What a limit of two events and three submitters refuses by operation and size alone.
+const SIZES: [(u32, u8, usize, Option<Refusal>); 8] = [
+    (0, CREATE_ACCOUNTS, 0, None),
+    (2, CREATE_TRANSFERS, 256, None),
+    (0, LOOKUP_ACCOUNTS, 32, None),
+    (3, 0, 1, Some(Refusal::BadSubmitters)),
+    (0, 0, 128, Some(Refusal::InvalidOperation)),
+    (0, CREATE_TRANSFERS, 129, Some(Refusal::InvalidDataSize)),
+    (0, LOOKUP_ACCOUNTS, 48, Some(Refusal::TooMuchData)),
+    (0, CREATE_ACCOUNTS, 384, Some(Refusal::TooMuchData)),
+];
+
+fn sizes_hold(engine: &Engine, alloc: Global) -> bool {
+    for (submitter, operation, size, want) in SIZES.iter() {
+        let Ok(bytes) = Vec::from_elem(alloc, 0u8, *size) else {
+            return false;
+        };
+        if engine.refusal_of(*submitter, *operation, bytes.as_slice()) != *want {
+            return false;
+        }
+    }
+    true
+}
+
+#[test]
+fn refused_by_operation_and_size_alone(rt: HostRuntime) {
+    let engine = Engine::new(rt.alloc(), 0, 2, 3)
+        .ok()
+        .expect(&rt, "settings");
+    check!(&rt; sizes_hold(&engine, rt.alloc()));
+    check!(&rt; !engine.stopped());
+    drop(engine);
+}
+
+/// Commits accounts 7 and 5, and transfer 1 and pending transfer 2 between them.
+fn fill(engine: &mut Engine, alloc: Global) -> Result<bool, NoMemory> {
+    let accounts = accounts_packet(alloc, &[account(7, 0), account(5, 0)])?;
+    let transfers = [
+        transfer(1, [7, 5], 30, 0),
+        transfer(2, [7, 5], 10, Transfer::PENDING),
+    ];
+    let made = submitted(engine, alloc, 0, accounts);
+    let moved = submitted(engine, alloc, 0, transfers_packet(alloc, &transfers)?);
+    Ok(made == Got::Number(0) && moved == Got::Number(1) && engine.flush() == Ok(()))
+}
+
+fn is_account(found: Option<Account>, id: u128, debits_posted: u128) -> bool {
+    match found {
+        Some(account) => account.id == id && account.debits_posted == debits_posted,
+        None => false,
+    }
+}
+
+fn is_transfer(found: Option<Transfer>, amount: u128) -> bool {
+    match found {
+        Some(transfer) => transfer.amount == amount && transfer.debit_account_id == 7,
+        None => false,
+    }
+}
+
+#[test]
+fn looked_up_by_index_and_by_id(rt: HostRuntime) {
+    let mut engine = Engine::new(rt.alloc(), 0, 8190, 1)
+        .ok()
+        .expect(&rt, "settings");
+    check!(&rt; fill(&mut engine, rt.alloc()) == Ok(true));
+    check!(&rt; is_account(engine.account_at(0), 7, 30) && is_account(engine.account_at(1), 5, 0));
+    check!(&rt; engine.account_at(2).is_none() && engine.lookup_transfer(7).is_none());
+    check!(&rt; is_transfer(engine.lookup_transfer(1), 30) && is_transfer(engine.lookup_transfer(2), 10));
+    check!(&rt; engine.transfer_status(1).is_none() && engine.transfer_status(3).is_none());
+    check!(&rt; engine.transfer_status(2) == Some(Status::Pending));
     drop(engine);
 }

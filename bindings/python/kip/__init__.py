@@ -1,0 +1,463 @@
+"""TigerBeetle's ledger in one process and in memory, for tests; by ctypes over libkip.so.
+
+    import kip as tb
+
+    with tb.ClientSync() as client:
+        client.create_accounts([tb.Account(id=1, ledger=1, code=1), tb.Account(id=2, ledger=1, code=1)])
+        results = client.create_transfers([tb.Transfer(id=1, debit_account_id=1, credit_account_id=2, amount=30,
+                                                       ledger=1, code=1)])
+        assert results == [] and client.lookup_accounts([1])[0].debits_posted == 30
+
+`ClientSync` has the names and arguments of TigerBeetle's Python client; `Ledger` is what is behind it, with packets, pulses
+and submitters. Only events that failed have a result. A packet that isn't committed raises `NotCommitted`.
+
+The library is that of the environment variable KIP_SO, else the one in this package, else the one that the system's
+loader finds.
+"""
+import ctypes
+import dataclasses
+import enum
+import functools
+import os
+import pathlib
+import secrets
+import struct
+import threading
+import time
+import typing
+
+from .results import CreateAccountResult, CreateTransferResult
+
+CREATE_ACCOUNTS, CREATE_TRANSFERS, LOOKUP_ACCOUNTS = 129, 130, 131
+COMMITTED, SHUTDOWN, STOPPED = 0, 7, 8
+STATUSES = {1: "invalid_operation", 2: "invalid_data_size", 3: "too_much_data", 5: "full", 6: "no_memory", 7: "shutdown",
+            8: "stopped", 9: "bad_limit", 11: "bad_submitters", 12: "moment_too_large", 100: "closed", 101: "already_open"}
+OUTCOMES = {COMMITTED: "committed", SHUTDOWN: "shutdown", STOPPED: "stopped"}
+NO_REPLY, TOO_SMALL, NOT_FOUND = 102, 103, 104
+HALF = 2**64 - 1
+amount_max = 2**128 - 1
+
+
+class KipError(Exception):
+    """A refused call. The ledger is as it was. `name` is the status's name as in kip.h."""
+
+    def __init__(self, status):
+        self.status = status
+        self.name = STATUSES.get(status, "unknown")
+        super().__init__(self.name)
+
+
+class NotCommitted(Exception):
+    """A packet was queued and isn't committed: after `shut`, or because the ledger stopped. `outcome` says which."""
+
+    def __init__(self, outcome):
+        self.outcome = outcome
+        super().__init__(OUTCOMES[outcome])
+
+
+class AccountFlags(enum.IntFlag):
+    NONE = 0
+    LINKED = 1
+    DEBITS_MUST_NOT_EXCEED_CREDITS = 2
+    CREDITS_MUST_NOT_EXCEED_DEBITS = 4
+    HISTORY = 8
+
+
+class TransferFlags(enum.IntFlag):
+    NONE = 0
+    LINKED = 1
+    PENDING = 2
+    POST_PENDING_TRANSFER = 4
+    VOID_PENDING_TRANSFER = 8
+
+
+class PendingStatus(enum.IntEnum):
+    """The status of a transfer; `NONE` if it isn't pending."""
+
+    NONE = 0
+    PENDING = 1
+    POSTED = 2
+    VOIDED = 3
+    EXPIRED = 4
+
+
+class CreateAccountsResult(typing.NamedTuple):
+    index: int
+    result: CreateAccountResult
+
+
+class CreateTransfersResult(typing.NamedTuple):
+    index: int
+    result: CreateTransferResult
+
+
+@dataclasses.dataclass(slots=True)
+class Account:
+    id: int = 0
+    debits_pending: int = 0
+    debits_posted: int = 0
+    credits_pending: int = 0
+    credits_posted: int = 0
+    user_data_128: int = 0
+    user_data_64: int = 0
+    user_data_32: int = 0
+    ledger: int = 0
+    code: int = 0
+    flags: int = 0
+    timestamp: int = 0
+    reserved: int = 0
+
+
+@dataclasses.dataclass(slots=True)
+class Transfer:
+    id: int = 0
+    debit_account_id: int = 0
+    credit_account_id: int = 0
+    amount: int = 0
+    pending_id: int = 0
+    user_data_128: int = 0
+    user_data_64: int = 0
+    user_data_32: int = 0
+    timeout: int = 0
+    ledger: int = 0
+    code: int = 0
+    flags: int = 0
+    timestamp: int = 0
+
+
+_RECORD = struct.Struct("<12QQIIIHHQ")
+
+
+def _pack(records, put):
+    """Returns the records' bytes in one buffer. A field out of its range is an OverflowError."""
+    buffer = bytearray(128 * len(records))
+    for index, record in enumerate(records):
+        try:
+            put(buffer, 128 * index, record)
+        except struct.error as error:
+            raise OverflowError(f"event {index}: {record}") from error
+    return buffer
+
+
+def _put_account(buffer, offset, it, pack_into=_RECORD.pack_into):
+    id, user = it.id, it.user_data_128
+    if it.debits_pending or it.debits_posted or it.credits_pending or it.credits_posted:
+        sums = (it.debits_pending, it.debits_posted, it.credits_pending, it.credits_posted)
+        halves = [half for value in sums for half in (value & HALF, value >> 64)]
+        pack_into(buffer, offset, id & HALF, id >> 64, *halves, user & HALF, user >> 64, it.user_data_64, it.user_data_32,
+                  it.reserved, it.ledger, it.code, it.flags, it.timestamp)
+        return
+    pack_into(buffer, offset, id & HALF, id >> 64, 0, 0, 0, 0, 0, 0, 0, 0, user & HALF, user >> 64, it.user_data_64,
+              it.user_data_32, it.reserved, it.ledger, it.code, it.flags, it.timestamp)
+
+
+def _put_transfer(buffer, offset, it, pack_into=_RECORD.pack_into):
+    id, debit, credit, amount = it.id, it.debit_account_id, it.credit_account_id, it.amount
+    pending, user = it.pending_id, it.user_data_128
+    pack_into(buffer, offset, id & HALF, id >> 64, debit & HALF, debit >> 64, credit & HALF, credit >> 64, amount & HALF,
+              amount >> 64, pending & HALF, pending >> 64, user & HALF, user >> 64, it.user_data_64, it.user_data_32,
+              it.timeout, it.ledger, it.code, it.flags, it.timestamp)
+
+
+def _wide(words):
+    return [words[i] | words[i + 1] << 64 for i in range(0, 12, 2)]
+
+
+def _account(data):
+    words = _RECORD.unpack(data)
+    user_64, user_32, reserved, *rest = words[12:]
+    return Account(*_wide(words), user_64, user_32, *rest, reserved)
+
+
+def _transfer(data):
+    words = _RECORD.unpack(data)
+    return Transfer(*_wide(words), *words[12:])
+
+
+class _Ids:
+    """Makes ids as TigerBeetle's clients do: milliseconds since 1970 in 48 bits, above 80 bits that are random and rise."""
+
+    def __init__(self):
+        self._lock = threading.Lock()
+        self._moment = self._random = 0
+
+    def __call__(self):
+        with self._lock:
+            now = time.time_ns() // 10**6
+            if now > self._moment:
+                self._moment, self._random = now, secrets.randbits(80)
+            else:
+                self._random += 1
+                if self._random >> 80:
+                    raise OverflowError("no id is left in this millisecond")
+            return self._moment << 80 | self._random
+
+
+id = _Ids()
+
+
+class _Handle(ctypes.Structure):
+    _fields_ = [("engine", ctypes.c_void_p), ("is_open", ctypes.c_bool)]
+
+
+class _Head(ctypes.Structure):
+    _fields_ = [("user_data", ctypes.c_uint64), ("number", ctypes.c_uint64), ("place", ctypes.c_uint64),
+                ("size", ctypes.c_uint64), ("submitter", ctypes.c_uint32), ("outcome", ctypes.c_uint32),
+                ("operation", ctypes.c_uint32), ("reserved", ctypes.c_uint32)]
+
+
+@dataclasses.dataclass(frozen=True)
+class Reply:
+    """The reply to one packet. `results` and `place` raise `NotCommitted` if the packet isn't committed."""
+
+    submitter: int
+    number: int
+    operation: int
+    user_data: int
+    outcome: int
+    _place: int
+    _results: bytes
+
+    def _checked(self):
+        if self.outcome != COMMITTED:
+            raise NotCommitted(self.outcome)
+
+    @property
+    def place(self):
+        self._checked()
+        return self._place
+
+    @property
+    def results(self):
+        self._checked()
+        return self._results
+
+
+def _number(value, bits):
+    """Returns the value, which ctypes would cut to so many bits."""
+    if not 0 <= value < 1 << bits:
+        raise OverflowError(value)
+    return value
+
+
+def library_path():
+    """Returns the library's path."""
+    here = pathlib.Path(__file__).resolve().parent
+    beside = here / "libkip.so"
+    return str(beside) if beside.exists() else "libkip.so.0.1"
+
+
+@functools.cache
+def _load(path):
+    library = ctypes.CDLL(path)
+    u8, u32, u64 = ctypes.c_uint8, ctypes.c_uint32, ctypes.c_uint64
+    address, size = ctypes.c_void_p, ctypes.c_size_t
+    for name, arguments in {
+        "version": [], "open": [address, u64, u32, u32], "close": [address],
+        "open_seeded": [address, u64, u32, u32, u64, u64], "reserve": [address, size, size],
+        "submit_bytes": [address, u32, u8, address, size, u64, address], "pulse": [address, u64],
+        "shut": [address], "flush": [address], "reply_bytes": [address, address, address, size], "stopped": [address],
+        "lookup_account": [address, u64, u64, address], "account_at": [address, size, address],
+        "lookup_transfer": [address, u64, u64, address, address], "clock": [address, address],
+    }.items():
+        call = getattr(library, f"kip_{name}")
+        call.argtypes, call.restype = arguments, u32
+    return library
+
+
+def _locked(method):
+    """Makes a method wait while another thread is in one of this ledger."""
+    @functools.wraps(method)
+    def wrapped(self, *arguments, **named):
+        with self._lock:
+            return method(self, *arguments, **named)
+    return wrapped
+
+
+class Ledger:
+    """A ledger in memory. Any thread may use it, one at a time; close it or use it in a `with`.
+
+    Give a seed if ids can be chosen by someone you don't trust: `seed=(secrets.randbits(64), secrets.randbits(64))`.
+    Replies don't depend on it.
+    """
+
+    def __init__(self, clock=0, limit=8190, submitters=1, library=None, seed=None):
+        self._is_open = False
+        self._lock = threading.RLock()
+        self._replies = {}
+        self._library = _load(str(library or os.environ.get("KIP_SO") or library_path()))
+        self._handle = _Handle()
+        self._at = ctypes.addressof(self._handle)
+        self._buffer = ctypes.create_string_buffer(128)
+        settings = _number(clock, 64), _number(limit, 32), _number(submitters, 32)
+        if seed is None:
+            self._must(self._library.kip_open(self._at, *settings))
+        else:
+            low, high = seed
+            self._must(self._library.kip_open_seeded(self._at, *settings, _number(low, 64), _number(high, 64)))
+        self._is_open = True
+
+    @staticmethod
+    def _must(status):
+        if status:
+            raise KipError(status)
+
+    def __enter__(self):
+        return self
+
+    def __exit__(self, *_):
+        self.close()
+
+    def __del__(self):
+        if getattr(self, "_is_open", False):
+            self.close()
+
+    @_locked
+    def close(self):
+        """Frees the ledger. A second close raises `closed`."""
+        self._is_open = False
+        self._must(self._library.kip_close(self._at))
+
+    @_locked
+    def reserve(self, accounts=0, transfers=0):
+        """Reserves capacity for accounts and transfers that are still to be made.
+
+        Until then no commit waits for their maps to grow. After `no_memory` the ledger can be used further.
+        """
+        self._must(self._library.kip_reserve(self._at, _number(accounts, 64), _number(transfers, 64)))
+
+    @_locked
+    def submit(self, operation, data, submitter=0, user_data=0):
+        """Queues a packet with a copy of its bytes, and returns its number among its submitter's."""
+        number = ctypes.c_uint64()
+        # A bytes object without bytes has an address too, so no null is passed.
+        data = data if isinstance(data, bytes) else bytes(data)
+        self._must(self._library.kip_submit_bytes(self._at, _number(submitter, 32), _number(operation, 8), data,
+                                                  len(data), _number(user_data, 64), ctypes.byref(number)))
+        return number.value
+
+    @_locked
+    def pulse(self, nanoseconds):
+        """Queues a pulse, which raises the clock."""
+        self._must(self._library.kip_pulse(self._at, _number(nanoseconds, 64)))
+
+    @_locked
+    def shut(self):
+        """Queues the Close: packets after it aren't committed."""
+        self._must(self._library.kip_shut(self._at))
+
+    @_locked
+    def flush(self):
+        """Commits the packets that wait for others to join."""
+        self._must(self._library.kip_flush(self._at))
+
+    @_locked
+    def stopped(self):
+        """Returns whether memory ran out as a batch was committed: nothing more is committed."""
+        status = self._library.kip_stopped(self._at)
+        if status not in (0, STOPPED):
+            raise KipError(status)
+        return status == STOPPED
+
+    def _next(self):
+        head = _Head()
+        while True:
+            status = self._library.kip_reply_bytes(self._at, ctypes.byref(head), self._buffer, len(self._buffer))
+            if status == NO_REPLY:
+                return None
+            if status != TOO_SMALL:
+                break
+            self._buffer = ctypes.create_string_buffer(head.size)
+        self._must(status)
+        return Reply(head.submitter, head.number, head.operation, head.user_data, head.outcome, head.place,
+                     ctypes.string_at(self._buffer, head.size))
+
+    @_locked
+    def reply(self, number=None, submitter=0):
+        """Returns the next reply, or with a number that packet's; None if it isn't there yet.
+
+        Replies to other packets that are read meanwhile are kept, and returned by later calls.
+        """
+        if number is None:
+            if self._replies:
+                return self._replies.pop(next(iter(self._replies)))
+            return self._next()
+        wanted = submitter, number
+        while wanted not in self._replies and (reply := self._next()) is not None:
+            self._replies[reply.submitter, reply.number] = reply
+        return self._replies.pop(wanted, None)
+
+    def _committed(self, operation, data):
+        """Commits one packet of submitter 0, and returns its results."""
+        number = self.submit(operation, data)
+        self.flush()
+        return self.reply(number).results
+
+    @_locked
+    def create_accounts(self, accounts):
+        """Commits one packet, and returns a result for each event that failed."""
+        results = self._committed(CREATE_ACCOUNTS, _pack(accounts, _put_account))
+        return [CreateAccountsResult(index, CreateAccountResult(code)) for index, code in struct.iter_unpack("<II", results)]
+
+    @_locked
+    def create_transfers(self, transfers):
+        """Commits one packet, and returns a result for each event that failed."""
+        results = self._committed(CREATE_TRANSFERS, _pack(transfers, _put_transfer))
+        return [CreateTransfersResult(index, CreateTransferResult(code)) for index, code in struct.iter_unpack("<II", results)]
+
+    def _found(self, status, buffer, made):
+        if status == NOT_FOUND:
+            return None
+        self._must(status)
+        return made(buffer.raw)
+
+    @_locked
+    def lookup_account(self, id):
+        """Returns the account with an id, or None. Packets that wait aren't in it."""
+        buffer, id = ctypes.create_string_buffer(128), _number(id, 128)
+        return self._found(self._library.kip_lookup_account(self._at, id & HALF, id >> 64, buffer), buffer, _account)
+
+    def _transfer_and_status(self, id):
+        buffer, pending, id = ctypes.create_string_buffer(128), ctypes.c_uint32(), _number(id, 128)
+        status = self._library.kip_lookup_transfer(self._at, id & HALF, id >> 64, buffer, ctypes.byref(pending))
+        return self._found(status, buffer, _transfer), PendingStatus(pending.value)
+
+    @_locked
+    def lookup_transfer(self, id):
+        """Returns the transfer with an id, or None. Packets that wait aren't in it."""
+        return self._transfer_and_status(id)[0]
+
+    @_locked
+    def transfer_status(self, id):
+        """Returns the status of the transfer with an id; `NONE` if it isn't pending or there is none."""
+        return self._transfer_and_status(id)[1]
+
+    def lookup_accounts(self, ids):
+        """Returns the accounts with these ids, in their order; ids without one are left out."""
+        return [found for found in map(self.lookup_account, ids) if found is not None]
+
+    def lookup_transfers(self, ids):
+        """Returns the transfers with these ids, in their order; ids without one are left out."""
+        return [found for found in map(self.lookup_transfer, ids) if found is not None]
+
+    @_locked
+    def accounts(self):
+        """Returns all accounts in the order of making."""
+        found, buffer = [], ctypes.create_string_buffer(128)
+        while (account := self._found(self._library.kip_account_at(self._at, len(found), buffer), buffer, _account)):
+            found.append(account)
+        return found
+
+    @_locked
+    def clock(self):
+        """Returns the clock in nanoseconds."""
+        now = ctypes.c_uint64()
+        self._must(self._library.kip_clock(self._at, ctypes.byref(now)))
+        return now.value
+
+
+class ClientSync(Ledger):
+    """A stand-in for TigerBeetle's client: the same names and arguments, and a ledger of its own in place of a cluster."""
+
+    def __init__(self, cluster_id=0, replica_addresses="", **settings):
+        super().__init__(**settings)
