@@ -1,13 +1,20 @@
-"""The workspace that crates.txt describes: what each crate depends on, what is built of it, and how rattle, the prover that rt
-calls, is called for it."""
+"""The workspace that crates.txt describes: what each crate depends on, what is built of it, of which sources, and how rattle, the
+prover that rt calls, is called for it.
+
+Its calls of rattle repeat what `rt ci` gives it. If another kit renames a word of that command line, or a folder of the kit
+(`rlibs`, `logic_built`, `toolchain`, `c`), `rattle` and `build` of tools/build-crates change; `rt check` in a crate shows the words,
+by `ps`."""
 
 import argparse
 import functools
+import hashlib
 import os
 import pathlib
 import shutil
+import signal
 import subprocess
 import sys
+import threading
 
 TOP = pathlib.Path(__file__).resolve().parent.parent
 CRATES = TOP / "crates"
@@ -28,7 +35,7 @@ def options_with_crates(usage, how_many, *options):
     for option in options:
         parser.add_argument(option)
     found = parser.parse_args()
-    for crate in found.crates:
+    for crate in [*found.crates, *filter(None, [getattr(found, "anew", None)])]:
         if crate not in dependencies():
             parser.error(f"crates.txt has no crate {crate}")
     return found
@@ -50,9 +57,8 @@ def dependencies():
 
 @functools.cache
 def closure(crate):
-    """Returns a crate and all that it depends on, lowest first."""
-    below = {it for dependency in dependencies()[crate] for it in closure(dependency)}
-    return [*(it for it in dependencies() if it in below), crate]
+    """Returns a crate and all that it depends on, each after what it depends on, in whatever order crates.txt has them."""
+    return [*dict.fromkeys(it for dependency in dependencies()[crate] for it in closure(dependency)), crate]
 
 
 def is_program(crate):
@@ -99,6 +105,38 @@ def rattle(verb, crate, *words):
     ]
 
 
+# The process groups of the commands that are running.
+RUNNING, RUNNING_LOCK = set(), threading.Lock()
+
+
+def run_prover(words, **how):
+    """Runs a command in a process group of its own, with what it prints as text, and ends the group if this program is ended."""
+    pipes = {"stdin": subprocess.DEVNULL, "stdout": subprocess.PIPE, "stderr": subprocess.STDOUT, "text": True}
+    with RUNNING_LOCK:
+        command = subprocess.Popen(words, start_new_session=True, **pipes, **how)
+        RUNNING.add(command.pid)
+    printed, _ = command.communicate()
+    with RUNNING_LOCK:
+        RUNNING.discard(command.pid)
+    return subprocess.CompletedProcess(words, command.returncode, printed)
+
+
+def end_provers_with_this(tool):
+    """Has an interrupt, and what ends this program otherwise, end all commands of run_prover first."""
+
+    def end(number, _):
+        for group in list(RUNNING):
+            try:
+                os.killpg(group, signal.SIGTERM)
+            except ProcessLookupError:
+                pass
+        print(f"{tool}: interrupted; what is built stays", file=sys.stderr, flush=True)
+        os._exit(128 + number)
+
+    for number in (signal.SIGINT, signal.SIGTERM, signal.SIGHUP):
+        signal.signal(number, end)
+
+
 def show(crate, printed):
     """Shows what rattle printed of a crate on standard error, but not what only says that a thing is proved or was read."""
     usual = ("logic ", "statements ", "library ", "crate ", "axioms ", "linked ", "by-macro: ")
@@ -127,7 +165,66 @@ def proof_lanes():
     return max(1, min(len(os.sched_getaffinity(0)), free // PROOF_MAX))
 
 
+@functools.cache
+def files_read(crate):
+    """Returns the files of a crate that its proof and build read, each with its sum."""
+    found = [it for part in SOURCES for it in (CRATES / crate / part).rglob("*") if it.is_file()]
+    return [f"{sum_of_file(it)}  {it.relative_to(TOP)}" for it in sorted(found)]
+
+
+def sum_of_file(file):
+    """Returns the SHA-256 of a file, or nothing if there is no file."""
+    return hashlib.sha256(file.read_bytes()).hexdigest() if file.is_file() else ""
+
+
+def sum_of_workspace(crate):
+    """Returns the sum of all that a crate's proof and build read of this workspace: HANDLES, and for the crate and each that it
+    depends on, its line of crates.txt and its files."""
+    read = [(TOP / "HANDLES").read_text()]
+    for name in sorted(closure(crate)):
+        files = files_read(name)
+        if not files:
+            sys.exit(f"crates.txt names {name}, and crates/{name} has no sources: without them no sum says what a program was made of")
+        words, below = lines()[name]
+        read += [f"{' '.join([name, *words])}: {' '.join(below)}", *files]
+    return hashlib.sha256("\n".join(read).encode()).hexdigest()
+
+
 def sum_of_sources(crate):
     """Returns the sum of all that a crate's proof and build read of this workspace, and the name of the kit."""
-    found = subprocess.run([TOP / "tools/sources-sum", crate], stdout=subprocess.PIPE, text=True, check=True)
-    return f"{found.stdout.strip()} {(kit() / 'KIT-ID').read_text()}"
+    return f"{sum_of_workspace(crate)} {(kit() / 'KIT-ID').read_text()}"
+
+
+def sums_anew():
+    """Forgets the sums of files, which may have changed."""
+    files_read.cache_clear()
+
+
+def stamp(crate):
+    """Returns the file that says of which sources a crate is built, and which program or library for C that gave."""
+    return built(crate).parent / "sources"
+
+
+def stamp_of(crate, sources, made=None):
+    """Returns what the stamp of a crate has that is built of sources with this sum, or that of another file made of it."""
+    return sources + sum_of_file(made or built(crate))
+
+
+def tests_of(crate):
+    """Returns the program of a crate's tests."""
+    return CRATES / crate / f"out/{crate}_tests"
+
+
+def tests_stamp(crate):
+    """Returns the file that says of which sources a crate's tests are built."""
+    return CRATES / crate / "out/tests_sources"
+
+
+def are_tests_built(crate):
+    found = tests_stamp(crate)
+    return tests_of(crate).exists() and found.exists() and found.read_text() == stamp_of(crate, sum_of_sources(crate), tests_of(crate))
+
+
+def is_built(crate):
+    """Returns whether a crate is built of the sources here by this kit, and is still what that gave."""
+    return built(crate).exists() and stamp(crate).exists() and stamp(crate).read_text() == stamp_of(crate, sum_of_sources(crate))
