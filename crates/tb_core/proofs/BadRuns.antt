@@ -1,20 +1,19 @@
 -- Which runs the headline excludes, and two that it doesn't.
-use Rattle.std.proofs.Common.{refl, sym, ap, subst, ◌∙◌, arith, ◌≡◌, ◌<◌, ◌≤◌, ℕ, zero, suc, ◌+◌, Bool, true, false, true≢false, List, [], ◌∷◌, ◌++◌, map, Option, Some, None}
-use Rattle.std.specs.Prelude.{◌==◌, ◌≢◌, slice_get}
+use Rattle.std.proofs.Common.{refl, sym, ap, subst, ◌∙◌, arith, ◌≡◌, ◌<◌, ◌≤◌, ℕ, zero, suc, true, false, true≢false, List, [], ◌∷◌, map, Some}
+use Rattle.std.specs.Prelude.{slice_get}
 use Rattle.std.proofs.lemmas.Bool.{ne_eqb}
-use Rattle.tb_layout.specs.Events.{Events, Input, Packet, Pulse}
+use Rattle.tb_layout.specs.Events.{Input, Packet, Pulse}
 use Rattle.tb_work.specs.Answer.{reply_with}
 use Rattle.tb_work.specs.Ahead.{items_in, part}
 use Rattle.tb_work.specs.Queue.{AreNumbered, IsEnded}
 use Rattle.tb_work.specs.Packet.{Numbered, ReplyValue, input_of}
-use Rattle.tb_work.specs.declared.item.Item.{Item}
 use Rattle.tb_work.specs.declared.item.Item.TheVariants as item
 use Rattle.tb_work.specs.declared.outcome.Outcome.{Outcome}
 use Rattle.tb_work.specs.declared.outcome.Outcome.TheVariants.{Committed, Shutdown, Stopped}
 use Rattle.tb_work.specs.declared.packet.Packet as packet
-use Rattle.tb_core.specs.BadRuns.{IsReplyTo, Excludes, CommitsAStranger, SaysOfCommitted, ShutsDownACommitted, StopsACommitted, DropsPulses, ChangesPlaces, ForgetsTheState, CommitsNothing, CommitsNothingRunning, CommitsNothingStopped, InventsAPacket, InventsAPulse, Overtakes, GivesAnothersReply, AnswersAnotherwise, LosesAnItem, stopped_at_once, MayStopAtOnce, closed_first, MayPopTheCloseFirst}
-use Rattle.tb_core.specs.EachSubmitter.{moments_in, moments_queued}
-use Rattle.tb_core.specs.EndedRun.{Run, committed_in, ahead_in, IsPrefix, is_stopped, any_stopped, NothingStopped}
+use Rattle.tb_core.specs.BadRuns.{IsReplyTo, Excludes, CommitsAStranger, ShutsDownACommitted, StopsACommitted, DropsPulses, ChangesPlaces, ForgetsTheState, CommitsNothing, CommitsNothingRunning, CommitsNothingStopped, InventsAPacket, InventsAPulse, Overtakes, GivesAnothersReply, AnswersAnotherwise, LosesAnItem, stopped_at_once, MayStopAtOnce, closed_first, MayPopTheCloseFirst}
+use Rattle.tb_core.specs.EachSubmitter.{moments_in}
+use Rattle.tb_core.specs.EndedRun.{Run, committed_in, ahead_in}
 use Rattle.tb_core.specs.Headline.{Headline, IsTrueOf, numbered_of, packets_queued}
 use Rattle.tb_core.proofs.EachSubmitter.{at-prefix, known-ahead, job-ahead, jobs-queued, from-least, rises, replied-ahead, pulses_are_the_controls}
 use Rattle.tb_core.proofs.Packets.{from-numbered}
@@ -152,7 +151,7 @@ closed-parts packet (suc (suc sender)) within = absurd (omega (arith, within))
 closed-alone : (packet : packet.Packet) (sender : ℕ) → 1 < sender → part sender (closed_first packet).queue ≡ []
 closed-alone packet sender above =
     rw (ne_eqb 1 sender (λ same. absurd (omega (arith, same, above)))) (
-      rw (ne_eqb 0 sender (λ same. absurd (omega (arith, same, above)))) refl
+    rw (ne_eqb 0 sender (λ same. absurd (omega (arith, same, above)))) refl
     )
 
 closed-numbered : (packet : packet.Packet) (sender : ℕ) → sender ≤ 1

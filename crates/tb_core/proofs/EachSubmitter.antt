@@ -1,8 +1,7 @@
 -- What follows from the headline for each submitter, for the pulses, and for each packet committed.
-use Rattle.std.proofs.Common.{refl, sym, ap, subst, ◌∙◌, arith, ◌≡◌, ◌<◌, ◌≤◌, ◌⊎◌, inl, inr, ℕ, zero, suc, ◌+◌, Bool, true, false, true≢false, List, [], ◌∷◌, ◌++◌, map, Option, Some, None}
-use Rattle.std.specs.Prelude.{◌==◌, ◌≢◌, filter, slice_get}
+use Rattle.std.proofs.Common.{refl, sym, ap, subst, ◌∙◌, arith, ◌≡◌, ◌<◌, ◌≤◌, ◌⊎◌, inl, inr, ℕ, zero, suc, ◌+◌, Bool, true, false, true≢false, List, [], ◌∷◌, ◌++◌, map, Some}
+use Rattle.std.specs.Prelude.{◌==◌, slice_get}
 use Rattle.std.proofs.lemmas.Bool.{eq-eqb, cases_order}
-use Rattle.std.proofs.lemmas.List.Elements.{filter-append}
 use Rattle.tb_layout.specs.declared.answer.Answer.{Answer}
 use Rattle.tb_layout.specs.Events.{Events, Input, Packet, Pulse}
 use Rattle.tb_work.specs.Packet.{Numbered, ReplyValue, input_of}
@@ -13,7 +12,7 @@ use Rattle.tb_work.specs.declared.outcome.Outcome.TheVariants.{Committed, Shutdo
 use Rattle.tb_work.specs.declared.item.Item.{Item}
 use Rattle.tb_work.specs.declared.item.Item.TheVariants as item
 use Rattle.tb_work.specs.declared.item.Ticket.{Ticket}
-use Rattle.tb_core.specs.EachSubmitter.{is_packet_of, packets_of, moments_in, moments_queued, CommittedOfEachSubmitter, PulsesAreTheControls, IsAnsweredAt, CommittedAreAnswered}
+use Rattle.tb_core.specs.EachSubmitter.{is_packet_of, packets_of, moments_in, moments_queued, CommittedOfEachSubmitter, PulsesAreTheControls, CommittedAreAnswered}
 use Rattle.tb_core.specs.EndedRun.{Run, committed_in, ahead_in, IsPrefix}
 use Rattle.tb_core.specs.Headline.{Headline, IsTrueOf, numbered_of, packets_queued}
 use Rattle.tb_core.proofs.HeadlineLemmas.{is-prefix-trans, prefix-filter}
@@ -127,7 +126,7 @@ pub job-ahead : (submitter number : ℕ) (events : Events) (items : List Item) (
     → slice_get (ahead items) place ≡ Some (Packet submitter number events)
     → IsJob submitter number events (jobs_of submitter items)
 job-ahead submitter number events [] place got = cc
-job-ahead submitter number events (item.Packet job ∷ items) place got = 
+job-ahead submitter number events (item.Packet job ∷ items) place got =
     by (job.submitter == submitter) place refl got (λ next. job-ahead submitter number events items next)
   where
     by : (own : Bool) (place : ℕ) → (job.submitter == submitter) ≡ own

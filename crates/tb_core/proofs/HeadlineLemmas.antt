@@ -1,22 +1,19 @@
 -- A lawful report has all that the headline says.
-use Rattle.std.proofs.Common.{refl, sym, ap, subst, ◌∙◌, arith, ◌≡◌, ◌<◌, ◌≤◌, ℕ, zero, suc, ◌+◌, Bool, true, false, true≢false, List, [], ◌∷◌, ◌++◌, map, take, length, length-append, append_assoc, append-nil, Option, Some, None}
+use Rattle.std.proofs.Common.{refl, sym, ap, subst, ◌∙◌, arith, ◌≡◌, ◌<◌, ℕ, zero, suc, ◌+◌, Bool, true, false, true≢false, List, [], ◌∷◌, ◌++◌, map, take, length, length-append, append_assoc, append-nil, Option, Some, None}
 use Rattle.std.specs.Prelude.{◌==◌, ◌≢◌, filter, slice_get, if◌then◌else◌}
 use Rattle.std.specs.List.{AllByRecursion}
 use Rattle.std.proofs.lemmas.Bool.{eq-eqb}
 use Rattle.std.proofs.lemmas.List.Elements.{filter-append}
-use Rattle.tb_layout.specs.declared.answer.Answer.{Answer}
 use Rattle.tb_layout.specs.Events.{Input, Packet, Pulse}
-use Rattle.tb_machine.specs.Replay.{replay, answer_of}
+use Rattle.tb_machine.specs.Replay.{replay}
 use Rattle.tb_machine.specs.AnswerAt.{answer_to}
 use Rattle.tb_work.specs.Packet.{Numbered, events_in, ReplyValue, input_of}
-use Rattle.tb_work.specs.Answer.{reply_with}
 use Rattle.tb_work.specs.Ahead.{ahead, items_in}
 use Rattle.tb_work.specs.declared.outcome.Outcome.{Outcome}
-use Rattle.tb_work.specs.declared.outcome.Outcome.TheVariants.{Committed, Shutdown, Stopped}
 use Rattle.tb_work.specs.declared.item.Item.{Item}
 use Rattle.tb_work.specs.declared.item.Item.TheVariants as item
 use Rattle.tb_core.specs.Due.{outcome_at, outcome_with, all_due_from, replies_to, Place, Ahead, Behind, next_place}
-use Rattle.tb_core.specs.Report.{ReportsHeadline, LawfulReport}
+use Rattle.tb_core.specs.Report.{ReportsHeadline}
 use Rattle.tb_core.specs.Headline.{IsTrueOf, packets_queued, numbered_of}
 use Rattle.tb_core.specs.EndedRun.{Run, committed_in, ahead_in, IsPrefix}
 use Rattle.tb_core.proofs.Packets.{jobs_of, jobs_with, jobs-part, AreFrom, from-numbered, AreBelow, nowhere-below, below-longer, below-append, below-first}
@@ -148,9 +145,9 @@ module _ (run : Run) (submitter : ℕ) (committed : IsPrefix (committed_in run) 
             (below-longer submitter number (number + 1) before (omega arith) below) (λ same. omega (arith, first))) from,
       )
       by false is_own from others = rw is_own (
-        others number (below-append submitter number before (input_of job) below
-            (λ same. absurd (true≢false (sym (eq-eqb job.submitter submitter same) ∙ is_own)))) from
-      )
+          others number (below-append submitter number before (input_of job) below
+          (λ same. absurd (true≢false (sym (eq-eqb job.submitter submitter same) ∙ is_own)))) from
+          )
   true-ahead k number before (item.Pulse moment ∷ items) at is below from =
       true-ahead (k + 1) number (before ++ Pulse moment ∷ []) items
       (omega (arith, at, length-append before (Pulse moment ∷ [])))

@@ -1,11 +1,10 @@
 -- The packets of one submitter in a queue, and what they are numbered.
-use Rattle.std.proofs.Common.{refl, sym, ap, subst, ◌∙◌, arith, ◌≡◌, ◌<◌, ◌≤◌, ℕ, zero, suc, ◌+◌, Bool, true, false, true≢false, List, [], ◌∷◌, ◌++◌, map, length, length-append, append_assoc, Option, Some, None}
+use Rattle.std.proofs.Common.{refl, ap, subst, ◌∙◌, arith, ◌≡◌, ◌<◌, ◌≤◌, ℕ, zero, suc, ◌+◌, Bool, true, false, List, [], ◌∷◌, ◌++◌, map, length, Some, None}
 use Rattle.std.specs.Prelude.{◌==◌, ◌≢◌, filter, slice_get, if◌then◌else◌}
 use Rattle.std.specs.List.{AllByRecursion}
-use Rattle.std.proofs.lemmas.Bool.{eq-eqb}
 use Rattle.tb_layout.specs.Events.{Events, Input, Packet, Pulse}
-use Rattle.tb_work.specs.Packet.{Numbered, ReplyValue, input_of}
-use Rattle.tb_work.specs.Ahead.{ahead, items_in, part}
+use Rattle.tb_work.specs.Packet.{Numbered}
+use Rattle.tb_work.specs.Ahead.{items_in, part}
 use Rattle.tb_work.specs.Queue.{AreSubmitted, IsSubmitted, AreNumbered}
 use Rattle.tb_work.specs.declared.item.Item.{Item}
 use Rattle.tb_work.specs.declared.item.Item.TheVariants as item
@@ -114,8 +113,7 @@ pub below-first : (submitter bound : ℕ) (inputs rest before : List Input) (x :
 below-first submitter bound [] rest before x others is none all = tt
 below-first submitter bound (w ∷ inputs) rest [] x others is none all = cc
 below-first submitter bound (w ∷ inputs) rest (b ∷ before) x others is none all =
-    let same : b ≡ w = cc in
-    (
+    let same : b ≡ w = cc in (
       subst (IsBelow submitter bound) same all.0,
       below-first submitter bound inputs rest before x others (cc) none all.1,
     )

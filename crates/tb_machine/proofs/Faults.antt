@@ -8,7 +8,7 @@ use Rattle.tb_layout.specs.Events.{is_last_linked}
 use Rattle.tb_tables.specs.Facts.{Facts}
 use Rattle.tb_machine.specs.declared.fault.ChainFault.{ChainFault}
 use Rattle.tb_layout.specs.Limits.{clock_max}
-use Rattle.tb_machine.specs.Chain.{clock_after, clock_exhausted, Operation, Results, Attempt, Stored, Failed, verdict_after, try_events, failed_results, closed_chain, open_chain, chain_outcome}
+use Rattle.tb_machine.specs.Chain.{clock_after, Operation, Results, Attempt, Stored, Failed, try_events, closed_chain, open_chain, chain_outcome}
 use Rattle.tb_machine.specs.inside.Faults.{next_timestamp, verdict_at, facts_with, facts_with_all, first_fault, results_of_failed, closed_outcome, open_outcome}
 use Rattle.tb_machine.specs.Examining.{LiesBelow, fault_as}
 
@@ -84,9 +84,9 @@ tried operation index clock facts (event ∷ events) =
         let code = operation.verdict facts (clock + 1) event in
         let next : clock_after clock 1 ≡ clock + 1 = omega (arith, ltb-true clock clock_max is) in
         rw (is, next) (
-          ap (λ attempt. if code == 0 then attempt
-              else Failed (record { index = index; event = event; code = code })) rest
-              ∙ chosen_attempt (code == 0) _ _ (record { index = index; event = event; code = code })
+        ap (λ attempt. if code == 0 then attempt
+        else Failed (record { index = index; event = event; code = code })) rest
+        ∙ chosen_attempt (code == 0) _ _ (record { index = index; event = event; code = code })
         )
     by false is rest = rw is refl
 

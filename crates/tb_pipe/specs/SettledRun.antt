@@ -1,5 +1,5 @@
 -- What a run with threads is, as the report and the headline see it.
-use Rattle.std.specs.Prelude.{ℕ, List}
+use Rattle.std.specs.Prelude.{List}
 use Rattle.tb_core.specs.Journal.{LedgerState}
 use Rattle.tb_core.specs.EndedRun.{Run}
 use Rattle.tb_submit.specs.Ended.{EndedState, IntakeState, SenderState, queued_by, replies_of}

@@ -1,5 +1,5 @@
 -- The first fault of a chain apart from the facts that its events leave, as the code finds them.
-use Rattle.std.specs.Prelude.{ℕ, ◌+◌, ◌-◌, ◌==◌, List, [], ◌∷◌, ◌++◌, length, replicate, Option, Some, None, if◌then◌else◌, nat_lt}
+use Rattle.std.specs.Prelude.{ℕ, ◌+◌, ◌==◌, List, [], ◌∷◌, ◌++◌, length, replicate, Option, Some, None, if◌then◌else◌, nat_lt}
 use Rattle.tb_layout.specs.Limits.{clock_max}
 use Rattle.tb_tables.specs.Facts.{Facts}
 use Rattle.tb_machine.specs.declared.fault.ChainFault.{ChainFault}
@@ -57,4 +57,3 @@ module _ {Event : Type 0} (operation : Operation Event) where
         results = results_of_failed (length front) fault ++ linked_event_chain_open ∷ [];
         facts = facts_after_failure facts fault;
       }
-
