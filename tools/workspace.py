@@ -8,6 +8,8 @@ by `ps`."""
 import argparse
 import functools
 import hashlib
+import importlib.machinery
+import importlib.util
 import os
 import pathlib
 import shutil
@@ -28,12 +30,14 @@ def named_crates(usage, how_many):
     return options_with_crates(usage, how_many).crates
 
 
-def options_with_crates(usage, how_many, *options):
-    """Returns the options of the command line, each with its value or None, and as `crates` the crates that it names."""
+def options_with_crates(usage, how_many, *options, flags=()):
+    """Returns the options of the command line, each with its value or None, the flags, and as `crates` the crates that it names."""
     parser = argparse.ArgumentParser(usage=usage, formatter_class=argparse.RawDescriptionHelpFormatter)
     parser.add_argument("crates", nargs=how_many, metavar="CRATE")
     for option in options:
         parser.add_argument(option)
+    for flag in flags:
+        parser.add_argument(flag, action="store_true")
     found = parser.parse_args()
     for crate in [*found.crates, *filter(None, [getattr(found, "anew", None)])]:
         if crate not in dependencies():
@@ -203,6 +207,29 @@ def sums_anew():
 def stamp(crate):
     """Returns the file that says of which sources a crate is built, and which program or library for C that gave."""
     return built(crate).parent / "sources"
+
+
+def check_stamp(crate):
+    """Returns the file that says of which sources a crate was last proved by tools/check, which builds nothing."""
+    return CRATES / crate / "out/check_sources"
+
+
+def is_checked(crate):
+    return check_stamp(crate).exists() and check_stamp(crate).read_text() == sum_of_sources(crate)
+
+
+def length(crate):
+    """Returns a crate's lines of source, by which its proof's time is guessed."""
+    return sum(it.read_bytes().count(b"\n") for it in (CRATES / crate / "src").rglob("*.rt"))
+
+
+def tool(name):
+    """Returns a tool that is written in Python as a module."""
+    loader = importlib.machinery.SourceFileLoader(name.replace("-", "_"), str(TOP / "tools" / name))
+    found = importlib.util.module_from_spec(importlib.util.spec_from_loader(loader.name, loader))
+    sys.modules[loader.name] = found
+    loader.exec_module(found)
+    return found
 
 
 def stamp_of(crate, sources, made=None):
