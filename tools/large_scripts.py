@@ -1,5 +1,5 @@
 """Scripts of the largest sizes, each with the lines that the rules give for it: packets of 8,190 events, chains of each length, ids
-near 2^128, 25,000 packets, lines of 65,536 bytes, 16 submitters, the longest timeout and the last timestamps."""
+near 2^128, 70,000 packets, lines of 65,536 bytes, 16 submitters, the longest timeout and the last timestamps."""
 
 import functools
 
@@ -214,10 +214,82 @@ def sixteen_submitters():
     return script, [*printed, "clock 8000", *account_lines(range(1, 8001))]
 
 
+def between_sixteen_thousand_accounts():
+    """8,190 transfers between 16,380 accounts, each of two others, while more accounts are stored than a packet has events."""
+    ids = range(1, 2 * BATCH_MAX + 1)
+    script = ["packet 0 129", *map(account, ids[:BATCH_MAX]), "packet 0 129", *map(account, ids[BATCH_MAX:]), "packet 0 130"]
+    script += [transfer(number, number, 2 * BATCH_MAX + 1 - number, amount=number) for number in ids[:BATCH_MAX]]
+    # A transfer that is there, one whose debit account isn't, and the post of one that isn't pending.
+    script += ["packet 0 130", transfer(1, 1, 2 * BATCH_MAX), transfer(9000, 99_999, 1), f"transfer id=9001 pending_id=2 amount={MAX} flags=4"]
+    printed = [*(f"packet 0 {number} committed {number}" for number in range(3)), "packet 0 3 committed 3 0:46 1:21 2:26"]
+    printed.append(f"clock {3 * BATCH_MAX + 3}")
+    printed += [f"account {number} {number} 0 {number} 0 0" for number in ids[:BATCH_MAX]]
+    return script, printed + [f"account {number} {number} 0 0 0 {2 * BATCH_MAX + 1 - number}" for number in ids[BATCH_MAX:]]
+
+
+def seventy_thousand_lookups():
+    """70,000 look-ups of one submitter, each a batch, an entry and a place of its own."""
+    script, printed = ["packet 0 129", account(7)], ["packet 0 0 committed 0"]
+    for number in range(1, 70_000):
+        script += ["packet 0 131", f"id {7 if number % 10_000 == 0 else 0}"]
+        printed.append(f"packet 0 {number} committed {number}" + " 7:0:0:0:0" * (number % 10_000 == 0))
+    return script, [*printed, "clock 1", "account 7 1 0 0 0 0"]
+
+
+def full_packet_after_an_empty_one():
+    """A packet without events, and one of 8,190 transfers that joins it."""
+    script = ["packet 0 129", account(1), account(2), "packet 0 130", "packet 0 130"]
+    script += [transfer(number) for number in range(1, BATCH_MAX + 1)]
+    return script, [
+        *(f"packet 0 {number} committed {number}" for number in range(3)), f"clock {BATCH_MAX + 2}",
+        f"account 1 1 0 {BATCH_MAX} 0 0", f"account 2 2 0 0 0 {BATCH_MAX}",
+    ]
+
+
+def post_with_wide_user_data():
+    """A post with the greatest user data: the same again exists, and what differs in one bit of each has that field's code."""
+    wide = {"user_data_128": MAX, "user_data_64": 2**64 - 1, "user_data_32": 2**32 - 1}
+    post = lambda **fields: f"transfer id=2 pending_id=1 amount={MAX} flags=4 " + " ".join(f"{name}={value}" for name, value in fields.items())
+    script = ["packet 0 129", account(1), account(2), "packet 0 130", transfer(1, amount=9, flags=2), post(**wide), post(**wide)]
+    script += [post(**{**wide, name: value - 2**bit}) for name, value, bit in (
+        ("user_data_128", MAX, 127), ("user_data_64", 2**64 - 1, 63), ("user_data_32", 2**32 - 1, 31))]
+    return script, [
+        "packet 0 0 committed 0", "packet 0 1 committed 1" + failed([(2, 46), (3, 41), (4, 42), (5, 43)]), "clock 8",
+        "account 1 1 0 9 0 0", "account 2 2 0 0 0 9",
+    ]
+
+
+# Where a chain of transfers has its first fault, by its number of events: its code is transient, so it is undone, and then its id kept.
+# The last event of an open chain isn't examined.
+TRANSIENT = [(length, at, code, is_open) for length in (2, 1024, 4096, BATCH_MAX) for at in (0, length // 2, length - 1)
+             for code in (22, 54) for is_open in (False, True) if not (is_open and at == length - 1)]
+
+
+def chains_with_transient_faults():
+    """Chains whose event fails by 22 or 54, closed and left open. Later its id is refused with 68, and another id of the chain isn't."""
+    script, printed = ["packet 0 129", account(1), account(2), account(3, flags=2)], ["packet 0 0 committed 0"]
+    clock, moved, number = 3, 0, 0
+    for length, at, code, is_open in TRANSIENT:
+        first = clock + 1
+        script.append("packet 0 130")
+        for index in range(length):
+            sides = {} if index != at else {"credit": 9} if code == 22 else {"debit": 3}
+            script.append(transfer(first + index, **sides, flags=int(index < length - 1 or is_open)))
+        codes = [code if index == at else 2 if is_open and index == length - 1 else 1 for index in range(length)]
+        script += ["packet 0 130", transfer(first + at), transfer(first if at else first + length - 1)]
+        number += 2
+        printed += [f"packet 0 {number - 1} committed {number - 1}" + failed(enumerate(codes)), f"packet 0 {number} committed {number} 0:68"]
+        clock += length + 2
+        moved += 1
+    return script, [*printed, f"clock {clock}", f"account 1 1 0 {moved} 0 0", f"account 2 2 0 0 0 {moved}", "account 3 3 0 0 0 0"]
+
+
 # What `list` and `run` print alike: scripts of one submitter, whose order is no schedule's.
 ALIKE = [
     largest_packet, one_event_too_many, many_packets, longest_line, line_too_long, largest_lookup, failed_ids, full_bodies,
     chains_of_accounts, chains_of_transfers, limits_of_accounts, one_place_one_credit, two_thousand_packets,
+    between_sixteen_thousand_accounts, seventy_thousand_lookups, full_packet_after_an_empty_one, post_with_wide_user_data,
+    chains_with_transient_faults,
     *(functools.partial(end_of_clock, operation, left) for operation in (129, 130) for left in range(4)),
 ]
 
