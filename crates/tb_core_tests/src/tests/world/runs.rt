@@ -8,7 +8,7 @@ use crate::tests::told::{
 use std::alloc::Global;
 use std::process::Abort;
 use std::slice;
-use tb_layout::{Account, Failure, Transfer};
+use tb_layout::{Account, CLOCK_MAX, Failure, Transfer};
 use tb_test_makers::{account, check, transfer};
 use tb_work::{Item, Job, Refusal, Ticket};
 use tb_world::{Event, World, run_to_rest, run_world};
@@ -275,13 +275,16 @@ fn pushes_come_to_rest(rt: HostRuntime) {
     drop(world);
 }
 
-/// How many packets each of 16 submitters pushes, so that there are ten thousand.
-const EACH: u64 = 625;
+/// How many packets each of 16 submitters pushes, but the first, which pushes more. Together they are 10,016.
+const EACH: u64 = 601;
+
+const OF_THE_FIRST: u64 = 1001;
 
 /// Pushes the packets in turns: the first of each submitter, then the second of each.
 fn ten_thousand(rt: &(impl Abort + Alloc<A = Global>), events: &mut Vec<Event>) {
-    for number in 0..EACH {
-        for sender in 0..16 {
+    for number in 0..OF_THE_FIRST {
+        let senders = if number < EACH { 16 } else { 1 };
+        for sender in 0..senders {
             let packet = Made::Zeros {
                 number,
                 operation: 130,
@@ -292,17 +295,38 @@ fn ten_thousand(rt: &(impl Abort + Alloc<A = Global>), events: &mut Vec<Event>) 
     }
 }
 
+/// Returns the place of a packet in the order in which they are pushed.
+fn place_in_turns(number: u64, sender: u32) -> u64 {
+    if number < EACH {
+        16 * number + u64::from(sender)
+    } else {
+        number.wrapping_add(15 * EACH)
+    }
+}
+
 #[test]
 fn ten_thousand_packets_come_to_rest(rt: HostRuntime) {
     let mut events = Vec::new(rt.alloc());
     ten_thousand(&rt, &mut events);
-    let world = run_to_rest(rt.alloc(), 0, 4, 16, events).expect(&rt, "memory");
+    let world = run_to_rest(rt.alloc(), 7, 8190, 16, events).expect(&rt, "memory");
     for sender in 0..16 {
         let replies = world.received(sender);
-        check!(&rt; replies.len() as u64 == EACH);
-        for (turn, reply) in replies.iter().enumerate() {
-            check!(&rt; told_by(reply) == Told::Committed(16 * turn as u64 + u64::from(sender)));
+        let pushed = if sender == 0 { OF_THE_FIRST } else { EACH };
+        check!(&rt; replies.len() as u64 == pushed);
+        for (number, reply) in replies.iter().enumerate() {
+            check!(&rt; told_by(reply) == Told::Committed(place_in_turns(number as u64, sender)));
         }
     }
+    check!(&rt; world.ledger().machine().clock() == 7);
+    drop(world);
+}
+
+#[test]
+fn no_events_are_at_rest(rt: HostRuntime) {
+    let world = run_to_rest(rt.alloc(), CLOCK_MAX, 1, 1, Vec::new(rt.alloc())).expect(
+        &rt, "memory",
+    );
+    check!(&rt; world.ledger().places() == 0);
+    check!(&rt; world.ledger().machine().clock() == CLOCK_MAX);
     drop(world);
 }
