@@ -188,10 +188,11 @@ uint32_t kip_reserve(kip_t *kip, size_t accounts, size_t transfers);
 /* Frees all that is behind the handle. Statuses: KIP_CLOSED. */
 uint32_t kip_close(kip_t *kip);
 
-/* Queues a packet with a copy of the data. The packet waits for neighbours of its operation, until one that doesn't join
- * it, kip_pulse, kip_shut or kip_flush commits it. Data needs no alignment, and isn't read if the packet is refused.
- * Statuses: KIP_CLOSED, KIP_BAD_SUBMITTERS, KIP_STOPPED, KIP_FULL, KIP_INVALID_OPERATION, KIP_INVALID_DATA_SIZE,
- * KIP_TOO_MUCH_DATA, KIP_NO_MEMORY. kip_submit, below, also takes null data of size 0. */
+/* Queues a packet with a copy of the data, and makes capacity for all that it and the packets that wait can create. It
+ * waits for neighbours of its operation, until one that doesn't join it, kip_pulse, kip_shut or kip_flush commits it. Data
+ * needs no alignment, and isn't read if the packet is refused. Statuses: KIP_CLOSED, KIP_BAD_SUBMITTERS, KIP_STOPPED,
+ * KIP_FULL, KIP_INVALID_OPERATION, KIP_INVALID_DATA_SIZE, KIP_TOO_MUCH_DATA, KIP_NO_MEMORY. kip_submit, below, also takes
+ * null data of size 0. */
 uint32_t kip_submit_bytes(kip_t *kip, uint32_t submitter, uint8_t operation, const void *data, size_t data_size,
                           uint64_t user_data, uint64_t *number);
 

@@ -140,17 +140,23 @@ class Threads(unittest.TestCase):
     """Four threads with one ledger: each waits for the others' calls, and gets the reply to its own packet."""
 
     def test_each_call_returns_its_own_reply(self):
-        rounds, threads, wrong = 300, 4, []
+        rounds, threads, wrong = 1500, 4, []
         with Ledger() as ledger:
             ledger.create_accounts(PAIR)
 
             def work(thread):
                 # An odd thread's transfers fail, an even one's don't.
                 route = ROUTE | {"credit_account_id": 9} if thread % 2 else ROUTE
+                wanted = [(0, 22), (1, 22)] if thread % 2 else []
                 for i in range(rounds):
-                    results = ledger.create_transfers([Transfer(id=1 + thread * rounds + i, amount=1, **route)])
-                    if results != ([(0, 22)] if thread % 2 else []):
+                    id = 1 + 2 * (thread * rounds + i)
+                    try:
+                        results = ledger.create_transfers([Transfer(id=id, amount=1, **route), Transfer(id=id + 1, amount=1, **route)])
+                    except Exception as error:  # a race may break anything
+                        results = error
+                    if results != wanted:
                         wrong.append((thread, i, results))
+                        return
 
             running = [threading.Thread(target=work, args=(thread,)) for thread in range(threads)]
             for thread in running:
@@ -158,7 +164,7 @@ class Threads(unittest.TestCase):
             for thread in running:
                 thread.join()
             self.assertEqual(wrong, [])
-            self.assertEqual(ledger.lookup_account(1).debits_posted, 2 * rounds)
+            self.assertEqual(ledger.lookup_account(1).debits_posted, 4 * rounds)
 
 
 class StandIn(unittest.TestCase):

@@ -7,7 +7,7 @@ import base64
 import hashlib
 import os
 import pathlib
-import tomllib
+import re
 import zipfile
 
 HERE = pathlib.Path(__file__).resolve().parent
@@ -33,7 +33,7 @@ def get_requires_for_build_wheel(config_settings=None):
 
 def build_wheel(wheel_directory, config_settings=None, metadata_directory=None):
     """Writes the wheel and returns its name."""
-    project = tomllib.loads((HERE / "pyproject.toml").read_text())["project"]
+    project = dict(re.findall(r'^([\w-]+) = "(.*)"$', (HERE / "pyproject.toml").read_text().partition("[project]")[2], re.M))
     name = f"{project['name']}-{project['version']}"
     info = f"{name}.dist-info"
     metadata = "".join(f"{key}: {value}\n" for key, value in {

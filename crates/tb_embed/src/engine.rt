@@ -32,11 +32,40 @@ use tb_layout::{
 use tb_tables::Status;
 use tb_work::{Item, Job, Moment, Packet, Refusal, Reply, Ticket};
 
+/// How many accounts and transfers the events that are held create at most.
+#[derive(Clone, Copy)]
+struct Due {
+    accounts: usize,
+    transfers: usize,
+}
+
+impl Due {
+    /// Returns what is due once a packet is queued too: with a group that is held, and has up to `limit` events, or with
+    /// none.
+    fn with(self, packet: &Packet, is_holding: bool, limit: u32) -> Due {
+        let most = if is_holding { limit as usize } else { 0 };
+        let (accounts, transfers) = (self.accounts.min(most), self.transfers.min(most));
+        let events = packet.bytes.as_slice().len() / 128;
+        if packet.operation == CREATE_ACCOUNTS {
+            Due {
+                accounts: accounts.saturating_add(events),
+                transfers,
+            }
+        } else {
+            Due {
+                accounts,
+                transfers: transfers.saturating_add(events),
+            }
+        }
+    }
+}
+
 /// A ledger without a journal, with its front and cutter, driven by its caller one call at a time.
 pub struct Engine {
     limit: u32,
     submitters: u32,
     shut: bool,
+    due: Due,
     front: Front,
     ledger: BareLedger,
     unread: Unread,
@@ -50,6 +79,7 @@ impl Drop for Engine {
             limit: _,
             submitters: _,
             shut: _,
+            due: _,
             front,
             ledger,
             unread,
@@ -158,6 +188,10 @@ impl Engine {
             limit,
             submitters,
             shut: false,
+            due: Due {
+                accounts: 0,
+                transfers: 0,
+            },
             front,
             ledger: BareLedger::with_seed(alloc, clock, seed),
             unread: Unread::new(alloc),
@@ -181,8 +215,19 @@ impl Engine {
         Ok(())
     }
 
-    /// Passes a ticket through the front and the ledger. If there is no memory to queue it or for its outcomes, it is
-    /// returned and nothing has changed.
+    /// Returns what is due once an item is queued.
+    fn due_with(&self, item: &Item) -> Due {
+        match item {
+            Item::Packet(job) => {
+                self.due
+                    .with(job.packet(), self.front.is_holding(), self.limit)
+            }
+            Item::Pulse(_) | Item::End | Item::Close => self.due,
+        }
+    }
+
+    /// Passes a ticket through the front and the ledger. If there is no memory to queue it, for its outcomes, or for the
+    /// accounts and transfers that are due, it is returned and nothing has changed.
     fn take(&mut self, ticket: Ticket) -> Result<(), Ticket>
         requires { ticket.sender ≤ self.old.front.submitters }
         ensures taken { OnOk result ((clock : ℕ) (items : List ItemValue) (read : List ReplyValue)
@@ -197,12 +242,21 @@ impl Engine {
         if self.unread.reserve(2).is_err() {
             return Err(ticket);
         }
+        let due = self.due_with(&ticket.item);
+        if self
+            .ledger
+            .reserve(due.accounts, due.transfers)
+            .is_err()
+        {
+            return Err(ticket);
+        }
         let mut parcels = ArrayVec::new();
         let mut ticket = ticket;
         match self.front.try_take(&mut parcels, &mut ticket) {
             Ok(()) => {}
             Err(_) => return Err(ticket),
         }
+        self.due = due;
         let count = parcels.len();
         prove!(count <= 2);
         apply_all(&mut self.ledger, &mut self.unread, &mut parcels);

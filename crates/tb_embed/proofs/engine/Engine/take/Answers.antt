@@ -11,8 +11,8 @@ taken c = has_taken false c.self.inside.front c.args.ticket _ c.try_take.ensures
     (subst (λ (s : EngineState). c.args.ticket.sender ≤ s.front.submitters) (sym c.self.view_is) c.requires)
     c.in-Ok.ensures.ok
 
-pub invariant_of-self-2 : goal.invariant_of-self-2
-invariant_of-self-2 c = record {
+pub invariant_of-self-3 : goal.invariant_of-self-3
+invariant_of-self-3 c = record {
   limited = (taken c).same.0 ∙ c.self.invariant.limited;
   counted = (taken c).same.1 ∙ c.self.invariant.counted;
   few = c.self.invariant.few;
@@ -31,8 +31,9 @@ returns-clause-taken c = rw (← c.self.view_is) (λ clock items read has.
       has_sent = subst (λ limit. HasSent clock limit sent c.apply_all.new.ledger (read ++ c.apply_all.new.unread.replies))
           (sym (taken c).same.0)
           (c.apply_all.ensures clock old.front.limit has.sent read (taken c).lawful
-          (subst (HasSent clock old.front.limit has.sent old.ledger)
-          (ap (λ replies. read ++ replies) (sym c.reserve.ensures.same)) has.has_sent));
+          (subst (λ ledger. HasSent clock old.front.limit has.sent ledger (read ++ c.reserve.new.self.replies))
+          (sym c.reserve-2.ensures) (subst (HasSent clock old.front.limit has.sent old.ledger)
+          (ap (λ replies. read ++ replies) (sym c.reserve.ensures.same)) has.has_sent)));
     })
 
 pub returns-clause-same : goal.returns-clause-same
