@@ -2,8 +2,8 @@
 //!
 //! An `Engine` takes packets, pulses and a Close, joins neighbouring packets, commits them, and has a reply for each
 //! packet. Each call's clause says which ticket or which reply it adds to the run so far (`specs/Engine.antt`).
-//! `serving_is_lawful` leads from any sequence of calls to the lawful report of that run, and after a `flush` as many calls of
-//! `reply` as packets are unread return all of their replies (`replies_come`).
+//! `serving_is_lawful` leads from any sequence of calls to the lawful report of that run. After a `flush` as many calls of
+//! `reply` as packets have unread replies return all of these (`replies_come`).
 //!
 //! `calls_in_a_row` in tb_core_tests is an example that the gate compiles.
 #![tactic(auto)]
