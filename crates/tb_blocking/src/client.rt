@@ -138,7 +138,7 @@ impl<'s> Client<'s> {
     }
 
     /// Queues the submitter's end. While the queue is full it yields and tries again. Returns `None` if the run is
-    /// given up. The end still returns the unread replies. Takes no memory.
+    /// given up and nobody serves. The end still returns the unread replies. Takes no memory.
     pub fn end<R: Wait>(self, rt: &R) -> Option<Ended>
         ensures { IfSome result (λ ended. ended ≡ ended_with self.entry item.End) }
     {
@@ -152,7 +152,7 @@ impl<'s> Client<'s> {
                 Ok(ended) => return Some(ended),
                 Err((back, _)) => submitter = back,
             }
-            if stop.is_asked() {
+            if stop.is_asked() && submitter.give_up() {
                 return None;
             }
             backoff.snooze();
@@ -247,7 +247,7 @@ impl<'s> ControlClient<'s> {
     }
 
     /// Queues the control's end, so that all that is queued is committed. While the queue is full it yields and tries
-    /// again. Returns `None` if the run is given up. Takes no memory.
+    /// again. Returns `None` if the run is given up and nobody serves. Takes no memory.
     pub fn end<R: Wait>(self, rt: &R) -> Option<ControlEnd>
         ensures { IfSome result (λ end. end ≡ sender_with self.entry item.End) }
     {
@@ -255,7 +255,7 @@ impl<'s> ControlClient<'s> {
     }
 
     /// Queues the Close, so that packets behind it get `Shutdown`. While the queue is full it yields and tries again.
-    /// Returns `None` if the run is given up. Takes no memory.
+    /// Returns `None` if the run is given up and nobody serves. Takes no memory.
     pub fn shut<R: Wait>(self, rt: &R) -> Option<ControlEnd>
         ensures { IfSome result (λ end. end ≡ sender_with self.entry item.Close) }
     {

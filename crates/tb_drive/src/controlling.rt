@@ -128,7 +128,7 @@ fn follow<C: ControlDriver, R: Wait>(
 }
 
 /// Queues the Close if `shuts`, else the control's end. While the queue is full it yields and tries again. Returns `None`
-/// if the run is given up. Takes no memory.
+/// if the run is given up and nobody serves. Takes no memory.
 pub fn end_control<R: Wait>(
     rt: &R,
     control: Control,
@@ -149,7 +149,7 @@ pub fn end_control<R: Wait>(
             Ok(end) => return Some(end),
             Err((back, _)) => control = back,
         }
-        if stop.is_asked() {
+        if stop.is_asked() && control.give_up() {
             return None;
         }
         backoff.snooze();
@@ -158,7 +158,8 @@ pub fn end_control<R: Wait>(
 }
 
 impl<C: ControlDriver> ControlTask<C> {
-    /// Does what the driver says, and then ends the control. None if the run is given up.
+    /// Does what the driver says, and then ends the control. If the run is given up, its End is queued all the same, and `None` is
+    /// returned.
     pub(crate) fn drive<R: Wait>(self, rt: &R, stop: &Stop) -> Option<ControlResult<C>>
         ensures { IfSome result (IsControlResultOf C.has_ended self) }
     {
@@ -166,7 +167,10 @@ impl<C: ControlDriver> ControlTask<C> {
             mut control,
             mut driver,
         } = self;
-        let shuts = follow(rt, &mut control, &mut driver, stop)?;
+        let Some(shuts) = follow(rt, &mut control, &mut driver, stop) else {
+            drop(end_control(rt, control, false, stop));
+            return None;
+        };
         let end = end_control(rt, control, shuts, stop)?;
         Some(ControlResult { end, driver })
     }

@@ -50,7 +50,11 @@ impl Stop {
         })
     }
 
-    /// Gives the run up, and wakes each submitter's thread that waits for a reply. A run that is given up stays so.
+    /// Gives the run up, and then wakes each submitter's thread that waits for a reply. A run that is given up stays so.
+    ///
+    /// The threads of drivers and clients still queue their ends, so a `serve` that runs returns. If nobody serves, they wait
+    /// for no slot of the queue, and a `serve` that begins after that is refused.
+    ///
     /// Costs an atomic exchange for each submitter, and a system call for each that sleeps.
     pub fn ask(&self) {
         self.asked.store(true, Ordering::SeqCst);

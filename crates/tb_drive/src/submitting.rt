@@ -218,7 +218,8 @@ fn follow<D: Driver, R: Wait>(
     unreachable!()
 }
 
-/// Ends the submitter, and while the queue is full reads replies and tries again. None if the run is given up.
+/// Ends the submitter, and while the queue is full reads replies and tries again. None if the
+/// run is given up and nobody serves.
 fn end<D: Driver, R: Wait>(
     rt: &R,
     submitter: Submitter,
@@ -239,7 +240,7 @@ fn end<D: Driver, R: Wait>(
             Ok(ended) => return Some(ended),
             Err((back, _)) => submitter = back,
         }
-        if stop.is_asked() {
+        if stop.is_asked() && submitter.give_up() {
             return None;
         }
         read(&mut submitter, driver);
@@ -248,8 +249,16 @@ fn end<D: Driver, R: Wait>(
     unreachable!()
 }
 
+/// Queues the End of a submitter whose run is given up, since a `serve` that runs waits for it.
+fn end_given_up<D: Driver, R: Wait>(rt: &R, submitter: Submitter, driver: &mut D, stop: &Stop)
+    ensures { D.share driver.new ≡ D.share driver.old }
+{
+    drop(end(rt, submitter, driver, stop));
+}
+
 impl<D: Driver> SubmitterTask<D> {
-    /// Does what the driver says, and then ends the submitter, unless the run is given up.
+    /// Does what the driver says, and then ends the submitter. If the run is given up, its End is queued all the same, since
+    /// `serve` waits for it, but isn't returned.
     pub(crate) fn drive<R: Wait>(self, rt: &R, alloc: Global, stop: &Stop) -> SubmitterResult<D>
         ensures { IsResultOf self result }
     {
@@ -259,7 +268,10 @@ impl<D: Driver> SubmitterTask<D> {
         } = self;
         let ended = match follow(rt, alloc, &mut submitter, &mut driver, stop) {
             Ok(()) => end(rt, submitter, &mut driver, stop),
-            Err(Stopped) => None,
+            Err(Stopped) => {
+                end_given_up(rt, submitter, &mut driver, stop);
+                None
+            }
         };
         SubmitterResult { ended, driver }
     }

@@ -88,8 +88,8 @@ impl Pipeline {
 
     /// Commits what is queued and hands the replies out, until each submitter and the control have ended; so each
     /// driver ends its sender, whatever fails in it. The calling thread is the batcher; it starts the committer and
-    /// then the demultiplexer, and joins both. If one of them can't be started (`NoThread`) nothing was taken: the
-    /// intake comes back, to take what is queued, and the pipeline is spent. If memory runs out the pipeline
+    /// then the demultiplexer, and joins both. If one of them can't be started, or the run was given up before, nothing was
+    /// taken (`NoThread`): the intake comes back, to take what is queued, and the pipeline is spent. If memory runs out the pipeline
     /// stops, and answers.
     pub fn serve<R: Threads + Wait + Sync, G: Gate>(
         self,
@@ -105,6 +105,9 @@ impl Pipeline {
         ensures refused { IfErr result (λ back. (back.0 ≡ self.intake) × (back.1 ≡ NoThreadRefusal)) }
     {
         let Pipeline { stages } = self;
+        if !stages.intake.begin() {
+            return Err((stages.into_intake(), Refusal::NoThread));
+        }
         let served = thread::scope(
             thread::scope_env(),
             rt,

@@ -94,6 +94,24 @@ fn start_demultiplexer<'s, E, R: Wait + Sync>(
 }
 
 impl Stages {
+    /// Returns the intake, and frees all else.
+    pub(crate) fn into_intake(self) -> Intake
+        ensures { result ≡ self.intake }
+    {
+        let Stages {
+            intake,
+            front,
+            batches,
+            committer,
+            demultiplexer,
+        } = self;
+        drop(front);
+        drop(batches);
+        drop(committer);
+        drop(demultiplexer);
+        intake
+    }
+
     /// Runs the stages until each sender has ended: starts the committer and the demultiplexer, is the batcher, and joins
     /// both. If a thread can't be started the intake comes back.
     pub(crate) fn run<'s, E, R: Threads + Wait + Sync, G: Gate>(
@@ -114,12 +132,14 @@ impl Stages {
             demultiplexer,
         } = self;
         let Some(committer) = start_committer(scope, rt, gate, committer) else {
+            intake.fail();
             drop(front);
             drop(batches);
             drop(demultiplexer);
             return Err(intake);
         };
         let Some(demultiplexer) = start_demultiplexer(scope, rt, demultiplexer) else {
+            intake.fail();
             give_waiting(rt, &mut batches, Parcel::Last);
             drop(committer.join(rt));
             drop(front);

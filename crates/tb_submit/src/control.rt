@@ -71,6 +71,11 @@ impl Control {
         }
     }
 
+    /// Returns whether the queue is given up, as `Submitter::give_up` does.
+    pub fn give_up(&self) -> bool {
+        self.sender.give_up()
+    }
+
     /// Queues its end, so that all that is queued is committed unless the pipeline stops. If the queue was full
     /// (`Full`) the control comes back. Takes no memory.
     pub fn end<R: Wait>(self, rt: &R) -> Result<ControlEnd, (Control, Refusal)>

@@ -60,6 +60,17 @@ impl Intake {
         self.reader.take(rt)
     }
 
+    /// Returns whether the queue may be served. It may unless a sender gave it up (`Submitter::give_up`), and then no sender gives
+    /// it up any more. Whoever serves calls this before `take`.
+    pub fn begin(&self) -> bool {
+        self.reader.begin()
+    }
+
+    /// Gives the queue up, since nobody serves it any more: no sender waits for a slot.
+    pub fn fail(&self) {
+        self.reader.fail();
+    }
+
     /// Waits for something to take: yields once, or sleeps until a sender queues something, once it has yielded long
     /// enough. It may return early, so take again after it. Takes no memory.
     pub fn wait<R: Wait>(&self, rt: &R, spin: &SpinWait) {

@@ -21,6 +21,7 @@ mod intake;
 mod reader;
 mod rule;
 mod sender;
+mod service;
 mod settling;
 mod submitter;
 

@@ -8,6 +8,7 @@ ghost use Rattle.tb_submit.specs.Rule.{entry, IsWhole};
 
 use crate::rule::{Gathers, Newcomer, Queue, QueuePass, Queued, SeenEmpty, Taken};
 use crate::sender::{EndedSender, Sender};
+use crate::service::Service;
 use std::alloc::Global;
 use std::marker::Model;
 use std::sync::{Arc, Wait};
@@ -20,6 +21,7 @@ pub(crate) struct Reader {
     queue: Arc<Queue, Global>,
     pass: QueuePass,
     sleeper: Sleeper,
+    service: Arc<Service, Global>,
 }
 
 impl Drop for Reader {
@@ -29,10 +31,12 @@ impl Drop for Reader {
             queue,
             pass,
             sleeper,
+            service,
         } = self;
         drop(queue);
         drop(pass);
         drop(sleeper);
+        drop(service);
     }
 }
 
@@ -68,12 +72,14 @@ impl Reader {
         ensures capacity { IfOk result (λ reader. reader.capacity ≡ capacity) }
     {
         let sleeper = Sleeper::new(alloc)?;
+        let service = Arc::new(alloc, Service::new())?;
         let (queue, pass) = Queue::ruled(alloc, capacity)?;
         let queue = Arc::new(alloc, queue)?;
         Ok(Reader {
             queue,
             pass,
             sleeper,
+            service,
         })
     }
 
@@ -93,12 +99,14 @@ impl Reader {
             ≡ record { seat = seat_with (Some self.old.queue) submitters limit number; queued = [] }) }
     {
         let waker = self.sleeper.waker()?;
+        let service = Arc::try_clone(&self.service)?;
         let queue = Arc::try_clone(&self.queue)?;
         let pass = self.queue.another::<Newcomer>(&mut self.pass);
         Ok(Sender {
             queue,
             pass,
             waker,
+            service,
             number,
             submitters,
             limit,
@@ -123,6 +131,16 @@ impl Reader {
             self.note_empty();
         }
         ticket
+    }
+
+    /// Returns whether the queue may be served: unless it was given up, it is from now on.
+    pub(crate) fn begin(&self) -> bool {
+        self.service.begin()
+    }
+
+    /// Gives the queue up, since nobody serves it any more.
+    pub(crate) fn fail(&self) {
+        self.service.fail();
     }
 
     /// Waits as `Sleeper::wait` does; each push wakes it.

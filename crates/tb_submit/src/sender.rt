@@ -5,6 +5,7 @@ ghost use Rattle.tb_submit.specs.Ends.{sender_with};
 ghost use Rattle.tb_submit.specs.Lists.{IsCompleteQueue};
 
 use crate::rule::{Pushed, Queue, QueuePass};
+use crate::service::Service;
 use std::alloc::Global;
 use std::marker::Model;
 use std::sync::{Arc, Wait};
@@ -16,6 +17,7 @@ pub(crate) struct Sender {
     pub(crate) queue: Arc<Queue, Global>,
     pub(crate) pass: QueuePass,
     pub(crate) waker: Waker,
+    pub(crate) service: Arc<Service, Global>,
     pub(crate) number: u32,
     pub(crate) submitters: u32,
     pub(crate) limit: u32,
@@ -28,6 +30,7 @@ impl Drop for Sender {
             queue,
             pass,
             waker,
+            service,
             number: _,
             submitters: _,
             limit: _,
@@ -35,6 +38,7 @@ impl Drop for Sender {
         drop(queue);
         drop(pass);
         drop(waker);
+        drop(service);
     }
 }
 
@@ -67,6 +71,11 @@ impl Sender {
         ensures { result ≡ self.now.seat.limit }
     {
         self.limit
+    }
+
+    /// Returns whether the queue is given up: unless it is served, it is from now on.
+    pub(crate) fn give_up(&self) -> bool {
+        self.service.give_up()
     }
 
     /// Pushes an item, and wakes the intake if it waits. If the queue was full the item is returned.
@@ -103,6 +112,7 @@ impl Sender {
                 let Sender {
                     queue: _,
                     waker: _,
+                    service: _,
                     pass,
                     number,
                     submitters,

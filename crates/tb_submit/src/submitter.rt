@@ -164,6 +164,12 @@ impl Submitter {
         self.inlet.waker()
     }
 
+    /// Returns whether the queue is given up. It is from now on, unless it is served (`Intake::begin`), so that whoever waits for a
+    /// slot waits only while one may become free.
+    pub fn give_up(&self) -> bool {
+        self.sender.give_up()
+    }
+
     /// Queues its end. If the queue was full (`Full`) the submitter comes back. Takes no memory.
     pub fn end<R: Wait>(self, rt: &R) -> Result<Ended, (Submitter, Refusal)>
         ensures ok { IfOk result (λ ended. ended ≡ ended_with self item.End) }

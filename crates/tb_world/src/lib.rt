@@ -4,6 +4,9 @@
 //! the list, what was committed is a prefix of what was pushed ahead of the Close. What each submitter received is a
 //! prefix of what is due to it (`HasRun`, `specs/EveryOrder.antt`).
 //!
+//! No state is stuck, and fair turns lead to rest (`specs/Progress.antt`): `run_to_rest` brings any list to rest, with all packets
+//! answered.
+//!
 //! `world_one_packet` in tb_core_tests is an example that the gate compiles.
 #![tactic(auto)]
 

@@ -27,6 +27,7 @@ mod memory;
 mod openings;
 mod queued;
 mod reply;
+mod stops;
 
 /// How often a test gives way before it gives up.
 const MOST_TURNS: u32 = 1_000_000;

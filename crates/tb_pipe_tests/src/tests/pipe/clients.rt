@@ -32,7 +32,7 @@ pub(super) fn open_narrow(rt: &impl Abort, alloc: Global, credit: u32) -> (Lone,
 }
 
 /// Submits a packet with this account. Returns its number, or why it is refused.
-fn submit<R: Wait + Abort>(
+pub(super) fn submit<R: Wait + Abort>(
     rt: &R,
     alloc: Global,
     client: &mut Client<'_>,
@@ -51,7 +51,7 @@ fn submit<R: Wait + Abort>(
 }
 
 /// Waits for the next reply, and returns its packet's place.
-fn receive<R: Wait>(rt: &R, client: &mut Client<'_>) -> Option<Told>
+pub(super) fn receive<R: Wait>(rt: &R, client: &mut Client<'_>) -> Option<Told>
     ensures { origin_of client.new ≡ origin_of client.old }
 {
     match client.receive(rt) {

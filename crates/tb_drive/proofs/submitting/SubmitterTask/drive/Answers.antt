@@ -13,5 +13,5 @@ returns g c =
             w.end-ended.ensures.own,
         w.end-ended.ensures.share ∙ c.follow.ensures.share,
       )
-      | in-Err w ↦ rw (w.ended-is, w.driver-is) (tt, c.follow.ensures.share)
+      | in-Err w ↦ rw (w.ended-is, w.driver-is) (tt, w.end_given_up.ensures ∙ c.follow.ensures.share)
     ])
