@@ -1,5 +1,5 @@
 -- Reading an engine to the end.
-use Rattle.std.proofs.Common.{◌≡◌, refl, sym, ap, ◌∙◌, subst, arith, ℕ, ◌+◌, List, [], ◌∷◌, ◌++◌, map, length, length-append, append-nil, append_assoc, Option, Some, None}
+use Rattle.std.proofs.Common.{◌≡◌, refl, sym, ap, ◌∙◌, subst, arith, ℕ, List, [], ◌∷◌, ◌++◌, map, length, length-append, append-nil, append_assoc, Option, Some, None}
 use Rattle.std.proofs.lemmas.List.{nil_from_length}
 use Rattle.tb_layout.specs.Events.{Input}
 use Rattle.tb_work.specs.Packet.{ReplyValue}

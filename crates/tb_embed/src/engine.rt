@@ -243,11 +243,7 @@ impl Engine {
             return Err(ticket);
         }
         let due = self.due_with(&ticket.item);
-        if self
-            .ledger
-            .reserve(due.accounts, due.transfers)
-            .is_err()
-        {
+        if self.ledger.reserve(due.accounts, due.transfers).is_err() {
             return Err(ticket);
         }
         let mut parcels = ArrayVec::new();
