@@ -3,7 +3,6 @@ use Rattle.std.proofs.Common.{refl, sym, ap, subst, ◌∙◌, arith, ◌≡◌,
 use Rattle.std.specs.Prelude.{slice_get}
 use Rattle.std.proofs.lemmas.Bool.{ne_eqb}
 use Rattle.tb_layout.specs.Events.{Input, Packet, Pulse}
-use Rattle.tb_work.specs.Answer.{reply_with}
 use Rattle.tb_work.specs.Ahead.{items_in, part}
 use Rattle.tb_work.specs.Queue.{AreNumbered, IsEnded}
 use Rattle.tb_work.specs.Packet.{Numbered, ReplyValue, input_of}
@@ -11,11 +10,12 @@ use Rattle.tb_work.specs.declared.item.Item.TheVariants as item
 use Rattle.tb_work.specs.declared.outcome.Outcome.{Outcome}
 use Rattle.tb_work.specs.declared.outcome.Outcome.TheVariants.{Committed, Shutdown, Stopped}
 use Rattle.tb_work.specs.declared.packet.Packet as packet
-use Rattle.tb_core.specs.BadRuns.{IsReplyTo, Excludes, CommitsAStranger, ShutsDownACommitted, StopsACommitted, DropsPulses, ChangesPlaces, ForgetsTheState, CommitsNothing, CommitsNothingRunning, CommitsNothingStopped, InventsAPacket, InventsAPulse, Overtakes, GivesAnothersReply, AnswersAnotherwise, LosesAnItem, stopped_at_once, MayStopAtOnce, closed_first, MayPopTheCloseFirst}
+use Rattle.tb_core.specs.BadRuns.{IsReplyTo, Excludes, CommitsAStranger, ShutsDownACommitted, StopsACommitted, StopsBehindTheClose, DropsPulses, ChangesPlaces, ForgetsTheState, CommitsNothing, CommitsNothingRunning, CommitsNothingStopped, InventsAPacket, InventsAPulse, Overtakes, GivesAnothersReply, AnswersAnotherwise, LosesAnItem, stopped_at_once, MayStopAtOnce, closed_first, MayPopTheCloseFirst}
 use Rattle.tb_core.specs.EachSubmitter.{moments_in}
 use Rattle.tb_core.specs.EndedRun.{Run, committed_in, ahead_in}
 use Rattle.tb_core.specs.Headline.{Headline, IsTrueOf, numbered_of, packets_queued}
-use Rattle.tb_core.proofs.EachSubmitter.{at-prefix, known-ahead, job-ahead, jobs-queued, from-least, rises, replied-ahead, pulses_are_the_controls}
+use Rattle.tb_core.proofs.EachSubmitter.{at-prefix, known-ahead, job-ahead, from-least, rises, replied-ahead, pulses_are_the_controls}
+use Rattle.tb_core.proofs.HeadlineLemmas.{all-replied, all-true, jobs-queued}
 use Rattle.tb_core.proofs.Packets.{from-numbered}
 
 -- what a reply says of its packet
@@ -37,11 +37,15 @@ commits_a_stranger run is (submitter, number, events, unknown, (place, got)) =
 
 pub shuts_down_a_committed : Excludes ShutsDownACommitted
 shuts_down_a_committed run is (submitter, reply, its, outcome, (place, got)) =
-    says run is submitter reply its Shutdown outcome place (is_ahead run is place _ got)
+    says run is submitter reply its Shutdown outcome (place, is_ahead run is place _ got)
 
 pub stops_a_committed : Excludes StopsACommitted
 stops_a_committed run is (submitter, reply, its, outcome, (place, got)) =
-    says run is submitter reply its Stopped outcome place got
+    (says run is submitter reply its Stopped outcome).1 (place, got)
+
+pub stops_behind_the_close : Excludes StopsBehindTheClose
+stops_behind_the_close run is (submitter, reply, its, outcome, behind) =
+    behind (says run is submitter reply its Stopped outcome).0
 
 pub drops_pulses : Excludes DropsPulses
 drops_pulses run is (nothing, lacks) = lacks (ap moments_in (is.all nothing))
@@ -58,8 +62,8 @@ commits_nothing : (run : Run) → Headline run → CommitsNothing run → ⊥
 commits_nothing run is bad =
     let reply = replied-ahead run is bad.ahead.0 bad.submitter bad.number bad.events bad.ahead.1 in
     let its : IsReplyTo run bad.submitter reply.reply = (reply.known, (reply.index, reply.replied)) in
-    says run is bad.submitter reply.reply its Shutdown (bad.shut bad.submitter reply.reply its) bad.ahead.0
-    (bad.ahead.1 ∙ ap (λ input. Some input) (sym reply.own))
+    says run is bad.submitter reply.reply its Shutdown (bad.shut bad.submitter reply.reply its)
+    (bad.ahead.0, bad.ahead.1 ∙ ap (λ input. Some input) (sym reply.own))
 
 pub commits_nothing_running : Excludes CommitsNothingRunning
 commits_nothing_running run is (bad, running) = commits_nothing run is bad
@@ -76,9 +80,12 @@ get-map f (y ∷ xs) (suc index) x got = get-map f xs index x got
 pub invents_a_packet : Excludes InventsAPacket
 invents_a_packet run is (submitter, number, events, known, (place, got), absent) =
     let found = job-ahead submitter number events (items_in run.queue) place (is_ahead run is place _ got) in
-    let queued = ap (λ jobs. slice_get jobs found.index) (sym (jobs-queued run is submitter known)) ∙ found.found in
-    absent found.index (get-map input_of (packets_queued (run.queued submitter)) found.index found.job queued
-    ∙ ap (λ input. Some input) found.own)
+    let queued = ap (λ jobs. slice_get jobs found.index) (sym (jobs-queued run is.queued submitter known)) ∙ found.found in
+    absent (
+      found.index,
+      get-map input_of (packets_queued (run.queued submitter)) found.index found.job queued
+          ∙ ap (λ input. Some input) found.own,
+    )
 
 moment-at : (inputs : List Input) (place moment : ℕ) → slice_get inputs place ≡ Some (Pulse moment)
     → (index : ℕ) × (slice_get (moments_in inputs) index ≡ Some moment)
@@ -92,7 +99,7 @@ moment-at (Pulse first ∷ inputs) (suc place) moment got =
 pub invents_a_pulse : Excludes InventsAPulse
 invents_a_pulse run is (moment, (place, got), absent) =
     let found = moment-at (committed_in run) place moment got in
-    absent found.0 (at-prefix _ _ found.0 moment (pulses_are_the_controls run is) found.1)
+    absent (found.0, at-prefix _ _ found.0 moment (pulses_are_the_controls run is) found.1)
 
 pub overtakes : Excludes Overtakes
 overtakes run is bad =
@@ -115,30 +122,20 @@ answers_anotherwise run is (submitter, place, reply, answer, its, outcome, apart
 
 pub loses_an_item : Excludes LosesAnItem
 loses_an_item run is (sender, one, known, (index, got), absent) =
-    absent index (ap (λ items. slice_get items index) (is.queued.parts sender known) ∙ got)
+    absent (index, ap (λ items. slice_get items index) (is.queued.parts sender known) ∙ got)
 
 -- ---- what it doesn't exclude
 
-numbered-stopped : (jobs : List Numbered) → map numbered_of (map (reply_with Stopped) jobs) ≡ jobs
-numbered-stopped [] = refl
-numbered-stopped (job ∷ jobs) = ap (λ js. job ∷ js) (numbered-stopped jobs)
-
-all-stopped : (jobs : List Numbered) (index : ℕ) (reply : ReplyValue)
-    → slice_get (map (reply_with Stopped) jobs) index ≡ Some reply → reply.outcome ≡ Stopped
-all-stopped [] index reply got = cc
-all-stopped (job ∷ jobs) zero reply got = cc
-all-stopped (job ∷ jobs) (suc index) reply got = all-stopped jobs index reply got
-
 pub may_stop_at_once : MayStopAtOnce
 may_stop_at_once run is =
+    let stopped = stopped_at_once run in
+    let due = λ (submitter : ℕ) (below : submitter < run.submitters). refl in
     record {
       queued = is.queued;
       committed = (ahead_in run, refl);
       all = λ nothing. absurd (true≢false nothing.ledger);
-      replied = λ submitter below. numbered-stopped (packets_queued (run.queued submitter));
-      answered = λ submitter index reply below got.
-          subst (IsTrueOf (stopped_at_once run) (numbered_of reply))
-          (sym (all-stopped (packets_queued (run.queued submitter)) index reply got)) (λ place found. cc);
+      replied = all-replied stopped is.queued due;
+      answered = all-true stopped is.queued (ahead_in run, refl) due;
       state = refl;
     }
 
@@ -178,7 +175,7 @@ closed-answered : (packet : packet.Packet) (submitter index : ℕ) (reply : Repl
     → IsTrueOf (closed_first packet) (numbered_of reply) reply.outcome
 closed-answered packet zero zero reply below got =
     let same : reply.outcome ≡ Shutdown = cc in
-    subst (IsTrueOf (closed_first packet) (numbered_of reply)) (sym same) (λ place found. cc)
+    subst (IsTrueOf (closed_first packet) (numbered_of reply)) (sym same) (λ found. cc)
 closed-answered packet zero (suc index) reply below got = cc
 closed-answered packet (suc submitter) index reply below got = absurd (omega (arith, below))
 

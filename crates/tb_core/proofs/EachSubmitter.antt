@@ -14,9 +14,9 @@ use Rattle.tb_work.specs.declared.item.Item.TheVariants as item
 use Rattle.tb_work.specs.declared.item.Ticket.{Ticket}
 use Rattle.tb_core.specs.EachSubmitter.{is_packet_of, packets_of, moments_in, moments_queued, CommittedOfEachSubmitter, PulsesAreTheControls, CommittedAreAnswered}
 use Rattle.tb_core.specs.EndedRun.{Run, committed_in, ahead_in, IsPrefix}
-use Rattle.tb_core.specs.Headline.{Headline, IsTrueOf, numbered_of, packets_queued}
-use Rattle.tb_core.proofs.HeadlineLemmas.{is-prefix-trans, prefix-filter}
-use Rattle.tb_core.proofs.Packets.{jobs_of, jobs_with, jobs-part, part-cons, part_with, AreFrom, from-numbered}
+use Rattle.tb_core.specs.Headline.{Headline, IsTrueOf, numbered_of}
+use Rattle.tb_core.proofs.HeadlineLemmas.{is-prefix-trans, prefix-filter, jobs-queued}
+use Rattle.tb_core.proofs.Packets.{jobs_of, jobs_with, part-cons, part_with, AreFrom, from-numbered}
 
 prefix-cons : {X : Type 0} (x : X) (front all : List X) → IsPrefix front all → IsPrefix (x ∷ front) (x ∷ all)
 prefix-cons x front all (rest, is) = (rest, ap (λ l. x ∷ l) is)
@@ -38,19 +38,12 @@ jobs-ahead submitter (item.Pulse moment ∷ items) = jobs-ahead submitter items
 jobs-ahead submitter (item.End ∷ items) = jobs-ahead submitter items
 jobs-ahead submitter (item.Close ∷ items) = (map input_of (jobs_of submitter items), refl)
 
--- the packets that a submitter queued are those of the queue that name it
-pub jobs-queued : (run : Run) → Headline run → (submitter : ℕ) → submitter < run.submitters
-    → jobs_of submitter (items_in run.queue) ≡ packets_queued (run.queued submitter)
-jobs-queued run is submitter below =
-    sym (jobs-part run.submitters submitter run.queue is.queued.submitted)
-    ∙ ap packets_queued (is.queued.parts submitter (omega (arith, below)))
-
 pub committed_of_each_submitter : CommittedOfEachSubmitter
 committed_of_each_submitter run is submitter below =
     record {
       committed = prefix-filter (is_packet_of submitter) (committed_in run) (ahead_in run) is.committed;
       queued = subst (λ jobs. IsPrefix (packets_of submitter (ahead_in run)) (map input_of jobs))
-          (jobs-queued run is submitter below) (jobs-ahead submitter (items_in run.queue));
+          (jobs-queued run is.queued submitter below) (jobs-ahead submitter (items_in run.queue));
       all = λ nothing. ap (packets_of submitter) (is.all nothing);
     }
 
@@ -226,7 +219,7 @@ pub rises : (run : Run) → Headline run → (submitter : ℕ) → submitter < r
     → slice_get (committed_in run) later ≡ Some (Packet submitter number_later events_later) → number < number_later
 rises run is submitter below place later number number_later events events_later before one other =
     rises-ahead submitter 0 (items_in run.queue)
-    (subst (AreFrom submitter 0) (sym (jobs-queued run is submitter below))
+    (subst (AreFrom submitter 0) (sym (jobs-queued run is.queued submitter below))
     (from-numbered submitter 0 (run.queued submitter) (is.queued.numbered submitter (omega (arith, below)))))
     place later number number_later events events_later before
     (at-prefix (committed_in run) (ahead_in run) place _ is.committed one)
@@ -255,7 +248,7 @@ replied-ahead run is place submitter number events got =
     let known = known-ahead run.submitters run.queue is.queued.submitted place submitter number events got in
     let found = job-ahead submitter number events (items_in run.queue) place got in
     let reply = at-map numbered_of (run.replies submitter) found.index found.job
-    (ap (λ jobs. slice_get jobs found.index) (is.replied submitter known ∙ sym (jobs-queued run is submitter known))
+    (ap (λ jobs. slice_get jobs found.index) (is.replied submitter known ∙ sym (jobs-queued run is.queued submitter known))
     ∙ found.found) in
     record {
       index = found.index;
@@ -288,10 +281,13 @@ committed_at run is place submitter number events got reply (Committed its answe
     let same : its ≡ place = same-place run is submitter reply.known place its number events got other in
     (answer, says ∙ ap (λ p. Committed p answer) same)
 committed_at run is place submitter number events got reply Stopped says said =
-    absurd (said place (got ∙ ap (λ input. Some input) (sym reply.own)))
+    absurd (said.1 (place, got ∙ ap (λ input. Some input) (sym reply.own)))
 committed_at run is place submitter number events got reply Shutdown says said =
-    absurd (said place (at-prefix (committed_in run) (ahead_in run) place _ is.committed got
-    ∙ ap (λ input. Some input) (sym reply.own)))
+    absurd (said (
+      place,
+      at-prefix (committed_in run) (ahead_in run) place _ is.committed got
+          ∙ ap (λ input. Some input) (sym reply.own),
+    ))
 
 pub committed_are_answered : CommittedAreAnswered
 committed_are_answered run is place submitter number events got =

@@ -9,10 +9,11 @@ use Rattle.tb_machine.specs.Replay.{replay}
 use Rattle.tb_machine.specs.AnswerAt.{answer_to}
 use Rattle.tb_work.specs.Packet.{Numbered, events_in, ReplyValue, input_of}
 use Rattle.tb_work.specs.Ahead.{ahead, items_in}
+use Rattle.tb_work.specs.Queue.{IsQueueOf}
 use Rattle.tb_work.specs.declared.outcome.Outcome.{Outcome}
 use Rattle.tb_work.specs.declared.item.Item.{Item}
 use Rattle.tb_work.specs.declared.item.Item.TheVariants as item
-use Rattle.tb_core.specs.Due.{outcome_at, outcome_with, all_due_from, replies_to, Place, Ahead, Behind, next_place}
+use Rattle.tb_core.specs.Due.{outcome_at, outcome_with, all_due_from, due, replies_to, Place, Ahead, Behind, next_place}
 use Rattle.tb_core.specs.Report.{ReportsHeadline}
 use Rattle.tb_core.specs.Headline.{IsTrueOf, packets_queued, numbered_of}
 use Rattle.tb_core.specs.EndedRun.{Run, committed_in, ahead_in, IsPrefix}
@@ -36,6 +37,11 @@ at_place (w ∷ inputs) rest [] x y others (suc place) is at got = absurd (omega
 at_place (w ∷ inputs) rest (b ∷ before) x y others zero is at got = absurd (omega (arith, at))
 at_place (w ∷ inputs) rest (b ∷ before) x y others (suc place) is at got =
     at_place inputs rest before x y others place (cc) (omega (arith, at)) got
+
+at-end : {X : Type 0} (before : List X) (x : X) (others : List X)
+    → slice_get (before ++ x ∷ others) (length before) ≡ Some x
+at-end [] x others = refl
+at-end (b ∷ before) x others = at-end before x others
 
 -- ---- one reply for each packet of a submitter, in order
 
@@ -87,9 +93,9 @@ module _ (run : Run) (submitter : ℕ) (committed : IsPrefix (committed_in run) 
           → AllByRecursion IsTrueReply (due_from Behind items))
           → AllByRecursion IsTrueReply (due_from Behind (item.Packet job ∷ items))
       by true is (own, first, from) others = rw is (
-        λ place. subst (λ s. slice_get (ahead_in run) place ≢ Some (Packet s job.number (events_in job.packet))) (sym own)
-            (nowhere-below submitter number (ahead_in run) place job.number (events_in job.packet) below
-            (omega (arith, first))),
+        λ found. subst (λ s. slice_get (ahead_in run) found.0 ≢ Some (Packet s job.number (events_in job.packet))) (sym own)
+            (nowhere-below submitter number (ahead_in run) found.0 job.number (events_in job.packet) below
+            (omega (arith, first))) found.1,
         others (number + 1) (below-longer submitter number (number + 1) (ahead_in run) (omega arith) below) from,
       )
       by false is from others = rw is (others number below from)
@@ -111,11 +117,19 @@ module _ (run : Run) (submitter : ℕ) (committed : IsPrefix (committed_in run) 
       by : (found : Option Input) → slice_get (committed_in run) place ≡ found
           → IsTrueOf run job (outcome_at run.ledger.opening (committed_in run) (Ahead place))
       by None nowhere =
-          subst (IsTrueOf run job) (sym (ap outcome_of_found nowhere)) (λ its.
-          subst (λ s. slice_get (committed_in run) its ≢ Some (Packet s job.number (events_in job.packet))) (sym own)
-          (nowhere-below submitter number (committed_in run) its job.number (events_in job.packet)
-          (below-first submitter number (committed_in run) committed.0 before (input_of job) others
-          (committed.1 ∙ sym is) (ap (slice_get (committed_in run)) (sym at) ∙ nowhere) below) (omega (arith, numbered))))
+          subst (IsTrueOf run job) (sym (ap outcome_of_found nowhere)) (
+            (
+              length before,
+              subst (λ (inputs : List Input). slice_get inputs (length before) ≡ Some (input_of job)) is
+                  (at-end before (input_of job) others),
+            ),
+            λ found. subst (λ s. slice_get (committed_in run) found.0 ≢ Some (Packet s job.number (events_in job.packet)))
+                (sym own)
+                (nowhere-below submitter number (committed_in run) found.0 job.number (events_in job.packet)
+                (below-first submitter number (committed_in run) committed.0 before (input_of job) others
+                (committed.1 ∙ sym is) (ap (slice_get (committed_in run)) (sym at) ∙ nowhere) below)
+                (omega (arith, numbered))) found.1,
+          )
       by (Some input) found =
           let same : input ≡ input_of job = at_place (committed_in run) committed.0 before (input_of job) input others place
           (committed.1 ∙ sym is) at found in
@@ -167,23 +181,44 @@ at-index run (first ∷ replies) (suc index) reply all got = at-index run replie
 
 -- ---- the headline
 
+-- each submitter has the replies that are due
+abbrev AreDue : Run → Type 0
+AreDue run =
+    (submitter : ℕ) → submitter < run.submitters
+    → run.replies submitter ≡ due run.ledger.opening run.queue (committed_in run) submitter
+
+-- the packets that a submitter queued are those of the queue that name it
+pub jobs-queued : (run : Run) → IsQueueOf run.submitters run.queue run.queued → (submitter : ℕ) → submitter < run.submitters
+    → jobs_of submitter (items_in run.queue) ≡ packets_queued (run.queued submitter)
+jobs-queued run filled submitter below =
+    sym (jobs-part run.submitters submitter run.queue filled.submitted)
+    ∙ ap packets_queued (filled.parts submitter (omega (arith, below)))
+
+pub all-replied : (run : Run) → IsQueueOf run.submitters run.queue run.queued → AreDue run → (submitter : ℕ)
+    → submitter < run.submitters → map numbered_of (run.replies submitter) ≡ packets_queued (run.queued submitter)
+all-replied run filled are submitter below =
+    ap (map numbered_of) (are submitter below)
+    ∙ one-each run.ledger.opening submitter (committed_in run) (Ahead 0) (items_in run.queue)
+    ∙ jobs-queued run filled submitter below
+
+pub all-true : (run : Run) → IsQueueOf run.submitters run.queue run.queued
+    → IsPrefix (committed_in run) (ahead_in run) → AreDue run → (submitter index : ℕ) (reply : ReplyValue)
+    → submitter < run.submitters → slice_get (run.replies submitter) index ≡ Some reply
+    → IsTrueOf run (numbered_of reply) reply.outcome
+all-true run filled committed are submitter index reply below got =
+    at-index run _ index reply
+    (true-ahead run submitter committed 0 0 [] (items_in run.queue) refl refl tt
+    (subst (AreFrom submitter 0) (sym (jobs-queued run filled submitter below))
+    (from-numbered submitter 0 (run.queued submitter) (filled.numbered submitter (omega (arith, below))))))
+    (sym (ap (λ rs. slice_get rs index) (are submitter below)) ∙ got)
+
 pub headline : ReportsHeadline
 headline run is =
-    let its_jobs = λ (submitter : ℕ) (below : submitter < run.submitters).
-    sym (jobs-part run.submitters submitter run.queue is.filled.submitted)
-    ∙ ap packets_queued (is.filled.parts submitter (omega (arith, below))) in
     record {
       queued = is.filled;
       committed = is.committed;
       all = is.complete.0;
-      replied = λ submitter below. ap (map numbered_of) (is.replied submitter below)
-          ∙ one-each run.ledger.opening submitter (committed_in run) (Ahead 0) (items_in run.queue)
-          ∙ its_jobs submitter below;
-      answered = λ submitter index reply below got.
-          at-index run _ index reply
-          (true-ahead run submitter is.committed 0 0 [] (items_in run.queue) refl refl tt
-          (subst (AreFrom submitter 0) (sym (its_jobs submitter below))
-          (from-numbered submitter 0 (run.queued submitter) (is.filled.numbered submitter (omega (arith, below))))))
-          (sym (ap (λ rs. slice_get rs index) (is.replied submitter below)) ∙ got);
+      replied = all-replied run is.filled is.replied;
+      answered = all-true run is.filled is.committed is.replied;
       state = is.state;
     }

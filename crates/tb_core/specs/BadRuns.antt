@@ -1,5 +1,5 @@
--- Runs that nobody wants. No run with a headline is one of the first fourteen; each says at its name which field excludes
--- it. Of the last two there are runs with a headline.
+-- Kinds of runs that nobody wants. No run with a headline is of one of the first fifteen; each says at its name which fields
+-- exclude it. Of the last two there are runs with a headline.
 use Rattle.std.specs.Prelude.{◌≡◌, ◌≢◌, ◌<◌, ◌≤◌, ℕ, true, false, List, [], ◌∷◌, map, take, slice_get, Some, if◌then◌else◌, ◌==◌}
 use Rattle.tb_layout.specs.declared.answer.Answer.{Answer}
 use Rattle.tb_layout.specs.Events.{Events, Input, Packet, Pulse}
@@ -14,13 +14,11 @@ use Rattle.tb_work.specs.declared.outcome.Outcome.TheVariants.{Committed, Shutdo
 use Rattle.tb_work.specs.declared.packet.Packet as packet
 use Rattle.tb_core.specs.EachSubmitter.{moments_in, moments_queued}
 use Rattle.tb_core.specs.EndedRun.{Run, committed_in, ahead_in, NothingStopped}
-use Rattle.tb_core.specs.Headline.{Headline, numbered_of, packets_queued}
-
-abbrev pub IsIn : {X : Type 0} → X → List X → Type 0
-IsIn {X} x xs = (index : ℕ) × (slice_get xs index ≡ Some x)
+use Rattle.tb_core.specs.Due.{due}
+use Rattle.tb_core.specs.Headline.{Headline, IsIn, numbered_of, packets_queued}
 
 abbrev pub IsNotIn : {X : Type 0} → X → List X → Type 0
-IsNotIn {X} x xs = (index : ℕ) → slice_get xs index ≢ Some x
+IsNotIn {X} x xs = IsIn x xs → ⊥
 
 -- a submitter has this reply
 abbrev pub IsReplyTo : Run → ℕ → ReplyValue → Type 0
@@ -45,6 +43,12 @@ ShutsDownACommitted run = SaysOfCommitted Shutdown run
 -- excluded by `answered`: a committed packet is answered Stopped
 abbrev pub StopsACommitted : Run → Type 0
 StopsACommitted run = SaysOfCommitted Stopped run
+
+-- excluded by `answered`: a packet behind the Close is answered Stopped, so that a pipeline that goes on seems to have stopped
+abbrev pub StopsBehindTheClose : Run → Type 0
+StopsBehindTheClose run =
+    (submitter : ℕ) × (reply : ReplyValue) × IsReplyTo run submitter reply × (reply.outcome ≡ Stopped)
+    × IsNotIn (input_of (numbered_of reply)) (ahead_in run)
 
 -- excluded by `all`: pulses are dropped though nothing stopped
 abbrev pub DropsPulses : Run → Type 0
@@ -72,11 +76,11 @@ pub record CommitsNothing (run : Run) : Type 0 where
   pub nothing : committed_in run ≡ []
   pub shut : AllSay Shutdown run
 
--- excluded by `all`, `answered` and `replied`: the ledger says that it goes on
+-- excluded by `queued`, `replied` and `answered`: the ledger says that it goes on
 abbrev pub CommitsNothingRunning : Run → Type 0
 CommitsNothingRunning run = CommitsNothing run × (run.ledger.stopped ≡ false)
 
--- excluded by `answered` and `replied`: the ledger says that it stopped
+-- excluded by `queued`, `replied` and `answered`: the ledger says that it stopped
 abbrev pub CommitsNothingStopped : Run → Type 0
 CommitsNothingStopped run = CommitsNothing run × (run.ledger.stopped ≡ true)
 
@@ -130,7 +134,7 @@ Excludes IsBad = (run : Run) → Headline run → IsBad run → ⊥
 
 -- ---- what nothing excludes
 
--- the same queue, if the pipeline stopped before it committed anything
+-- the same queue, if the pipeline stopped before it committed anything, and answered so
 abbrev pub stopped_at_once : Run → Run
 stopped_at_once run =
     record run {
@@ -140,7 +144,7 @@ stopped_at_once run =
         state = opening run.ledger.opening;
         stopped = true;
       };
-      replies = λ submitter. map (reply_with Stopped) (packets_queued (run.queued submitter));
+      replies = due run.ledger.opening run.queue [];
     }
 
 -- A headline doesn't say that a pipeline stops only if it must.

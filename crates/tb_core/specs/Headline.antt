@@ -1,5 +1,5 @@
 -- The headline.
-use Rattle.std.specs.Prelude.{◌≡◌, ◌≢◌, ◌<◌, ℕ, List, [], ◌∷◌, map, take, slice_get, Some}
+use Rattle.std.specs.Prelude.{◌≡◌, ◌<◌, ℕ, List, [], ◌∷◌, map, take, slice_get, Some}
 use Rattle.tb_machine.specs.Replay.{replay, answer_of}
 use Rattle.tb_work.specs.Queue.{IsQueueOf}
 use Rattle.tb_work.specs.Packet.{Numbered, events_in, ReplyValue, input_of}
@@ -17,14 +17,19 @@ packets_queued (other ∷ items) = packets_queued items
 abbrev pub numbered_of : ReplyValue → Numbered
 numbered_of reply = record { submitter = reply.submitter; number = reply.number; packet = reply.packet }
 
+abbrev pub IsIn : {X : Type 0} → X → List X → Type 0
+IsIn {X} x xs = (index : ℕ) × (slice_get xs index ≡ Some x)
+
 -- What an outcome says of its packet is true. A committed packet is at its place, with the answer that the state machine
--- gives it alone after what is before it. A stopped one isn't committed, and one that is shut down isn't ahead of the Close.
+-- gives it alone after what is before it. A stopped one is ahead of the Close and isn't committed, and one that is shut
+-- down isn't ahead of the Close.
 abbrev pub IsTrueOf : Run → Numbered → Outcome → Type 0
 IsTrueOf run packet (Committed place answer) =
     (slice_get (committed_in run) place ≡ Some (input_of packet))
     × (answer ≡ answer_of (replay run.ledger.opening (take place (committed_in run))) (events_in packet.packet))
-IsTrueOf run packet Stopped = (place : ℕ) → slice_get (committed_in run) place ≢ Some (input_of packet)
-IsTrueOf run packet Shutdown = (place : ℕ) → slice_get (ahead_in run) place ≢ Some (input_of packet)
+IsTrueOf run packet Stopped =
+    IsIn (input_of packet) (ahead_in run) × (IsIn (input_of packet) (committed_in run) → ⊥)
+IsTrueOf run packet Shutdown = IsIn (input_of packet) (ahead_in run) → ⊥
 
 -- The queue has what each sender queued, its end last. What is committed is a prefix of what is ahead of the Close, all of
 -- it unless something stopped. Replies are one per queued packet, in order, and what each says is true. The state is

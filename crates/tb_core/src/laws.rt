@@ -3,7 +3,7 @@
 
 ghost use Rattle.tb_core.specs.BadRuns.{Excludes, CommitsAStranger, ShutsDownACommitted, StopsACommitted, DropsPulses};
 ghost use Rattle.tb_core.specs.BadRuns.{ChangesPlaces, ForgetsTheState, CommitsNothingRunning, CommitsNothingStopped};
-ghost use Rattle.tb_core.specs.BadRuns.{InventsAPacket, InventsAPulse, Overtakes, GivesAnothersReply};
+ghost use Rattle.tb_core.specs.BadRuns.{InventsAPacket, InventsAPulse, Overtakes, GivesAnothersReply, StopsBehindTheClose};
 ghost use Rattle.tb_core.specs.BadRuns.{AnswersAnotherwise, LosesAnItem, MayStopAtOnce, MayPopTheCloseFirst};
 ghost use Rattle.tb_core.specs.EachSubmitter.{CommittedOfEachSubmitter, PulsesAreTheControls, CommittedAreAnswered};
 ghost use Rattle.tb_core.specs.Report.{ReportsHeadline};
@@ -41,6 +41,7 @@ pub fn bad_runs_are_excluded()
     ensures stranger { Excludes CommitsAStranger }
     ensures shut_down { Excludes ShutsDownACommitted }
     ensures stopped { Excludes StopsACommitted }
+    ensures stopped_behind { Excludes StopsBehindTheClose }
     ensures dropped_pulses { Excludes DropsPulses }
     ensures changed_places { Excludes ChangesPlaces }
     ensures state { Excludes ForgetsTheState }

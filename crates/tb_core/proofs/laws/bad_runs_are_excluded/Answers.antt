@@ -1,4 +1,4 @@
-use Rattle.tb_core.proofs.BadRuns.{commits_a_stranger, shuts_down_a_committed, stops_a_committed, drops_pulses, changes_places, forgets_the_state, commits_nothing_running, commits_nothing_stopped, invents_a_packet, invents_a_pulse, overtakes, gives_anothers_reply, answers_anotherwise, loses_an_item}
+use Rattle.tb_core.proofs.BadRuns.{commits_a_stranger, shuts_down_a_committed, stops_a_committed, stops_behind_the_close, drops_pulses, changes_places, forgets_the_state, commits_nothing_running, commits_nothing_stopped, invents_a_packet, invents_a_pulse, overtakes, gives_anothers_reply, answers_anotherwise, loses_an_item}
 use Rattle.tb_core.proofs.laws.bad_runs_are_excluded.Goals as goal
 
 pub returns-clause-stranger : goal.returns-clause-stranger
@@ -9,6 +9,9 @@ returns-clause-shut_down c = shuts_down_a_committed
 
 pub returns-clause-stopped : goal.returns-clause-stopped
 returns-clause-stopped c = stops_a_committed
+
+pub returns-clause-stopped_behind : goal.returns-clause-stopped_behind
+returns-clause-stopped_behind c = stops_behind_the_close
 
 pub returns-clause-dropped_pulses : goal.returns-clause-dropped_pulses
 returns-clause-dropped_pulses c = drops_pulses
