@@ -6,7 +6,7 @@ use Rattle.tb_layout.specs.declared.failure.Failure.{Failure}
 use Rattle.tb_tables.specs.Facts.{Facts}
 use Rattle.tb_machine.specs.declared.fault.ChainFault.{ChainFault}
 use Rattle.tb_machine.specs.Chain.{Operation, failures_from}
-use Rattle.tb_machine.specs.inside.Faults.{closed_outcome, results_of_failed}
+use Rattle.tb_machine.specs.inside.Faults.{closed_results, results_of_failed}
 use Rattle.tb_machine.specs.Examining.{LiesBelow}
 use Rattle.tb_machine.proofs.Faults.{eqb-false, length-failed_results}
 
@@ -68,6 +68,6 @@ failures_from-open index count fault below =
 -- a chain without a fault reports nothing
 pub failures_from-quiet : {Event : Type 0} (operation : Operation Event) (clock : ℕ) (facts : Facts)
     (chain : List Event) (index : ℕ) (fault : Option (ChainFault Event)) → is_some fault ≡ false →
-    failures_from index (closed_outcome operation clock facts chain fault).results ≡ []
+    failures_from index (closed_results operation clock facts chain fault).results ≡ []
 failures_from-quiet operation clock facts chain index None quiet = failures_from-none index (length chain)
 failures_from-quiet operation clock facts chain index (Some fault) quiet = cc

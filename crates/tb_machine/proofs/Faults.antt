@@ -8,8 +8,8 @@ use Rattle.tb_layout.specs.Events.{is_last_linked}
 use Rattle.tb_tables.specs.Facts.{Facts}
 use Rattle.tb_machine.specs.declared.fault.ChainFault.{ChainFault}
 use Rattle.tb_layout.specs.Limits.{clock_max}
-use Rattle.tb_machine.specs.Chain.{clock_after, Operation, Results, Attempt, Stored, Failed, try_events, closed_chain, open_chain, chain_outcome}
-use Rattle.tb_machine.specs.inside.Faults.{next_timestamp, verdict_at, facts_with, facts_with_all, first_fault, results_of_failed, closed_outcome, open_outcome}
+use Rattle.tb_machine.specs.Chain.{clock_after, Operation, Results, Attempt, Stored, Failed, try_events, closed_chain, open_chain, chain_results}
+use Rattle.tb_machine.specs.inside.Faults.{next_timestamp, verdict_at, facts_with, facts_with_all, first_fault, results_of_failed, closed_results, open_results}
 use Rattle.tb_machine.specs.Examining.{LiesBelow, fault_as}
 
 pub eqb-false : (a b : ℕ) → a ≢ b → (a == b) ≡ false
@@ -92,27 +92,27 @@ tried operation index clock facts (event ∷ events) =
 
 pub closed_is : {Event : Type 0} (operation : Operation Event) (clock : ℕ) (facts : Facts) (chain : List Event) →
     closed_chain operation facts (length chain) (try_events operation 0 clock facts chain)
-    ≡ closed_outcome operation clock facts chain (first_fault operation 0 clock facts chain)
+    ≡ closed_results operation clock facts chain (first_fault operation 0 clock facts chain)
 closed_is operation clock facts chain =
     ap (closed_chain operation facts (length chain)) (tried operation 0 clock facts chain)
     ∙ by (first_fault operation 0 clock facts chain)
   where
     by : (fault : Option (ChainFault _)) →
         closed_chain operation facts (length chain) (attempt_of (facts_with_all operation clock facts chain) fault)
-        ≡ closed_outcome operation clock facts chain fault
+        ≡ closed_results operation clock facts chain fault
     by None = refl
     by (Some fault) = refl
 
 pub open_is : {Event : Type 0} (operation : Operation Event) (clock : ℕ) (facts : Facts) (front : List Event) →
     open_chain operation facts (length front) (try_events operation 0 clock facts front)
-    ≡ open_outcome operation facts front (first_fault operation 0 clock facts front)
+    ≡ open_results operation facts front (first_fault operation 0 clock facts front)
 open_is operation clock facts front =
     ap (open_chain operation facts (length front)) (tried operation 0 clock facts front)
     ∙ by (first_fault operation 0 clock facts front)
   where
     by : (fault : Option (ChainFault _)) →
         open_chain operation facts (length front) (attempt_of (facts_with_all operation clock facts front) fault)
-        ≡ open_outcome operation facts front fault
+        ≡ open_results operation facts front fault
     by None = refl
     by (Some fault) = refl
 
@@ -141,7 +141,7 @@ length-front is_linked (event ∷ events) h =
 
 length-closed : {Event : Type 0} (operation : Operation Event) (clock : ℕ) (facts : Facts) (chain : List Event)
     (fault : Option (ChainFault Event)) → LiesBelow (length chain) fault →
-    length (closed_outcome operation clock facts chain fault).results ≡ length chain
+    length (closed_results operation clock facts chain fault).results ≡ length chain
 length-closed operation clock facts chain None below = length-replicate (length chain) 0
 length-closed operation clock facts chain (Some fault) below = length-failed_results (length chain) (Some fault) below
 
@@ -151,20 +151,20 @@ length-chosen true x y n h k = h refl
 length-chosen false x y n h k = k refl
 
 -- a chain has one result for each event
-pub length-chain_outcome : {Event : Type 0} (operation : Operation Event) (clock : ℕ) (facts : Facts)
-    (chain : List Event) → length (chain_outcome operation clock facts chain).results ≡ length chain
-length-chain_outcome operation clock facts chain =
+pub length-chain_results : {Event : Type 0} (operation : Operation Event) (clock : ℕ) (facts : Facts)
+    (chain : List Event) → length (chain_results operation clock facts chain).results ≡ length chain
+length-chain_results operation clock facts chain =
     let front = take (length chain - 1) chain in
     let fault = first_fault operation 0 clock facts front in
     length-chosen (is_last_linked operation.is_linked chain) _ _ (length chain)
     (λ open_one. omega (
       arith,
-      ap (λ (outcome : Results). length outcome.results) (open_is operation clock facts front),
+      ap (λ (made : Results). length made.results) (open_is operation clock facts front),
       length-append (results_of_failed (length front) fault) (2 ∷ []),
       length-failed_results
           (length front) fault (first_fault-below operation 0 clock facts front (length front) (omega arith)),
       length-front operation.is_linked chain open_one,
     ))
-    (λ _. ap (λ (outcome : Results). length outcome.results) (closed_is operation clock facts chain)
+    (λ _. ap (λ (made : Results). length made.results) (closed_is operation clock facts chain)
     ∙ length-closed operation clock facts chain (first_fault operation 0 clock facts chain)
     (first_fault-below operation 0 clock facts chain (length chain) (omega arith)))

@@ -5,10 +5,10 @@ use Rattle.std.proofs.lemmas.List.{length-map, take-map, get_or-map, take_rest, 
 use Rattle.tb_layout.specs.declared.failure.Failure.{Failure}
 use Rattle.tb_layout.specs.Events.{is_last_linked}
 use Rattle.tb_tables.specs.Facts.{Facts}
-use Rattle.tb_machine.specs.Chain.{Operation, Results, before_chains, chains_of, chain_outcome, chains_outcome, open_chain, closed_chain, try_events, clock_after, events_outcome, failures_from}
-use Rattle.tb_machine.specs.inside.Faults.{open_outcome, closed_outcome, first_fault}
-use Rattle.tb_machine.specs.Examining.{first_chain_length, then_outcome}
-use Rattle.tb_machine.proofs.Faults.{length-chain_outcome, open_is, closed_is}
+use Rattle.tb_machine.specs.Chain.{Operation, Results, before_chains, chains_of, chain_results, chains_results, open_chain, closed_chain, try_events, clock_after, events_results, failures_from}
+use Rattle.tb_machine.specs.inside.Faults.{open_results, closed_results, first_fault}
+use Rattle.tb_machine.specs.Examining.{first_chain_length, then_results}
+use Rattle.tb_machine.proofs.Faults.{length-chain_results, open_is, closed_is}
 use Rattle.tb_machine.proofs.Failures.{failures_from-append}
 
 -- ---- the last event decides whether a chain is open
@@ -23,31 +23,31 @@ last_linked is_linked (event ∷ next ∷ events) d h =
     (λ k. is_linked (get_or (event ∷ next ∷ events) k d)) e)
 
 -- which of both it is
-chosen_outcome : {Event : Type 0} (operation : Operation Event) (clock : ℕ) (facts : Facts) (chain : List Event)
+chosen_results : {Event : Type 0} (operation : Operation Event) (clock : ℕ) (facts : Facts) (chain : List Event)
     (is_open : Bool) → is_last_linked operation.is_linked chain ≡ is_open →
-    let front = take (length chain - 1) chain in chain_outcome operation clock facts chain
+    let front = take (length chain - 1) chain in chain_results operation clock facts chain
     ≡ (if is_open then open_chain operation facts (length front) (try_events operation 0 clock facts front)
     else closed_chain operation facts (length chain) (try_events operation 0 clock facts chain))
-chosen_outcome operation clock facts chain is_open is =
+chosen_results operation clock facts chain is_open is =
     let front = take (length chain - 1) chain in
     ap (λ b. if b then open_chain operation facts (length front) (try_events operation 0 clock facts front)
     else closed_chain operation facts (length chain) (try_events operation 0 clock facts chain)) is
 
-chain_outcome-open : {Event : Type 0} (operation : Operation Event) (clock : ℕ) (facts : Facts) (chain : List Event)
+chain_results-open : {Event : Type 0} (operation : Operation Event) (clock : ℕ) (facts : Facts) (chain : List Event)
     (d : Event) → 0 < length chain → operation.is_linked (get_or chain (length chain - 1) d) ≡ true →
-    let front = take (length chain - 1) chain in chain_outcome operation clock facts chain
-    ≡ open_outcome operation facts front (first_fault operation 0 clock facts front)
-chain_outcome-open operation clock facts chain d h linked =
-    chosen_outcome operation clock facts chain true (last_linked operation.is_linked chain d h ∙ linked)
+    let front = take (length chain - 1) chain in chain_results operation clock facts chain
+    ≡ open_results operation facts front (first_fault operation 0 clock facts front)
+chain_results-open operation clock facts chain d h linked =
+    chosen_results operation clock facts chain true (last_linked operation.is_linked chain d h ∙ linked)
     ∙ open_is operation clock facts (take (length chain - 1) chain)
 
-chain_outcome-closed : {Event : Type 0} (operation : Operation Event) (clock : ℕ) (facts : Facts)
+chain_results-closed : {Event : Type 0} (operation : Operation Event) (clock : ℕ) (facts : Facts)
     (chain : List Event) (d : Event) → 0 < length chain
     → operation.is_linked (get_or chain (length chain - 1) d) ≡ false →
-    chain_outcome operation clock facts chain ≡ closed_outcome operation clock facts chain
+    chain_results operation clock facts chain ≡ closed_results operation clock facts chain
     (first_fault operation 0 clock facts chain)
-chain_outcome-closed operation clock facts chain d h linked =
-    chosen_outcome operation clock facts chain false (last_linked operation.is_linked chain d h ∙ linked)
+chain_results-closed operation clock facts chain d h linked =
+    chosen_results operation clock facts chain false (last_linked operation.is_linked chain d h ∙ linked)
     ∙ closed_is operation clock facts chain
 
 -- the same for events that chunks of bytes hold
@@ -65,20 +65,20 @@ last_chunk f chunks d h =
 pub chunks-open : {Chunk Event : Type 0} (operation : Operation Event) (f : Chunk → Event) (clock : ℕ)
     (facts : Facts) (chunks : List Chunk) (d : Chunk) → 0 < length chunks
     → operation.is_linked (f (get_or chunks (length chunks - 1) d)) ≡ true →
-    let front = map f (take (length chunks - 1) chunks) in chain_outcome operation clock facts (map f chunks)
-    ≡ open_outcome operation facts front (first_fault operation 0 clock facts front)
+    let front = map f (take (length chunks - 1) chunks) in chain_results operation clock facts (map f chunks)
+    ≡ open_results operation facts front (first_fault operation 0 clock facts front)
 chunks-open operation f clock facts chunks d h linked =
-    chain_outcome-open operation clock facts (map f chunks) (f d) (omega (arith, length-map chunks f))
+    chain_results-open operation clock facts (map f chunks) (f d) (omega (arith, length-map chunks f))
     (ap operation.is_linked (last_chunk f chunks d h) ∙ linked)
-    ∙ ap (λ front. open_outcome operation facts front (first_fault operation 0 clock facts front)) (map-front f chunks)
+    ∙ ap (λ front. open_results operation facts front (first_fault operation 0 clock facts front)) (map-front f chunks)
 
 pub chunks-closed : {Chunk Event : Type 0} (operation : Operation Event) (f : Chunk → Event) (clock : ℕ)
     (facts : Facts) (chunks : List Chunk) (d : Chunk) → 0 < length chunks
     → operation.is_linked (f (get_or chunks (length chunks - 1) d)) ≡ false →
-    chain_outcome operation clock facts (map f chunks)
-    ≡ closed_outcome operation clock facts (map f chunks) (first_fault operation 0 clock facts (map f chunks))
+    chain_results operation clock facts (map f chunks)
+    ≡ closed_results operation clock facts (map f chunks) (first_fault operation 0 clock facts (map f chunks))
 chunks-closed operation f clock facts chunks d h linked =
-    chain_outcome-closed operation clock facts (map f chunks) (f d) (omega (arith, length-map chunks f))
+    chain_results-closed operation clock facts (map f chunks) (f d) (omega (arith, length-map chunks f))
     (ap operation.is_linked (last_chunk f chunks d h) ∙ linked)
 
 -- ---- cutting off the first chain
@@ -116,45 +116,45 @@ first_chain_length-le is_linked (event ∷ events) =
     if_le (is_linked event) (suc (first_chain_length is_linked events)) 1 (length (event ∷ events))
     (omega (arith, first_chain_length-le is_linked events)) (omega arith)
 
--- the outcome of some events is that of their first chain and then of the rest
-events_outcome-first : {Event : Type 0} (operation : Operation Event) (clock : ℕ) (facts : Facts)
+-- the results of some events are those of their first chain and then of the rest
+events_results-first : {Event : Type 0} (operation : Operation Event) (clock : ℕ) (facts : Facts)
     (events : List Event) (n : ℕ) → 0 < length events → n ≡ first_chain_length operation.is_linked events →
-    let first = chain_outcome operation clock facts (take n events) in events_outcome operation clock facts events
-    ≡ then_outcome first (events_outcome operation (clock_after clock n) first.facts (drop n events))
-events_outcome-first operation clock facts [] n h is = absurd (omega arith)
-events_outcome-first operation clock facts (event ∷ events) n h is =
+    let first = chain_results operation clock facts (take n events) in events_results operation clock facts events
+    ≡ then_results first (events_results operation (clock_after clock n) first.facts (drop n events))
+events_results-first operation clock facts [] n h is = absurd (omega arith)
+events_results-first operation clock facts (event ∷ events) n h is =
     let all = event ∷ events in
-    let first = chain_outcome operation clock facts (take n all) in
+    let first = chain_results operation clock facts (take n all) in
     let long : length (take n all) ≡ n = length-take-le n all
     (omega (arith, is, first_chain_length-le operation.is_linked all)) in
-    ap (chains_outcome operation clock facts) (chains_of-first operation.is_linked event events
+    ap (chains_results operation clock facts) (chains_of-first operation.is_linked event events
     ∙ ap (λ k. take k all ∷ chains_of operation.is_linked (drop k all)) (sym is))
-    ∙ ap (λ k. then_outcome first (events_outcome operation (clock_after clock k) first.facts (drop n all))) long
+    ∙ ap (λ k. then_results first (events_results operation (clock_after clock k) first.facts (drop n all))) long
 
 -- ---- the chains before event number i were taken, and the remainder decides the whole
 
 pub record IsLeft {Event : Type 0} (operation : Operation Event) (clock : ℕ) (old : Facts) (events : List Event)
     (now : ℕ) (facts : Facts) (index : ℕ) (rest : List Event) (out : List Failure) : Type 0 where
-  pub facts_after : (events_outcome operation clock old events).facts ≡ (events_outcome operation now facts rest).facts
-  pub failures : failures_from 0 (events_outcome operation clock old events).results
-      ≡ out ++ failures_from index (events_outcome operation now facts rest).results
+  pub facts_after : (events_results operation clock old events).facts ≡ (events_results operation now facts rest).facts
+  pub failures : failures_from 0 (events_results operation clock old events).results
+      ≡ out ++ failures_from index (events_results operation now facts rest).results
 
 left_more : {Event : Type 0} (operation : Operation Event) (clock : ℕ) (old : Facts) (events : List Event)
     (now n index : ℕ) (facts next : Facts) (rest : List Event) (out more : List Failure) →
     0 < length rest → n ≡ first_chain_length operation.is_linked rest →
-    next ≡ (chain_outcome operation now facts (take n rest)).facts →
-    more ≡ out ++ failures_from index (chain_outcome operation now facts (take n rest)).results →
+    next ≡ (chain_results operation now facts (take n rest)).facts →
+    more ≡ out ++ failures_from index (chain_results operation now facts (take n rest)).results →
     IsLeft operation clock old events now facts index rest out
     → IsLeft operation clock old events (clock_after now n) next (index + n) (drop n rest) more
 left_more operation clock old events now n index facts next rest out more some is next_is more_is left =
-    let first = chain_outcome operation now facts (take n rest) in
-    let later = events_outcome operation (clock_after now n) next (drop n rest) in
+    let first = chain_results operation now facts (take n rest) in
+    let later = events_results operation (clock_after now n) next (drop n rest) in
     let fits : n ≤ length rest = omega (arith, is, first_chain_length-le operation.is_linked rest) in
-    let whole : events_outcome operation now facts rest ≡ then_outcome first later =
-    events_outcome-first operation now facts rest n some is
-    ∙ ap (λ f. then_outcome first (events_outcome operation (clock_after now n) f (drop n rest)))
+    let whole : events_results operation now facts rest ≡ then_results first later =
+    events_results-first operation now facts rest n some is
+    ∙ ap (λ f. then_results first (events_results operation (clock_after now n) f (drop n rest)))
     (sym next_is) in
-    let size : length first.results ≡ n = length-chain_outcome operation now facts (take n rest)
+    let size : length first.results ≡ n = length-chain_results operation now facts (take n rest)
     ∙ length-take-le n rest fits in
     record {
       facts_after = left.facts_after ∙ ap (λ (o : Results). o.facts) whole;
@@ -173,8 +173,8 @@ pub left_more_chunks : {Chunk Event : Type 0} (operation : Operation Event) (f :
     (out more : List Failure) →
     rest ≡ take (length chunks - index) (drop index chunks) → after ≡ clock_after now n → index < length chunks
     → n ≡ first_chain_length operation.is_linked (map f rest) →
-    next ≡ (chain_outcome operation now facts (map f (take n rest))).facts →
-    more ≡ out ++ failures_from index (chain_outcome operation now facts (map f (take n rest))).results →
+    next ≡ (chain_results operation now facts (map f (take n rest))).facts →
+    more ≡ out ++ failures_from index (chain_results operation now facts (map f (take n rest))).results →
     IsLeft operation clock old (map f chunks) now facts index (map f (drop index chunks)) out
     → IsLeft operation clock old (map f chunks) after next (index + n) (map f (drop (index + n) chunks)) more
 left_more_chunks {Chunk} operation f clock old chunks rest now after n index facts next out more rest_is after_is h
@@ -190,5 +190,5 @@ left_more_chunks {Chunk} operation f clock old chunks rest now after n index fac
     rw (after_is, ← dropped)
     (left_more operation clock old (map f chunks) now n index facts next (map f (drop index chunks)) out more some
     (is ∙ ap (λ rs. first_chain_length operation.is_linked (map f rs)) same)
-    (next_is ∙ ap (λ es. (chain_outcome operation now facts es).facts) first)
-    (more_is ∙ ap (λ es. out ++ failures_from index (chain_outcome operation now facts es).results) first) left)
+    (next_is ∙ ap (λ es. (chain_results operation now facts es).facts) first)
+    (more_is ∙ ap (λ es. out ++ failures_from index (chain_results operation now facts es).results) first) left)

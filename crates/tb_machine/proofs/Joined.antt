@@ -8,11 +8,11 @@ use Rattle.tb_layout.specs.Events.{Events, is_last_linked}
 use Rattle.tb_layout.specs.Failures.{RiseWithin, is_within, from_offset, failures_within}
 use Rattle.tb_tables.specs.Facts.{Facts}
 use Rattle.tb_layout.specs.Limits.{clock_max}
-use Rattle.tb_machine.specs.Chain.{clock_after, Operation, Results, before_chains, chains_of, chain_outcome, chains_outcome, events_outcome, failures_from}
-use Rattle.tb_machine.specs.Replay.{State, outcome_of, after_events, after_packet, failures_of}
+use Rattle.tb_machine.specs.Chain.{clock_after, Operation, Results, before_chains, chains_of, chain_results, chains_results, events_results, failures_from}
+use Rattle.tb_machine.specs.Replay.{State, results_of, after_packet, failures_of}
 use Rattle.tb_machine.specs.Joining.{events_in_turn, none_open, cuts, failures_each, GiveAsEach, JoiningIsInvisible}
-use Rattle.tb_machine.specs.Examining.{then_outcome}
-use Rattle.tb_machine.proofs.Faults.{length-chain_outcome}
+use Rattle.tb_machine.specs.Examining.{after_results, then_results}
+use Rattle.tb_machine.proofs.Faults.{length-chain_results}
 use Rattle.tb_machine.proofs.Failures.{failures_from-append, failing}
 
 -- ---- the chains of packets
@@ -58,70 +58,70 @@ laid-chains_of is_linked (event ∷ events) =
     laid-before_if (is_linked event) event (chains_of is_linked events)
     ∙ ap (λ es. event ∷ es) (laid-chains_of is_linked events)
 
--- ---- their outcomes
+-- ---- their results
 
 clock_after-more : (clock m n : ℕ) → clock_after clock (m + n) ≡ clock_after (clock_after clock m) n
 clock_after-more clock m n = omega arith
 
-length-results : {Event : Type 0} (operation : Operation Event) (clock : ℕ) (facts : Facts)
-    (chains : List (List Event)) → length (chains_outcome operation clock facts chains).results
+length-chains_results : {Event : Type 0} (operation : Operation Event) (clock : ℕ) (facts : Facts)
+    (chains : List (List Event)) → length (chains_results operation clock facts chains).results
     ≡ length (events_in_turn chains)
-length-results operation clock facts [] = refl
-length-results operation clock facts (chain ∷ chains) =
-    let first = chain_outcome operation clock facts chain in
-    let rest = chains_outcome operation (clock_after clock (length chain)) first.facts chains in
+length-chains_results operation clock facts [] = refl
+length-chains_results operation clock facts (chain ∷ chains) =
+    let first = chain_results operation clock facts chain in
+    let rest = chains_results operation (clock_after clock (length chain)) first.facts chains in
     omega (
       arith,
       length-append first.results rest.results,
       length-append chain
           (events_in_turn chains),
-      length-chain_outcome operation clock facts chain,
-      length-results operation
+      length-chain_results operation clock facts chain,
+      length-chains_results operation
           (clock_after clock (length chain)) first.facts chains,
     )
 
-then_outcome-assoc : (a b c : Results) → then_outcome a (then_outcome b c) ≡ then_outcome (then_outcome a b) c
-then_outcome-assoc a b c =
+then_results-assoc : (a b c : Results) → then_results a (then_results b c) ≡ then_results (then_results a b) c
+then_results-assoc a b c =
     ap (λ results. record { results = results; facts = c.facts }) (sym (append_assoc a.results b.results c.results))
 
-chains_outcome-append : {Event : Type 0} (operation : Operation Event) (clock : ℕ) (facts : Facts)
+chains_results-append : {Event : Type 0} (operation : Operation Event) (clock : ℕ) (facts : Facts)
     (chains more : List (List Event)) → clock ≤ clock_max →
-    let first = chains_outcome operation clock facts chains in
-    chains_outcome operation clock facts (chains ++ more)
-    ≡ then_outcome first (chains_outcome operation
+    let first = chains_results operation clock facts chains in
+    chains_results operation clock facts (chains ++ more)
+    ≡ then_results first (chains_results operation
     (clock_after clock (length (events_in_turn chains))) first.facts more)
-chains_outcome-append operation clock facts [] more h =
-    ap (λ c. chains_outcome operation c facts more) (let e : clock ≡ clock_after clock 0 = omega arith in e)
-chains_outcome-append operation clock facts (chain ∷ chains) more h =
-    let first = chain_outcome operation clock facts chain in
+chains_results-append operation clock facts [] more h =
+    ap (λ c. chains_results operation c facts more) (let e : clock ≡ clock_after clock 0 = omega arith in e)
+chains_results-append operation clock facts (chain ∷ chains) more h =
+    let first = chain_results operation clock facts chain in
     let next = clock_after clock (length chain) in
-    let rest = chains_outcome operation next first.facts chains in
+    let rest = chains_results operation next first.facts chains in
     let later : clock_after next (length (events_in_turn chains))
     ≡ clock_after clock (length (events_in_turn (chain ∷ chains))) =
     sym (clock_after-more clock (length chain) (length (events_in_turn chains)))
     ∙ ap (clock_after clock) (sym (length-append chain (events_in_turn chains))) in
-    ap (then_outcome first) (chains_outcome-append operation next first.facts chains more (omega arith))
-    ∙ then_outcome-assoc first rest (chains_outcome operation
+    ap (then_results first) (chains_results-append operation next first.facts chains more (omega arith))
+    ∙ then_results-assoc first rest (chains_results operation
     (clock_after next (length (events_in_turn chains))) rest.facts more)
-    ∙ ap (λ c. then_outcome (then_outcome first rest) (chains_outcome operation c rest.facts more)) later
+    ∙ ap (λ c. then_results (then_results first rest) (chains_results operation c rest.facts more)) later
 
-events_outcome-append : {Event : Type 0} (operation : Operation Event) (clock : ℕ) (facts : Facts)
+events_results-append : {Event : Type 0} (operation : Operation Event) (clock : ℕ) (facts : Facts)
     (xs ys : List Event) → clock ≤ clock_max → is_last_linked operation.is_linked xs ≡ false →
-    let first = events_outcome operation clock facts xs in
-    events_outcome operation clock facts (xs ++ ys)
-    ≡ then_outcome first (events_outcome operation (clock_after clock (length xs)) first.facts ys)
-events_outcome-append operation clock facts xs ys h closed =
-    let first = events_outcome operation clock facts xs in
-    ap (chains_outcome operation clock facts) (chains_of-append operation.is_linked xs ys closed)
-    ∙ chains_outcome-append operation clock facts (chains_of operation.is_linked xs)
+    let first = events_results operation clock facts xs in
+    events_results operation clock facts (xs ++ ys)
+    ≡ then_results first (events_results operation (clock_after clock (length xs)) first.facts ys)
+events_results-append operation clock facts xs ys h closed =
+    let first = events_results operation clock facts xs in
+    ap (chains_results operation clock facts) (chains_of-append operation.is_linked xs ys closed)
+    ∙ chains_results-append operation clock facts (chains_of operation.is_linked xs)
     (chains_of operation.is_linked ys) h
-    ∙ ap (λ (es : List _). then_outcome first (events_outcome operation
+    ∙ ap (λ (es : List _). then_results first (events_results operation
     (clock_after clock (length es)) first.facts ys)) (laid-chains_of operation.is_linked xs)
 
-pub length-outcome : {Event : Type 0} (operation : Operation Event) (clock : ℕ) (facts : Facts)
-    (events : List Event) → length (events_outcome operation clock facts events).results ≡ length events
-length-outcome operation clock facts events =
-    length-results operation clock facts (chains_of operation.is_linked events)
+pub length-events_results : {Event : Type 0} (operation : Operation Event) (clock : ℕ) (facts : Facts)
+    (events : List Event) → length (events_results operation clock facts events).results ≡ length events
+length-events_results operation clock facts events =
+    length-chains_results operation clock facts (chains_of operation.is_linked events)
     ∙ ap length (laid-chains_of operation.is_linked events)
 
 -- ---- failures of a range
@@ -241,46 +241,57 @@ closed-rest : (a b : Bool) → (not a && b) ≡ true → b ≡ true
 closed-rest true b h = cc
 closed-rest false b h = h
 
+abbrev after_count : State → ℕ → Facts → State
+after_count state count facts = record { clock = clock_after state.clock count; facts = facts }
+
+-- there are as many results as events
+pub after_as_many : {Event : Type 0} (operation : Operation Event) (state : State) (events : List Event) →
+    let made = events_results operation state.clock state.facts events in
+    after_results state made ≡ after_count state (length events) made.facts
+after_as_many operation state events =
+    ap (λ count. after_count state count (events_results operation state.clock state.facts events).facts)
+    (length-events_results operation state.clock state.facts events)
+
 -- where an operation's packets are among all packets
 pub record ArePacketsOf {Event : Type 0} (operation : Operation Event) (packet_of : List Event → Events) : Type 0 where
-  pub outcome : (state : State) (events : List Event)
-      → outcome_of state (packet_of events) ≡ events_outcome operation state.clock state.facts events
+  pub results : (state : State) (events : List Event)
+      → results_of state (packet_of events) ≡ events_results operation state.clock state.facts events
   pub after : (state : State) (events : List Event)
-      → after_packet state (packet_of events) ≡ after_events state (length events)
-      (events_outcome operation state.clock state.facts events).facts
+      → after_packet state (packet_of events) ≡ after_count state (length events)
+      (events_results operation state.clock state.facts events).facts
 
 module _ {Event : Type 0} (operation : Operation Event) (packet_of : List Event → Events)
     (are : ArePacketsOf operation packet_of) where
-  abbrev outcome_in : State → List Event → Results
-  outcome_in state events = events_outcome operation state.clock state.facts events
+  abbrev results_in : State → List Event → Results
+  results_in state events = events_results operation state.clock state.facts events
 
   in_range : (state : State) (events : List Event) → (after_packet state (packet_of events)).clock ≤ clock_max
   in_range state events =
       let e = ap (λ (s : State). s.clock) (are.after state events) in
       omega (arith, e)
 
-  -- the outcome of a first packet and of those after it, which begin in the state that it leaves
+  -- the results of a first packet and of those after it, which begin in the state that it leaves
   first_and_rest : (state : State) (packet : List Event) (packets : List (List Event)) → state.clock ≤ clock_max
       → is_last_linked operation.is_linked packet ≡ false →
-      outcome_in state (events_in_turn (packet ∷ packets))
-      ≡ then_outcome (outcome_in state packet) (outcome_in (after_packet state (packet_of packet))
+      results_in state (events_in_turn (packet ∷ packets))
+      ≡ then_results (results_in state packet) (results_in (after_packet state (packet_of packet))
       (events_in_turn packets))
   first_and_rest state packet packets h closed =
-      events_outcome-append operation state.clock state.facts packet (events_in_turn packets) h closed
-      ∙ ap (λ (s : State). then_outcome (outcome_in state packet) (outcome_in s (events_in_turn packets)))
+      events_results-append operation state.clock state.facts packet (events_in_turn packets) h closed
+      ∙ ap (λ (s : State). then_results (results_in state packet) (results_in s (events_in_turn packets)))
       (sym (are.after state packet))
 
   -- after some results, which stand for the packets before
   cuts_after : (before : List ℕ) (state : State) (packets : List (List Event)) → state.clock ≤ clock_max
       → none_open operation.is_linked packets ≡ true →
-      cuts (length before) packets (failures_from 0 (before ++ (outcome_in state (events_in_turn packets)).results))
+      cuts (length before) packets (failures_from 0 (before ++ (results_in state (events_in_turn packets)).results))
       ≡ failures_each state (map packet_of packets)
   cuts_after before state [] h closed = refl
   cuts_after before state (packet ∷ packets) h closed =
-      let first = outcome_in state packet in
+      let first = results_in state packet in
       let next = after_packet state (packet_of packet) in
-      let rest = outcome_in next (events_in_turn packets) in
-      let count = length-outcome operation state.clock state.facts packet in
+      let rest = results_in next (events_in_turn packets) in
+      let count = length-events_results operation state.clock state.facts packet in
       let failures = failures_from 0 (before ++ (first.results ++ rest.results)) in
       let results = ap (λ (o : Results). o.results)
       (first_and_rest state packet packets h (closed-first (is_last_linked operation.is_linked packet)
@@ -290,7 +301,7 @@ module _ {Event : Type 0} (operation : Operation Event) (packet_of : List Event 
       length-append before first.results ∙ ap (λ n. length before + n) count in
       let own : failures_within (length before) (length packet) failures ≡ failures_of state (packet_of packet) =
       ap (λ n. failures_within (length before) n failures) (sym count) ∙ cut-middle before first.results rest.results
-      ∙ ap (λ (o : Results). failures_from 0 o.results) (sym (are.outcome state packet)) in
+      ∙ ap (λ (o : Results). failures_from 0 o.results) (sym (are.results state packet)) in
       let later : cuts (length before + length packet) packets failures ≡ failures_each next (map packet_of packets) =
       ap (λ n. cuts n packets failures) (sym offset)
       ∙ ap (λ codes. cuts (length (before ++ first.results)) packets (failures_from 0 codes))
@@ -328,11 +339,11 @@ module _ {Event : Type 0} (operation : Operation Event) (packet_of : List Event 
   rise : (state : State) (packets : List (List Event))
       → RiseWithin 0 (length (events_in_turn packets)) (failures_of state (packet_of (events_in_turn packets)))
   rise state packets =
-      let results = (outcome_in state (events_in_turn packets)).results in
+      let results = (results_in state (events_in_turn packets)).results in
       let count : 0 + length results ≡ length (events_in_turn packets) = omega
-      (arith, length-outcome operation state.clock state.facts (events_in_turn packets)) in
+      (arith, length-events_results operation state.clock state.facts (events_in_turn packets)) in
       subst (λ (o : Results). RiseWithin 0 (length (events_in_turn packets)) (failures_from 0 o.results))
-      (sym (are.outcome state (events_in_turn packets)))
+      (sym (are.results state (events_in_turn packets)))
       (subst (λ high. RiseWithin 0 high (failures_from 0 results)) count (failures_rise 0 results))
 
   -- packets, none of them open
@@ -341,17 +352,17 @@ module _ {Event : Type 0} (operation : Operation Event) (packet_of : List Event 
   joining state packets h closed = record {
     rise = rise state packets;
     failures = ap (λ (o : Results). cuts 0 packets (failures_from 0 o.results))
-        (are.outcome state (events_in_turn packets)) ∙ cuts_after [] state packets h closed;
+        (are.results state (events_in_turn packets)) ∙ cuts_after [] state packets h closed;
     state_after = state_after state packets h closed;
   }
 
   -- one packet, open or not
   alone : (state : State) (packet : List Event) → GiveAsEach packet_of state (packet ∷ [])
   alone state packet =
-      let results = (outcome_of state (packet_of packet)).results in
+      let results = (results_of state (packet_of packet)).results in
       let count : length packet ≡ length results =
-      sym (ap (λ (o : Results). length o.results) (are.outcome state packet)
-      ∙ length-outcome operation state.clock state.facts packet) in
+      sym (ap (λ (o : Results). length o.results) (are.results state packet)
+      ∙ length-events_results operation state.clock state.facts packet) in
       record {
         rise = rise state (packet ∷ []);
         failures =

@@ -11,18 +11,17 @@ use Rattle.tb_layout.specs.declared.transfer_code.TransferCode.{TransferCode}
 use Rattle.tb_layout.specs.declared.transfer_code.TransferCode.TheVariants.{Ok, Exists}
 use Rattle.tb_layout.specs.TransferCode.{number_of}
 use Rattle.tb_layout.specs.Transfer.{is_pending, is_post, is_void, is_resolving}
-use Rattle.tb_tables.specs.Facts.{Facts, account_with, transfer_with}
+use Rattle.tb_tables.specs.Facts.{Facts, account_with, transfer_with, is_expired}
 use Rattle.tb_tables.specs.inside.Indices.{IsIndexOf}
 use Rattle.tb_tables.specs.Balances.{balanced_account, with_balances}
 use Rattle.tb_tables.specs.inside.Balances.{debits, credits}
-use Rattle.tb_tables.specs.Status.{status_of, is_due, expires_at}
-use Rattle.tb_tables.specs.declared.status.Status.{Status}
+use Rattle.tb_tables.specs.Status.{is_named_by, status_of, is_due, expires_at}
 use Rattle.tb_tables.specs.declared.status.Status.TheVariants.{Pending, Posted, Voided, Expired}
 use Rattle.tb_tables.specs.Conditions.{MayAdd, MayResolve}
 use Rattle.tb_tables.proofs.FoundById.{found-id}
 use Rattle.tb_layout.specs.Limits.{clock_max, nanoseconds_per_second}
-use Rattle.tb_machine.specs.AccountVerdict.{u128_max, first_row}
-use Rattle.tb_machine.specs.TransferVerdict.{transfer_verdict, event_checks, stored_checks, against_id, check_new_transfer, new_id_checks, resolving_checks, resolving_verdict, against_named, pending_checks, against_status, moving_checks, moving_verdict, check_accounts_found, balance_checks, resolved_transfer, resolved_transfer_of, stored_transfer, has_exclusive_flags}
+use Rattle.tb_machine.specs.Checks.{u128_max, first_row}
+use Rattle.tb_machine.specs.TransferVerdict.{transfer_verdict, event_checks, stored_checks, against_id, new_id_verdict, new_id_checks, resolving_checks, resolving_verdict, against_named, pending_checks, status_checks, moving_checks, moving_verdict, against_accounts, balance_checks, resolved_transfer, resolved_transfer_of, stored_transfer, has_exclusive_flags}
 use Rattle.tb_machine.specs.Examining.{new_transfer_verdict}
 use Rattle.tb_machine.proofs.Faults.{eqb-false}
 
@@ -73,15 +72,15 @@ record IsFine (facts : Facts) (timestamp : ℕ) (event : Transfer) : Type 0 wher
 fine : (facts : Facts) (timestamp : ℕ) (event : Transfer)
     → number_of (new_transfer_verdict facts timestamp event) ≡ 0 → IsFine facts timestamp event
 fine facts timestamp event ok =
-    let new_ok = (passes (event_checks event) (check_new_transfer facts timestamp event) refl ok).rest in
+    let new_ok = (passes (event_checks event) (new_id_verdict facts timestamp event) refl ok).rest in
     let p = passes (new_id_checks facts event) (if is_resolving event then resolving_verdict facts timestamp event
     else moving_verdict facts timestamp event) refl new_ok in
     record { apart = p.none.1.0; rest = p.rest }
 
 -- if its id is new, the verdict is that on a new one
-pub check_new_account : (facts : Facts) (timestamp : ℕ) (event : Transfer) → transfer_with facts event.id ≡ None
+pub verdict_if_new : (facts : Facts) (timestamp : ℕ) (event : Transfer) → transfer_with facts event.id ≡ None
     → transfer_verdict facts timestamp event ≡ new_transfer_verdict facts timestamp event
-check_new_account facts timestamp event new =
+verdict_if_new facts timestamp event new =
     ap (λ found. first_row (event_checks event) (against_id facts timestamp found event)) new
 
 -- if its id is there, it fails
@@ -118,13 +117,13 @@ is_between : (facts : Facts) (timestamp : ℕ) (event : Transfer)
     → number_of (moving_verdict facts timestamp event) ≡ 0 → IsBetween facts timestamp event
 is_between facts timestamp event ok =
     by (account_with facts event.debit_account_id) (account_with facts event.credit_account_id) refl refl
-    (passes (moving_checks event) (check_accounts_found timestamp (balanced_account facts event.debit_account_id)
-    (balanced_account facts event.credit_account_id) event) refl ok).rest
+    (passes (moving_checks event) (first_row (against_accounts facts timestamp
+    (balanced_account facts event.debit_account_id) (balanced_account facts event.credit_account_id) event) Ok) refl ok).rest
   where
     by : (debit credit : Option Account) → account_with facts event.debit_account_id ≡ debit
         → account_with facts event.credit_account_id ≡ credit →
-        number_of (check_accounts_found timestamp (option_map (with_balances facts) debit)
-        (option_map (with_balances facts) credit) event) ≡ 0 → IsBetween facts timestamp event
+        number_of (first_row (against_accounts facts timestamp (option_map (with_balances facts) debit)
+        (option_map (with_balances facts) credit) event) Ok) ≡ 0 → IsBetween facts timestamp event
     by None credit d c ok = let e : 21 ≡ 0 = ok in absurd (omega (arith, e))
     by (Some debit) None d c ok = let e : 22 ≡ 0 = ok in absurd (omega (arith, e))
     by (Some debit) (Some credit) d c ok = record {
@@ -220,11 +219,13 @@ may_add facts timestamp event clock ok plain new =
 
 -- ---- a post or a void
 
-status_pending : (status : Status) (due : Bool) → number_of (against_status status due) ≡ 0 → status ≡ Pending
-status_pending Pending due ok = refl
-status_pending Posted due ok = let e : 33 ≡ 0 = ok in absurd (omega (arith, e))
-status_pending Voided due ok = let e : 34 ≡ 0 = ok in absurd (omega (arith, e))
-status_pending Expired due ok = let e : 35 ≡ 0 = ok in absurd (omega (arith, e))
+status_pending : (facts : Facts) (id : ℕ) → is_named_by is_post facts id ≡ false → is_named_by is_void facts id ≡ false
+    → is_expired facts id ≡ false → status_of facts id ≡ Pending
+status_pending facts id posted voided expired =
+    ap (λ b. if b then Posted else if is_named_by is_void facts id then Voided else if is_expired facts id then Expired
+    else Pending) posted
+    ∙ ap (λ b. if b then Voided else if is_expired facts id then Expired else Pending) voided
+    ∙ ap (λ b. if b then Expired else Pending) expired
 
 -- the transfer that it names, and that it was checked with
 record Names (facts : Facts) (event : Transfer) : Type 0 where
@@ -238,20 +239,22 @@ names : (facts : Facts) (timestamp : ℕ) (event : Transfer)
     → number_of (resolving_verdict facts timestamp event) ≡ 0 → Names facts event
 names facts timestamp event ok =
     by (transfer_with facts event.pending_id) refl
-    (passes (resolving_checks event) (against_named facts timestamp
-    (transfer_with facts event.pending_id) event) refl ok).rest
+    (passes (resolving_checks event) (first_row (against_named facts timestamp
+    (transfer_with facts event.pending_id) event) Ok) refl ok).rest
   where
     by : (found : Option Transfer) → transfer_with facts event.pending_id ≡ found
-        → number_of (against_named facts timestamp found event) ≡ 0 → Names facts event
+        → number_of (first_row (against_named facts timestamp found event) Ok) ≡ 0 → Names facts event
     by None is ok = let e : 25 ≡ 0 = ok in absurd (omega (arith, e))
     by (Some pending) is ok =
         let p = passes (pending_checks pending (resolved_transfer pending event))
-        (against_status (status_of facts pending.id) (is_due timestamp pending)) refl ok in
+        (first_row (status_checks facts timestamp pending) Ok) refl ok in
+        let status = (passes (status_checks facts timestamp pending) Ok refl p.rest).none in
         record {
           pending = pending;
           named = is;
           checks = p.none;
-          status = status_pending (status_of facts pending.id) (is_due timestamp pending) p.rest;
+          status = status_pending facts pending.id status.0 status.1.0
+              (or-left (is_expired facts pending.id) (is_due timestamp pending) status.1.1.0);
         }
 
 post_or_void : (p a b : Bool) → ((p && a) || (p && b) || (a && b)) ≡ false → (a || b) ≡ true → (b ≡ not a) × (p ≡ false)

@@ -82,23 +82,23 @@ module _ {Event : Type 0} (operation : Operation Event) where
         facts = operation.remembered facts fault.code fault.event;
       }
 
-  abbrev pub chain_outcome : ℕ → Facts → List Event → Results
-  chain_outcome clock facts chain =
+  abbrev pub chain_results : ℕ → Facts → List Event → Results
+  chain_results clock facts chain =
       let front = take (length chain - 1) chain in
       if is_last_linked operation.is_linked chain then
       open_chain facts (length front) (try_events 0 clock facts front)
       else closed_chain facts (length chain) (try_events 0 clock facts chain)
 
-  abbrev pub chains_outcome : ℕ → Facts → List (List Event) → Results
-  chains_outcome clock facts [] = record { results = []; facts = facts }
-  chains_outcome clock facts (chain ∷ chains) =
-      let first = chain_outcome clock facts chain in
-      let next = chains_outcome (clock_after clock (length chain)) first.facts chains in
+  abbrev pub chains_results : ℕ → Facts → List (List Event) → Results
+  chains_results clock facts [] = record { results = []; facts = facts }
+  chains_results clock facts (chain ∷ chains) =
+      let first = chain_results clock facts chain in
+      let next = chains_results (clock_after clock (length chain)) first.facts chains in
       record { results = first.results ++ next.results; facts = next.facts }
 
-  abbrev pub events_outcome : ℕ → Facts → List Event → Results
-  events_outcome clock facts events =
-      chains_outcome clock facts (chains_of operation.is_linked events)
+  abbrev pub events_results : ℕ → Facts → List Event → Results
+  events_results clock facts events =
+      chains_results clock facts (chains_of operation.is_linked events)
 
 -- the results that aren't 0
 abbrev pub failures_from : ℕ → List ℕ → List Failure

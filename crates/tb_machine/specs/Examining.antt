@@ -1,13 +1,17 @@
 -- Words of the functions that take a packet's chains one by one.
-use Rattle.std.specs.Prelude.{◌≢◌, ◌<◌, ℕ, suc, Bool, List, [], ◌∷◌, ◌++◌, Option, Some, None, if◌then◌else◌}
+use Rattle.std.specs.Prelude.{◌≢◌, ◌<◌, ℕ, suc, Bool, List, [], ◌∷◌, ◌++◌, length, Option, Some, None, if◌then◌else◌}
 use Rattle.tb_tables.specs.Facts.{Facts}
 use Rattle.tb_machine.specs.declared.fault.ChainFault.{ChainFault}
-use Rattle.tb_machine.specs.Chain.{Operation, Results}
-use Rattle.tb_machine.specs.inside.Faults.{closed_outcome, first_fault}
+use Rattle.tb_machine.specs.Chain.{Operation, Results, clock_after}
+use Rattle.tb_machine.specs.inside.Faults.{closed_results, first_fault}
 use Rattle.tb_layout.specs.declared.transfer.Transfer.{Transfer}
 use Rattle.tb_layout.specs.declared.transfer_code.TransferCode.{TransferCode}
-use Rattle.tb_machine.specs.AccountVerdict.{first_row}
-use Rattle.tb_machine.specs.TransferVerdict.{check_new_transfer, event_checks}
+use Rattle.tb_layout.specs.declared.account.Account.{Account}
+use Rattle.tb_layout.specs.declared.account_code.AccountCode.{AccountCode}
+use Rattle.tb_machine.specs.AccountVerdict as account
+use Rattle.tb_machine.specs.Checks.{first_row}
+use Rattle.tb_machine.specs.Replay.{State}
+use Rattle.tb_machine.specs.TransferVerdict as transfer
 
 -- how many events the first chain has
 abbrev pub first_chain_length : {Event : Type 0} → (Event → Bool) → List Event → ℕ
@@ -24,15 +28,24 @@ abbrev pub fault_as : {A B : Type 0} → (A → B) → Option (ChainFault A) →
 fault_as become None = None
 fault_as become (Some fault) = Some (record { index = fault.index; event = become fault.event; code = fault.code })
 
--- the outcome of an event that is a chain by itself and isn't linked
-abbrev pub event_outcome : {Event : Type 0} → Operation Event → ℕ → Facts → Event → Results
-event_outcome operation clock facts event =
-    closed_outcome operation clock facts (event ∷ []) (first_fault operation 0 clock facts (event ∷ []))
+-- the state once as many events had these results
+abbrev pub after_results : State → Results → State
+after_results state made = record { clock = clock_after state.clock (length made.results); facts = made.facts }
 
--- the outcome of some events, and then of others on what they left
-abbrev pub then_outcome : Results → Results → Results
-then_outcome first next = record { results = first.results ++ next.results; facts = next.facts }
+-- the results of an event that is a chain by itself and isn't linked
+abbrev pub event_results : {Event : Type 0} → Operation Event → ℕ → Facts → Event → Results
+event_results operation clock facts event =
+    closed_results operation clock facts (event ∷ []) (first_fault operation 0 clock facts (event ∷ []))
 
--- the verdict on an event, if its id is new
+-- the results of some events, and then of others on what they left
+abbrev pub then_results : Results → Results → Results
+then_results first next = record { results = first.results ++ next.results; facts = next.facts }
+
+-- ---- the verdict on an event, if its id is new
+
+abbrev pub new_account_verdict : Account → AccountCode
+new_account_verdict event = first_row (account.event_checks event) (account.against_id None event)
+
 abbrev pub new_transfer_verdict : Facts → ℕ → Transfer → TransferCode
-new_transfer_verdict facts timestamp event = first_row (event_checks event) (check_new_transfer facts timestamp event)
+new_transfer_verdict facts timestamp event =
+    first_row (transfer.event_checks event) (transfer.new_id_verdict facts timestamp event)

@@ -1,3 +1,4 @@
+pub mod Checks
 pub mod AccountVerdict
 pub mod TransferVerdict
 pub mod Prefetch

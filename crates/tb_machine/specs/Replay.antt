@@ -8,7 +8,7 @@ use Rattle.tb_layout.specs.Events.{Events, Accounts, Transfers, Ids, Input, Pack
 use Rattle.tb_tables.specs.Facts.{Facts, no_facts}
 use Rattle.tb_tables.specs.Status.{expire_due}
 use Rattle.tb_tables.specs.Balances.{balanced_account}
-use Rattle.tb_machine.specs.Chain.{Results, events_outcome, failures_from, clock_after}
+use Rattle.tb_machine.specs.Chain.{Results, events_results, failures_from, clock_after}
 use Rattle.tb_machine.specs.Operations.{accounts_operation, transfers_operation}
 use Rattle.tb_layout.specs.declared.answer.Answer.TheVariants as answer
 
@@ -20,13 +20,13 @@ abbrev pub opening : ℕ → State
 opening clock = record { clock = clock; facts = no_facts }
 
 -- a lookup has no results
-abbrev pub outcome_of : State → Events → Results
-outcome_of state (Accounts events) = events_outcome accounts_operation state.clock state.facts events
-outcome_of state (Transfers events) = events_outcome transfers_operation state.clock state.facts events
-outcome_of state (Ids ids) = record { results = []; facts = state.facts }
+abbrev pub results_of : State → Events → Results
+results_of state (Accounts events) = events_results accounts_operation state.clock state.facts events
+results_of state (Transfers events) = events_results transfers_operation state.clock state.facts events
+results_of state (Ids ids) = record { results = []; facts = state.facts }
 
 abbrev pub failures_of : State → Events → List Failure
-failures_of state events = failures_from 0 (outcome_of state events).results
+failures_of state events = failures_from 0 (results_of state events).results
 
 abbrev pub accounts_found : Facts → List ℕ → List Account
 accounts_found facts ids = filter_map (balanced_account facts) ids
@@ -36,13 +36,11 @@ answer_of state (Ids ids) = answer.Accounts (accounts_found state.facts ids)
 answer_of state events = answer.Failures (failures_of state events)
 
 -- each event raises the clock, if it can, whatever its result
-abbrev pub after_events : State → ℕ → Facts → State
-after_events state count facts = record { clock = clock_after state.clock count; facts = facts }
-
 abbrev pub after_packet : State → Events → State
-after_packet state (Accounts events) = after_events state (length events) (outcome_of state (Accounts events)).facts
-after_packet state (Transfers events) = after_events state (length events) (outcome_of state (Transfers events)).facts
 after_packet state (Ids ids) = state
+after_packet state events =
+    let made = results_of state events in
+    record { clock = clock_after state.clock (length made.results); facts = made.facts }
 
 -- what is due at that clock expires
 abbrev pub after_pulse : State → ℕ → State

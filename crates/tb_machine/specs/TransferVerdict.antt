@@ -1,5 +1,5 @@
 -- The verdict on a transfer.
-use Rattle.std.specs.Prelude.{ℕ, ◌+◌, Bool, not, ◌&&◌, ◌||◌, ◌==◌, nat_lt, List, [], ◌∷◌, Option, Some, None, if◌then◌else◌}
+use Rattle.std.specs.Prelude.{ℕ, ◌+◌, Bool, not, ◌&&◌, ◌||◌, ◌==◌, nat_lt, List, [], ◌∷◌, ◌++◌, Option, Some, None, is_some, if◌then◌else◌}
 use Rattle.tb_layout.specs.declared.account.Account.{Account}
 use Rattle.tb_layout.specs.declared.transfer.Transfer.{Transfer}
 use Rattle.tb_layout.specs.declared.transfer_code.TransferCode.{TransferCode}
@@ -7,12 +7,10 @@ use Rattle.tb_layout.specs.declared.transfer_code.TransferCode.TheVariants.{Time
 use Rattle.tb_layout.specs.Account.{debits_must_not_exceed_credits, credits_must_not_exceed_debits}
 use Rattle.tb_layout.specs.Bytes.{has_reserved_flag}
 use Rattle.tb_layout.specs.Transfer.{is_pending, is_post, is_void, is_resolving}
-use Rattle.tb_tables.specs.Facts.{Facts, transfer_with, is_failed}
+use Rattle.tb_tables.specs.Facts.{Facts, transfer_with, is_expired, is_failed}
 use Rattle.tb_tables.specs.Balances.{balanced_account}
-use Rattle.tb_tables.specs.Status.{status_of, is_due, expires_at}
-use Rattle.tb_tables.specs.declared.status.Status.{Status}
-use Rattle.tb_tables.specs.declared.status.Status.TheVariants.{Pending, Posted, Voided, Expired}
-use Rattle.tb_machine.specs.AccountVerdict.{u128_max, first_row, differ}
+use Rattle.tb_tables.specs.Status.{is_named_by, is_due, expires_at}
+use Rattle.tb_machine.specs.Checks.{u128_max, first_row, if_found, differ}
 use Rattle.tb_layout.specs.Limits.{clock_max}
 
 -- ---- fields that a post or a void leaves out
@@ -44,6 +42,16 @@ abbrev pub stored_transfer : Facts → ℕ → Transfer → Transfer
 stored_transfer facts timestamp event =
     record (resolved_transfer_of (transfer_with facts event.pending_id) event) { timestamp = timestamp }
 
+-- ---- any event
+
+abbrev pub event_checks : Transfer → List (Bool × TransferCode)
+event_checks event =
+    (differ event.timestamp 0, TimestampMustBeZero) ∷
+    (has_reserved_flag event.flags, ReservedFlag) ∷
+    (event.id == 0, IdMustNotBeZero) ∷
+    (event.id == u128_max, IdMustNotBeIntMax) ∷
+    []
+
 -- against the transfer with its id; `event` is resolved
 abbrev pub stored_checks : Transfer → Transfer → List (Bool × TransferCode)
 stored_checks stored event =
@@ -60,13 +68,30 @@ stored_checks stored event =
     (differ event.code stored.code, ExistsWithDifferentCode) ∷
     []
 
+abbrev pub has_exclusive_flags : Transfer → Bool
+has_exclusive_flags event =
+    (is_pending event && is_post event) || (is_pending event && is_void event) || (is_post event && is_void event)
+
+abbrev pub new_id_checks : Facts → Transfer → List (Bool × TransferCode)
+new_id_checks facts event =
+    (is_failed facts event.id, IdAlreadyFailed) ∷
+    (has_exclusive_flags event, FlagsAreMutuallyExclusive) ∷
+    []
+
 -- ---- a post or a void
 
-abbrev pub against_status : Status → Bool → TransferCode
-against_status Posted due = PendingTransferAlreadyPosted
-against_status Voided due = PendingTransferAlreadyVoided
-against_status Expired due = PendingTransferExpired
-against_status Pending due = if due then PendingTransferExpired else Ok
+abbrev pub resolving_checks : Transfer → List (Bool × TransferCode)
+resolving_checks event =
+    (event.pending_id == 0, PendingIdMustNotBeZero) ∷
+    (event.pending_id == u128_max, PendingIdMustNotBeIntMax) ∷
+    (event.pending_id == event.id, PendingIdMustBeDifferent) ∷
+    (differ event.timeout 0, TimeoutReservedForPendingTransfer) ∷
+    []
+
+abbrev pub named_checks : Option Transfer → List (Bool × TransferCode)
+named_checks named =
+    (not (is_some named), PendingTransferNotFound) ∷
+    []
 
 -- against the named transfer; `event` is resolved
 abbrev pub pending_checks : Transfer → Transfer → List (Bool × TransferCode)
@@ -80,15 +105,33 @@ pending_checks pending event =
     (is_void event && nat_lt event.amount pending.amount, PendingTransferHasDifferentAmount) ∷
     []
 
-abbrev pub resolving_checks : Transfer → List (Bool × TransferCode)
-resolving_checks event =
-    (event.pending_id == 0, PendingIdMustNotBeZero) ∷
-    (event.pending_id == u128_max, PendingIdMustNotBeIntMax) ∷
-    (event.pending_id == event.id, PendingIdMustBeDifferent) ∷
-    (differ event.timeout 0, TimeoutReservedForPendingTransfer) ∷
+abbrev pub status_checks : Facts → ℕ → Transfer → List (Bool × TransferCode)
+status_checks facts timestamp pending =
+    (is_named_by is_post facts pending.id, PendingTransferAlreadyPosted) ∷
+    (is_named_by is_void facts pending.id, PendingTransferAlreadyVoided) ∷
+    (is_expired facts pending.id || is_due timestamp pending, PendingTransferExpired) ∷
     []
 
 -- ---- a plain or pending transfer
+
+abbrev pub moving_checks : Transfer → List (Bool × TransferCode)
+moving_checks event =
+    (event.debit_account_id == 0, DebitAccountIdMustNotBeZero) ∷
+    (event.debit_account_id == u128_max, DebitAccountIdMustNotBeIntMax) ∷
+    (event.credit_account_id == 0, CreditAccountIdMustNotBeZero) ∷
+    (event.credit_account_id == u128_max, CreditAccountIdMustNotBeIntMax) ∷
+    (event.debit_account_id == event.credit_account_id, AccountsMustBeDifferent) ∷
+    (differ event.pending_id 0, PendingIdMustBeZero) ∷
+    (not (is_pending event) && differ event.timeout 0, TimeoutReservedForPendingTransfer) ∷
+    (event.ledger == 0, LedgerMustNotBeZero) ∷
+    (event.code == 0, CodeMustNotBeZero) ∷
+    []
+
+abbrev pub account_checks : Option Account → Option Account → List (Bool × TransferCode)
+account_checks debit credit =
+    (not (is_some debit), DebitAccountNotFound) ∷
+    (not (is_some credit), CreditAccountNotFound) ∷
+    []
 
 abbrev pub debits_with : Account → ℕ → ℕ
 debits_with account amount = account.debits_pending + account.debits_posted + amount
@@ -111,71 +154,38 @@ balance_checks timestamp debit credit event =
     (credits_must_not_exceed_debits credit && nat_lt credit.debits_posted (credits_with credit event.amount), ExceedsDebits) ∷
     []
 
-abbrev pub check_accounts_found : ℕ → Option Account → Option Account → Transfer → TransferCode
-check_accounts_found timestamp None credit event = DebitAccountNotFound
-check_accounts_found timestamp (Some debit) None event = CreditAccountNotFound
-check_accounts_found timestamp (Some debit) (Some credit) event =
-    first_row (balance_checks timestamp debit credit event) Ok
-
-abbrev pub moving_checks : Transfer → List (Bool × TransferCode)
-moving_checks event =
-    (event.debit_account_id == 0, DebitAccountIdMustNotBeZero) ∷
-    (event.debit_account_id == u128_max, DebitAccountIdMustNotBeIntMax) ∷
-    (event.credit_account_id == 0, CreditAccountIdMustNotBeZero) ∷
-    (event.credit_account_id == u128_max, CreditAccountIdMustNotBeIntMax) ∷
-    (event.debit_account_id == event.credit_account_id, AccountsMustBeDifferent) ∷
-    (differ event.pending_id 0, PendingIdMustBeZero) ∷
-    (not (is_pending event) && differ event.timeout 0, TimeoutReservedForPendingTransfer) ∷
-    (event.ledger == 0, LedgerMustNotBeZero) ∷
-    (event.code == 0, CodeMustNotBeZero) ∷
-    []
-
--- ---- any event
-
-abbrev pub has_exclusive_flags : Transfer → Bool
-has_exclusive_flags event =
-    (is_pending event && is_post event) || (is_pending event && is_void event) || (is_post event && is_void event)
-
-abbrev pub new_id_checks : Facts → Transfer → List (Bool × TransferCode)
-new_id_checks facts event =
-    (is_failed facts event.id, IdAlreadyFailed) ∷
-    (has_exclusive_flags event, FlagsAreMutuallyExclusive) ∷
-    []
-
-abbrev pub event_checks : Transfer → List (Bool × TransferCode)
-event_checks event =
-    (differ event.timestamp 0, TimestampMustBeZero) ∷
-    (has_reserved_flag event.flags, ReservedFlag) ∷
-    (event.id == 0, IdMustNotBeZero) ∷
-    (event.id == u128_max, IdMustNotBeIntMax) ∷
-    []
+-- ---- the verdict
 
 module _ (facts : Facts) (timestamp : ℕ) where
-  abbrev pub against_named : Option Transfer → Transfer → TransferCode
-  against_named None event = PendingTransferNotFound
-  against_named (Some pending) event =
-      first_row (pending_checks pending (resolved_transfer pending event))
-      (against_status (status_of facts pending.id) (is_due timestamp pending))
+  abbrev pub against_named : Option Transfer → Transfer → List (Bool × TransferCode)
+  against_named named event =
+      named_checks named
+      ++ if_found named (λ pending. pending_checks pending (resolved_transfer pending event)
+      ++ status_checks facts timestamp pending)
 
   abbrev pub resolving_verdict : Transfer → TransferCode
   resolving_verdict event =
-      first_row (resolving_checks event) (against_named (transfer_with facts event.pending_id) event)
+      first_row (resolving_checks event ++ against_named (transfer_with facts event.pending_id) event) Ok
+
+  abbrev pub against_accounts : Option Account → Option Account → Transfer → List (Bool × TransferCode)
+  against_accounts debit credit event =
+      account_checks debit credit
+      ++ if_found debit (λ debit. if_found credit (λ credit. balance_checks timestamp debit credit event))
 
   abbrev pub moving_verdict : Transfer → TransferCode
   moving_verdict event =
-      first_row (moving_checks event)
-      (check_accounts_found timestamp (balanced_account facts event.debit_account_id)
-      (balanced_account facts event.credit_account_id) event)
+      first_row (moving_checks event ++ against_accounts (balanced_account facts event.debit_account_id)
+      (balanced_account facts event.credit_account_id) event) Ok
 
-  abbrev pub check_new_transfer : Transfer → TransferCode
-  check_new_transfer event =
+  abbrev pub new_id_verdict : Transfer → TransferCode
+  new_id_verdict event =
       first_row (new_id_checks facts event)
       (if is_resolving event then resolving_verdict event else moving_verdict event)
 
   abbrev pub against_id : Option Transfer → Transfer → TransferCode
   against_id (Some stored) event =
       first_row (stored_checks stored (resolved_transfer_of (transfer_with facts stored.pending_id) event)) Exists
-  against_id None event = check_new_transfer event
+  against_id None event = new_id_verdict event
 
   abbrev pub transfer_verdict : Transfer → TransferCode
   transfer_verdict event = first_row (event_checks event) (against_id (transfer_with facts event.id) event)

@@ -1,31 +1,34 @@
 //! The checks of an event that asks for an account, in their order.
 
 ghost use Rattle.std.specs.Prelude.{◌≡◌, None};
+ghost use Rattle.tb_layout.specs.declared.account_code.AccountCode.TheVariants.{Exists, Ok};
 ghost use Rattle.tb_machine.specs.AccountVerdict as spec;
+ghost use Rattle.tb_machine.specs.Checks.{first_row};
+ghost use Rattle.tb_machine.specs.Examining.{new_account_verdict as new_verdict_of};
 
 use tb_layout::{Account, AccountCode};
 use tb_tables::Tables;
 
-/// Returns how an event differs from the account that has its id, or that it doesn't.
-fn compare_with_existing(existing: &Account, event: &Account) -> AccountCode
-    ensures { result ≡ spec.compare_with_existing existing.now event.now }
+/// Returns how an event differs from the stored account that has its id, or that it doesn't.
+fn compare_with_stored(stored: &Account, event: &Account) -> AccountCode
+    ensures { result ≡ first_row (spec.stored_checks stored.now event.now) Exists }
 {
-    if event.flags != existing.flags {
+    if event.flags != stored.flags {
         return AccountCode::ExistsWithDifferentFlags;
     }
-    if event.user_data_128 != existing.user_data_128 {
+    if event.user_data_128 != stored.user_data_128 {
         return AccountCode::ExistsWithDifferentUserData128;
     }
-    if event.user_data_64 != existing.user_data_64 {
+    if event.user_data_64 != stored.user_data_64 {
         return AccountCode::ExistsWithDifferentUserData64;
     }
-    if event.user_data_32 != existing.user_data_32 {
+    if event.user_data_32 != stored.user_data_32 {
         return AccountCode::ExistsWithDifferentUserData32;
     }
-    if event.ledger != existing.ledger {
+    if event.ledger != stored.ledger {
         return AccountCode::ExistsWithDifferentLedger;
     }
-    if event.code != existing.code {
+    if event.code != stored.code {
         return AccountCode::ExistsWithDifferentCode;
     }
     AccountCode::Exists
@@ -33,8 +36,8 @@ fn compare_with_existing(existing: &Account, event: &Account) -> AccountCode
 
 /// Returns the first check that an event with a new id fails, or Ok.
 #[inline(always)]
-fn check_new_account(event: &Account) -> AccountCode
-    ensures { result ≡ spec.check_new_account event.now }
+fn check_new_id(event: &Account) -> AccountCode
+    ensures { result ≡ first_row (spec.new_id_checks event.now) Ok }
 {
     if event.debits_must_not_exceed_credits() && event.credits_must_not_exceed_debits() {
         return AccountCode::FlagsAreMutuallyExclusive;
@@ -63,7 +66,7 @@ fn check_new_account(event: &Account) -> AccountCode
 /// Returns the first check that an event fails, or Ok; `found` is the account with its id, if there is one.
 #[inline(always)]
 fn verdict_given(found: Option<Account>, event: &Account) -> AccountCode
-    ensures { result ≡ spec.verdict_given found event.now }
+    ensures { result ≡ first_row (spec.event_checks event.now) (spec.against_id found event.now) }
 {
     if event.timestamp != 0 {
         return AccountCode::TimestampMustBeZero;
@@ -81,15 +84,15 @@ fn verdict_given(found: Option<Account>, event: &Account) -> AccountCode
         return AccountCode::IdMustNotBeIntMax;
     }
     match found {
-        Some(existing) => compare_with_existing(&existing, event),
-        None => check_new_account(event),
+        Some(stored) => compare_with_stored(&stored, event),
+        None => check_new_id(event),
     }
 }
 
 /// Returns the first check that the event fails if no account has its id, or Ok.
 #[inline(always)]
 pub(crate) fn new_account_verdict(event: &Account) -> AccountCode
-    ensures { result ≡ spec.verdict_given None event.now }
+    ensures { result ≡ new_verdict_of event.now }
 {
     verdict_given(None, event)
 }

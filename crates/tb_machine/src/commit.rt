@@ -4,9 +4,9 @@ ghost use Rattle.std.specs.Prelude.{◌≡◌, ◌≢◌, ◌+◌, ◌^◌, ◌<
 ghost use Rattle.tb_tables.specs.History.{mark_of, back_to, Extends};
 ghost use Rattle.tb_layout.specs.Limits.{clock_max};
 ghost use Rattle.tb_machine.specs.inside.Faults as faults;
-ghost use Rattle.tb_machine.specs.Chain.{chain_outcome, events_outcome, failures_from};
-ghost use Rattle.tb_machine.specs.inside.Faults.{verdict_at, facts_with, facts_with_all, first_fault, facts_after_failure, open_outcome, closed_outcome};
-ghost use Rattle.tb_machine.specs.Examining.{event_outcome, fault_as, first_chain_length};
+ghost use Rattle.tb_machine.specs.Chain.{chain_results, events_results, failures_from};
+ghost use Rattle.tb_machine.specs.inside.Faults.{verdict_at, facts_with, facts_with_all, first_fault, facts_after_failure, open_results, closed_results};
+ghost use Rattle.tb_machine.specs.Examining.{event_results, fault_as, first_chain_length};
 
 use crate::chain::{ChainStart, first_chain_length};
 use crate::clock::{clock_after, next_timestamp};
@@ -116,10 +116,10 @@ fn commit_event<E: CreateEvent>(
     requires room { vec_len out.old < vec_capacity out.old }
     requires fits { start.index < 2 ^ 32 }
     ensures extends { Extends tables.old tables.new }
-    ensures facts { let outcome = event_outcome E.operation start.clock tables.old.now (E.event_of chunk.now) in
-        OnOk result (tables.new.now ≡ outcome.facts) }
-    ensures failures { let outcome = event_outcome E.operation start.clock tables.old.now (E.event_of chunk.now) in
-        OnOk result (out.new.items ≡ out.old.items ++ failures_from start.index outcome.results) }
+    ensures facts { let results = event_results E.operation start.clock tables.old.now (E.event_of chunk.now) in
+        OnOk result (tables.new.now ≡ results.facts) }
+    ensures failures { let results = event_results E.operation start.clock tables.old.now (E.event_of chunk.now) in
+        OnOk result (out.new.items ≡ out.old.items ++ failures_from start.index results.results) }
     ensures len { vec_len out.new ≤ vec_len out.old + 1 }
     ensures capacity { vec_capacity out.new ≡ vec_capacity out.old }
 {
@@ -146,12 +146,12 @@ fn commit_closed_chain<E: CreateEvent>(
     requires room { vec_len out.old + length chain.now ≤ vec_capacity out.old }
     requires fits { start.index + length chain.now < 2 ^ 32 }
     ensures extends { Extends tables.old tables.new }
-    ensures facts { let outcome = closed_outcome E.operation start.clock tables.old.now (map E.event_of chain.now)
+    ensures facts { let results = closed_results E.operation start.clock tables.old.now (map E.event_of chain.now)
         (first_fault E.operation 0 start.clock tables.old.now (map E.event_of chain.now)) in
-        OnOk result (tables.new.now ≡ outcome.facts) }
-    ensures failures { let outcome = closed_outcome E.operation start.clock tables.old.now (map E.event_of chain.now)
+        OnOk result (tables.new.now ≡ results.facts) }
+    ensures failures { let results = closed_results E.operation start.clock tables.old.now (map E.event_of chain.now)
         (first_fault E.operation 0 start.clock tables.old.now (map E.event_of chain.now)) in
-        OnOk result (out.new.items ≡ out.old.items ++ failures_from start.index outcome.results) }
+        OnOk result (out.new.items ≡ out.old.items ++ failures_from start.index results.results) }
     ensures len { vec_len out.new ≤ vec_len out.old + length chain.now }
     ensures capacity { vec_capacity out.new ≡ vec_capacity out.old }
 {
@@ -177,12 +177,12 @@ fn commit_open_chain<E: CreateEvent>(
     requires room { vec_len out.old + length front.now < vec_capacity out.old }
     requires fits { start.index + length front.now + 1 < 2 ^ 32 }
     ensures extends { Extends tables.old tables.new }
-    ensures facts { let outcome = open_outcome E.operation tables.old.now (map E.event_of front.now)
+    ensures facts { let results = open_results E.operation tables.old.now (map E.event_of front.now)
         (first_fault E.operation 0 start.clock tables.old.now (map E.event_of front.now)) in
-        OnOk result (tables.new.now ≡ outcome.facts) }
-    ensures failures { let outcome = open_outcome E.operation tables.old.now (map E.event_of front.now)
+        OnOk result (tables.new.now ≡ results.facts) }
+    ensures failures { let results = open_results E.operation tables.old.now (map E.event_of front.now)
         (first_fault E.operation 0 start.clock tables.old.now (map E.event_of front.now)) in
-        OnOk result (out.new.items ≡ out.old.items ++ failures_from start.index outcome.results) }
+        OnOk result (out.new.items ≡ out.old.items ++ failures_from start.index results.results) }
     ensures len { vec_len out.new ≤ vec_len out.old + length front.now + 1 }
     ensures capacity { vec_capacity out.new ≡ vec_capacity out.old }
 {
@@ -209,10 +209,10 @@ fn commit_chain<E: CreateEvent>(
     requires room { vec_len out.old + length chain.now ≤ vec_capacity out.old }
     requires fits { start.index + length chain.now < 2 ^ 32 }
     ensures extends { Extends tables.old tables.new }
-    ensures facts { OnOk result (tables.new.now ≡ (chain_outcome E.operation start.clock tables.old.now
+    ensures facts { OnOk result (tables.new.now ≡ (chain_results E.operation start.clock tables.old.now
         (map E.event_of chain.now)).facts) }
     ensures failures { OnOk result (out.new.items
-        ≡ out.old.items ++ failures_from start.index (chain_outcome E.operation start.clock tables.old.now
+        ≡ out.old.items ++ failures_from start.index (chain_results E.operation start.clock tables.old.now
         (map E.event_of chain.now)).results) }
     ensures len { vec_len out.new ≤ vec_len out.old + length chain.now }
     ensures capacity { vec_capacity out.new ≡ vec_capacity out.old }
@@ -241,10 +241,10 @@ fn commit_first<E: CreateEvent>(
         ≡ first_chain_length E.operation.is_linked (map E.event_of events.now)) }
     ensures within { IfOk result (λ count. (0 < count) × (count ≤ length events.now)) }
     ensures extends { Extends tables.old tables.new }
-    ensures facts { IfOk result (λ count. tables.new.now ≡ (chain_outcome E.operation start.clock tables.old.now
+    ensures facts { IfOk result (λ count. tables.new.now ≡ (chain_results E.operation start.clock tables.old.now
         (map E.event_of (take count events.now))).facts) }
     ensures failures { IfOk result (λ count. out.new.items
-        ≡ out.old.items ++ failures_from start.index (chain_outcome E.operation start.clock tables.old.now
+        ≡ out.old.items ++ failures_from start.index (chain_results E.operation start.clock tables.old.now
         (map E.event_of (take count events.now))).results) }
     ensures len { IfOk result (λ count. vec_len out.new ≤ vec_len out.old + count) }
     ensures capacity { vec_capacity out.new ≡ vec_capacity out.old }
@@ -314,10 +314,10 @@ pub(crate) fn commit_chains<E: CreateEvent>(
     requires room { length chunks.now ≤ vec_capacity out.old }
     requires fits { length chunks.now < 2 ^ 32 }
     ensures extends { Extends tables.old tables.new }
-    ensures facts { OnOk result (tables.new.now ≡ (events_outcome E.operation clock tables.old.now
+    ensures facts { OnOk result (tables.new.now ≡ (events_results E.operation clock tables.old.now
         (map E.event_of chunks.now)).facts) }
     ensures failures { OnOk result (out.new.items
-        ≡ failures_from 0 (events_outcome E.operation clock tables.old.now (map E.event_of chunks.now)).results) }
+        ≡ failures_from 0 (events_results E.operation clock tables.old.now (map E.event_of chunks.now)).results) }
     ensures capacity { vec_capacity out.new ≡ vec_capacity out.old }
 {
     let mut start = ChainStart { clock, index: 0 };

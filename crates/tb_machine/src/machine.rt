@@ -7,7 +7,7 @@ ghost use Rattle.tb_tables.specs.inside.Status.{status_with};
 ghost use Rattle.tb_tables.specs.Balances.{balanced_account};
 ghost use Rattle.tb_layout.specs.inside.Limits.{batch_max, moment_max};
 ghost use Rattle.tb_layout.specs.Limits.{clock_max};
-ghost use Rattle.tb_machine.specs.Chain.{events_outcome, failures_from};
+ghost use Rattle.tb_machine.specs.Chain.{events_results, failures_from};
 
 use crate::clock::clock_after;
 use crate::commit::commit_chains;
@@ -44,7 +44,8 @@ impl Model for Machine {
 }
 
 impl Machine {
-    ghost use Rattle.tb_machine.specs.Replay.{opening, failures_of, accounts_found, after_events, after_packet, after_pulse};
+    ghost use Rattle.tb_machine.specs.Replay.{opening, failures_of, accounts_found, after_packet, after_pulse};
+    ghost use Rattle.tb_machine.specs.Examining.{after_results};
     ghost use Rattle.tb_machine.specs.inside.Accounts.{balanced_accounts};
 
     /// Returns a machine without facts. Its clock starts at a number of nanoseconds, 0 to `CLOCK_MAX`; the first event
@@ -118,10 +119,10 @@ impl Machine {
         requires room { length body.now / 128 ≤ vec_capacity out.old }
         ensures in_range { self.old.clock ≤ clock_max }
         ensures state { let events = map E.event_of (chunks 128 body.now) in
-            OnOk result (self.new ≡ after_events self.old (length events)
-            (events_outcome E.operation self.old.clock self.old.facts events).facts) }
+            OnOk result (self.new ≡ after_results self.old
+            (events_results E.operation self.old.clock self.old.facts events)) }
         ensures failures { let events = map E.event_of (chunks 128 body.now) in
-            OnOk result (out.new.items ≡ failures_from 0 (events_outcome E.operation self.old.clock
+            OnOk result (out.new.items ≡ failures_from 0 (events_results E.operation self.old.clock
             self.old.facts events).results) }
         ensures unchanged { OnErr result (self.new ≡ self.old) }
         ensures none { OnErr result (out.new.items ≡ []) }

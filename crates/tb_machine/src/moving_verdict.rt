@@ -3,7 +3,7 @@
 ghost use Rattle.std.specs.Prelude.{◌≡◌, ◌+◌, nat_lt};
 ghost use Rattle.tb_layout.specs.declared.transfer_code.TransferCode.TheVariants.{Ok};
 ghost use Rattle.tb_tables.specs.Balances.{balanced_account};
-ghost use Rattle.tb_machine.specs.AccountVerdict.{first_row};
+ghost use Rattle.tb_machine.specs.Checks.{first_row};
 ghost use Rattle.tb_machine.specs.Prefetch.{AreSides};
 ghost use Rattle.tb_machine.specs.TransferVerdict as spec;
 
@@ -111,8 +111,9 @@ fn check_accounts_found(
     event: &Transfer,
 ) -> TransferCode
     requires { AreSides tables.now.now event.now sides }
-    ensures { result ≡ spec.check_accounts_found timestamp (balanced_account tables.now.now event.now.debit_account_id)
-        (balanced_account tables.now.now event.now.credit_account_id) event.now }
+    ensures { result ≡ first_row (spec.against_accounts tables.now.now timestamp
+        (balanced_account tables.now.now event.now.debit_account_id)
+        (balanced_account tables.now.now event.now.credit_account_id) event.now) Ok }
 {
     let Some(debit) = account_at(tables, sides.debit) else {
         return TransferCode::DebitAccountNotFound;

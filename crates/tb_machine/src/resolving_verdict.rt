@@ -2,10 +2,11 @@
 
 ghost use Rattle.std.specs.Prelude.{◌≡◌, ◌≢◌, Some, true, slice_get, IfOk, OnOk, IfErr, IfNone, MatchOption};
 ghost use Rattle.tb_layout.specs.declared.transfer_code.TransferCode.{TransferCode as Code};
+ghost use Rattle.tb_layout.specs.declared.transfer_code.TransferCode.TheVariants.{Ok as OkCode};
 ghost use Rattle.tb_layout.specs.TransferCode.{number_of};
 ghost use Rattle.tb_layout.specs.Transfer.{is_pending};
 ghost use Rattle.tb_tables.specs.Status.{status_of, is_due as is_due_at};
-ghost use Rattle.tb_machine.specs.AccountVerdict.{first_row};
+ghost use Rattle.tb_machine.specs.Checks.{first_row};
 ghost use Rattle.tb_machine.specs.Prefetch.{IsTarget};
 ghost use Rattle.tb_machine.specs.declared.prefetch.Target.TheVariants.{Named};
 ghost use Rattle.tb_machine.specs.TransferVerdict as spec;
@@ -24,17 +25,17 @@ fn is_due(clock: u64, transfer: &Transfer) -> bool
 
 /// Returns what a pending transfer's status leaves of a post or a void: only one that is pending still, and not due,
 /// may be resolved. One that is due expired, also if no pulse came since.
-fn against_status(tables: &Tables, index: usize, pending: &Transfer, due: bool) -> TransferCode
+fn check_status(tables: &Tables, index: usize, pending: &Transfer, timestamp: u64) -> TransferCode
     requires there { slice_get tables.now.now.transfers index ≡ Some pending.now }
     requires pending { is_pending pending.now ≡ true }
-    ensures { result ≡ spec.against_status (status_of tables.now.now pending.now.id) due }
+    ensures { result ≡ first_row (spec.status_checks tables.now.now timestamp pending.now) OkCode }
 {
     match tables.status_at(index) {
         Some(Status::Posted) => TransferCode::PendingTransferAlreadyPosted,
         Some(Status::Voided) => TransferCode::PendingTransferAlreadyVoided,
         Some(Status::Expired) => TransferCode::PendingTransferExpired,
         Some(Status::Pending) | None => {
-            if due {
+            if is_due(timestamp, pending) {
                 TransferCode::PendingTransferExpired
             } else {
                 TransferCode::Ok
@@ -129,7 +130,7 @@ pub(crate) fn resolve(
     if let Some(code) = pending_fault(&named, &transfer) {
         return Err(code);
     }
-    let code = against_status(tables, index, &named, is_due(timestamp, &named));
+    let code = check_status(tables, index, &named, timestamp);
     if code.number() == 0 {
         Ok(transfer)
     } else {

@@ -8,7 +8,7 @@ ghost use Rattle.tb_tables.specs.inside.Indices.{IsIndexOfTransfer};
 ghost use Rattle.tb_tables.specs.Facts.{transfer_with};
 ghost use Rattle.tb_machine.specs.TransferVerdict as spec;
 ghost use Rattle.tb_machine.specs.Examining.{new_transfer_verdict as new_verdict_of};
-ghost use Rattle.tb_machine.specs.AccountVerdict.{first_row};
+ghost use Rattle.tb_machine.specs.Checks.{first_row};
 ghost use Rattle.tb_machine.specs.Prefetch.{IsTarget};
 ghost use Rattle.tb_machine.specs.declared.prefetch.Target.TheVariants.{Named};
 
@@ -125,14 +125,9 @@ fn new_id_fault(tables: &Tables, event: &Transfer) -> Option<TransferCode>
 /// Returns the first check that an event fails whose id is that of no transfer, or Ok. The accounts, or the pending
 /// transfer, were looked up before.
 #[inline(always)]
-fn check_new_transfer(
-    tables: &Tables,
-    target: Target,
-    timestamp: u64,
-    event: &Transfer,
-) -> TransferCode
+fn check_new_id(tables: &Tables, target: Target, timestamp: u64, event: &Transfer) -> TransferCode
     requires { IsTarget tables.now.now event.now target }
-    ensures { result ≡ spec.check_new_transfer tables.now.now timestamp event.now }
+    ensures { result ≡ spec.new_id_verdict tables.now.now timestamp event.now }
 {
     if let Some(code) = new_id_fault(tables, event) {
         return code;
@@ -157,7 +152,7 @@ pub(crate) fn new_transfer_verdict(
     if let Some(code) = event_fault(event) {
         return code;
     }
-    check_new_transfer(tables, target, timestamp, event)
+    check_new_id(tables, target, timestamp, event)
 }
 
 /// Returns a post or a void as it is stored, if it passes its checks, apart from those against a transfer with its id.
@@ -196,6 +191,6 @@ pub(crate) fn transfer_verdict(
     }
     match found {
         Some(index) => compare_with_stored_at(tables, index, event),
-        None => check_new_transfer(tables, target, timestamp, event),
+        None => check_new_id(tables, target, timestamp, event),
     }
 }

@@ -40,19 +40,19 @@ module _ {Event : Type 0} (operation : Operation Event) where
   facts_after_failure facts None = facts
   facts_after_failure facts (Some fault) = operation.remembered facts fault.code fault.event
 
-  abbrev pub closed_outcome : ℕ → Facts → List Event
+  abbrev pub closed_results : ℕ → Facts → List Event
       → Option (ChainFault Event) → Results
-  closed_outcome clock facts chain None =
+  closed_results clock facts chain None =
       record { results = replicate (length chain) 0; facts = facts_with_all clock facts chain }
-  closed_outcome clock facts chain (Some fault) =
+  closed_results clock facts chain (Some fault) =
       record {
         results = results_of_failed (length chain) (Some fault);
         facts = facts_after_failure facts (Some fault);
       }
 
   -- an open chain fails; its last event isn't examined
-  abbrev pub open_outcome : Facts → List Event → Option (ChainFault Event) → Results
-  open_outcome facts front fault =
+  abbrev pub open_results : Facts → List Event → Option (ChainFault Event) → Results
+  open_results facts front fault =
       record {
         results = results_of_failed (length front) fault ++ linked_event_chain_open ∷ [];
         facts = facts_after_failure facts fault;
