@@ -4,7 +4,7 @@ use Rattle.tb_tables.proofs.Words.{list_any, AllByRecursion, nat_tests, Account,
 use Rattle.tb_tables.specs.declared.amounts.Phase.TheVariants as phase
 use Rattle.tb_tables.proofs.MapRows.{map-same}
 use Rattle.tb_tables.proofs.Sums.{amounts, amounts-push, but_for, but_for-found}
-use Rattle.tb_tables.proofs.Laws.{find-none, reserves, posts, any-push, resolved_either, reserving-same, reserves-same, reserving, reserves-but_for, total, distinct-push}
+use Rattle.tb_tables.proofs.Laws.{find-none, reserves, posts, any-push, resolved_either, reserves-same, reserving, reserves-but_for, total, distinct-push}
 
 -- the same four sums
 pub record AreSame (sums others : Sums) : Type 0 where
@@ -64,10 +64,8 @@ module _ (facts : Facts) (t : Transfer) (may : MayAdd facts t) where
     reserves-new =
         grind (
           arith,
-          reserving-same facts t may t,
-          unresolved facts grounded t.id
-              (find-none t.id facts.transfers may.new),
-          not_expired,
+          status-add t.id,
+          status-fresh facts grounded t.id (find-none t.id facts.transfers may.new) not_expired,
         )
 
     pub reserved-add : (side : Transfer → ℕ) (id : ℕ)

@@ -129,9 +129,8 @@ module _ (facts : Facts) (x : Transfer) (index : ℕ) (at : slice_get facts.tran
       open_ones = λ p y at' expired.
           let one = same p y at' in
           let was = sound.expiries.open_ones p y at' in (
-            grind (arith, more y.id, expired, reserving, one, was),
-            grind
-                (arith, more y.id, expired, reserving, one, was),
+            grind (arith, more y.id, expired, reserving, one, was, resolved_either y.id facts.transfers),
+            grind (arith, more y.id, expired, reserving, one, was, resolved_either y.id facts.transfers),
           );
     };
     paired = λ m p has. grind (arith, is m p, is_open_pair-after m p has, sound.paired m p);

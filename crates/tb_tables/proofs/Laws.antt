@@ -46,9 +46,10 @@ module _ (facts : Facts) (t : Transfer) (may : MayAdd facts t) where
   reserving-same y =
       grind (
         arith,
-        any-push (λ other. is_resolving other && (other.pending_id == y.id)) facts.transfers
-            t,
-        resolves_nothing y.id,
+        any-push (λ other. is_post other && (other.pending_id == y.id)) facts.transfers t,
+        any-push (λ other. is_void other && (other.pending_id == y.id)) facts.transfers t,
+        may.not_post,
+        may.not_void,
       )
 
   pub reserves-same : (side : Transfer → ℕ) (id : ℕ) (y : Transfer)
@@ -103,8 +104,8 @@ module _ (facts : Facts) (t : Transfer) (may : MayResolve facts t) where
   reserving-other y =
       grind (
         arith,
-        any-push (λ other. is_resolving other && (other.pending_id == y.id))
-            facts.transfers t,
+        any-push (λ other. is_post other && (other.pending_id == y.id)) facts.transfers t,
+        any-push (λ other. is_void other && (other.pending_id == y.id)) facts.transfers t,
         resolves,
       )
 

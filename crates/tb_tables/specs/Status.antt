@@ -1,9 +1,9 @@
 -- The status of a pending transfer.
-use Rattle.std.specs.Prelude.{ℕ, ◌+◌, ◌*◌, Bool, not, ◌&&◌, ◌||◌, ◌==◌, nat_le, if◌then◌else◌, map, filter}
+use Rattle.std.specs.Prelude.{ℕ, ◌+◌, ◌*◌, Bool, true, false, not, ◌&&◌, ◌||◌, ◌==◌, nat_le, if◌then◌else◌, map, filter}
 use Rattle.std.specs.List.{list_any}
 use Rattle.tb_layout.specs.declared.transfer.Transfer.{Transfer}
 use Rattle.tb_layout.specs.Limits.{nanoseconds_per_second}
-use Rattle.tb_layout.specs.Transfer.{is_pending, is_post, is_void, is_resolving}
+use Rattle.tb_layout.specs.Transfer.{is_pending, is_post, is_void}
 use Rattle.tb_tables.specs.Facts.{Facts, is_expired}
 use Rattle.tb_tables.specs.declared.status.Status.{Status}
 use Rattle.tb_tables.specs.declared.status.Status.TheVariants.{Pending, Posted, Voided, Expired}
@@ -19,10 +19,13 @@ status_of facts id =
     else if is_expired facts id then Expired
     else Pending
 
+abbrev pub is_unresolved : Status → Bool
+is_unresolved Pending = true
+is_unresolved status = false
+
 -- a pending transfer whose status is Pending reserves its amount
 abbrev pub is_reserving : Facts → Transfer → Bool
-is_reserving facts transfer =
-    is_pending transfer && not (is_named_by is_resolving facts transfer.id) && not (is_expired facts transfer.id)
+is_reserving facts transfer = is_pending transfer && is_unresolved (status_of facts transfer.id)
 
 -- the timeout is in seconds
 abbrev pub expires_at : Transfer → ℕ

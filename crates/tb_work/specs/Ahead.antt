@@ -13,12 +13,10 @@ items_in queue = map (λ (ticket : Ticket). ticket.item) queue
 abbrev pub part : ℕ → List Ticket → List Item
 part sender queue = items_in (filter (λ (ticket : Ticket). ticket.sender == sender) queue)
 
-abbrev pub ahead_of : Item → List Input → List Input
-ahead_of (Packet job) others = input_of job ∷ others
-ahead_of (Pulse moment) others = input.Pulse moment ∷ others
-ahead_of End others = others
-ahead_of Close others = []
-
+-- the packets and pulses that are ahead of the Close
 abbrev pub ahead : List Item → List Input
 ahead [] = []
-ahead (item ∷ items) = ahead_of item (ahead items)
+ahead (Packet job ∷ items) = input_of job ∷ ahead items
+ahead (Pulse moment ∷ items) = input.Pulse moment ∷ ahead items
+ahead (End ∷ items) = ahead items
+ahead (Close ∷ items) = []
