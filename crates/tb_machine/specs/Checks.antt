@@ -1,15 +1,10 @@
 -- Tables of checks.
-use Rattle.std.specs.Prelude.{ℕ, Bool, not, ◌==◌, List, [], ◌∷◌, Option, Some, None, if◌then◌else◌}
+use Rattle.std.specs.Prelude.{ℕ, Bool, not, ◌==◌, List, [], ◌∷◌, if◌then◌else◌}
 
 -- the code of the first row that applies
 abbrev pub first_row : {Code : Type 0} → List (Bool × Code) → Code → Code
 first_row [] otherwise = otherwise
 first_row ((applies, code) ∷ rows) otherwise = if applies then code else first_row rows otherwise
-
--- the rows for what was found, none if it isn't there
-abbrev pub if_found : {A Row : Type 0} → Option A → (A → List Row) → List Row
-if_found None rows = []
-if_found (Some found) rows = rows found
 
 abbrev pub differ : ℕ → ℕ → Bool
 differ a b = not (a == b)

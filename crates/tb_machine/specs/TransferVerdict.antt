@@ -1,5 +1,5 @@
 -- The verdict on a transfer.
-use Rattle.std.specs.Prelude.{ℕ, ◌+◌, Bool, not, ◌&&◌, ◌||◌, ◌==◌, nat_lt, List, [], ◌∷◌, ◌++◌, Option, Some, None, is_some, if◌then◌else◌}
+use Rattle.std.specs.Prelude.{ℕ, ◌+◌, Bool, true, not, ◌&&◌, ◌||◌, ◌==◌, nat_lt, List, [], ◌∷◌, ◌++◌, Option, Some, None, if◌then◌else◌}
 use Rattle.tb_layout.specs.declared.account.Account.{Account}
 use Rattle.tb_layout.specs.declared.transfer.Transfer.{Transfer}
 use Rattle.tb_layout.specs.declared.transfer_code.TransferCode.{TransferCode}
@@ -10,7 +10,7 @@ use Rattle.tb_layout.specs.Transfer.{is_pending, is_post, is_void, is_resolving}
 use Rattle.tb_tables.specs.Facts.{Facts, transfer_with, is_expired, is_failed}
 use Rattle.tb_tables.specs.Balances.{balanced_account}
 use Rattle.tb_tables.specs.Status.{is_named_by, is_due, expires_at}
-use Rattle.tb_machine.specs.Checks.{u128_max, first_row, if_found, differ}
+use Rattle.tb_machine.specs.Checks.{u128_max, first_row, differ}
 use Rattle.tb_layout.specs.Limits.{clock_max}
 
 -- ---- fields that a post or a void leaves out
@@ -88,11 +88,6 @@ resolving_checks event =
     (differ event.timeout 0, TimeoutReservedForPendingTransfer) ∷
     []
 
-abbrev pub named_checks : Option Transfer → List (Bool × TransferCode)
-named_checks named =
-    (not (is_some named), PendingTransferNotFound) ∷
-    []
-
 -- against the named transfer; `event` is resolved
 abbrev pub pending_checks : Transfer → Transfer → List (Bool × TransferCode)
 pending_checks pending event =
@@ -127,12 +122,6 @@ moving_checks event =
     (event.code == 0, CodeMustNotBeZero) ∷
     []
 
-abbrev pub account_checks : Option Account → Option Account → List (Bool × TransferCode)
-account_checks debit credit =
-    (not (is_some debit), DebitAccountNotFound) ∷
-    (not (is_some credit), CreditAccountNotFound) ∷
-    []
-
 abbrev pub debits_with : Account → ℕ → ℕ
 debits_with account amount = account.debits_pending + account.debits_posted + amount
 
@@ -158,19 +147,18 @@ balance_checks timestamp debit credit event =
 
 module _ (facts : Facts) (timestamp : ℕ) where
   abbrev pub against_named : Option Transfer → Transfer → List (Bool × TransferCode)
-  against_named named event =
-      named_checks named
-      ++ if_found named (λ pending. pending_checks pending (resolved_transfer pending event)
-      ++ status_checks facts timestamp pending)
+  against_named None event = (true, PendingTransferNotFound) ∷ []
+  against_named (Some pending) event =
+      pending_checks pending (resolved_transfer pending event) ++ status_checks facts timestamp pending
 
   abbrev pub resolving_verdict : Transfer → TransferCode
   resolving_verdict event =
       first_row (resolving_checks event ++ against_named (transfer_with facts event.pending_id) event) Ok
 
   abbrev pub against_accounts : Option Account → Option Account → Transfer → List (Bool × TransferCode)
-  against_accounts debit credit event =
-      account_checks debit credit
-      ++ if_found debit (λ debit. if_found credit (λ credit. balance_checks timestamp debit credit event))
+  against_accounts None credit event = (true, DebitAccountNotFound) ∷ []
+  against_accounts (Some debit) None event = (true, CreditAccountNotFound) ∷ []
+  against_accounts (Some debit) (Some credit) event = balance_checks timestamp debit credit event
 
   abbrev pub moving_verdict : Transfer → TransferCode
   moving_verdict event =

@@ -12,7 +12,7 @@ use Rattle.tb_layout.specs.inside.Events.{count_of}
 use Rattle.tb_work.proofs.Admissions.{admitted_are_whole}
 use Rattle.tb_work.specs.Admission.{admission_of, admission_of_size}
 use Rattle.tb_work.specs.Packet.{events_in, ReplyValue}
-use Rattle.tb_work.specs.Ahead.{ahead, ahead_of, items_in}
+use Rattle.tb_work.specs.Ahead.{ahead, items_in}
 use Rattle.tb_work.specs.declared.item.Item.{Item}
 use Rattle.tb_work.specs.declared.item.Item.TheVariants as item
 use Rattle.tb_work.specs.declared.item.Ticket.{Ticket}
@@ -104,8 +104,8 @@ few_events limit packet ok = by (packet.operation == 129) (packet.operation == 1
     by false false true ok = few_mapped limit little_endian (chunks 16 bytes) (few limit bytes 16 ok)
     by false false false ok = absurd (true≢false (sym ok))
 
-one_within : (limit : ℕ) (x : Item) (others : List Input) → IsWithin limit x → AreInputsWithin limit others
-    → AreInputsWithin limit (ahead_of x others)
+one_within : (limit : ℕ) (x : Item) (others : List Item) → IsWithin limit x → AreInputsWithin limit (ahead others)
+    → AreInputsWithin limit (ahead (x ∷ others))
 one_within limit (item.Packet job) others within all = (few_events limit job.packet within, all)
 one_within limit (item.Pulse moment) others within all = (tt, all)
 one_within limit item.End others within all = all
@@ -114,7 +114,7 @@ one_within limit item.Close others within all = tt
 ahead_within : (limit : ℕ) (queue : List Ticket) → AreWithin limit queue → AreInputsWithin limit (ahead (items_in queue))
 ahead_within limit [] all = tt
 ahead_within limit (ticket ∷ queue) all =
-    one_within limit ticket.item (ahead (items_in queue)) all.0 (ahead_within limit queue all.1)
+    one_within limit ticket.item (items_in queue) all.0 (ahead_within limit queue all.1)
 
 pub grouped : (limit : ℕ) (queue : List Ticket) (ledger : LedgerState) (remainder : List Input)
     → AreJoined limit ledger.groups → AreWithin limit queue → inputs ledger ++ remainder ≡ ahead (items_in queue)

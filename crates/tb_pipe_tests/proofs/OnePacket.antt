@@ -4,8 +4,9 @@ use Rattle.std.specs.Prelude.{◌==◌, slice_index_or, filter, if◌then◌else
 use Rattle.std.specs.List.{AllByRecursion}
 use Rattle.std.proofs.lemmas.Bool.{eq-eqb, ne_eqb}
 use Rattle.tb_layout.specs.Events.{Input}
+use Rattle.tb_layout.specs.Events as input
 use Rattle.tb_work.specs.Job.{numbered_packet}
-use Rattle.tb_work.specs.Ahead.{items_in, ahead, ahead_of, part}
+use Rattle.tb_work.specs.Ahead.{items_in, ahead, part}
 use Rattle.tb_work.specs.Packet.{ReplyValue, input_of}
 use Rattle.tb_work.specs.Answer.{reply_with}
 use Rattle.tb_work.specs.declared.item.Item.{Item}
@@ -79,12 +80,18 @@ due_to_first clock done place (ticket ∷ queue) others =
           ∙ ap (all_due_from clock done place) (sym other.1)
     ]
 
+ahead_after : (x : Item) {items others : List Item} → ahead items ≡ ahead others → ahead (x ∷ items) ≡ ahead (x ∷ others)
+ahead_after (item.Packet job) same = ap (λ inputs. input_of job ∷ inputs) same
+ahead_after (item.Pulse moment) same = ap (λ inputs. input.Pulse moment ∷ inputs) same
+ahead_after item.End same = same
+ahead_after item.Close same = refl
+
 pub ahead_of_first : (queue : List Ticket) → OthersEnd queue → ahead (items_in queue) ≡ ahead (part 0 queue)
 ahead_of_first [] others = refl
 ahead_of_first (ticket ∷ queue) others =
     let rest = ahead_of_first queue (others_behind ticket queue others) in
     elim (adds ticket queue ticket.sender refl) [
-      | inl mine ↦ ap (ahead_of ticket.item) rest ∙ ap ahead (sym mine.1)
+      | inl mine ↦ ahead_after ticket.item rest ∙ ap ahead (sym mine.1)
       | inr other ↦ ap (λ x. ahead (x ∷ items_in queue)) (is_end_of ticket queue others other.0) ∙ rest
           ∙ ap ahead (sym other.1)
     ]
