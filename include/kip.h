@@ -225,6 +225,10 @@ uint32_t kip_account_at(kip_t *kip, size_t index, kip_account *account);
 uint32_t kip_lookup_transfer(kip_t *kip, uint64_t id_low, uint64_t id_high, kip_transfer *transfer,
                              uint32_t *pending_status);
 
+/* Writes the transfer at an index in the order of making, from 0, and its KIP_PENDING_STATUS. Statuses: KIP_CLOSED,
+ * KIP_NOT_FOUND. */
+uint32_t kip_transfer_at(kip_t *kip, size_t index, kip_transfer *transfer, uint32_t *pending_status);
+
 /* Writes the clock in nanoseconds. Statuses: KIP_CLOSED. */
 uint32_t kip_clock(kip_t *kip, uint64_t *nanoseconds);
 
@@ -314,6 +318,12 @@ static inline uint32_t kip_guarded_lookup_transfer(kip_t *kip, uint64_t id_low, 
     return kip_leave(kip, kip_lookup_transfer(kip, id_low, id_high, transfer, pending_status));
 }
 
+static inline uint32_t kip_guarded_transfer_at(kip_t *kip, size_t index, kip_transfer *transfer,
+                                               uint32_t *pending_status) {
+    if (!kip_enter(kip)) return KIP_BUSY;
+    return kip_leave(kip, kip_transfer_at(kip, index, transfer, pending_status));
+}
+
 static inline uint32_t kip_guarded_clock(kip_t *kip, uint64_t *nanoseconds) {
     if (!kip_enter(kip)) return KIP_BUSY;
     return kip_leave(kip, kip_clock(kip, nanoseconds));
@@ -332,6 +342,7 @@ static inline uint32_t kip_guarded_clock(kip_t *kip, uint64_t *nanoseconds) {
 #define kip_lookup_account kip_guarded_lookup_account
 #define kip_account_at kip_guarded_account_at
 #define kip_lookup_transfer kip_guarded_lookup_transfer
+#define kip_transfer_at kip_guarded_transfer_at
 #define kip_clock kip_guarded_clock
 
 static inline uint32_t kip_submit(kip_t *kip, uint32_t submitter, uint8_t operation, const void *data, size_t data_size,

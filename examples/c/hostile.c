@@ -19,6 +19,7 @@ static void closed_handle(void) {
     assert(kip_stopped(&kip) == KIP_CLOSED && kip_account_at(&kip, 0, &account) == KIP_CLOSED);
     kip_transfer transfer = {.code = 7};
     uint32_t pending = 99;
+    assert(kip_transfer_at(&kip, 0, &transfer, &pending) == KIP_CLOSED && transfer.code == 7 && pending == 99);
     assert(kip_lookup_transfer(&kip, 1, 0, &transfer, &pending) == KIP_CLOSED && transfer.code == 7 && pending == 99);
     assert(kip_reserve(&kip, 1, 1) == KIP_CLOSED && kip_reserve(&kip, SIZE_MAX, SIZE_MAX) == KIP_CLOSED && !kip.is_open);
 }

@@ -29,6 +29,12 @@ static void has_status(kip_t *kip, uint64_t id, uint32_t status) {
     assert(found.debit_account_id.low == 7 && found.credit_account_id.high == 1 && found.code == 1);
 }
 
+static void has_at(kip_t *kip, size_t index, uint64_t id, uint32_t status) {
+    kip_transfer found;
+    uint32_t pending = 99;
+    assert(kip_transfer_at(kip, index, &found, &pending) == KIP_OK && found.id.low == id && pending == status);
+}
+
 int main(void) {
     kip_t kip = {0};
     kip_account accounts[2] = {{.id = {7, 0}, .ledger = 1, .code = 1}, {.id = {5, 1}, .ledger = 1, .code = 1}}, account;
@@ -52,6 +58,11 @@ int main(void) {
     has_status(&kip, 3, KIP_PENDING_EXPIRED);
     has_status(&kip, 4, KIP_PENDING_PENDING);
     has_status(&kip, 11, KIP_PENDING_NONE);
+    has_at(&kip, 0, 1, KIP_PENDING_POSTED);
+    has_at(&kip, 2, 3, KIP_PENDING_EXPIRED);
+    has_at(&kip, 5, 12, KIP_PENDING_NONE);
+    assert(kip_transfer_at(&kip, 6, &transfer, &pending) == KIP_NOT_FOUND && transfer.code == 3 && pending == 99);
+    assert(kip_transfer_at(&kip, SIZE_MAX, &transfer, &pending) == KIP_NOT_FOUND);
     assert(kip_lookup_transfer(&kip, 5, 0, &transfer, &pending) == KIP_NOT_FOUND);
     assert(kip_lookup_transfer(&kip, 1, 1, &transfer, &pending) == KIP_NOT_FOUND && transfer.code == 3 && pending == 99);
     assert(kip_close(&kip) == KIP_OK);

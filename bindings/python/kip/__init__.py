@@ -449,6 +449,16 @@ class Ledger:
         return found
 
     @_locked
+    def transfers(self):
+        """Returns all transfers in the order of making, each with its status, as pairs; a post or a void has its resolved fields."""
+        found, buffer, pending = [], ctypes.create_string_buffer(128), ctypes.c_uint32()
+        while True:
+            status = self._library.kip_transfer_at(self._at, len(found), buffer, ctypes.byref(pending))
+            if (transfer := self._found(status, buffer, _transfer)) is None:
+                return found
+            found.append((transfer, PendingStatus(pending.value)))
+
+    @_locked
     def clock(self):
         """Returns the clock in nanoseconds."""
         now = ctypes.c_uint64()

@@ -395,6 +395,16 @@ impl Ledger {
         self.transfer_and_status(id)?.1
     }
 
+    /// Returns the transfer at an index in the order of making, with its status if it is pending.
+    pub fn transfer_at(&mut self, index: usize) -> Option<(Transfer, Option<PendingStatus>)> {
+        let (mut bytes, mut pending) = ([0; 128], 0);
+        match unsafe { raw::kip_transfer_at(&mut *self.handle, index, &mut bytes, &mut pending) } {
+            0 => Some((Transfer::from_bytes(&bytes), PendingStatus::of(pending))),
+            104 => None,
+            other => unreachable!("status {other}"),
+        }
+    }
+
     /// Returns the accounts with these ids, in their order; ids without one are left out.
     pub fn lookup_accounts(&mut self, ids: &[u128]) -> Vec<Account> {
         ids.iter().filter_map(|id| self.lookup_account(*id)).collect()

@@ -76,6 +76,12 @@ extern "C" {
         transfer: *mut [u8; 128],
         pending_status: *mut u32,
     ) -> u32;
+    pub(crate) fn kip_transfer_at(
+        kip: *mut Handle,
+        index: usize,
+        transfer: *mut [u8; 128],
+        pending_status: *mut u32,
+    ) -> u32;
     pub(crate) fn kip_stopped(kip: *mut Handle) -> u32;
     pub(crate) fn kip_clock(kip: *mut Handle, nanoseconds: *mut u64) -> u32;
 }

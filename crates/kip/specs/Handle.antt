@@ -4,8 +4,8 @@ use Rattle.tb_layout.specs.inside.Records.{account_bytes, transfer_bytes}
 use Rattle.tb_layout.specs.Limits.{clock_max}
 use Rattle.tb_layout.specs.declared.account.Account.{Account}
 use Rattle.tb_layout.specs.declared.transfer.Transfer.{Transfer}
-use Rattle.tb_tables.specs.Facts.{transfer_with}
-use Rattle.tb_tables.specs.inside.Status.{status_with}
+use Rattle.tb_tables.specs.Facts.{Facts}
+use Rattle.tb_tables.specs.inside.Status.{status_if_pending}
 use Rattle.tb_tables.specs.declared.status.Status.{Status}
 use Rattle.tb_tables.specs.declared.status.Status.TheVariants.{Pending, Posted, Voided, Expired}
 use Rattle.tb_work.specs.Refusal.{number_of}
@@ -126,11 +126,12 @@ pub record IsTransfer (status : ℕ) (found : Option Transfer) (pending : Option
   pub none : status ≡ 104 → (found ≡ None) × (after ≡ before)
   pub one_of : (status ≡ 0) ⊎ (status ≡ 104)
 
--- the transfer with an id in the engine
-abbrev pub IsTransferIn : ℕ → ℕ → List ℕ × ℕ → List ℕ × ℕ → Option EngineState → Type 0
-IsTransferIn id status before after (Some engine) =
-    IsTransfer status (transfer_with (state_of engine).facts id) (status_with (state_of engine).facts id) before after
-IsTransferIn id status before after None = (status ≡ 100) × (after ≡ before)
+-- a transfer that is found in the engine's facts, with its status
+abbrev pub IsTransferIn : (Facts → Option Transfer) → ℕ → List ℕ × ℕ → List ℕ × ℕ → Option EngineState → Type 0
+IsTransferIn found status before after (Some engine) =
+    let facts = (state_of engine).facts in
+    IsTransfer status (found facts) (status_if_pending facts (found facts)) before after
+IsTransferIn found status before after None = (status ≡ 100) × (after ≡ before)
 
 -- 0 with the clock
 abbrev pub IsClockOf : ℕ → ℕ → ℕ → Option EngineState → Type 0

@@ -3,7 +3,6 @@
 ghost use Rattle.std.specs.Prelude.{◌≡◌, ◌<◌, [], length, slice_get, IfOk, IfErr, OnOk, OnErr, IsOk, None};
 ghost use Rattle.tb_tables.specs.Facts.{transfer_with};
 ghost use Rattle.tb_tables.specs.Balances.{balanced_account};
-ghost use Rattle.tb_tables.specs.inside.Status.{status_with};
 ghost use Rattle.tb_machine.specs.inside.Accounts.{balanced_accounts};
 ghost use Rattle.tb_work.specs.Refusal.{number_of};
 ghost use Rattle.tb_work.specs.declared.item.Item.TheVariants as item;
@@ -16,7 +15,7 @@ use crate::handle::Kip;
 use crate::reading::{KipReply, head_of, put_results};
 use std::alloc::{AllocError, Global};
 use tb_embed::{Engine, Seed};
-use tb_layout::{Account, CLOCK_MAX, U64_VALUES, write_account, write_transfer};
+use tb_layout::{Account, CLOCK_MAX, Transfer, U64_VALUES, write_account, write_transfer};
 use tb_tables::Status;
 use tb_work::{Bytes, Packet, Refusal};
 
@@ -436,21 +435,19 @@ fn number_of_status(status: Option<Status>) -> u32
     }
 }
 
-/// Writes the transfer with an id, in 128 bytes, and the number of its status.
+/// Writes a transfer, if there is one, in 128 bytes, and the number of its status.
 fn put_transfer(
-    engine: &Engine,
-    id: u128,
+    found: Option<Transfer>,
+    status: Option<Status>,
     transfer: &mut [u8; 128],
     pending_status: &mut u32,
 ) -> u32
-    ensures { IsTransfer result (transfer_with (state_of engine.now).facts id)
-        (status_with (state_of engine.now).facts id)
-        (transfer.old, pending_status.old) (transfer.new, pending_status.new) }
+    ensures { IsTransfer result found status (transfer.old, pending_status.old) (transfer.new, pending_status.new) }
 {
-    match engine.lookup_transfer(id) {
+    match found {
         Some(found) => {
             *transfer = write_transfer(&found);
-            *pending_status = number_of_status(engine.transfer_status(id));
+            *pending_status = number_of_status(status);
             0
         }
         None => NOT_FOUND,
@@ -467,15 +464,39 @@ pub extern "C" fn kip_lookup_transfer(
     transfer: &mut [u8; 128],
     pending_status: &mut u32,
 ) -> u32
-    ensures lookup { IsTransferIn (id_of id_low id_high) result (transfer.old, pending_status.old)
-        (transfer.new, pending_status.new) kip.old.held.engine }
+    ensures lookup { IsTransferIn (λ facts. transfer_with facts (id_of id_low id_high)) result
+        (transfer.old, pending_status.old) (transfer.new, pending_status.new) kip.old.held.engine }
     ensures same { kip.new.held.engine ≡ kip.old.held.engine }
 {
     let Some(engine) = kip.take(alloc) else {
         return CLOSED;
     };
     let id = u128::from(id_high) * U64_VALUES + u128::from(id_low);
-    let status = put_transfer(&engine, id, transfer, pending_status);
+    let found = engine.lookup_transfer(id);
+    let status = put_transfer(found, engine.transfer_status(id), transfer, pending_status);
+    kip.put(engine);
+    status
+}
+
+/// Writes the transfer at an index in the order of making, counted from 0, in 128 bytes, and the number of its status if
+/// it is pending.
+#[unsafe(no_mangle)]
+pub extern "C" fn kip_transfer_at(
+    alloc: Global,
+    kip: &mut Kip,
+    index: usize,
+    transfer: &mut [u8; 128],
+    pending_status: &mut u32,
+) -> u32
+    ensures lookup { IsTransferIn (λ facts. slice_get facts.transfers index) result
+        (transfer.old, pending_status.old) (transfer.new, pending_status.new) kip.old.held.engine }
+    ensures same { kip.new.held.engine ≡ kip.old.held.engine }
+{
+    let Some(engine) = kip.take(alloc) else {
+        return CLOSED;
+    };
+    let found = engine.transfer_at(index);
+    let status = put_transfer(found, engine.transfer_status_at(index), transfer, pending_status);
     kip.put(engine);
     status
 }

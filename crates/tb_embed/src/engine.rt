@@ -6,7 +6,7 @@ ghost use Rattle.std.specs.List.{flat_map};
 ghost use Rattle.tb_layout.specs.Limits.{clock_max};
 ghost use Rattle.tb_tables.specs.Facts.{transfer_with};
 ghost use Rattle.tb_tables.specs.Balances.{balanced_account};
-ghost use Rattle.tb_tables.specs.inside.Status.{status_with};
+ghost use Rattle.tb_tables.specs.inside.Status.{status_if_pending, status_with};
 ghost use Rattle.tb_machine.specs.inside.Accounts.{balanced_accounts};
 ghost use Rattle.tb_work.specs.Admission.{admission_of_size};
 ghost use Rattle.tb_work.specs.Admission as admission;
@@ -461,6 +461,23 @@ impl Engine {
         ensures { result ≡ status_with (state_of self.now).facts id }
     {
         self.ledger.machine().status(id)
+    }
+
+    /// Returns the transfer at an index in the order of making, counted from 0; None if there are no more. A post or a
+    /// void has its resolved fields.
+    pub fn transfer_at(&self, index: usize) -> Option<Transfer>
+        ensures { result ≡ slice_get (state_of self.now).facts.transfers index }
+    {
+        self.ledger.machine().transfer_at(index)
+    }
+
+    /// Returns the status of the pending transfer at an index in the order of making; None if there is no such transfer
+    /// or it isn't pending.
+    pub fn transfer_status_at(&self, index: usize) -> Option<Status>
+        ensures { result ≡ status_if_pending (state_of self.now).facts
+            (slice_get (state_of self.now).facts.transfers index) }
+    {
+        self.ledger.machine().status_at(index)
     }
 
     /// Returns whether the engine stopped: memory ran out as a batch was committed, and nothing more is committed.

@@ -3,7 +3,7 @@
 ghost use Rattle.std.specs.Prelude.{◌≡◌, ◌==◌, ◌||◌, ◌/◌, ◌%◌, ◌≤◌, [], true, length, map, slice_get, vec_capacity, OnOk, OnErr};
 ghost use Rattle.tb_layout.specs.Events.{events_of, ids_of, chunks, create_accounts, create_transfers};
 ghost use Rattle.tb_tables.specs.Facts.{transfer_with};
-ghost use Rattle.tb_tables.specs.inside.Status.{status_with};
+ghost use Rattle.tb_tables.specs.inside.Status.{status_if_pending, status_with};
 ghost use Rattle.tb_tables.specs.Balances.{balanced_account};
 ghost use Rattle.tb_layout.specs.inside.Limits.{batch_max, moment_max};
 ghost use Rattle.tb_layout.specs.Limits.{clock_max};
@@ -205,6 +205,20 @@ impl Machine {
         ensures { result ≡ transfer_with self.now.facts id }
     {
         self.tables.transfer(id)
+    }
+
+    /// Returns the transfer at an index in the order of making, counted from 0; a post or a void with its resolved fields.
+    pub fn transfer_at(&self, index: usize) -> Option<Transfer>
+        ensures { result ≡ slice_get self.now.facts.transfers index }
+    {
+        self.tables.transfer_at(index)
+    }
+
+    /// Returns the status of the pending transfer at an index in the order of making, counted from 0.
+    pub fn status_at(&self, index: usize) -> Option<Status>
+        ensures { result ≡ status_if_pending self.now.facts (slice_get self.now.facts.transfers index) }
+    {
+        self.tables.status_at(index)
     }
 
     /// Returns the status of the pending transfer with this id.
