@@ -3,13 +3,13 @@
 //! `run_script` takes a script through front and ledger, and writes the output that is defined for the bytes read, whatever
 //! these are (`written`, `specs/Listing.antt`). `run_threads` writes of a script with a fault what `run_script` writes (`faulty`), and of
 //! any other the text of a lawful run of what the script says (`ran`, `specs/RunText.antt`). If reading fails, or memory or a thread is
-//! unavailable, nothing is written.
+//! unavailable, nothing is written. `list_output` and `run_output` return what these two write, and a remark on a fault.
 #![tactic(auto)]
 
 mod list;
 mod run;
 mod state;
 
-pub use list::run_script;
-pub use run::run_threads;
-pub use tb_program_text::ProgramFault;
+pub use list::{list_output, run_script};
+pub use run::{run_output, run_threads};
+pub use tb_program_text::{Output, ProgramFault};

@@ -62,9 +62,10 @@ fn output_for(alloc: Global, script: Script) -> Result<String, NoMemory>
     text_of(alloc, settings.clock(), limit, queue, &lines)
 }
 
-/// Returns the output for everything that a reader has, and whether its script has no fault. The text and its list of
-/// items are freed last: once large blocks were freed, the C library copies what grows, where it would move its pages.
-fn output_of<R: Read>(alloc: Global, reader: &mut R) -> Result<Output, ProgramFault>
+/// Reads a script to its end, and returns what `run_script` writes of it, whether it has no fault, and if it has one a remark on that for
+/// people. Takes memory as `run_script` does. The text and its list of items are freed last: once large blocks were freed, the C library
+/// copies what grows, where it would move its pages.
+pub fn list_output<R: Read>(alloc: Global, reader: &mut R) -> Result<Output, ProgramFault>
     ensures output { IfOk result (λ output. IfSome (R.remaining reader.old) (λ bytes.
         (string_bytes output.text ≡ out bytes) × (output.faultless ≡ is_faultless bytes))) }
     ensures thread { IfErr result (λ fault. fault ≢ ProgramFault.NoThread) }
@@ -74,11 +75,9 @@ fn output_of<R: Read>(alloc: Global, reader: &mut R) -> Result<Output, ProgramFa
         Source::Script(script) => Ok(Output {
             text: output_for(alloc, script)?,
             faultless: true,
+            remark: String::new(alloc),
         }),
-        Source::Faulty(line) => Ok(Output {
-            text: line,
-            faultless: false,
-        }),
+        Source::Faulty(faulty) => Ok(Output::of_faulty(faulty)),
     }
 }
 
@@ -100,7 +99,7 @@ pub fn run_script<R: Read, W: Write>(
     // No thread is started.
     ensures thread { IfErr result (λ fault. fault ≢ ProgramFault.NoThread) }
 {
-    let output = output_of(alloc, reader)?;
+    let output = list_output(alloc, reader)?;
     write_out(writer, &output.text)?;
     Ok(output.faultless)
 }

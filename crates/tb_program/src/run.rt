@@ -115,8 +115,9 @@ fn output_for<T: Threads + Wait + Sync>(
     }
 }
 
-/// Returns the output for all that a reader has, and whether its script has no fault.
-fn output_of<T: Threads + Wait + Sync, R: Read>(
+/// Reads a script to its end, and returns what `run_threads` writes of it, whether it has no fault, and if it has one a remark on that for
+/// people.
+pub fn run_output<T: Threads + Wait + Sync, R: Read>(
     rt: &T,
     alloc: Global,
     reader: &mut R,
@@ -132,11 +133,9 @@ fn output_of<T: Threads + Wait + Sync, R: Read>(
         Source::Script(script) => Ok(Output {
             text: output_for(rt, alloc, script)?,
             faultless: true,
+            remark: String::new(alloc),
         }),
-        Source::Faulty(line) => Ok(Output {
-            text: line,
-            faultless: false,
-        }),
+        Source::Faulty(faulty) => Ok(Output::of_faulty(faulty)),
     }
 }
 
@@ -164,7 +163,7 @@ pub fn run_threads<T: Threads + Wait + Sync, R: Read, W: Write>(
     ensures memory { IsErrOf result ProgramFault.NoMemory → Keeps (W.contents writer.old) (W.contents writer.new) }
     ensures thread { IsErrOf result ProgramFault.NoThread → Keeps (W.contents writer.old) (W.contents writer.new) }
 {
-    let output = output_of(rt, alloc, reader)?;
+    let output = run_output(rt, alloc, reader)?;
     write_out(writer, &output.text)?;
     Ok(output.faultless)
 }

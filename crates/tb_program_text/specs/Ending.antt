@@ -32,3 +32,17 @@ text_of Help = codes
 text_of Version = codes "tbpipe 0.1.0\nrattle-kit-13f logic dac8208d650f15bf\n"
 text_of Usage = codes "usage: tbpipe list|run\n"
 text_of (Failed fault) = fault_text fault
+
+-- what is said on standard error
+abbrev pub remark_of : Ending → List ℕ
+remark_of Done = []
+remark_of FaultyScript = []
+remark_of Help = []
+remark_of Version = []
+remark_of Usage = codes
+    "give one word, list or run, and the script on standard input, as in `tbpipe list < SCRIPT`; --help says more"
+remark_of (Failed Read) = codes "standard input can't be read to its end"
+remark_of (Failed Write) = codes
+    "standard output can't be written, so a part of the output is missing: is the disk full, or the pipe closed?"
+remark_of (Failed NoMemory) = codes "there isn't enough memory for this script"
+remark_of (Failed NoThread) = codes "a thread couldn't be started"

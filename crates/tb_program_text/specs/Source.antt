@@ -26,7 +26,7 @@ source_in bytes =
 -- a source is what was found
 abbrev pub IsFound : Source → Result ParsedScript (List ℕ) → Type 0
 IsFound (Script parsed) found = found ≡ Ok parsed
-IsFound (Faulty line) found = found ≡ Err (string_bytes line)
+IsFound (Faulty faulty) found = found ≡ Err (string_bytes faulty.line)
 
 -- the text that was read is all of the bytes, or there are too many
 abbrev pub IsWhole : Option (Vec ℕ Global) → List ℕ → Type 0

@@ -1,7 +1,7 @@
 //! How the program ends.
 
 ghost use Rattle.std.specs.Prelude.{◌≡◌};
-ghost use Rattle.tb_program_text.specs.Ending.{ending_of, status_of, text_of};
+ghost use Rattle.tb_program_text.specs.Ending.{ending_of, remark_of, status_of, text_of};
 
 use crate::program_fault::ProgramFault;
 
@@ -41,6 +41,25 @@ impl Ending {
             Ending::Done | Ending::Help | Ending::Version => 0,
             Ending::FaultyScript | Ending::Usage => 1,
             Ending::Failed(_) => 2,
+        }
+    }
+
+    /// Returns what is said on standard error, in one sentence: of what failed, and of arguments that ask for nothing. Of a fault in the script
+    /// nothing is said here, since the script has it.
+    pub fn remark(&self) -> &'static str
+        ensures { result.now ≡ remark_of self.now }
+    {
+        match self {
+            Ending::Done | Ending::FaultyScript | Ending::Help | Ending::Version => "",
+            Ending::Usage => {
+                "give one word, list or run, and the script on standard input, as in `tbpipe list < SCRIPT`; --help says more"
+            }
+            Ending::Failed(ProgramFault::Read) => "standard input can't be read to its end",
+            Ending::Failed(ProgramFault::Write) => {
+                "standard output can't be written, so a part of the output is missing: is the disk full, or the pipe closed?"
+            }
+            Ending::Failed(ProgramFault::NoMemory) => "there isn't enough memory for this script",
+            Ending::Failed(ProgramFault::NoThread) => "a thread couldn't be started",
         }
     }
 

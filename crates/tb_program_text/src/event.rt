@@ -324,6 +324,38 @@ pub(crate) fn assign_all<'a>(
     }
 }
 
+/// Takes words until one has a fault in its field or number, and returns the text from that one on. At most 13 are before it, since no
+/// field may be given twice.
+fn faulty_word<'a>(layout: Layout, table: &[(&[u8], Field); 13], text: &'a [u8]) -> &'a [u8]
+    requires { AreRowsOf layout table.now }
+{
+    let mut draft = Draft::new();
+    let mut rest = trim_spaces(text);
+    for _ in 0..13 {
+        match assign(layout, &mut draft, table, rest) {
+            Ok(next) => rest = trim_spaces(next.rest),
+            Err(_) => return rest,
+        }
+    }
+    rest
+}
+
+/// Returns the text from the first word on that has a fault in its field or number, if one has.
+pub(crate) fn faulty_field(layout: Layout, text: &[u8]) -> &[u8] {
+    match layout {
+        Layout::Account => faulty_word(layout, &ACCOUNT_FIELDS, text),
+        Layout::Transfer => faulty_word(layout, &TRANSFER_FIELDS, text),
+    }
+}
+
+/// Returns how many bytes the field has that the first word of a text names, if it names one.
+pub(crate) fn size_of_first(layout: Layout, text: &[u8]) -> Option<usize> {
+    match field_and_number(layout, text) {
+        Ok(first) => Some(first.field.size),
+        Err(_) => None,
+    }
+}
+
 /// Returns the bytes that hexadecimal digits give; there must be exactly as many pairs of these.
 #[tactic(auto, unfolding(crate::specs::Event::hex_bytes))]
 pub(crate) fn hex_bytes(alloc: Global, word: &[u8]) -> Result<Vec<u8>, LineError>

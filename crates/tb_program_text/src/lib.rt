@@ -6,7 +6,8 @@
 //! Two laws on that definition: a script spelled from settings and items is read as these (`spelled_scripts_are_read`). An event or
 //! id spelled from its fields is the bytes that `tb_layout` lays out (`spelled_accounts_are_laid_out` and its like).
 //!
-//! `read_script` reads the bytes of a script, `source_of` says what they are: a script, or the line of its fault. `put_reply` and its
+//! `read_script` reads the bytes of a script, `source_of` says what they are: a script, or the line of its fault, with a remark on it for
+//! people. `put_reply` and its
 //! like append exactly the line that `specs/Output.antt` defines, and `write_out` writes a whole text. `request_of` is what the
 //! arguments ask for; `ending_of`, `Ending::status` and `Ending::text` give the exit status and the last line.
 #![tactic(auto)]
@@ -22,6 +23,7 @@ mod output;
 mod parsing;
 mod program_fault;
 mod read;
+mod remark;
 mod request;
 mod script;
 mod source;
@@ -45,5 +47,5 @@ pub use program_fault::ProgramFault;
 pub use read::read_script;
 pub use request::{Request, request_of};
 pub use script::{Script, ScriptParts};
-pub use source::{Source, read_source, source_of};
+pub use source::{FaultyScript, Source, read_source, source_of};
 pub use submitter_number::SubmitterNumber;

@@ -1,12 +1,13 @@
 //! The lines of the output.
 
 ghost use Rattle.std.specs.Io.KnownBytes.{Appends};
-ghost use Rattle.std.specs.Prelude.{◌≡◌, ◌++◌, OnOk, IfErr, codes, string_bytes};
+ghost use Rattle.std.specs.Prelude.{◌≡◌, ◌++◌, false, OnOk, IfErr, codes, string_bytes};
 ghost use Rattle.tb_program_text.specs.declared.program_fault.ProgramFault.TheVariants.{Write as WriteFault};
 ghost use Rattle.std.specs.List.{flat_map};
 ghost use Rattle.tb_program_text.specs.Output.{fault_line, refused_line, failure_text, found_debits, found_credits, found_text, answer_text, outcome_text, packet_front, reply_line, pulse_line, refused_pulse_line, clock_line, account_front, balances_text, account_line};
 
 use crate::program_fault::ProgramFault;
+use crate::source::FaultyScript;
 use itoa::{Buffer, Integer};
 use std::alloc::AllocError;
 use std::io::Write;
@@ -19,6 +20,22 @@ pub struct Output {
     pub text: String,
     /// Whether the script has no fault; else the text is the line of its first.
     pub faultless: bool,
+    /// What is said of the fault on standard error; of a script without one it has no byte.
+    pub remark: String,
+}
+
+impl Output {
+    /// Returns what is written of a faulty script.
+    pub fn of_faulty(faulty: FaultyScript) -> Output
+        ensures text { result.text ≡ faulty.line }
+        ensures faultless { result.faultless ≡ false }
+    {
+        Output {
+            text: faulty.line,
+            faultless: false,
+            remark: faulty.remark,
+        }
+    }
 }
 
 /// Adds a number in decimal. This takes fewer instructions than `write!`.

@@ -1,6 +1,6 @@
 //! The script that a reader has.
 
-ghost use Rattle.std.specs.Prelude.{◌≢◌, ℕ, List, Err, IfOk, IfErr, IfSome};
+ghost use Rattle.std.specs.Prelude.{◌≢◌, ℕ, List, Err, codes, IfOk, IfErr, IfSome};
 ghost use Rattle.tb_program_text.specs.Script.{script_of};
 ghost use Rattle.tb_program_text.specs.Output.{fault_line};
 ghost use Rattle.tb_program_text.specs.Source.{IsFound, IsWhole, source_in, source_told};
@@ -9,25 +9,48 @@ use crate::output::put_fault;
 use crate::parsing::{ScriptError, parse};
 use crate::program_fault::ProgramFault;
 use crate::read::read_script;
+use crate::remark::{TOO_LONG, remark_on};
 use crate::script::Script;
 use std::alloc::Global;
 use std::io::Read;
 use tb_layout::NoMemory;
 
-/// What a reader has: a script, or the one line that is printed of a faulty one.
+/// A faulty script: the one line that is printed of it, and what is said on standard error, one sentence that tells where the fault is, what
+/// is wrong and what may stand there.
+#[derive(Drop)]
+pub struct FaultyScript {
+    pub line: String,
+    pub remark: String,
+}
+
+/// What a reader has: a script, or a faulty one.
 #[derive(Drop)]
 pub enum Source {
     Script(Script),
-    Faulty(String),
+    Faulty(FaultyScript),
 }
 
-/// Returns the line that is printed of a fault.
-fn source_of_fault(alloc: Global, line: usize, text: &str) -> Result<Source, NoMemory>
-    ensures { IfOk result (λ source. IsFound source (Err (fault_line line text.now))) }
+/// Returns a script with a fault at a line.
+fn source_of_fault(
+    alloc: Global,
+    number: usize,
+    text: &str,
+    remark: String,
+) -> Result<Source, NoMemory>
+    ensures { IfOk result (λ source. IsFound source (Err (fault_line number text.now))) }
 {
-    let mut out = String::new(alloc);
-    put_fault(&mut out, line, text)?;
-    Ok(Source::Faulty(out))
+    let mut line = String::new(alloc);
+    put_fault(&mut line, number, text)?;
+    Ok(Source::Faulty(FaultyScript { line, remark }))
+}
+
+/// Returns a script that is too long.
+fn source_too_long(alloc: Global) -> Result<Source, NoMemory>
+    ensures { IfOk result (λ source. IsFound source (Err (fault_line 0 (codes "script too long")))) }
+{
+    let mut remark = String::new(alloc);
+    remark.push_str(TOO_LONG)?;
+    source_of_fault(alloc, 0, "script too long", remark)
 }
 
 /// Returns what the bytes of a script say.
@@ -37,7 +60,10 @@ fn source_of_bytes(alloc: Global, text: &[u8]) -> Result<Source, NoMemory>
     match parse(alloc, text) {
         Ok(script) => Ok(Source::Script(script)),
         Err(ScriptError::NoMemory) => Err(NoMemory),
-        Err(ScriptError::Faulty(line, fault)) => source_of_fault(alloc, line, fault.text()),
+        Err(ScriptError::Faulty(number, fault)) => {
+            let remark = remark_on(alloc, text, number, fault)?;
+            source_of_fault(alloc, number, fault.text(), remark)
+        }
     }
 }
 
@@ -47,7 +73,7 @@ pub fn source_of(alloc: Global, text: &Option<Vec<u8>>) -> Result<Source, NoMemo
 {
     match text {
         Some(text) => source_of_bytes(alloc, text),
-        None => source_of_fault(alloc, 0, "script too long"),
+        None => source_too_long(alloc),
     }
 }
 

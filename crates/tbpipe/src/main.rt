@@ -9,8 +9,8 @@ use std::alloc::Global;
 use std::process::ExitCode;
 use std::rt::Env;
 use std::{env, io};
-use tb_program::{run_script, run_threads};
-use tb_program_text::{Ending, ProgramFault, Request, ending_of, request_of};
+use tb_program::{Output, list_output, run_output};
+use tb_program_text::{Ending, ProgramFault, Request, request_of, write_out};
 
 /// Returns what the arguments ask for. One that isn't text asks for nothing that there is.
 fn read_arguments(rt: &(impl Env + Alloc<A = Global>)) -> Result<Request, ProgramFault> {
@@ -21,16 +21,29 @@ fn read_arguments(rt: &(impl Env + Alloc<A = Global>)) -> Result<Request, Progra
     }
 }
 
+/// Prints what was made of a script; a remark on its fault goes to standard error. Returns how the program ends.
+fn print(rt: &HostRuntime, made: Result<Output, ProgramFault>) -> Ending {
+    let output = match made {
+        Ok(output) => output,
+        Err(fault) => return Ending::Failed(fault),
+    };
+    if let Err(fault) = write_out(&mut io::writer(rt), &output.text) {
+        return Ending::Failed(fault);
+    }
+    if output.faultless {
+        return Ending::Done;
+    }
+    let remark = output.remark;
+    // If standard error is closed, there is nobody to tell.
+    let _ = eprintln!(rt; "tbpipe: {remark}");
+    Ending::FaultyScript
+}
+
 fn main(rt: HostRuntime) -> ExitCode {
     let alloc = rt.alloc();
     let ending = match read_arguments(&rt) {
-        Ok(Request::List) => ending_of(run_script(alloc, &mut rt.reader(), &mut io::writer(&rt))),
-        Ok(Request::Run) => ending_of(run_threads(
-            &rt,
-            alloc,
-            &mut rt.reader(),
-            &mut io::writer(&rt),
-        )),
+        Ok(Request::List) => print(&rt, list_output(alloc, &mut rt.reader())),
+        Ok(Request::Run) => print(&rt, run_output(&rt, alloc, &mut rt.reader())),
         Ok(Request::Help) => Ending::Help,
         Ok(Request::Version) => Ending::Version,
         Ok(Request::Usage) => Ending::Usage,
@@ -41,5 +54,9 @@ fn main(rt: HostRuntime) -> ExitCode {
         Ok(()) => ending,
         Err(_) => Ending::Failed(ProgramFault::Write),
     };
+    let remark = ending.remark();
+    if !remark.is_empty() {
+        let _ = eprintln!(rt; "tbpipe: {remark}");
+    }
     ExitCode::from(ending.status())
 }
