@@ -1,9 +1,8 @@
 -- What a list has after a prefix, and what a ledger added since it was another.
-use Rattle.std.proofs.Common.{refl, sym, ap, subst, ◌∙◌, arith, ◌≡◌, ◌≤◌, ℕ, zero, suc, ◌+◌, false, List, [], ◌∷◌, ◌++◌, drop, length, length-append, append_assoc, append-nil}
+use Rattle.std.proofs.Common.{refl, sym, ap, ◌∙◌, arith, ◌≡◌, ℕ, zero, suc, ◌+◌, false, List, [], ◌∷◌, ◌++◌, drop, length, append_assoc, append-nil}
 use Rattle.std.specs.Prelude.{slice_get}
 use Rattle.std.specs.List.{flat_map}
 use Rattle.std.proofs.lemmas.Grind.{flat_map-append}
-use Rattle.tb_layout.specs.Events.{Input}
 use Rattle.tb_machine.specs.Replay.{replay}
 use Rattle.tb_core.specs.EndedRun.{IsPrefix}
 use Rattle.tb_core.specs.Journal.{LedgerState, inputs, groups_since, inputs_since}
@@ -55,6 +54,15 @@ prefix-inputs start ledger (rest, is) = (
 pub inputs-parts : (start ledger : LedgerState) → IsPrefix start.groups ledger.groups
     → inputs start ++ inputs_since start ledger ≡ inputs ledger
 inputs-parts start ledger is = prefix-drop (inputs start) (inputs ledger) (prefix-inputs start ledger is)
+
+-- the groups that were added, one after the other, are what was committed since
+pub groups-inputs : (start ledger : LedgerState) → IsPrefix start.groups ledger.groups
+    → flat_map (λ group. group) (groups_since start ledger) ≡ inputs_since start ledger
+groups-inputs start ledger is =
+    let since = groups_since start ledger in
+    cancel (inputs start) (flat_map (λ group. group) since) (inputs_since start ledger)
+    (sym (flat_map-append (λ group. group) start.groups since)
+    ∙ ap (flat_map (λ group. group)) (prefix-drop start.groups ledger.groups is) ∙ sym (inputs-parts start ledger is))
 
 -- a ledger that hasn't stopped has added nothing to itself
 pub begun : (start : LedgerState) → start.stopped ≡ false → start.state ≡ replay start.opening (inputs start)

@@ -1,7 +1,6 @@
 -- Two runs over one ledger, the second begun with what the first ended with.
-use Rattle.std.specs.Prelude.{◌≡◌, ◌<◌, ℕ, ◌++◌, List, take, slice_get, Some}
+use Rattle.std.specs.Prelude.{◌≡◌, ◌<◌, ℕ, ◌++◌, take, slice_get, Some}
 use Rattle.tb_layout.specs.declared.answer.Answer.{Answer}
-use Rattle.tb_layout.specs.Events.{Input}
 use Rattle.tb_machine.specs.Replay.{replay, answer_of}
 use Rattle.tb_work.specs.Packet.{Numbered, ReplyValue, events_in, input_of}
 use Rattle.tb_work.specs.declared.outcome.Outcome.TheVariants.{Committed}
